@@ -1,0 +1,76 @@
+-- The header block of a batch: what it says, and its one spelling.
+use Rattle.std.specs.Prelude.{◌≡◌, ℕ, ◌+◌, ◌-◌, ◌*◌, ◌/◌, ◌<◌, ◌≤◌, ◌^◌, nat_eq, Bool, true, false, List, [], ◌∷◌, ◌++◌, map, length, replicate}
+use Rattle.std.specs.List.{flat_map, AllByRecursion, IsDistinct}
+use Rattle.byteorder.specs.Endian.{little_bytes}
+use Rattle.batch_log.specs.declared.header.Kind.{Kind}
+use Rattle.batch_log.specs.declared.header.Kind.TheVariants.{Host, Move}
+use Rattle.batch_log.specs.declared.header.Entry.{Entry}
+use Rattle.batch_log.specs.declared.header.Header.{Header}
+
+-- what a header says
+pub record Heading : Type 0 where
+  pub kind : Kind
+  pub sequence : ℕ
+  pub source : ℕ
+  pub entries : List Entry
+
+abbrev pub heading_of : Header → Heading
+heading_of header = record { kind = header.kind; sequence = header.sequence; source = header.source; entries = header.entries.items }
+
+-- the bytes before the entries
+abbrev pub head_size : ℕ
+head_size = 32
+
+-- how many entries a header block of so many bytes can hold
+abbrev pub entry_room : ℕ → ℕ
+entry_room size = (size - head_size) / 8
+
+-- A header that a block of `size` bytes can spell: numbers in range, no source zone for a Host batch, and each block named at most once.
+pub record IsHeading (size : ℕ) (heading : Heading) : Type 0 where
+  pub room : length heading.entries ≤ entry_room size
+  pub sequence : heading.sequence < 2 ^ 64
+  pub source : heading.source < 2 ^ 32
+  pub host : heading.kind ≡ Host → heading.source ≡ 0
+  pub blocks : AllByRecursion (λ (e : Entry). e.block < 2 ^ 63) heading.entries
+  pub distinct : IsDistinct nat_eq (map (λ (e : Entry). e.block) heading.entries)
+
+-- ---- the spelling
+
+-- `ZLOGBAT1`
+abbrev pub magic : List ℕ
+magic = 0x5a ∷ 0x4c ∷ 0x4f ∷ 0x47 ∷ 0x42 ∷ 0x41 ∷ 0x54 ∷ 0x31 ∷ []
+
+abbrev pub version : ℕ
+version = 1
+
+abbrev pub kind_code : Kind → ℕ
+kind_code Host = 1
+kind_code Move = 2
+
+-- bit 63 of an entry is set for a trim
+abbrev pub trim_bit : Bool → ℕ
+trim_bit true = 2 ^ 63
+trim_bit false = 0
+
+abbrev pub entry_word : Entry → ℕ
+entry_word entry = entry.block + trim_bit entry.trim
+
+abbrev pub entry_bytes : Entry → List ℕ
+entry_bytes entry = little_bytes 8 (entry_word entry)
+
+-- magic, version, kind, number of entries, sequence, source zone, four zero bytes
+abbrev pub head_bytes : Kind → ℕ → ℕ → ℕ → List ℕ
+head_bytes kind count sequence source =
+    magic ++ little_bytes 2 version ++ little_bytes 2 (kind_code kind) ++ little_bytes 4 count ++ little_bytes 8 sequence ++ little_bytes 4 source ++ replicate 4 0
+
+-- the head, the entries, and zeros up to the end of the block
+unfoldable pub header_block : ℕ → Heading → List ℕ
+header_block size heading =
+    head_bytes heading.kind (length heading.entries) heading.sequence heading.source
+    ++ flat_map entry_bytes heading.entries
+    ++ replicate (size - head_size - 8 * length heading.entries) 0
+
+-- a block of `size` bytes is the header block of this heading
+pub record IsHeaderBlock (size : ℕ) (block : List ℕ) (heading : Heading) : Type 0 where
+  pub says : IsHeading size heading
+  pub spelled : block ≡ header_block size heading

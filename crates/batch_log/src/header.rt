@@ -1,0 +1,27 @@
+/// Who wrote a batch: the host's commands, or the cleaner, which moves live records out of a zone.
+#[derive(Clone, Copy, Debug, PartialEq, Eq)]
+pub enum Kind {
+    Host,
+    Move,
+}
+
+/// What a batch says of one logical block: that its data follows the header, or, for a trim, that
+/// the block is zeros and no data follows.
+#[derive(Clone, Copy, Debug, PartialEq, Eq)]
+pub struct Entry {
+    /// The logical block, below 2^63.
+    pub block: u64,
+    pub trim: bool,
+}
+
+/// The header of a batch.
+#[derive(Debug, Drop)]
+pub struct Header {
+    pub kind: Kind,
+    /// Batches of a drive are numbered in the order in which they were written.
+    pub sequence: u64,
+    /// The zone that a Move empties, 0 for a Host batch.
+    pub source: u32,
+    /// At most (block bytes - 32) / 8 entries, of distinct blocks.
+    pub entries: Vec<Entry>,
+}

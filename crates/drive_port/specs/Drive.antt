@@ -1,0 +1,55 @@
+-- What a drive holds and has counted, and what its controller may do by itself.
+use Rattle.std.specs.Prelude.{◌≡◌, ◌⊎◌, ℕ, ◌<◌, ◌≤◌, ◌^◌, Bool, true, false, List, [], ◌∷◌, length, count_by, map}
+use Rattle.std.specs.List.{AllByRecursion}
+use Rattle.nvme_wire.specs.declared.zone_state.ZoneState.TheVariants.{ImplicitlyOpened, ExplicitlyOpened, Closed}
+use Rattle.nvme_wire.specs.declared.zone_state.ZoneState.{ZoneState}
+use Rattle.zone_states.specs.declared.geometry.Geometry.{Geometry}
+use Rattle.zone_states.specs.Transition.{is_active, is_open}
+use Rattle.zone_states.specs.Zone.{Zone, IsLawfulZone}
+
+-- The state of a drive: its zones, and what the proofs count. `completed` commands since the drive was made or restarted, of which `refused` had a status other than Success and `appended` were Appends that succeeded.
+pub record DriveState : Type 0 where
+  pub geometry : Geometry
+  pub zones : List Zone
+  pub completed : ℕ
+  pub refused : ℕ
+  pub appended : ℕ
+  pub stopped : Bool
+
+abbrev pub active_count : List Zone → ℕ
+active_count zones = count_by (λ zone. is_active zone.state) zones
+
+abbrev pub open_count : List Zone → ℕ
+open_count zones = count_by (λ zone. is_open zone.state) zones
+
+-- each number of a geometry is one of 32 bits
+pub record IsStorable (geometry : Geometry) : Type 0 where
+  pub block : geometry.block < 2 ^ 32
+  pub zones : geometry.zones < 2 ^ 32
+  pub size : geometry.size < 2 ^ 32
+  pub capacity : geometry.capacity < 2 ^ 32
+  pub transfer : geometry.transfer < 2 ^ 32
+  pub active : geometry.active < 2 ^ 32
+  pub open_zones : geometry.open < 2 ^ 32
+
+-- Each zone holds what its state allows, the limits on active and open zones are kept, and the drive has stopped once it completed 2^63 commands.
+pub record IsLawful (drive : DriveState) : Type 0 where
+  pub geometry : IsStorable drive.geometry
+  pub count : length drive.zones ≡ drive.geometry.zones
+  pub zones : AllByRecursion (IsLawfulZone drive.geometry) drive.zones
+  pub active : active_count drive.zones ≤ drive.geometry.active
+  pub open_zones : open_count drive.zones ≤ drive.geometry.open
+  pub completed : drive.completed ≤ 2 ^ 63
+  pub stopped : drive.completed ≡ 2 ^ 63 → drive.stopped ≡ true
+
+-- a zone, and the same zone after the controller may have closed it
+pub record ClosesOne (old new : Zone) : Type 0 where
+  pub blocks : new.blocks ≡ old.blocks
+  pub state : (new.state ≡ old.state) ⊎ ((old.state ≡ ImplicitlyOpened) × (new.state ≡ Closed))
+
+-- any set of the implicitly opened zones of the first is closed in the second
+abbrev pub IsClosing : List Zone → List Zone → Type 0
+IsClosing [] [] = Unit {0}
+IsClosing (old ∷ olds) (new ∷ news) = ClosesOne old new × IsClosing olds news
+IsClosing [] (new ∷ news) = ⊥
+IsClosing (old ∷ olds) [] = ⊥

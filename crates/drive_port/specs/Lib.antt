@@ -1,0 +1,10 @@
+pub mod Drive
+pub mod Step
+pub mod Run
+pub mod Contents
+pub mod Calls
+pub use Rattle.zone_states.specs.Zone
+pub use Rattle.zone_states.specs.Geometry
+pub use Rattle.zone_states.specs.Transition
+pub use Rattle.nvme_wire.specs.Entry
+pub use Rattle.nvme_wire.specs.Completion

@@ -1,0 +1,2 @@
+pub mod DescriptorLaws
+pub mod NumberLaws

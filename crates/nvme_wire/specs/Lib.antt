@@ -1,0 +1,4 @@
+pub mod Status
+pub mod Completion
+pub mod Entry
+pub mod Descriptor

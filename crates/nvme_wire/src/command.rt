@@ -1,0 +1,174 @@
+ghost use Rattle.std.specs.Prelude.{◌≡◌};
+ghost use Rattle.nvme_wire.specs.Entry.{action_code, action_of, choice_code, choice_of, opcode_code, opcode_of};
+
+use crate::zone_state::ZoneState;
+
+/// What a Zone Management Send does to a zone (Zoned Namespace Command Set 1.1, section 3.4.3).
+#[derive(Clone, Copy, Debug, PartialEq, Eq)]
+pub enum Action {
+    Close,
+    Finish,
+    Open,
+    Reset,
+    Offline,
+}
+
+impl Action {
+    // The Zone Send Action field.
+    pub(crate) fn code(self) -> u8
+        ensures { result ≡ action_code self }
+    {
+        match self {
+            Action::Close => 1,
+            Action::Finish => 2,
+            Action::Open => 3,
+            Action::Reset => 4,
+            Action::Offline => 5,
+        }
+    }
+
+    pub(crate) fn from_code(code: u8) -> Option<Action>
+        ensures { result ≡ action_of code }
+    {
+        match code {
+            1 => Some(Action::Close),
+            2 => Some(Action::Finish),
+            3 => Some(Action::Open),
+            4 => Some(Action::Reset),
+            5 => Some(Action::Offline),
+            _ => None,
+        }
+    }
+}
+
+/// Which zones a report names (Zoned Namespace Command Set 1.1, section 3.4.2).
+#[derive(Clone, Copy, Debug, PartialEq, Eq)]
+pub enum Choice {
+    AnyState,
+    InState(ZoneState),
+}
+
+impl Choice {
+    // The Reporting Options field.
+    pub(crate) fn code(self) -> u8
+        ensures { result ≡ choice_code self }
+    {
+        match self {
+            Choice::AnyState => 0,
+            Choice::InState(ZoneState::Empty) => 1,
+            Choice::InState(ZoneState::ImplicitlyOpened) => 2,
+            Choice::InState(ZoneState::ExplicitlyOpened) => 3,
+            Choice::InState(ZoneState::Closed) => 4,
+            Choice::InState(ZoneState::Full) => 5,
+            Choice::InState(ZoneState::ReadOnly) => 6,
+            Choice::InState(ZoneState::Offline) => 7,
+        }
+    }
+
+    pub(crate) fn from_code(code: u8) -> Option<Choice>
+        ensures { result ≡ choice_of code }
+    {
+        match code {
+            0 => Some(Choice::AnyState),
+            1 => Some(Choice::InState(ZoneState::Empty)),
+            2 => Some(Choice::InState(ZoneState::ImplicitlyOpened)),
+            3 => Some(Choice::InState(ZoneState::ExplicitlyOpened)),
+            4 => Some(Choice::InState(ZoneState::Closed)),
+            5 => Some(Choice::InState(ZoneState::Full)),
+            6 => Some(Choice::InState(ZoneState::ReadOnly)),
+            7 => Some(Choice::InState(ZoneState::Offline)),
+            _ => None,
+        }
+    }
+}
+
+/// A command for namespace 1. Addresses are in logical blocks, and `blocks` and `dwords` are counted
+/// from one.
+#[derive(Clone, Copy, Debug, PartialEq, Eq)]
+pub enum Command {
+    /// Base Specification 2.0, section 7.1.
+    Flush,
+    /// NVM Command Set 1.0, section 3.2.4. At most 65,536 blocks.
+    Read {
+        slba: u64,
+        blocks: u32,
+    },
+    /// NVM Command Set 1.0, section 3.2.6. At most 65,536 blocks.
+    Write {
+        slba: u64,
+        blocks: u32,
+    },
+    /// Zoned Namespace Command Set 1.1, section 3.4.1. `zslba` is the lowest address of the zone, and
+    /// at most 65,536 blocks are appended.
+    Append {
+        zslba: u64,
+        blocks: u32,
+    },
+    /// Zone Management Send (Zoned Namespace Command Set 1.1, section 3.4.3), to one zone or to all.
+    /// `Open` of all zones is not admitted.
+    Send {
+        slba: u64,
+        action: Action,
+        all: bool,
+    },
+    /// Zone Management Receive, action Report Zones (Zoned Namespace Command Set 1.1, section 3.4.2),
+    /// of 16 to 2^32 dwords. With `partial` the report's number counts what was transferred.
+    Receive {
+        slba: u64,
+        dwords: u64,
+        choice: Choice,
+        partial: bool,
+    },
+}
+
+/// Why bytes are not an entry, a completion or a part of a report. An entry is refused by the first
+/// of these that holds.
+#[derive(Clone, Copy, Debug, PartialEq, Eq)]
+pub enum DecodeFault {
+    /// The opcode is none of the six.
+    Opcode,
+    /// The namespace is not 1.
+    Namespace,
+    /// A field has a value that is not admitted.
+    Field,
+}
+
+/// The opcodes of the six commands.
+#[derive(Clone, Copy, Debug, PartialEq, Eq)]
+pub enum Opcode {
+    Flush,
+    Write,
+    Read,
+    Send,
+    Receive,
+    Append,
+}
+
+impl Opcode {
+    pub(crate) fn code(self) -> u8
+        ensures { result ≡ opcode_code self }
+    {
+        match self {
+            Opcode::Flush => 0x00,
+            Opcode::Write => 0x01,
+            Opcode::Read => 0x02,
+            Opcode::Send => 0x79,
+            Opcode::Receive => 0x7a,
+            Opcode::Append => 0x7d,
+        }
+    }
+
+    pub(crate) fn from_code(code: u8) -> Option<Opcode>
+        ensures { result ≡ opcode_of code }
+    {
+        match code {
+            0x00 => Some(Opcode::Flush),
+            0x01 => Some(Opcode::Write),
+            0x02 => Some(Opcode::Read),
+            0x79 => Some(Opcode::Send),
+            0x7a => Some(Opcode::Receive),
+            0x7d => Some(Opcode::Append),
+            _ => None,
+        }
+    }
+}

@@ -1,0 +1,157 @@
+ghost use Rattle.std.specs.Prelude.{◌≡◌, ◌==◌, ◌≤◌, nat_lt, Ok};
+ghost use Rattle.nvme_wire.specs.Entry.{IsAdmitted, action_in, action_of, address_of, block_number, blocks_of, choice_in, choice_of, decode_of, dwords_of, entry_bytes, entry_with, id_of, is_partial, namespace_of, none, receive_of, selects_all, send_of};
+
+use crate::command::{Action, Choice, Command, DecodeFault, Opcode};
+use crate::number::u64_at;
+use byteorder::{ByteOrder, LittleEndian};
+
+/// The command identifier of an entry, whatever else the entry holds: bits 31:16 of dword 0.
+pub fn entry_id(entry: &[u8; 64]) -> u16
+    ensures { result ≡ id_of entry.now }
+{
+    LittleEndian::read_u16(&entry[2..4])
+}
+
+fn namespace_at(entry: &[u8; 64]) -> u32
+    ensures { result ≡ namespace_of entry.now }
+{
+    LittleEndian::read_u32(&entry[4..8])
+}
+
+fn address_at(entry: &[u8; 64]) -> u64
+    ensures { result ≡ address_of entry.now }
+{
+    u64_at(entry, 40)
+}
+
+fn blocks_at(entry: &[u8; 64]) -> u32
+    ensures { result ≡ blocks_of entry.now }
+{
+    u32::from(LittleEndian::read_u16(&entry[48..50])) + 1
+}
+
+fn dwords_at(entry: &[u8; 64]) -> u64
+    ensures { result ≡ dwords_of entry.now }
+{
+    u64::from(LittleEndian::read_u32(&entry[48..52])) + 1
+}
+
+// An entry whose dwords 12 and 13 are zero.
+fn entry_to(opcode: Opcode, id: u16, address: u64) -> [u8; 64]
+    ensures { result ≡ entry_with opcode id address none none }
+{
+    let mut out = [0; 64];
+    out[0] = opcode.code();
+    LittleEndian::write_u16(&mut out[2..4], id);
+    LittleEndian::write_u32(&mut out[4..8], 1);
+    LittleEndian::write_u64(&mut out[40..48], address);
+    out
+}
+
+// The entry of a command that transfers blocks, counted from one.
+fn blocks_entry(opcode: Opcode, id: u16, address: u64, blocks: u32) -> [u8; 64]
+    requires { (1 ≤ blocks) × (blocks ≤ 65536) }
+    ensures { result ≡ entry_with opcode id address (block_number blocks) none }
+{
+    let mut out = entry_to(opcode, id, address);
+    LittleEndian::write_u16(&mut out[48..50], (blocks - 1) as u16);
+    out
+}
+
+fn decode_send(entry: &[u8; 64]) -> Result<Command, DecodeFault>
+    ensures { result ≡ send_of (action_of (action_in entry.now)) (address_of entry.now) (selects_all entry.now) }
+{
+    let all = entry[53] % 2 == 1;
+    match Action::from_code(entry[52]) {
+        None => Err(DecodeFault::Field),
+        Some(Action::Open) if all => Err(DecodeFault::Field),
+        Some(action) => Ok(Command::Send {
+            slba: address_at(entry),
+            action,
+            all,
+        }),
+    }
+}
+
+fn decode_receive(entry: &[u8; 64]) -> Result<Command, DecodeFault>
+    ensures { result ≡ receive_of (action_in entry.now == 0) (choice_of (choice_in entry.now)) (nat_lt (dwords_of entry.now) 16) (address_of entry.now) (dwords_of entry.now) (is_partial entry.now) }
+{
+    let dwords = dwords_at(entry);
+    if entry[52] != 0 {
+        return Err(DecodeFault::Field);
+    }
+    let Some(choice) = Choice::from_code(entry[53]) else {
+        return Err(DecodeFault::Field);
+    };
+    if dwords < 16 {
+        return Err(DecodeFault::Field);
+    }
+    Ok(Command::Receive {
+        slba: address_at(entry),
+        dwords,
+        choice,
+        partial: entry[54] % 2 == 1,
+    })
+}
+
+impl Command {
+    /// The 64 bytes of the command with an identifier, for a command that the profile admits. What no
+    /// field of the command fills is zero, the data pointers too.
+    pub fn encode(&self, id: u16) -> [u8; 64]
+        requires { IsAdmitted self.now }
+        ensures spelled { result ≡ entry_bytes self.now id }
+        ensures again { decode_of result ≡ Ok self.now }
+        ensures id { id_of result ≡ id }
+    {
+        match *self {
+            Command::Flush => entry_to(Opcode::Flush, id, 0),
+            Command::Read { slba, blocks } => blocks_entry(Opcode::Read, id, slba, blocks),
+            Command::Write { slba, blocks } => blocks_entry(Opcode::Write, id, slba, blocks),
+            Command::Append { zslba, blocks } => blocks_entry(Opcode::Append, id, zslba, blocks),
+            Command::Send { slba, action, all } => {
+                let mut out = entry_to(Opcode::Send, id, slba);
+                out[52] = action.code();
+                out[53] = all as u8;
+                out
+            }
+            Command::Receive {
+                slba,
+                dwords,
+                choice,
+                partial,
+            } => {
+                let mut out = entry_to(Opcode::Receive, id, slba);
+                LittleEndian::write_u32(&mut out[48..52], (dwords - 1) as u32);
+                out[53] = choice.code();
+                out[54] = partial as u8;
+                out
+            }
+        }
+    }
+
+    /// The command of an entry. Only the opcode, the namespace and the command's own fields are looked
+    /// at; the first of them that is wrong is the fault, in this order.
+    pub fn decode(entry: &[u8; 64]) -> Result<Command, DecodeFault>
+        ensures { result ≡ decode_of entry.now }
+    {
+        let Some(opcode) = Opcode::from_code(entry[0]) else {
+            return Err(DecodeFault::Opcode);
+        };
+        if namespace_at(entry) != 1 {
+            return Err(DecodeFault::Namespace);
+        }
+        let slba = address_at(entry);
+        let blocks = blocks_at(entry);
+        match opcode {
+            Opcode::Flush => Ok(Command::Flush),
+            Opcode::Read => Ok(Command::Read { slba, blocks }),
+            Opcode::Write => Ok(Command::Write { slba, blocks }),
+            Opcode::Append => Ok(Command::Append {
+                zslba: slba,
+                blocks,
+            }),
+            Opcode::Send => decode_send(entry),
+            Opcode::Receive => decode_receive(entry),
+        }
+    }
+}

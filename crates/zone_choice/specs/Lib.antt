@@ -1,0 +1,4 @@
+pub mod Reserve
+pub mod Records
+pub mod ZoneLogs
+pub mod Mountable

@@ -1,0 +1,82 @@
+-- Which drives can be mounted as n logical blocks.
+use Rattle.std.specs.Prelude.{◌≡◌, ◌≢◌, ◌⊎◌, ℕ, ◌<◌, ◌≤◌, ◌^◌, ◌==◌, ◌&&◌, not, nat_eq, Bool, true, false, List, [], ◌∷◌, map, length, count_by, Option, Some, None}
+use Rattle.std.specs.List.{flat_map, AllByRecursion, IsDistinct}
+use Rattle.zone_states.specs.declared.geometry.Geometry.{Geometry}
+use Rattle.drive_port.specs.Drive.{DriveState, IsLawful}
+use Rattle.drive_port.specs.Contents.{Content, Usage, active, contents, is_usable}
+use Rattle.batch_log.specs.declared.header.Kind.TheVariants.{Move}
+use Rattle.batch_log.specs.declared.header.Entry.{Entry}
+use Rattle.batch_log.specs.Log.{Batch}
+use Rattle.zone_choice.specs.Records.{records, array, without}
+use Rattle.zone_choice.specs.ZoneLogs.{HasLog, zone_logs, log_at}
+
+abbrev pub is_active_usage : Usage → Bool
+is_active_usage active = true
+is_active_usage usage = false
+
+-- opened or Closed, with at least one block
+abbrev pub is_partly_written : Content → Bool
+is_partly_written content = is_active_usage content.usage && not (length content.blocks == 0)
+
+-- ---- spare zones
+
+-- a zone without a batch
+abbrev pub IsVacant : List (List Batch) → ℕ → Type 0
+IsVacant logs zone = log_at logs zone ≡ []
+
+abbrev pub IsMoveFrom : ℕ → Batch → Type 0
+IsMoveFrom source batch = (batch.heading.kind ≡ Move) × (batch.heading.source ≡ source)
+
+-- the sequence of the first batch
+abbrev pub first_sequence : List Batch → Option ℕ
+first_sequence [] = None
+first_sequence (batch ∷ log) = Some batch.heading.sequence
+
+-- both are there, and the first is less
+abbrev pub IsBefore : Option ℕ → Option ℕ → Type 0
+IsBefore (Some a) (Some b) = a < b
+IsBefore (Some a) None = ⊥
+IsBefore None y = ⊥
+
+-- without the zone's records the array is the same
+abbrev pub IsSpare : ℕ → ℕ → List (List Batch) → ℕ → Type 0
+IsSpare size n logs zone = array size n (records 0 (without logs zone)) ≡ array size n (records 0 logs)
+
+-- What a clean that did not end leaves: a zone with batches, all of them Moves from one other zone, whose first batch is older; and nothing is lost with it.
+pub record IsHalfClean (size n : ℕ) (logs : List (List Batch)) (zone : ℕ) : Type 0 where
+  pub victim : ℕ
+  pub apart : victim ≢ zone
+  pub moves : AllByRecursion (IsMoveFrom victim) (log_at logs zone)
+  pub older : IsBefore (first_sequence (log_at logs victim)) (first_sequence (log_at logs zone))
+  pub spare : IsSpare size n logs zone
+
+-- some zone can be emptied, or holds no batch
+pub record HasSpare (size n : ℕ) (logs : List (List Batch)) : Type 0 where
+  pub zone : ℕ
+  pub in_range : zone < length logs
+  pub spare : IsVacant logs zone ⊎ IsHalfClean size n logs zone
+
+-- ---- mountable drives
+
+abbrev pub log_sequences : List Batch → List ℕ
+log_sequences log = map (λ (batch : Batch). batch.heading.sequence) log
+
+abbrev pub sequences : List (List Batch) → List ℕ
+sequences logs = flat_map log_sequences logs
+
+-- a batch whose sequence can be followed, and whose blocks are below n
+abbrev pub IsNumbered : ℕ → Batch → Type 0
+IsNumbered n batch = (batch.heading.sequence < 2 ^ 63) × AllByRecursion (λ (e : Entry). e.block < n) batch.heading.entries
+
+pub record AreMountable (geometry : Geometry) (zones : List Content) (n : ℕ) : Type 0 where
+  pub usable : AllByRecursion (λ (zone : Content). is_usable zone.usage ≡ true) zones
+  pub few_partial : count_by is_partly_written zones ≤ 2
+  pub logs : AllByRecursion (HasLog geometry) zones
+  pub batches : AllByRecursion (AllByRecursion (IsNumbered n)) (zone_logs geometry zones)
+  pub distinct : IsDistinct nat_eq (sequences (zone_logs geometry zones))
+  pub spare : HasSpare geometry.block n (zone_logs geometry zones)
+
+-- A drive that can be mounted: lawful, with no Read Only or Offline zone and at most two partly written ones; every zone holds a log, in which each block stands at most once in a batch; all sequences differ and are below 2^63, all blocks are below n; and a zone is vacant or half clean.
+pub record IsMountable (drive : DriveState) (n : ℕ) : Type 0 where
+  pub lawful : IsLawful drive
+  pub holds : AreMountable drive.geometry (contents drive.zones) n

@@ -1,0 +1,108 @@
+-- The records of the batches of all zones, the newest of a block, and the array that they spell.
+use Rattle.std.specs.Prelude.{◌≡◌, ℕ, zero, suc, ◌+◌, ◌<◌, ◌≤◌, ◌==◌, nat_lt, if◌then◌else◌, Bool, true, false, List, [], ◌∷◌, ◌++◌, map, replicate, slice_set, slice_index_or, Contains, Option, Some, None}
+use Rattle.std.specs.List.{range_with_len, AllByRecursion}
+use Rattle.batch_log.specs.declared.header.Entry.{Entry}
+use Rattle.batch_log.specs.Log.{Batch, batch_size, log_size, one_unless}
+
+-- What one entry of one batch says of a block: its data, or none for a trim; and where that lies, the data block or, of a trim, the header block, by zone and by offset in the zone.
+pub record Record : Type 0 where
+  pub block : ℕ
+  pub sequence : ℕ
+  pub content : Option (List ℕ)
+  pub zone : ℕ
+  pub offset : ℕ
+
+-- ---- the records of a list of logs
+
+-- an entry's data, the k-th block of the body
+abbrev pub content_at : Bool → List (List ℕ) → ℕ → Option (List ℕ)
+content_at true body k = None
+content_at false body k = Some (slice_index_or body k [])
+
+-- where it lies, with the header at an offset
+abbrev pub offset_at : Bool → ℕ → ℕ → ℕ
+offset_at true header k = header
+offset_at false header k = header + 1 + k
+
+abbrev pub record_of : ℕ → List (List ℕ) → ℕ → ℕ → ℕ → Entry → Record
+record_of sequence body zone header k e =
+    record { block = e.block; sequence = sequence; content = content_at e.trim body k; zone = zone; offset = offset_at e.trim header k }
+
+-- the records of these entries, where k blocks of the body belong to the entries before them
+abbrev pub entry_records : ℕ → List (List ℕ) → ℕ → ℕ → ℕ → List Entry → List Record
+entry_records sequence body zone header k [] = []
+entry_records sequence body zone header k (e ∷ es) = record_of sequence body zone header k e ∷ entry_records sequence body zone header (k + one_unless e.trim) es
+
+abbrev pub batch_records : ℕ → ℕ → Batch → List Record
+batch_records zone offset batch = entry_records batch.heading.sequence batch.body zone offset 0 batch.heading.entries
+
+-- the records of a zone's log, whose first batch is at an offset
+abbrev pub log_records : ℕ → ℕ → List Batch → List Record
+log_records zone offset [] = []
+log_records zone offset (batch ∷ log) = batch_records zone offset batch ++ log_records zone (offset + batch_size batch) log
+
+-- the records of the logs of all zones, the first of which has a number
+abbrev pub records : ℕ → List (List Batch) → List Record
+records zone [] = []
+records zone (log ∷ logs) = log_records zone 0 log ++ records (suc zone) logs
+
+-- ---- the newest record of a block
+
+-- the one of two records with the greater sequence (of two with one sequence the first, but on a drive that can be mounted no two batches have one sequence)
+abbrev pub newer : Option Record → Option Record → Option Record
+newer None y = y
+newer (Some x) None = Some x
+newer (Some x) (Some y) = if nat_lt x.sequence y.sequence then Some y else Some x
+
+-- the record of a block with the greatest sequence
+abbrev pub newest : ℕ → List Record → Option Record
+newest block [] = None
+newest block (r ∷ rs) = newer (if r.block == block then Some r else None) (newest block rs)
+
+-- a record is live: it is one of these, and none of its block has a greater sequence
+pub record IsLive (rs : List Record) (r : Record) : Type 0 where
+  pub among : Contains rs r
+  pub greatest : AllByRecursion (λ other. other.block ≡ r.block → other.sequence ≤ r.sequence) rs
+
+-- what `newest` finds: a live record of the block, or that there is no record of it
+abbrev pub IsNewest : List Record → ℕ → Option Record → Type 0
+IsNewest rs block (Some r) = (r.block ≡ block) × IsLive rs r
+IsNewest rs block None = AllByRecursion (λ other. other.block ≡ block → ⊥) rs
+
+-- ---- the array
+
+-- what a record says of its block, and what is said of a block with no record: zeros
+abbrev pub shown_content : ℕ → Option (List ℕ) → List ℕ
+shown_content size (Some bytes) = bytes
+shown_content size None = replicate size 0
+
+abbrev pub shown : ℕ → Option Record → List ℕ
+shown size (Some r) = shown_content size r.content
+shown size None = replicate size 0
+
+-- the array of n blocks of `size` bytes: of each block what its newest record says
+abbrev pub array : ℕ → ℕ → List Record → List (List ℕ)
+array size n rs = map (λ block. shown size (newest block rs)) (range_with_len 0 n)
+
+-- ---- changes of the logs
+
+-- a zone's log with a batch more
+abbrev pub append_log : List (List Batch) → ℕ → Batch → List (List Batch)
+append_log logs zone batch = slice_set logs zone (slice_index_or logs zone [] ++ batch ∷ [])
+
+-- the records that the batch brings
+abbrev pub new_records : List (List Batch) → ℕ → Batch → List Record
+new_records logs zone batch = batch_records zone (log_size (slice_index_or logs zone [])) batch
+
+-- all logs but that of one zone
+abbrev pub without : List (List Batch) → ℕ → List (List Batch)
+without logs zone = slice_set logs zone []
+
+-- each record has a sequence below this one
+abbrev pub AllBelow : ℕ → List Record → Type 0
+AllBelow sequence rs = AllByRecursion (λ r. r.sequence < sequence) rs
+
+-- an array in which these records' blocks say what the records say (of two records of one block the first)
+abbrev pub written_over : ℕ → List Record → List (List ℕ) → List (List ℕ)
+written_over size [] blocks = blocks
+written_over size (r ∷ rs) blocks = slice_set (written_over size rs blocks) r.block (shown_content size r.content)

@@ -1,0 +1,53 @@
+-- The report of a list of zones: a head of 64 bytes, whole descriptors of the matching zones in ascending order, and zeros up to the end of the buffer.
+use Rattle.std.specs.Prelude.{ℕ, ◌+◌, ◌-◌, ◌*◌, ◌/◌, ◌==◌, if◌then◌else◌, Bool, true, List, [], ◌∷◌, ◌++◌, length, take, drop, replicate, Option, Some, None}
+use Rattle.std.specs.List.{flat_map}
+use Rattle.nvme_wire.specs.declared.zone_state.ZoneState.{ZoneState}
+use Rattle.nvme_wire.specs.declared.zone_state.ZoneState.TheVariants.{Empty, ImplicitlyOpened, ExplicitlyOpened, Closed, ReadOnly, Full, Offline}
+use Rattle.nvme_wire.specs.declared.command.Choice.{Choice}
+use Rattle.nvme_wire.specs.declared.command.Choice.TheVariants.{AnyState, InState}
+use Rattle.nvme_wire.specs.declared.descriptor.Descriptor.{Descriptor}
+use Rattle.nvme_wire.specs.Descriptor.{state_code, descriptor_bytes, report_head_bytes}
+use Rattle.zone_states.specs.declared.geometry.Geometry.{Geometry}
+use Rattle.zone_states.specs.Zone.{Zone}
+
+-- whether a zone in this state is named
+abbrev pub is_chosen : Choice → ZoneState → Bool
+is_chosen AnyState state = true
+is_chosen (InState chosen) state = state_code chosen == state_code state
+
+-- the address that is written next, in the states that have one
+abbrev pub pointer_of : ZoneState → ℕ → Option ℕ
+pointer_of Full next = None
+pointer_of ReadOnly next = None
+pointer_of Offline next = None
+pointer_of state next = Some next
+
+-- the descriptor of the zone with a number
+abbrev pub descriptor_of : Geometry → ℕ → Zone → Descriptor
+descriptor_of geometry number zone = record {
+  state = zone.state;
+  capacity = geometry.capacity;
+  start = number * geometry.size;
+  pointer = pointer_of zone.state (number * geometry.size + length zone.blocks);
+}
+
+-- the descriptors of the zones that are named, the first zone of the list with a number
+abbrev pub matching : Geometry → Choice → ℕ → List Zone → List Descriptor
+matching geometry choice number [] = []
+matching geometry choice number (zone ∷ zones) =
+    if is_chosen choice zone.state then descriptor_of geometry number zone ∷ matching geometry choice (number + 1) zones
+    else matching geometry choice (number + 1) zones
+
+-- how many descriptors go into a buffer behind the head
+abbrev pub descriptor_room : ℕ → ℕ
+descriptor_room dwords = (4 * dwords - 64) / 64
+
+-- the report of the zones from the one that holds an address on, in a buffer of so many dwords; a partial report counts the descriptors that it shows
+abbrev pub report : Geometry → List Zone → ℕ → Choice → Bool → ℕ → List ℕ
+report geometry zones address choice partial dwords =
+    let first = address / geometry.size in
+    let named = matching geometry choice first (drop first zones) in
+    let shown = take (descriptor_room dwords) named in
+    report_head_bytes (record { zones = if partial then length shown else length named })
+    ++ flat_map descriptor_bytes shown
+    ++ replicate (4 * dwords - 64 - 64 * length shown) 0

@@ -1,0 +1,4 @@
+pub mod Checks
+pub mod Geometry
+pub mod Transition
+pub mod Zone

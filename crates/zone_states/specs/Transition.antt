@@ -1,0 +1,43 @@
+-- Which states there are, and which action of a Zone Management Send leads from which state to which (Zoned Namespace Command Set 1.1, zone state machine and section 3.4.3).
+use Rattle.std.specs.Prelude.{Bool, true, false, Result, Ok, Err}
+use Rattle.nvme_wire.specs.declared.zone_state.ZoneState.{ZoneState}
+use Rattle.nvme_wire.specs.declared.zone_state.ZoneState.TheVariants.{Empty, ImplicitlyOpened, ExplicitlyOpened, Closed, ReadOnly, Full, Offline}
+use Rattle.nvme_wire.specs.declared.command.Action.{Action}
+use Rattle.nvme_wire.specs.declared.command.Action.TheVariants as actions
+use Rattle.nvme_wire.specs.declared.status.Status.{Status}
+use Rattle.nvme_wire.specs.declared.status.Status.TheVariants.{InvalidZoneStateTransition}
+
+-- states that hold one of the drive's active places, and of its open places
+abbrev pub is_active : ZoneState → Bool
+is_active ImplicitlyOpened = true
+is_active ExplicitlyOpened = true
+is_active Closed = true
+is_active state = false
+
+abbrev pub is_open : ZoneState → Bool
+is_open ImplicitlyOpened = true
+is_open ExplicitlyOpened = true
+is_open state = false
+
+-- the table, a column for each state: an explicitly opened zone that is closed becomes Closed also where nothing is written in it
+abbrev pub state_after : ZoneState → Action → Result ZoneState Status
+state_after Empty actions.Open = Ok ExplicitlyOpened
+state_after Empty actions.Finish = Ok Full
+state_after Empty actions.Reset = Ok Empty
+state_after ImplicitlyOpened actions.Open = Ok ExplicitlyOpened
+state_after ImplicitlyOpened actions.Close = Ok Closed
+state_after ImplicitlyOpened actions.Finish = Ok Full
+state_after ImplicitlyOpened actions.Reset = Ok Empty
+state_after ExplicitlyOpened actions.Open = Ok ExplicitlyOpened
+state_after ExplicitlyOpened actions.Close = Ok Closed
+state_after ExplicitlyOpened actions.Finish = Ok Full
+state_after ExplicitlyOpened actions.Reset = Ok Empty
+state_after Closed actions.Open = Ok ExplicitlyOpened
+state_after Closed actions.Close = Ok Closed
+state_after Closed actions.Finish = Ok Full
+state_after Closed actions.Reset = Ok Empty
+state_after Full actions.Finish = Ok Full
+state_after Full actions.Reset = Ok Empty
+state_after ReadOnly actions.Offline = Ok Offline
+state_after Offline actions.Offline = Ok Offline
+state_after state action = Err InvalidZoneStateTransition
