@@ -1,5 +1,5 @@
 -- A header block is read again, so each heading has a block of its own.
-use Rattle.std.proofs.Common.{◌≡◌, ℕ, ◌+◌, ◌-◌, ◌*◌, ◌<◌, ◌≤◌, ◌^◌, Bool, true, false, ltb, List, [], ◌∷◌, ◌++◌, length, drop, replicate, refl, sym, ap, ◌∙◌, arith}
+use Rattle.std.proofs.Common.{◌≡◌, ℕ, ◌+◌, ◌-◌, ◌*◌, ◌<◌, ◌^◌, Bool, true, false, ltb, List, [], ◌∷◌, ◌++◌, length, replicate, refl, sym, ap, ◌∙◌, arith}
 use Rattle.std.specs.List.{flat_map, AllByRecursion}
 use Rattle.std.proofs.lemmas.List.{length-append, length-replicate}
 use Rattle.std.proofs.lemmas.Bool.{lt-ltb, le-ltb}
@@ -8,21 +8,23 @@ use Rattle.byteorder.specs.Numbers.{little_number-reads_back}
 use Rattle.batch_log.specs.declared.header.Kind.{Kind}
 use Rattle.batch_log.specs.declared.header.Kind.TheVariants.{Host, Move}
 use Rattle.batch_log.specs.declared.header.Entry.{Entry}
-use Rattle.batch_log.specs.Header.{Heading, IsHeading, head_size, header_block, entry_bytes, entry_word, trim_bit, kind_code}
+use Rattle.batch_log.specs.Header.{Heading, head_size, header_block, entry_bytes, entry_word, trim_bit, kind_code}
+use Rattle.batch_log.specs.LogLaws.{HeaderAgain, OneHeader, HeaderLength}
+use Rattle.batch_log.proofs.Writing.{length-entries}
 use Rattle.batch_log.specs.Log.{kind_of, entry_of, entries_in, heading_in}
 
 entry_again : (e : Entry) → e.block < 2 ^ 63 → entry_of (entry_word e) ≡ e
 entry_again e lt = again e.trim
   where
-  again : (trim : Bool) → entry_of (e.block + trim_bit trim) ≡ record { block = e.block; trim = trim }
-  again true =
-      let test : ltb (e.block + 2 ^ 63) (2 ^ 63) ≡ false = le-ltb _ _ (omega arith) in
-      let back : e.block + 2 ^ 63 - 2 ^ 63 ≡ e.block = omega arith in
-      rw (test, back) refl
-  again false =
-      let same : e.block + 0 ≡ e.block = omega arith in
-      let test : ltb e.block (2 ^ 63) ≡ true = lt-ltb _ _ lt in
-      rw (same, test) refl
+    again : (trim : Bool) → entry_of (e.block + trim_bit trim) ≡ record { block = e.block; trim = trim }
+    again true =
+        let test : ltb (e.block + 2 ^ 63) (2 ^ 63) ≡ false = le-ltb _ _ (omega arith) in
+        let back : e.block + 2 ^ 63 - 2 ^ 63 ≡ e.block = omega arith in
+        rw (test, back) refl
+    again false =
+        let same : e.block + 0 ≡ e.block = omega arith in
+        let test : ltb e.block (2 ^ 63) ≡ true = lt-ltb _ _ lt in
+        rw (same, test) refl
 
 word_fits : (e : Entry) → e.block < 2 ^ 63 → entry_word e < 256 ^ 8
 word_fits e lt = elim e.trim as (λ t. e.block + trim_bit t < 256 ^ 8) [ true ↦ omega arith | false ↦ omega arith ]
@@ -39,37 +41,33 @@ kind_again : (k : Kind) → kind_of (little_from 0 2 (little_bytes 2 (kind_code 
 kind_again Host = refl
 kind_again Move = refl
 
-made : Kind → ℕ → ℕ → List Entry → Heading
+-- a heading, and that it is given by its parts
+abbrev pub made : Kind → ℕ → ℕ → List Entry → Heading
 made kind sequence source entries = record { kind = kind; sequence = sequence; source = source; entries = entries }
 
-same_heading : (k k' : Kind) (s s' o o' : ℕ) (es es' : List Entry) → k ≡ k' → s ≡ s' → o ≡ o' → es ≡ es' → made k s o es ≡ made k' s' o' es'
-unfolding made
+pub same_heading : (k k' : Kind) (s s' o o' : ℕ) (es es' : List Entry) → k ≡ k' → s ≡ s' → o ≡ o' → es ≡ es' → made k s o es ≡ made k' s' o' es'
 same_heading k k' s s' o o' es es' e1 e2 e3 e4 = rw (e1, e2, e3, e4) refl
 
-pub header_again : (size : ℕ) (h : Heading) → size < 2 ^ 32 → IsHeading size h → heading_in (header_block size h) ≡ h
-unfolding heading_in header_block made
+pub header_again : HeaderAgain
+unfolding heading_in header_block
 header_again size h small is =
-    let zeros = replicate (size - 32 - 8 * length h.entries) 0 in
-    let more = flat_map entry_bytes h.entries ++ zeros in
-    let behind_source = replicate 4 0 ++ more in
-    let behind_sequence = little_bytes 4 h.source ++ behind_source in
-    let behind_count = little_bytes 8 h.sequence ++ behind_sequence in
+    let zeros : List ℕ = replicate (size - head_size - 8 * length h.entries) 0 in
+    let more : List ℕ = flat_map entry_bytes h.entries ++ zeros in
+    let behind_source : List ℕ = replicate 4 0 ++ more in
+    let behind_sequence : List ℕ = little_bytes 4 h.source ++ behind_source in
+    let behind_count : List ℕ = little_bytes 8 h.sequence ++ behind_sequence in
     let count : little_from 0 4 (little_bytes 4 (length h.entries) ++ behind_count) ≡ length h.entries = little_number-reads_back 4 (length h.entries) behind_count (omega (arith, is.room)) in
     let sequence : little_from 0 8 (little_bytes 8 h.sequence ++ behind_sequence) ≡ h.sequence = little_number-reads_back 8 h.sequence behind_sequence (omega (arith, is.sequence)) in
     let source : little_from 0 4 (little_bytes 4 h.source ++ behind_source) ≡ h.source = little_number-reads_back 4 h.source behind_source (omega (arith, is.source)) in
     let entries = ap (λ (n : ℕ). entries_in n more) count ∙ entries_again h.entries zeros is.blocks in
     same_heading _ _ _ _ _ _ _ _ (kind_again h.kind) sequence source entries
 
-pub one_header : (size : ℕ) (h k : Heading) → size < 2 ^ 32 → IsHeading size h → IsHeading size k → header_block size h ≡ header_block size k → h ≡ k
+pub one_header : OneHeader
 one_header size h k small is is' same = sym (header_again size h small is) ∙ ap heading_in same ∙ header_again size k small is'
 
-length-entries : (es : List Entry) → length (flat_map entry_bytes es) ≡ 8 * length es
-length-entries [] = refl
-length-entries (e ∷ es) = let rest = length-entries es in omega (arith, rest)
-
-pub length-header_block : (size : ℕ) (h : Heading) → 32 ≤ size → IsHeading size h → length (header_block size h) ≡ size
+pub header_length : HeaderLength
 unfolding header_block
-length-header_block size h le is =
+header_length size h le is =
     let zeros : List ℕ = replicate (size - head_size - 8 * length h.entries) 0 in
     let both : length (flat_map entry_bytes h.entries ++ zeros) ≡ length (flat_map entry_bytes h.entries) + length zeros = length-append (flat_map entry_bytes h.entries) zeros in
     let rest : length zeros ≡ size - head_size - 8 * length h.entries = length-replicate (size - head_size - 8 * length h.entries) 0 in

@@ -1,2 +1,7 @@
 pub mod HeaderLaws
-pub mod ReadingLaws
+pub mod LogLaws
+pub mod Writing
+pub mod HeaderReading
+pub mod DistinctLaws
+pub mod BatchReading
+pub mod RestLaws

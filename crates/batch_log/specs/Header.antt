@@ -23,11 +23,11 @@ head_size = 32
 
 -- how many entries a header block of so many bytes can hold
 abbrev pub entry_room : ℕ → ℕ
-entry_room size = (size - head_size) / 8
+entry_room block_bytes = (block_bytes - head_size) / 8
 
--- A header that a block of `size` bytes can spell: numbers in range, no source zone for a Host batch, and each block named at most once.
-pub record IsHeading (size : ℕ) (heading : Heading) : Type 0 where
-  pub room : length heading.entries ≤ entry_room size
+-- A header that a block of `block_bytes` bytes can spell: numbers in range, no source zone for a Host batch, and each block named at most once.
+pub record IsHeading (block_bytes : ℕ) (heading : Heading) : Type 0 where
+  pub room : length heading.entries ≤ entry_room block_bytes
   pub sequence : heading.sequence < 2 ^ 64
   pub source : heading.source < 2 ^ 32
   pub host : heading.kind ≡ Host → heading.source ≡ 0
@@ -65,12 +65,12 @@ head_bytes kind count sequence source =
 
 -- the head, the entries, and zeros up to the end of the block
 unfoldable pub header_block : ℕ → Heading → List ℕ
-header_block size heading =
+header_block block_bytes heading =
     head_bytes heading.kind (length heading.entries) heading.sequence heading.source
     ++ flat_map entry_bytes heading.entries
-    ++ replicate (size - head_size - 8 * length heading.entries) 0
+    ++ replicate (block_bytes - head_size - 8 * length heading.entries) 0
 
--- a block of `size` bytes is the header block of this heading
-pub record IsHeaderBlock (size : ℕ) (block : List ℕ) (heading : Heading) : Type 0 where
-  pub says : IsHeading size heading
-  pub spelled : block ≡ header_block size heading
+-- a block of `block_bytes` bytes is the header block of this heading
+pub record IsHeaderBlock (block_bytes : ℕ) (block : List ℕ) (heading : Heading) : Type 0 where
+  pub says : IsHeading block_bytes heading
+  pub spelled : block ≡ header_block block_bytes heading

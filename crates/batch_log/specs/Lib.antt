@@ -1,3 +1,4 @@
 pub mod Header
 pub mod Log
 pub mod LogLaws
+pub mod Reference

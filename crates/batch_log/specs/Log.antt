@@ -1,5 +1,5 @@
 -- The batches that a list of blocks spells.
-use Rattle.std.specs.Prelude.{◌≡◌, ℕ, zero, suc, ◌+◌, ◌-◌, ◌*◌, ◌<◌, ◌^◌, ◌==◌, nat_lt, if◌then◌else◌, Bool, true, false, List, [], ◌∷◌, ◌++◌, length, replicate, take, drop, slice_index}
+use Rattle.std.specs.Prelude.{◌≡◌, ℕ, zero, suc, ◌+◌, ◌-◌, ◌^◌, ◌==◌, ◌&&◌, nat_lt, nat_le, if◌then◌else◌, Bool, true, false, List, [], ◌∷◌, ◌++◌, length, replicate, take, drop, slice_index}
 use Rattle.std.specs.List.{flat_map, AllByRecursion}
 use Rattle.byteorder.specs.Endian.{little_from}
 use Rattle.batch_log.specs.declared.header.Kind.{Kind}
@@ -22,14 +22,14 @@ abbrev pub data_count : List Entry → ℕ
 data_count [] = 0
 data_count (e ∷ es) = one_unless e.trim + data_count es
 
--- a batch that blocks of `size` bytes can spell
-pub record IsBatch (size : ℕ) (batch : Batch) : Type 0 where
-  pub heading : IsHeading size batch.heading
+-- A batch that blocks of `block_bytes` bytes can spell. Its data blocks are taken as they are: that each has `block_bytes` bytes is the drive's matter.
+pub record IsBatch (block_bytes : ℕ) (batch : Batch) : Type 0 where
+  pub heading : IsHeading block_bytes batch.heading
   pub body : length batch.body ≡ data_count batch.heading.entries
 
 -- the blocks of a batch: its header block, then its data
 abbrev pub batch_blocks : ℕ → Batch → List (List ℕ)
-batch_blocks size batch = header_block size batch.heading ∷ batch.body
+batch_blocks block_bytes batch = header_block block_bytes batch.heading ∷ batch.body
 
 -- how many blocks a batch takes, and a list of batches
 abbrev pub batch_size : Batch → ℕ
@@ -40,14 +40,31 @@ log_size [] = 0
 log_size (batch ∷ log) = batch_size batch + log_size log
 
 abbrev pub zero_block : ℕ → List ℕ
-zero_block size = replicate size 0
+zero_block block_bytes = replicate block_bytes 0
 
--- The blocks are these batches, spelled one after the other. In a full zone zero blocks may stand behind the last batch; elsewhere nothing may.
-pub record IsLog (size : ℕ) (is_full : Bool) (blocks : List (List ℕ)) (log : List Batch) : Type 0 where
-  pub rest : ℕ
-  pub spelled : blocks ≡ flat_map (batch_blocks size) log ++ replicate rest (zero_block size)
-  pub end : is_full ≡ false → rest ≡ 0
-  pub batches : AllByRecursion (IsBatch size) log
+-- the blocks are these batches, spelled one after the other, and a tail
+pub record BeginsWith (block_bytes : ℕ) (blocks : List (List ℕ)) (log : List Batch) (tail : List (List ℕ)) : Type 0 where
+  pub spelled : blocks ≡ flat_map (batch_blocks block_bytes) log ++ tail
+  pub batches : AllByRecursion (IsBatch block_bytes) log
+
+-- the blocks begin with no batch
+abbrev pub BeginsWithNoBatch : ℕ → List (List ℕ) → Type 0
+BeginsWithNoBatch block_bytes blocks = (batch : Batch) (behind : List (List ℕ)) → IsBatch block_bytes batch → blocks ≡ batch_blocks block_bytes batch ++ behind → ⊥
+
+-- what may stand behind the last batch: in a full zone zero blocks, elsewhere nothing
+abbrev pub IsTail : ℕ → Bool → List (List ℕ) → Type 0
+IsTail block_bytes false tail = tail ≡ []
+IsTail block_bytes true tail = tail ≡ replicate (length tail) (zero_block block_bytes)
+
+-- the blocks are the batches of a log and its tail
+pub record IsLog (block_bytes : ℕ) (is_full : Bool) (blocks : List (List ℕ)) (log : List Batch) : Type 0 where
+  pub tail : List (List ℕ)
+  pub front : BeginsWith block_bytes blocks log tail
+  pub end : IsTail block_bytes is_full tail
+
+-- the blocks have no log
+abbrev pub HaveNoLog : ℕ → Bool → List (List ℕ) → Type 0
+HaveNoLog block_bytes is_full blocks = (log : List Batch) → IsLog block_bytes is_full blocks log → ⊥
 
 -- ---- the batches, read
 --
@@ -74,12 +91,16 @@ heading_in block = record {
 abbrev pub batch_in : List ℕ → List (List ℕ) → Batch
 batch_in block behind = record { heading = heading_in block; body = take (data_count (heading_in block).entries) behind }
 
+-- a block that begins as a header does, with as many data blocks behind it as its entries need
+abbrev pub begins_batch : List ℕ → List (List ℕ) → Bool
+begins_batch block behind = slice_index block 0 == 0x5a && nat_le (data_count (heading_in block).entries) (length behind)
+
 -- the batches from the first block on that isn't skipped: the data of a batch is skipped by count and never looked at
 abbrev pub log_from : ℕ → List (List ℕ) → List Batch
 log_from skip [] = []
 log_from (suc skip) (block ∷ blocks) = log_from skip blocks
 log_from zero (block ∷ blocks) =
-    if slice_index block 0 == 0x5a then batch_in block blocks ∷ log_from (data_count (heading_in block).entries) blocks else []
+    if begins_batch block blocks then batch_in block blocks ∷ log_from (data_count (heading_in block).entries) blocks else []
 
 abbrev pub log_of : List (List ℕ) → List Batch
 log_of blocks = log_from 0 blocks

@@ -6,5 +6,10 @@
 
 mod header;
 pub mod laws;
+pub mod reference;
+mod spelling;
+#[cfg(test)]
+mod tests;
 
 pub use header::{Entry, Header, Kind};
+pub use spelling::header_bytes;

@@ -1,14 +1,22 @@
 -- What the typed calls answer: each is one submit of its command.
-use Rattle.std.specs.Prelude.{◌≡◌, ◌≢◌, ℕ, ◌*◌, ◌/◌, ◌≤◌, true, List, [], length, Result, Ok, Err}
+use Rattle.std.specs.Prelude.{◌≡◌, ◌≢◌, ℕ, ◌+◌, ◌-◌, ◌/◌, ◌*◌, ◌%◌, ◌≤◌, ◌<◌, Bool, true, false, List, [], length, count_by, slice_set, Result, Ok, Err}
+use Rattle.std.specs.List.{remove}
 use Rattle.nvme_wire.specs.declared.command.Action.{Action}
+use Rattle.nvme_wire.specs.declared.command.Action.TheVariants.{Close, Finish, Reset}
+use Rattle.nvme_wire.specs.declared.command.Choice.{Choice}
 use Rattle.nvme_wire.specs.declared.command.Command.{Command}
-use Rattle.nvme_wire.specs.declared.command.Command.TheVariants.{Append, Read, Send}
-use Rattle.nvme_wire.specs.declared.status.Status.{Status}
+use Rattle.nvme_wire.specs.declared.command.Command.TheVariants.{Append, Read, Receive, Send}
 use Rattle.nvme_wire.specs.declared.status.Status.TheVariants.{Success}
+use Rattle.nvme_wire.specs.declared.zone_state.ZoneState.TheVariants.{Closed, Empty, Offline}
+use Rattle.zone_states.specs.declared.geometry.Geometry.{Geometry}
+use Rattle.zone_states.specs.Transition.{is_active}
+use Rattle.zone_states.specs.Zone.{Zone, cut_blocks}
+use Rattle.zone_report.specs.Report.{is_chosen, report}
 use Rattle.drive_port.specs.declared.calls.PortFault.{PortFault}
 use Rattle.drive_port.specs.declared.calls.PortFault.TheVariants.{Refused, Memory, Stopped}
-use Rattle.drive_port.specs.Drive.{DriveState}
-use Rattle.drive_port.specs.Step.{Performs}
+use Rattle.drive_port.specs.Drive.{DriveState, IsClosing, active_count, open_count}
+use Rattle.drive_port.specs.Step.{Performs, end_of, is_state, zone_at}
+use Rattle.drive_port.specs.Contents.{Appends, Counts, Finishes, Resets, content_at, contents, is_usable, is_writable, usage_of}
 
 -- One submit of this command: it succeeded, or its status, or memory, or the stop. Nothing changes where no command was completed.
 abbrev pub CallGives : DriveState → Command → List ℕ → Result ℕ PortFault → List ℕ → DriveState → Type 0
@@ -17,11 +25,102 @@ CallGives old command bytes (Err (Refused status)) returned new = (status ≢ Su
 CallGives old command bytes (Err Memory) returned new = (returned ≡ []) × (new ≡ old)
 CallGives old command bytes (Err Stopped) returned new = (old.stopped ≡ true) × (returned ≡ []) × (new ≡ old)
 
+-- the answer of a call whose command has no result: that is 0
+abbrev pub with_zero : {V : Type 0} → Result V PortFault → Result ℕ PortFault
+with_zero (Ok value) = Ok 0
+with_zero (Err fault) = Err fault
+
 -- 1 to 65,536 whole blocks
 pub record IsWholeBlocks (block : ℕ) (bytes : List ℕ) : Type 0 where
   pub whole : length bytes ≡ length bytes / block * block
   pub some : 1 ≤ length bytes / block
   pub few : length bytes / block ≤ 65536
+
+-- how many blocks these are
+abbrev pub block_count : Geometry → List ℕ → ℕ
+block_count geometry bytes = length bytes / geometry.block
+
+-- ---- the calls
+
+-- one Append of all these bytes
+abbrev pub AppendGives : DriveState → ℕ → List ℕ → Result ℕ PortFault → DriveState → Type 0
+AppendGives old start bytes result new =
+    (returned : List ℕ) × CallGives old (Append start (block_count old.geometry bytes)) bytes result returned new
+
+-- one Read
+abbrev pub ReadGives : {V : Type 0} → DriveState → ℕ → ℕ → Result V PortFault → List ℕ → DriveState → Type 0
+ReadGives old address blocks result returned new = CallGives old (Read address blocks) [] (with_zero result) returned new
+
+-- one Zone Management Send to one zone
+abbrev pub SendGives : {V : Type 0} → DriveState → ℕ → Action → Result V PortFault → DriveState → Type 0
+SendGives old start action result new = (returned : List ℕ) × CallGives old (Send start action false) [] (with_zero result) returned new
+
+-- one Finish of one zone
+abbrev pub FinishGives : {V : Type 0} → DriveState → ℕ → Result V PortFault → DriveState → Type 0
+FinishGives old start result new = SendGives old start Finish result new
+
+-- one Close of one zone
+abbrev pub CloseGives : {V : Type 0} → DriveState → ℕ → Result V PortFault → DriveState → Type 0
+CloseGives old start result new = SendGives old start Close result new
+
+-- one Reset of one zone
+abbrev pub ResetGives : {V : Type 0} → DriveState → ℕ → Result V PortFault → DriveState → Type 0
+ResetGives old start result new = SendGives old start Reset result new
+
+-- one report
+abbrev pub ReportGives : {V : Type 0} → DriveState → ℕ → Choice → Bool → ℕ → Result V PortFault → List ℕ → DriveState → Type 0
+ReportGives old address choice partial dwords result returned new = CallGives old (Receive address dwords choice partial) [] (with_zero result) returned new
+
+-- These bytes were appended to the zone that starts there: they lie at an address just behind what was written.
+pub record Appended (old new : DriveState) (start : ℕ) (bytes : List ℕ) (address : ℕ) : Type 0 where
+  pub geometry : new.geometry ≡ old.geometry
+  pub counts : Counts old new 1
+  pub address_is : address ≡ start + length (content_at (contents old.zones) (start / old.geometry.size)).blocks
+  pub contents : Appends (contents old.zones) (contents new.zones) old.geometry.capacity (start / old.geometry.size) (cut_blocks old.geometry.block (block_count old.geometry bytes) bytes)
+
+-- The zone that starts there is full.
+pub record Finished (old new : DriveState) (start : ℕ) : Type 0 where
+  pub geometry : new.geometry ≡ old.geometry
+  pub counts : Counts old new 0
+  pub contents : Finishes (contents old.zones) (contents new.zones) (start / old.geometry.size)
+
+-- The zone that starts there was opened or Closed, and is Closed.
+pub record ClosedZone (old new : DriveState) (start : ℕ) : Type 0 where
+  pub geometry : new.geometry ≡ old.geometry
+  pub counts : Counts old new 0
+  pub in_range : start / old.geometry.size < length old.zones
+  pub active : is_active (zone_at old.zones (start / old.geometry.size)).state ≡ true
+  pub zones : IsClosing (slice_set old.zones (start / old.geometry.size) (record { state = Closed; blocks = (zone_at old.zones (start / old.geometry.size)).blocks })) new.zones
+
+-- The zone that starts there is Empty.
+pub record ResetZone (old new : DriveState) (start : ℕ) : Type 0 where
+  pub geometry : new.geometry ≡ old.geometry
+  pub counts : Counts old new 0
+  pub contents : Resets (contents old.zones) (contents new.zones) (start / old.geometry.size)
+  pub zones : IsClosing (slice_set old.zones (start / old.geometry.size) (record { state = Empty; blocks = [] })) new.zones
+
+-- These bytes are the report of the zones as they stood at a moment of the call: a closing of those before it, which those after it are a closing of.
+pub record Reported (old new : DriveState) (address : ℕ) (choice : Choice) (partial : Bool) (dwords : ℕ) (bytes : List ℕ) : Type 0 where
+  pub geometry : new.geometry ≡ old.geometry
+  pub counts : Counts old new 0
+  pub in_range : address < end_of old.geometry
+  pub zones : List Zone
+  pub before : IsClosing old.zones zones
+  pub bytes_are : bytes ≡ report old.geometry zones address choice partial dwords
+  pub after : IsClosing zones new.zones
+
+-- how many zones a report names
+abbrev pub chosen_count : Choice → List Zone → ℕ
+chosen_count choice zones = count_by (λ zone. is_chosen choice zone.state) zones
+
+-- So many zones were chosen, as the zones stood at a moment of the call.
+pub record Counted (old new : DriveState) (choice : Choice) (number : ℕ) : Type 0 where
+  pub geometry : new.geometry ≡ old.geometry
+  pub counts : Counts old new 0
+  pub zones : List Zone
+  pub before : IsClosing old.zones zones
+  pub number_is : number ≡ chosen_count choice zones
+  pub after : IsClosing zones new.zones
 
 -- ---- when a drive has to take a command
 
@@ -44,6 +143,18 @@ pub record CanRead (drive : DriveState) (address blocks : ℕ) : Type 0 where
 
 -- It takes a Finish of a zone that is usable.
 pub record CanFinish (drive : DriveState) (start : ℕ) : Type 0 where
+  pub aligned : start % drive.geometry.size ≡ 0
+  pub in_range : start < end_of drive.geometry
+  pub usable : is_usable (usage_of (zone_at drive.zones (start / drive.geometry.size)).state) ≡ true
+
+-- It takes a Close of a zone that is opened or Closed.
+pub record CanClose (drive : DriveState) (start : ℕ) : Type 0 where
+  pub aligned : start % drive.geometry.size ≡ 0
+  pub in_range : start < end_of drive.geometry
+  pub active : is_active (zone_at drive.zones (start / drive.geometry.size)).state ≡ true
+
+-- It takes a Reset of a zone that is usable.
+pub record CanReset (drive : DriveState) (start : ℕ) : Type 0 where
   pub aligned : start % drive.geometry.size ≡ 0
   pub in_range : start < end_of drive.geometry
   pub usable : is_usable (usage_of (zone_at drive.zones (start / drive.geometry.size)).state) ≡ true

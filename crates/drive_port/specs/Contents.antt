@@ -1,9 +1,10 @@
 -- What a drive's zones hold, which a closing does not change.
-use Rattle.std.specs.Prelude.{◌≡◌, ℕ, ◌+◌, ◌/◌, ◌%◌, ◌<◌, ◌≤◌, ◌==◌, Bool, true, false, if◌then◌else◌, List, [], ◌∷◌, ◌++◌, map, length, slice_set, slice_index_or}
+use Rattle.std.specs.Prelude.{◌≡◌, ℕ, ◌+◌, ◌/◌, ◌%◌, ◌<◌, ◌≤◌, ◌==◌, Bool, true, false, if◌then◌else◌, List, [], ◌++◌, map, length, slice_set, slice_index_or}
+use Rattle.std.specs.List.{AllByRecursion}
 use Rattle.nvme_wire.specs.declared.zone_state.ZoneState.{ZoneState}
 use Rattle.nvme_wire.specs.declared.zone_state.ZoneState.TheVariants as states
 use Rattle.zone_states.specs.declared.geometry.Geometry.{Geometry}
-use Rattle.zone_states.specs.Zone.{Zone, cut_blocks}
+use Rattle.zone_states.specs.Zone.{Zone}
 use Rattle.drive_port.specs.Drive.{DriveState}
 use Rattle.drive_port.specs.Step.{block_in, bytes_from}
 
@@ -60,6 +61,10 @@ finished content = record { usage = full; blocks = content.blocks }
 abbrev pub emptied : Content
 emptied = record { usage = empty; blocks = [] }
 
+-- nothing is written, and no zone is opened, Closed, full or unusable
+abbrev pub AreEmpty : List Content → Type 0
+AreEmpty contents = AllByRecursion (λ content. content ≡ emptied) contents
+
 -- ---- what the commands change
 
 -- a zone that could be written has these blocks more, and all others are as they were
@@ -74,6 +79,12 @@ pub record Finishes (old new : List Content) (index : ℕ) : Type 0 where
   pub in_range : index < length old
   pub usable : is_usable (content_at old index).usage ≡ true
   pub zones : new ≡ slice_set old index (finished (content_at old index))
+
+-- a zone that was usable is empty, and all others are as they were
+pub record Resets (old new : List Content) (index : ℕ) : Type 0 where
+  pub in_range : index < length old
+  pub usable : is_usable (content_at old index).usage ≡ true
+  pub zones : new ≡ slice_set old index emptied
 
 -- nothing but closings, and the geometry is the same
 pub record SameContents (old new : DriveState) : Type 0 where

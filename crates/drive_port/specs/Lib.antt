@@ -3,6 +3,7 @@ pub mod Step
 pub mod Run
 pub mod Contents
 pub mod Calls
+pub mod Blank
 pub use Rattle.zone_states.specs.Zone
 pub use Rattle.zone_states.specs.Geometry
 pub use Rattle.zone_states.specs.Transition

@@ -178,21 +178,21 @@ outcome geometry zones (Ok Flush) bytes = done [] zones
 outcome geometry zones (Ok (Read slba blocks)) bytes =
     let zone = zone_at zones (slba / geometry.size) in
     unless_refused (first_failing (read_checks geometry zone slba blocks)) zones
-      (done (bytes_from geometry.block zone.blocks (slba % geometry.size) blocks) zones)
+    (done (bytes_from geometry.block zone.blocks (slba % geometry.size) blocks) zones)
 outcome geometry zones (Ok (Write slba blocks)) bytes =
     let index = slba / geometry.size in
     unless_refused (first_failing (write_checks geometry zones (zone_at zones index) slba blocks bytes)) zones
-      (done [] (write_effect geometry zones index blocks bytes))
+    (done [] (write_effect geometry zones index blocks bytes))
 outcome geometry zones (Ok (Append zslba blocks)) bytes =
     let index = zslba / geometry.size in
     unless_refused (first_failing (append_checks geometry zones (zone_at zones index) zslba blocks bytes)) zones
-      (record (done [] (write_effect geometry zones index blocks bytes)) { value = zslba + length (zone_at zones index).blocks })
+    (record (done [] (write_effect geometry zones index blocks bytes)) { value = zslba + length (zone_at zones index).blocks })
 outcome geometry zones (Ok (Send slba action true)) bytes = done [] (map (sent_zone action) zones)
 outcome geometry zones (Ok (Send slba action false)) bytes =
     let index = slba / geometry.size in
     let zone = zone_at zones index in
     unless_refused (first_failing (send_checks geometry zones zone slba action)) zones
-      (done [] (slice_set zones index (zone_after action zone (state_after zone.state action))))
+    (done [] (slice_set zones index (zone_after action zone (state_after zone.state action))))
 outcome geometry zones (Ok (Receive slba dwords choice partial)) bytes =
     unless_refused (first_failing (receive_checks geometry slba)) zones (done (report geometry zones slba choice partial dwords) zones)
 

@@ -1,9 +1,13 @@
-ghost use Rattle.std.specs.Prelude.{◌≡◌};
+ghost use Rattle.std.specs.Prelude.{◌≡◌, ◌*◌, ◌<◌, ◌≤◌, ◌^◌, true, false, [], length, Err, IfOk, OnOk, OnErr};
 ghost use Rattle.nvme_wire.specs.Entry.{IsAdmitted};
-ghost use Rattle.drive_port.specs.Calls.{CallGives};
+ghost use Rattle.drive_port.specs.Drive.{IsLawful};
+ghost use Rattle.drive_port.specs.Step.{end_of};
+ghost use Rattle.drive_port.specs.Contents.{AreEmpty, Counts, SameContents, bytes_at, contents};
+ghost use Rattle.drive_port.specs.Calls.{Appended, AppendGives, CallGives, CanAppend, CanClose, CanFinish, CanRead, CanReset, CloseGives, ClosedZone, Counted, Finished, FinishGives, IsTaken, IsWholeBlocks, ReadGives, ReportGives, Reported, ResetGives, ResetZone, SendGives, block_count};
 
 use crate::device::{Device, Halt};
-use nvme_wire::{Command, Completion, Status};
+use nvme_wire::{Action, Choice, Command, Completion, ReportHead, Status, ZoneState};
+use std::alloc::Global;
 
 /// Why a typed call has no result.
 #[derive(Clone, Copy, Debug, PartialEq, Eq)]
@@ -24,7 +28,10 @@ fn call<D: Device>(
     into: &mut Vec<u8>,
 ) -> Result<u64, PortFault>
     requires { IsAdmitted command.now }
-    ensures { CallGives (D.drive device.old) command.now bytes.now result into.new.items (D.drive device.new) }
+    ensures gives { CallGives (D.drive device.old) command.now bytes.now result into.new.items (D.drive device.new) }
+    ensures stopped { (D.drive device.old).stopped ≡ true → result ≡ Err PortFault.Stopped }
+    ensures was_lawful { IsLawful (D.drive device.old) }
+    ensures lawful { IsLawful (D.drive device.new) }
 {
     let entry = command.encode(0);
     match device.submit(&entry, bytes, into) {
@@ -37,5 +44,181 @@ fn call<D: Device>(
         },
         Err(Halt::Memory) => Err(PortFault::Memory),
         Err(Halt::Stopped) => Err(PortFault::Stopped),
+    }
+}
+
+/// Appends these whole blocks, 1 to 65,536 of them, to the zone that starts there, and answers the
+/// address of the first (Zoned Namespace Command Set 1.1, section 3.4.1).
+pub fn append<D: Device>(
+    alloc: Global,
+    device: &mut D,
+    zone_start: u64,
+    bytes: &[u8],
+) -> Result<u64, PortFault>
+    requires whole { IsWholeBlocks (D.drive device.old).geometry.block bytes.now }
+    ensures gives { AppendGives (D.drive device.old) zone_start bytes.now result (D.drive device.new) }
+    ensures appended { IfOk result (λ address. Appended (D.drive device.old) (D.drive device.new) zone_start bytes.now address) }
+    ensures err { OnErr result (SameContents (D.drive device.old) (D.drive device.new)) }
+    ensures taken { CanAppend (D.drive device.old) zone_start (block_count (D.drive device.old).geometry bytes.now) → IsTaken result }
+    ensures stopped { (D.drive device.old).stopped ≡ true → result ≡ Err PortFault.Stopped }
+    ensures was_lawful { IsLawful (D.drive device.old) }
+    ensures lawful { IsLawful (D.drive device.new) }
+{
+    let blocks = bytes.len() / device.geometry().block as usize;
+    let command = Command::Append {
+        zslba: zone_start,
+        blocks: blocks as u32,
+    };
+    let mut into = Vec::new(alloc);
+    call(device, &command, bytes, &mut into)
+}
+
+/// Reads 1 to 65,536 blocks from an address on: `into` holds their bytes, zeros for what is not
+/// written, and nothing after a refusal (NVM Command Set 1.0, section 3.2.4).
+pub fn read<D: Device>(
+    device: &mut D,
+    slba: u64,
+    blocks: u32,
+    into: &mut Vec<u8>,
+) -> Result<(), PortFault>
+    requires some { 1 ≤ blocks }
+    requires few { blocks ≤ 65536 }
+    ensures gives { ReadGives (D.drive device.old) slba blocks result into.new.items (D.drive device.new) }
+    ensures shown { OnOk result (into.new.items ≡ bytes_at (D.drive device.old).geometry (contents (D.drive device.old).zones) slba blocks) }
+    ensures length { OnOk result (length into.new.items ≡ blocks * (D.drive device.old).geometry.block) }
+    ensures counts { OnOk result (Counts (D.drive device.old) (D.drive device.new) 0) }
+    ensures err { OnErr result (into.new.items ≡ []) }
+    ensures kept { SameContents (D.drive device.old) (D.drive device.new) }
+    ensures taken { CanRead (D.drive device.old) slba blocks → IsTaken result }
+    ensures stopped { (D.drive device.old).stopped ≡ true → result ≡ Err PortFault.Stopped }
+    ensures was_lawful { IsLawful (D.drive device.old) }
+    ensures lawful { IsLawful (D.drive device.new) }
+{
+    call(device, &Command::Read { slba, blocks }, &[], into)?;
+    Ok(())
+}
+
+// One Zone Management Send to the zone that starts there.
+fn send<D: Device>(
+    alloc: Global,
+    device: &mut D,
+    zone_start: u64,
+    action: Action,
+) -> Result<(), PortFault>
+    requires { IsAdmitted (Command.Send zone_start action false) }
+    ensures gives { SendGives (D.drive device.old) zone_start action result (D.drive device.new) }
+    ensures stopped { (D.drive device.old).stopped ≡ true → result ≡ Err PortFault.Stopped }
+    ensures was_lawful { IsLawful (D.drive device.old) }
+    ensures lawful { IsLawful (D.drive device.new) }
+{
+    let command = Command::Send {
+        slba: zone_start,
+        action,
+        all: false,
+    };
+    let mut into = Vec::new(alloc);
+    call(device, &command, &[], &mut into)?;
+    Ok(())
+}
+
+/// Makes the zone that starts there full, with the blocks that it has (Zoned Namespace Command Set
+/// 1.1, section 3.4.3).
+pub fn finish<D: Device>(alloc: Global, device: &mut D, zone_start: u64) -> Result<(), PortFault>
+    ensures gives { FinishGives (D.drive device.old) zone_start result (D.drive device.new) }
+    ensures finished { OnOk result (Finished (D.drive device.old) (D.drive device.new) zone_start) }
+    ensures err { OnErr result (SameContents (D.drive device.old) (D.drive device.new)) }
+    ensures taken { CanFinish (D.drive device.old) zone_start → IsTaken result }
+    ensures stopped { (D.drive device.old).stopped ≡ true → result ≡ Err PortFault.Stopped }
+    ensures was_lawful { IsLawful (D.drive device.old) }
+    ensures lawful { IsLawful (D.drive device.new) }
+{
+    send(alloc, device, zone_start, Action::Finish)
+}
+
+/// Closes the zone that starts there, which is opened or Closed (Zoned Namespace Command Set 1.1,
+/// section 3.4.3).
+pub fn close<D: Device>(alloc: Global, device: &mut D, zone_start: u64) -> Result<(), PortFault>
+    ensures gives { CloseGives (D.drive device.old) zone_start result (D.drive device.new) }
+    ensures closed { OnOk result (ClosedZone (D.drive device.old) (D.drive device.new) zone_start) }
+    ensures kept { SameContents (D.drive device.old) (D.drive device.new) }
+    ensures taken { CanClose (D.drive device.old) zone_start → IsTaken result }
+    ensures stopped { (D.drive device.old).stopped ≡ true → result ≡ Err PortFault.Stopped }
+    ensures was_lawful { IsLawful (D.drive device.old) }
+    ensures lawful { IsLawful (D.drive device.new) }
+{
+    send(alloc, device, zone_start, Action::Close)
+}
+
+/// Makes the zone that starts there Empty (Zoned Namespace Command Set 1.1, section 3.4.3).
+pub fn reset<D: Device>(alloc: Global, device: &mut D, zone_start: u64) -> Result<(), PortFault>
+    ensures gives { ResetGives (D.drive device.old) zone_start result (D.drive device.new) }
+    ensures reset { OnOk result (ResetZone (D.drive device.old) (D.drive device.new) zone_start) }
+    ensures err { OnErr result (SameContents (D.drive device.old) (D.drive device.new)) }
+    ensures taken { CanReset (D.drive device.old) zone_start → IsTaken result }
+    ensures stopped { (D.drive device.old).stopped ≡ true → result ≡ Err PortFault.Stopped }
+    ensures was_lawful { IsLawful (D.drive device.old) }
+    ensures lawful { IsLawful (D.drive device.new) }
+{
+    send(alloc, device, zone_start, Action::Reset)
+}
+
+/// Reports the chosen zones from the one that holds an address on, in a buffer of `dwords` dwords:
+/// `into` holds its bytes, and nothing after a refusal (Zoned Namespace Command Set 1.1, section
+/// 3.4.2).
+pub fn report<D: Device>(
+    device: &mut D,
+    slba: u64,
+    choice: Choice,
+    partial: bool,
+    dwords: u64,
+    into: &mut Vec<u8>,
+) -> Result<(), PortFault>
+    requires head { 16 ≤ dwords }
+    requires few { dwords ≤ 2 ^ 32 }
+    ensures gives { ReportGives (D.drive device.old) slba choice partial dwords result into.new.items (D.drive device.new) }
+    ensures shown { OnOk result (Reported (D.drive device.old) (D.drive device.new) slba choice partial dwords into.new.items) }
+    ensures length { OnOk result (length into.new.items ≡ 4 * dwords) }
+    ensures err { OnErr result (into.new.items ≡ []) }
+    ensures kept { SameContents (D.drive device.old) (D.drive device.new) }
+    ensures taken { slba < end_of (D.drive device.old).geometry → IsTaken result }
+    ensures stopped { (D.drive device.old).stopped ≡ true → result ≡ Err PortFault.Stopped }
+    ensures was_lawful { IsLawful (D.drive device.old) }
+    ensures lawful { IsLawful (D.drive device.new) }
+{
+    let command = Command::Receive {
+        slba,
+        dwords,
+        choice,
+        partial,
+    };
+    call(device, &command, &[], into)?;
+    Ok(())
+}
+
+/// How many zones are chosen, by the head of a report of all zones, which `into` holds afterwards.
+pub fn count_zones<D: Device>(
+    device: &mut D,
+    choice: Choice,
+    into: &mut Vec<u8>,
+) -> Result<u64, PortFault>
+    ensures gives { ReportGives (D.drive device.old) 0 choice false 16 result into.new.items (D.drive device.new) }
+    ensures counted { IfOk result (λ number. Counted (D.drive device.old) (D.drive device.new) choice number) }
+    ensures all_empty { choice ≡ Choice.InState ZoneState.Empty → IfOk result
+        (λ number. number ≡ (D.drive device.old).geometry.zones → AreEmpty (contents (D.drive device.old).zones)) }
+    ensures empty_all { choice ≡ Choice.InState ZoneState.Empty → IfOk result
+        (λ number. AreEmpty (contents (D.drive device.old).zones) → number ≡ (D.drive device.old).geometry.zones) }
+    ensures err { OnErr result (into.new.items ≡ []) }
+    ensures kept { SameContents (D.drive device.old) (D.drive device.new) }
+    ensures taken { 0 < end_of (D.drive device.old).geometry → IsTaken result }
+    ensures stopped { (D.drive device.old).stopped ≡ true → result ≡ Err PortFault.Stopped }
+    ensures was_lawful { IsLawful (D.drive device.old) }
+    ensures lawful { IsLawful (D.drive device.new) }
+{
+    report(device, 0, choice, false, 16, into)?;
+    let mut bytes = [0; 64];
+    bytes.copy_from_slice(into);
+    match ReportHead::decode(&bytes) {
+        Ok(head) => Ok(head.zones),
+        Err(_) => unreachable!(),
     }
 }

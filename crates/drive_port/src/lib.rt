@@ -3,7 +3,14 @@
 
 mod calls;
 mod device;
+mod laws;
 
-pub use calls::PortFault;
+pub use calls::{PortFault, append, close, count_zones, finish, read, report, reset};
 pub use device::{Device, Halt};
+pub use laws::{
+    closing_keeps_contents, closing_takes_no_place, closings_join, restart_keeps_contents,
+};
 pub use zone_states::Geometry;
+
+#[cfg(test)]
+mod tests;

@@ -1,5 +1,5 @@
 -- What stands at the places of a descriptor's fields.
-use Rattle.std.proofs.Common.{◌≡◌, ℕ, ◌/◌, ◌*◌, ◌∙◌, List, [], Some, refl, sym}
+use Rattle.std.proofs.Common.{◌≡◌, ℕ, ◌/◌, ◌*◌, ◌∙◌, List, [], Option, Some, refl}
 use Rattle.std.specs.Prelude.{slice_index}
 use Rattle.byteorder.specs.Endian.{little_from}
 use Rattle.byteorder.specs.Numbers.{little_number-reads_back}
@@ -18,7 +18,7 @@ state_of-code ReadOnly = refl
 state_of-code Full = refl
 state_of-code Offline = refl
 
--- what was read of the bytes of a descriptor is its own
+-- a state, a capacity, a start and a pointer's word are those of a descriptor
 pub record HasParts (d : Descriptor) (state : ZoneState) (capacity start word : ℕ) : Type 0 where
   pub state_is : state ≡ d.state
   pub capacity_is : capacity ≡ d.capacity
@@ -26,6 +26,7 @@ pub record HasParts (d : Descriptor) (state : ZoneState) (capacity start word : 
   pub word_is : word ≡ pointer_word d.pointer
   pub pointer : IsPointer state start capacity d.pointer
 
+-- the fields of bytes that spell a descriptor are its own
 pub descriptor_bytes-parts :
     (bytes : List ℕ) (d : Descriptor) (state : ZoneState) (capacity start word : ℕ) →
     IsDescriptor d → bytes ≡ descriptor_bytes d →
@@ -44,3 +45,10 @@ descriptor_bytes-parts bytes d state capacity start word fits spelled found at_8
       word_is = at_24 ∙ rw spelled (little_number-reads_back 8 (pointer_word d.pointer) [] fits.short);
       pointer = rw (state_is, capacity_is, start_is) fits.pointer;
     }
+
+-- with the pointer too, it is the descriptor
+pub HasParts-same :
+    (d : Descriptor) (state : ZoneState) (capacity start word : ℕ) (pointer : Option ℕ) →
+    HasParts d state capacity start word → pointer ≡ d.pointer →
+    ◌≡◌ {A = Descriptor} (record { state = state; capacity = capacity; start = start; pointer = pointer }) d
+HasParts-same d state capacity start word pointer parts pointer_is = rw (parts.state_is, parts.capacity_is, parts.start_is, pointer_is) refl

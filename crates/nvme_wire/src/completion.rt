@@ -67,3 +67,41 @@ impl Completion {
         }
     }
 }
+
+#[cfg(test)]
+mod tests {
+    use super::*;
+
+    #[test]
+    fn refused_commands(rt: HostRuntime) {
+        let rows = [
+            (1, Status::ZoneIsFull, [0x01, 0x00, 0x72, 0x03]),
+            (3, Status::TooManyActiveZones, [0x03, 0x00, 0x7a, 0x03]),
+        ];
+        for (id, status, dword3) in rows {
+            let refused = Completion {
+                result: 0,
+                id,
+                status,
+            };
+            let mut want = [0; 16];
+            want[12..16].copy_from_slice(&dword3);
+            assert_eq!(rt; refused.encode(), want);
+            assert_eq!(rt; Completion::decode(&want), Ok(refused));
+        }
+    }
+
+    #[test]
+    fn bytes_that_spell_no_completion(rt: HostRuntime) {
+        // The queue head, the phase tag, Do Not Retry, and a status that the profile lacks.
+        for (place, byte) in [(8, 1), (14, 1), (15, 0x80), (14, 6)] {
+            let mut bytes = [0; 16];
+            bytes[place] = byte;
+            assert_eq!(rt;
+                Completion::decode(&bytes),
+                Err(DecodeFault::Field),
+                "byte {place}"
+            );
+        }
+    }
+}

@@ -1,4 +1,4 @@
-ghost use Rattle.std.specs.Prelude.{◌≡◌, ◌≤◌, ◌<◌, ◌+◌, IfOk, IfErr, Ok};
+ghost use Rattle.std.specs.Prelude.{◌≡◌, IfOk, IfErr, Ok};
 ghost use Rattle.nvme_wire.specs.Descriptor.{IsDescriptor, IsPointer, descriptor_bytes, pointer_word};
 
 use crate::command::DecodeFault;
@@ -26,14 +26,18 @@ fn pointer_of(
     capacity: u64,
     word: u64,
 ) -> Result<Option<u64>, DecodeFault>
-    ensures ok { IfOk result (λ pointer. IsPointer state start capacity pointer × (word ≡ pointer_word pointer)) }
-    ensures spelled { (pointer : _) → IsPointer state start capacity pointer → word ≡ pointer_word pointer → result ≡ Ok pointer }
+    ensures ok { IfOk result
+        (λ pointer. IsPointer state start capacity pointer × (word ≡ pointer_word pointer)) }
+    ensures spelled { (pointer : _) →
+        IsPointer state start capacity pointer → word ≡ pointer_word pointer → result ≡ Ok pointer }
     ensures err { IfErr result (λ fault. fault ≡ DecodeFault.Field) }
 {
+    let within = start <= word && word - start < capacity;
     match state {
         ZoneState::Empty if word == start => Ok(Some(word)),
-        ZoneState::ImplicitlyOpened | ZoneState::ExplicitlyOpened | ZoneState::Closed
-            if start <= word && word - start < capacity => { Ok(Some(word)) }
+        ZoneState::ImplicitlyOpened | ZoneState::ExplicitlyOpened | ZoneState::Closed if within => {
+            Ok(Some(word))
+        }
         ZoneState::ReadOnly | ZoneState::Full | ZoneState::Offline if word == u64::MAX => Ok(None),
         _ => Err(DecodeFault::Field),
     }
@@ -58,7 +62,8 @@ impl Descriptor {
     /// other state has none.
     pub fn decode(bytes: &[u8; 64]) -> Result<Descriptor, DecodeFault>
         ensures ok { IfOk result (λ d. (bytes.now ≡ descriptor_bytes d) × IsDescriptor d) }
-        ensures spelled { (d : _) → IsDescriptor d → bytes.now ≡ descriptor_bytes d → result ≡ Ok d }
+        ensures spelled { (d : _) →
+            IsDescriptor d → bytes.now ≡ descriptor_bytes d → result ≡ Ok d }
         ensures err { IfErr result (λ fault. fault ≡ DecodeFault.Field) }
     {
         let Some(state) = ZoneState::from_code(bytes[1] >> 4) else {
@@ -77,6 +82,45 @@ impl Descriptor {
             Ok(descriptor)
         } else {
             Err(DecodeFault::Field)
+        }
+    }
+}
+
+#[cfg(test)]
+mod tests {
+    use super::*;
+
+    fn descriptor_of(front: [u8; 4], capacity: u8, pointer: [u8; 8]) -> [u8; 64] {
+        let mut bytes = [0; 64];
+        bytes[0..4].copy_from_slice(&front);
+        bytes[8] = capacity;
+        bytes[24..32].copy_from_slice(&pointer);
+        bytes
+    }
+
+    #[test]
+    fn zones_at_address_0(rt: HostRuntime) {
+        let opened = Descriptor {
+            state: ZoneState::ImplicitlyOpened,
+            capacity: 6,
+            start: 0,
+            pointer: Some(2),
+        };
+        let full = Descriptor {
+            state: ZoneState::Full,
+            pointer: None,
+            ..opened
+        };
+        let rows = [
+            (
+                opened,
+                descriptor_of([0x02, 0x20, 0, 0], 6, [2, 0, 0, 0, 0, 0, 0, 0]),
+            ),
+            (full, descriptor_of([0x02, 0xe0, 0, 0], 6, [0xff; 8])),
+        ];
+        for (descriptor, want) in rows {
+            assert_eq!(rt; descriptor.encode(), want);
+            assert_eq!(rt; Descriptor::decode(&want), Ok(descriptor));
         }
     }
 }

@@ -1,5 +1,5 @@
-ghost use Rattle.std.specs.Prelude.{◌≡◌, ◌==◌, ◌≤◌, nat_lt, Ok};
-ghost use Rattle.nvme_wire.specs.Entry.{IsAdmitted, action_in, action_of, address_of, block_number, blocks_of, choice_in, choice_of, decode_of, dwords_of, entry_bytes, entry_with, id_of, is_partial, namespace_of, none, receive_of, selects_all, send_of};
+ghost use Rattle.std.specs.Prelude.{◌≡◌, ◌≤◌, true, Some, Ok};
+ghost use Rattle.nvme_wire.specs.Entry.{IsAdmitted, address_of, block_number, blocks_of, decode_of, decoded, dwords_of, entry_bytes, entry_with, id_of, namespace_of, none};
 
 use crate::command::{Action, Choice, Command, DecodeFault, Opcode};
 use crate::number::u64_at;
@@ -36,7 +36,7 @@ fn dwords_at(entry: &[u8; 64]) -> u64
     u64::from(LittleEndian::read_u32(&entry[48..52])) + 1
 }
 
-// An entry whose dwords 12 and 13 are zero.
+// An entry for namespace 1 whose dwords 12 and 13 are zero.
 fn entry_to(opcode: Opcode, id: u16, address: u64) -> [u8; 64]
     ensures { result ≡ entry_with opcode id address none none }
 {
@@ -50,7 +50,8 @@ fn entry_to(opcode: Opcode, id: u16, address: u64) -> [u8; 64]
 
 // The entry of a command that transfers blocks, counted from one.
 fn blocks_entry(opcode: Opcode, id: u16, address: u64, blocks: u32) -> [u8; 64]
-    requires { (1 ≤ blocks) × (blocks ≤ 65536) }
+    requires some { 1 ≤ blocks }
+    requires short { blocks ≤ 65536 }
     ensures { result ≡ entry_with opcode id address (block_number blocks) none }
 {
     let mut out = entry_to(opcode, id, address);
@@ -58,8 +59,9 @@ fn blocks_entry(opcode: Opcode, id: u16, address: u64, blocks: u32) -> [u8; 64]
     out
 }
 
+// A Zone Management Send, whose opcode and namespace are looked at already.
 fn decode_send(entry: &[u8; 64]) -> Result<Command, DecodeFault>
-    ensures { result ≡ send_of (action_of (action_in entry.now)) (address_of entry.now) (selects_all entry.now) }
+    ensures { result ≡ decoded (Some Opcode.Send) true entry.now }
 {
     let all = entry[53] % 2 == 1;
     match Action::from_code(entry[52]) {
@@ -73,8 +75,9 @@ fn decode_send(entry: &[u8; 64]) -> Result<Command, DecodeFault>
     }
 }
 
+// A Zone Management Receive, in the same way.
 fn decode_receive(entry: &[u8; 64]) -> Result<Command, DecodeFault>
-    ensures { result ≡ receive_of (action_in entry.now == 0) (choice_of (choice_in entry.now)) (nat_lt (dwords_of entry.now) 16) (address_of entry.now) (dwords_of entry.now) (is_partial entry.now) }
+    ensures { result ≡ decoded (Some Opcode.Receive) true entry.now }
 {
     let dwords = dwords_at(entry);
     if entry[52] != 0 {
@@ -152,6 +155,77 @@ impl Command {
             }),
             Opcode::Send => decode_send(entry),
             Opcode::Receive => decode_receive(entry),
+        }
+    }
+}
+
+#[cfg(test)]
+mod tests {
+    use super::*;
+
+    // An entry of zeros but for its opcode, namespace 1 and four bytes in each of dwords 12 and 13.
+    fn entry_of(opcode: u8, dword12: [u8; 4], dword13: [u8; 4]) -> [u8; 64] {
+        let mut entry = [0; 64];
+        entry[0] = opcode;
+        entry[4] = 1;
+        entry[48..52].copy_from_slice(&dword12);
+        entry[52..56].copy_from_slice(&dword13);
+        entry
+    }
+
+    #[test]
+    fn append_of_four_blocks(rt: HostRuntime) {
+        let append = Command::Append {
+            zslba: 0,
+            blocks: 4,
+        };
+        let mut want = [0; 64];
+        want[0..8].copy_from_slice(&[0x7d, 0, 0, 0, 1, 0, 0, 0]);
+        want[48..52].copy_from_slice(&[3, 0, 0, 0]);
+        assert_eq!(rt; append.encode(0), want);
+        assert_eq!(rt; Command::decode(&want), Ok(append));
+    }
+
+    #[test]
+    fn receive_of_forty_dwords(rt: HostRuntime) {
+        let receive = Command::Receive {
+            slba: 0,
+            dwords: 40,
+            choice: Choice::AnyState,
+            partial: true,
+        };
+        let want = entry_of(0x7a, [39, 0, 0, 0], [0, 0, 1, 0]);
+        assert_eq!(rt; receive.encode(0), want);
+        assert_eq!(rt; Command::decode(&want), Ok(receive));
+    }
+
+    #[test]
+    fn opcode_that_is_none_of_the_six(rt: HostRuntime) {
+        let mut entry = [0; 64];
+        entry[0..8].copy_from_slice(&[0x0f, 0, 7, 0, 1, 0, 0, 0]);
+        assert_eq!(rt; Command::decode(&entry), Err(DecodeFault::Opcode));
+        assert_eq!(rt; entry_id(&entry), 7);
+        entry[4] = 2;
+        assert_eq!(rt; Command::decode(&entry), Err(DecodeFault::Opcode));
+    }
+
+    #[test]
+    fn fields_that_are_not_admitted(rt: HostRuntime) {
+        let refused = [
+            (entry_of(0x7a, [14, 0, 0, 0], [0, 0, 0, 0]), "15 dwords"),
+            (entry_of(0x7a, [15, 0, 0, 0], [0, 8, 0, 0]), "choice 8"),
+            (entry_of(0x7a, [15, 0, 0, 0], [1, 0, 0, 0]), "receive 1"),
+            (entry_of(0x79, [0; 4], [3, 1, 0, 0]), "Open of all zones"),
+            (entry_of(0x79, [0; 4], [6, 0, 0, 0]), "send action 6"),
+        ];
+        for (mut entry, name) in refused {
+            assert_eq!(rt; Command::decode(&entry), Err(DecodeFault::Field), "{name}");
+            entry[4] = 2;
+            assert_eq!(rt;
+                Command::decode(&entry),
+                Err(DecodeFault::Namespace),
+                "{name}"
+            );
         }
     }
 }

@@ -1,6 +1,56 @@
+ghost use Rattle.std.specs.Prelude.{◌≡◌, ◌<◌, ◌^◌, IfOk, IfErr, Ok};
+ghost use Rattle.nvme_wire.specs.Descriptor.{report_head_bytes};
+
+use crate::command::DecodeFault;
+use crate::number::u64_at;
+use byteorder::{ByteOrder, LittleEndian};
+
 /// The head of a zone report (Zoned Namespace Command Set 1.1, section 3.4.2).
 #[derive(Clone, Copy, Debug, PartialEq, Eq)]
 pub struct ReportHead {
     /// How many zones match, or, in a partial report, how many descriptors follow.
     pub zones: u64,
+}
+
+impl ReportHead {
+    /// The 64 bytes of the head.
+    pub fn encode(&self) -> [u8; 64]
+        ensures { result ≡ report_head_bytes self.now }
+    {
+        let mut out = [0; 64];
+        LittleEndian::write_u64(&mut out[0..8], self.zones);
+        out
+    }
+
+    /// The head that these bytes spell, or `Field` where they spell none.
+    pub fn decode(bytes: &[u8; 64]) -> Result<ReportHead, DecodeFault>
+        ensures ok { IfOk result
+            (λ head. (bytes.now ≡ report_head_bytes head) × (head.zones < 2 ^ 64)) }
+        ensures spelled { (head : _) →
+            head.zones < 2 ^ 64 → bytes.now ≡ report_head_bytes head → result ≡ Ok head }
+        ensures err { IfErr result (λ fault. fault ≡ DecodeFault.Field) }
+    {
+        let head = ReportHead {
+            zones: u64_at(bytes, 0),
+        };
+        if head.encode() == *bytes {
+            Ok(head)
+        } else {
+            Err(DecodeFault::Field)
+        }
+    }
+}
+
+#[cfg(test)]
+mod tests {
+    use super::*;
+
+    #[test]
+    fn head_of_four_zones(rt: HostRuntime) {
+        let head = ReportHead { zones: 4 };
+        let mut want = [0; 64];
+        want[0] = 4;
+        assert_eq!(rt; head.encode(), want);
+        assert_eq!(rt; ReportHead::decode(&want), Ok(head));
+    }
 }

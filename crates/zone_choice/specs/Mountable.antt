@@ -7,7 +7,7 @@ use Rattle.drive_port.specs.Contents.{Content, Usage, active, contents, is_usabl
 use Rattle.batch_log.specs.declared.header.Kind.TheVariants.{Move}
 use Rattle.batch_log.specs.declared.header.Entry.{Entry}
 use Rattle.batch_log.specs.Log.{Batch}
-use Rattle.zone_choice.specs.Records.{records, array, without}
+use Rattle.zone_choice.specs.Records.{array_of, without}
 use Rattle.zone_choice.specs.ZoneLogs.{HasLog, zone_logs, log_at}
 
 abbrev pub is_active_usage : Usage → Bool
@@ -40,21 +40,21 @@ IsBefore None y = ⊥
 
 -- without the zone's records the array is the same
 abbrev pub IsSpare : ℕ → ℕ → List (List Batch) → ℕ → Type 0
-IsSpare size n logs zone = array size n (records 0 (without logs zone)) ≡ array size n (records 0 logs)
+IsSpare block_bytes n logs zone = array_of block_bytes n (without logs zone) ≡ array_of block_bytes n logs
 
 -- What a clean that did not end leaves: a zone with batches, all of them Moves from one other zone, whose first batch is older; and nothing is lost with it.
-pub record IsHalfClean (size n : ℕ) (logs : List (List Batch)) (zone : ℕ) : Type 0 where
+pub record IsHalfClean (block_bytes n : ℕ) (logs : List (List Batch)) (zone : ℕ) : Type 0 where
   pub victim : ℕ
   pub apart : victim ≢ zone
   pub moves : AllByRecursion (IsMoveFrom victim) (log_at logs zone)
   pub older : IsBefore (first_sequence (log_at logs victim)) (first_sequence (log_at logs zone))
-  pub spare : IsSpare size n logs zone
+  pub spare : IsSpare block_bytes n logs zone
 
 -- some zone can be emptied, or holds no batch
-pub record HasSpare (size n : ℕ) (logs : List (List Batch)) : Type 0 where
+pub record HasSpare (block_bytes n : ℕ) (logs : List (List Batch)) : Type 0 where
   pub zone : ℕ
   pub in_range : zone < length logs
-  pub spare : IsVacant logs zone ⊎ IsHalfClean size n logs zone
+  pub spare : IsVacant logs zone ⊎ IsHalfClean block_bytes n logs zone
 
 -- ---- mountable drives
 
@@ -64,7 +64,7 @@ log_sequences log = map (λ (batch : Batch). batch.heading.sequence) log
 abbrev pub sequences : List (List Batch) → List ℕ
 sequences logs = flat_map log_sequences logs
 
--- a batch whose sequence can be followed, and whose blocks are below n
+-- a batch with a sequence below 2^63, and with blocks below n
 abbrev pub IsNumbered : ℕ → Batch → Type 0
 IsNumbered n batch = (batch.heading.sequence < 2 ^ 63) × AllByRecursion (λ (e : Entry). e.block < n) batch.heading.entries
 

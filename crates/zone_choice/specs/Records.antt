@@ -1,6 +1,8 @@
 -- The records of the batches of all zones, the newest of a block, and the array that they spell.
-use Rattle.std.specs.Prelude.{◌≡◌, ℕ, zero, suc, ◌+◌, ◌<◌, ◌≤◌, ◌==◌, nat_lt, if◌then◌else◌, Bool, true, false, List, [], ◌∷◌, ◌++◌, map, replicate, slice_set, slice_index_or, Contains, Option, Some, None}
+use Rattle.std.specs.Prelude.{◌≡◌, ℕ, suc, ◌+◌, ◌<◌, ◌≤◌, ◌==◌, nat_lt, if◌then◌else◌, Bool, true, false, List, [], ◌∷◌, ◌++◌, map, replicate, slice_set, slice_index_or, Contains, Option, Some, None, is_some, ◌*◌}
 use Rattle.std.specs.List.{range_with_len, AllByRecursion}
+use Rattle.logical_map.specs.declared.place.Place.{Place}
+use Rattle.logical_map.specs.declared.place.Place.TheVariants as places
 use Rattle.batch_log.specs.declared.header.Entry.{Entry}
 use Rattle.batch_log.specs.Log.{Batch, batch_size, log_size, one_unless}
 
@@ -15,18 +17,18 @@ pub record Record : Type 0 where
 -- ---- the records of a list of logs
 
 -- an entry's data, the k-th block of the body
-abbrev pub content_at : Bool → List (List ℕ) → ℕ → Option (List ℕ)
-content_at true body k = None
-content_at false body k = Some (slice_index_or body k [])
+abbrev pub entry_content : Bool → List (List ℕ) → ℕ → Option (List ℕ)
+entry_content true body k = None
+entry_content false body k = Some (slice_index_or body k [])
 
 -- where it lies, with the header at an offset
-abbrev pub offset_at : Bool → ℕ → ℕ → ℕ
-offset_at true header k = header
-offset_at false header k = header + 1 + k
+abbrev pub entry_offset : Bool → ℕ → ℕ → ℕ
+entry_offset true header k = header
+entry_offset false header k = header + 1 + k
 
 abbrev pub record_of : ℕ → List (List ℕ) → ℕ → ℕ → ℕ → Entry → Record
 record_of sequence body zone header k e =
-    record { block = e.block; sequence = sequence; content = content_at e.trim body k; zone = zone; offset = offset_at e.trim header k }
+    record { block = e.block; sequence = sequence; content = entry_content e.trim body k; zone = zone; offset = entry_offset e.trim header k }
 
 -- the records of these entries, where k blocks of the body belong to the entries before them
 abbrev pub entry_records : ℕ → List (List ℕ) → ℕ → ℕ → ℕ → List Entry → List Record
@@ -41,7 +43,7 @@ abbrev pub log_records : ℕ → ℕ → List Batch → List Record
 log_records zone offset [] = []
 log_records zone offset (batch ∷ log) = batch_records zone offset batch ++ log_records zone (offset + batch_size batch) log
 
--- the records of the logs of all zones, the first of which has a number
+-- the records of the logs of all zones: `zone` is the number of the first
 abbrev pub records : ℕ → List (List Batch) → List Record
 records zone [] = []
 records zone (log ∷ logs) = log_records zone 0 log ++ records (suc zone) logs
@@ -71,18 +73,38 @@ IsNewest rs block None = AllByRecursion (λ other. other.block ≡ block → ⊥
 
 -- ---- the array
 
+-- of each of n blocks, what a function makes of its newest record
+abbrev pub told : {X : Type 0} → (Option Record → X) → ℕ → List Record → List X
+told f n rs = map (λ block. f (newest block rs)) (range_with_len 0 n)
+
 -- what a record says of its block, and what is said of a block with no record: zeros
 abbrev pub shown_content : ℕ → Option (List ℕ) → List ℕ
-shown_content size (Some bytes) = bytes
-shown_content size None = replicate size 0
+shown_content block_bytes (Some bytes) = bytes
+shown_content block_bytes None = replicate block_bytes 0
 
 abbrev pub shown : ℕ → Option Record → List ℕ
-shown size (Some r) = shown_content size r.content
-shown size None = replicate size 0
+shown block_bytes (Some r) = shown_content block_bytes r.content
+shown block_bytes None = replicate block_bytes 0
 
--- the array of n blocks of `size` bytes: of each block what its newest record says
+-- the array of n blocks of so many bytes: of each block what its newest record says
 abbrev pub array : ℕ → ℕ → List Record → List (List ℕ)
-array size n rs = map (λ block. shown size (newest block rs)) (range_with_len 0 n)
+array block_bytes n rs = told (shown block_bytes) n rs
+
+-- where a record's data lies, or a trim's header: its address, in zones of so many addresses
+abbrev pub place : ℕ → Option Record → Place
+place zone_size None = places.None
+place zone_size (Some r) = if is_some r.content then places.At (r.zone * zone_size + r.offset) else places.Trimmed (r.zone * zone_size + r.offset)
+
+-- the map of n blocks: of each block where its newest record lies
+abbrev pub places_of : ℕ → ℕ → List Record → List Place
+places_of zone_size n rs = told (place zone_size) n rs
+
+-- the array and the map that the logs of all zones spell
+abbrev pub array_of : ℕ → ℕ → List (List Batch) → List (List ℕ)
+array_of block_bytes n logs = array block_bytes n (records 0 logs)
+
+abbrev pub map_of : ℕ → ℕ → List (List Batch) → List Place
+map_of zone_size n logs = places_of zone_size n (records 0 logs)
 
 -- ---- changes of the logs
 
@@ -102,7 +124,7 @@ without logs zone = slice_set logs zone []
 abbrev pub AllBelow : ℕ → List Record → Type 0
 AllBelow sequence rs = AllByRecursion (λ r. r.sequence < sequence) rs
 
--- an array in which these records' blocks say what the records say (of two records of one block the first)
-abbrev pub written_over : ℕ → List Record → List (List ℕ) → List (List ℕ)
-written_over size [] blocks = blocks
-written_over size (r ∷ rs) blocks = slice_set (written_over size rs blocks) r.block (shown_content size r.content)
+-- a list in which these records' blocks have what a function makes of the records (of two records of one block the first)
+abbrev pub over : {X : Type 0} → (Option Record → X) → List Record → List X → List X
+over f [] xs = xs
+over f (r ∷ rs) xs = slice_set (over f rs xs) r.block (f (Some r))

@@ -1,9 +1,9 @@
 -- The logs of a drive's zones, and the array that the drive spells.
-use Rattle.std.specs.Prelude.{◌≡◌, ℕ, ◌-◌, Bool, true, false, List, [], ◌++◌, map, length, replicate, slice_index_or}
+use Rattle.std.specs.Prelude.{ℕ, ◌-◌, Bool, true, false, List, [], ◌++◌, map, length, replicate, slice_index_or}
 use Rattle.zone_states.specs.declared.geometry.Geometry.{Geometry}
 use Rattle.drive_port.specs.Contents.{Content, Usage, full}
 use Rattle.batch_log.specs.Log.{Batch, IsLog, log_of, zero_block}
-use Rattle.zone_choice.specs.Records.{records, array}
+use Rattle.zone_choice.specs.Records.{array_of}
 
 abbrev pub is_full : Usage → Bool
 is_full full = true
@@ -26,7 +26,7 @@ abbrev pub HasLog : Geometry → Content → Type 0
 HasLog geometry content = IsLog geometry.block (is_full content.usage) (readable geometry content) (zone_log geometry content)
 
 abbrev pub zone_logs : Geometry → List Content → List (List Batch)
-zone_logs geometry contents = map (zone_log geometry) contents
+zone_logs geometry zones = map (zone_log geometry) zones
 
 -- the log of the zone with a number
 abbrev pub log_at : List (List Batch) → ℕ → List Batch
@@ -34,4 +34,4 @@ log_at logs zone = slice_index_or logs zone []
 
 -- the array of n blocks that the zones spell
 unfoldable pub spelled_array : Geometry → List Content → ℕ → List (List ℕ)
-spelled_array geometry contents n = array geometry.block n (records 0 (zone_logs geometry contents))
+spelled_array geometry zones n = array_of geometry.block n (zone_logs geometry zones)

@@ -1,1 +1,3 @@
+pub mod Blank
 pub mod Report
+pub mod ReportText

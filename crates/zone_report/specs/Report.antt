@@ -1,14 +1,21 @@
 -- The report of a list of zones: a head of 64 bytes, whole descriptors of the matching zones in ascending order, and zeros up to the end of the buffer.
-use Rattle.std.specs.Prelude.{ℕ, ◌+◌, ◌-◌, ◌*◌, ◌/◌, ◌==◌, if◌then◌else◌, Bool, true, List, [], ◌∷◌, ◌++◌, length, take, drop, replicate, Option, Some, None}
+use Rattle.std.specs.Prelude.{ℕ, ◌+◌, ◌-◌, ◌*◌, ◌/◌, ◌<◌, ◌≤◌, ◌==◌, if◌then◌else◌, Bool, true, List, [], ◌∷◌, ◌++◌, length, take, drop, replicate, Option, Some, None}
 use Rattle.std.specs.List.{flat_map}
 use Rattle.nvme_wire.specs.declared.zone_state.ZoneState.{ZoneState}
-use Rattle.nvme_wire.specs.declared.zone_state.ZoneState.TheVariants.{Empty, ImplicitlyOpened, ExplicitlyOpened, Closed, ReadOnly, Full, Offline}
+use Rattle.nvme_wire.specs.declared.zone_state.ZoneState.TheVariants.{ReadOnly, Full, Offline}
 use Rattle.nvme_wire.specs.declared.command.Choice.{Choice}
 use Rattle.nvme_wire.specs.declared.command.Choice.TheVariants.{AnyState, InState}
 use Rattle.nvme_wire.specs.declared.descriptor.Descriptor.{Descriptor}
 use Rattle.nvme_wire.specs.Descriptor.{state_code, descriptor_bytes, report_head_bytes}
 use Rattle.zone_states.specs.declared.geometry.Geometry.{Geometry}
 use Rattle.zone_states.specs.Zone.{Zone}
+use Rattle.zone_report.specs.declared.status.ZoneStatus.{ZoneStatus}
+use Rattle.zone_report.specs.declared.fault.ReportFault.{ReportFault}
+use Rattle.zone_report.specs.declared.fault.ReportFault.TheVariants.{Field, Range, OutOfMemory}
+
+-- what a report tells of a zone
+abbrev pub status_of : Zone → ZoneStatus
+status_of zone = record { state = zone.state; written = length zone.blocks }
 
 -- whether a zone in this state is named
 abbrev pub is_chosen : Choice → ZoneState → Bool
@@ -23,19 +30,19 @@ pointer_of Offline next = None
 pointer_of state next = Some next
 
 -- the descriptor of the zone with a number
-abbrev pub descriptor_of : Geometry → ℕ → Zone → Descriptor
+abbrev pub descriptor_of : Geometry → ℕ → ZoneStatus → Descriptor
 descriptor_of geometry number zone = record {
   state = zone.state;
   capacity = geometry.capacity;
   start = number * geometry.size;
-  pointer = pointer_of zone.state (number * geometry.size + length zone.blocks);
+  pointer = pointer_of zone.state (number * geometry.size + zone.written);
 }
 
 -- the descriptors of the zones that are named, the first zone of the list with a number
 abbrev pub matching : Geometry → Choice → ℕ → List Zone → List Descriptor
 matching geometry choice number [] = []
 matching geometry choice number (zone ∷ zones) =
-    if is_chosen choice zone.state then descriptor_of geometry number zone ∷ matching geometry choice (number + 1) zones
+    if is_chosen choice zone.state then descriptor_of geometry number (status_of zone) ∷ matching geometry choice (number + 1) zones
     else matching geometry choice (number + 1) zones
 
 -- how many descriptors go into a buffer behind the head
@@ -51,3 +58,13 @@ report geometry zones address choice partial dwords =
     report_head_bytes (record { zones = if partial then length shown else length named })
     ++ flat_map descriptor_bytes shown
     ++ replicate (4 * dwords - 64 - 64 * length shown) 0
+
+-- there is room for the head, and a zone holds the address
+abbrev pub CanReport : Geometry → ℕ → ℕ → Type 0
+CanReport geometry address dwords = (16 ≤ dwords) × (address < geometry.zones * geometry.size)
+
+-- why there is no report: the first that holds, or want of memory where none does
+abbrev pub CannotReport : Geometry → ℕ → ℕ → ReportFault → Type 0
+CannotReport geometry address dwords Field = dwords < 16
+CannotReport geometry address dwords Range = (16 ≤ dwords) × (geometry.zones * geometry.size ≤ address)
+CannotReport geometry address dwords OutOfMemory = CanReport geometry address dwords

@@ -1,4 +1,18 @@
-//! Zone reports: which zones of a drive a Report Zones command names, and in which bytes (Zoned
-//! Namespace Command Set 1.1, section 3.4.2). So far these are definitions alone: what a report is
-//! stands in `specs/Report.antt`, for the command step of `drive_port`.
+//! Zone reports: what a Report Zones command answers, in bytes, and such bytes as text (Zoned
+//! Namespace Command Set 1.1, section 3.4.2).
 #![tactic(auto)]
+
+mod fault;
+mod report;
+mod status;
+mod text;
+mod zones;
+
+pub use fault::ReportFault;
+pub use report::report_bytes;
+pub use status::ZoneStatus;
+pub use text::report_text;
+pub use zones::ReportedZones;
+
+#[cfg(test)]
+mod tests;

@@ -1,5 +1,5 @@
 -- The ranges of a geometry: this project's profile of a zoned namespace.
-use Rattle.std.specs.Prelude.{◌≡◌, ◌⊎◌, ℕ, ◌<◌, ◌≤◌, ◌^◌, ◌==◌, ◌||◌, ◌&&◌, not, nat_lt, Bool, List, [], ◌∷◌}
+use Rattle.std.specs.Prelude.{◌≡◌, ◌⊎◌, ℕ, ◌≤◌, ◌^◌, ◌==◌, ◌||◌, ◌&&◌, not, nat_lt, Bool, List, [], ◌∷◌}
 use Rattle.zone_states.specs.declared.geometry.Geometry.{Geometry}
 use Rattle.zone_states.specs.declared.geometry.GeometryFault.{GeometryFault}
 use Rattle.zone_states.specs.declared.geometry.GeometryFault.TheVariants.{Block, Zones, Size, Capacity, Transfer, Active, Open}

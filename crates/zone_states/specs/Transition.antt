@@ -7,6 +7,16 @@ use Rattle.nvme_wire.specs.declared.command.Action.TheVariants as actions
 use Rattle.nvme_wire.specs.declared.status.Status.{Status}
 use Rattle.nvme_wire.specs.declared.status.Status.TheVariants.{InvalidZoneStateTransition}
 
+abbrev pub is_state : ZoneState → ZoneState → Bool
+is_state Empty Empty = true
+is_state Closed Closed = true
+is_state ReadOnly ReadOnly = true
+is_state Full Full = true
+is_state Offline Offline = true
+is_state ImplicitlyOpened ImplicitlyOpened = true
+is_state ExplicitlyOpened ExplicitlyOpened = true
+is_state state other = false
+
 -- states that hold one of the drive's active places, and of its open places
 abbrev pub is_active : ZoneState → Bool
 is_active ImplicitlyOpened = true

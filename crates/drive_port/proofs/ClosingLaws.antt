@@ -1,0 +1,146 @@
+-- What a closing and a restart leave of the zones.
+use Rattle.std.proofs.Common.{◌≡◌, ℕ, zero, suc, ◌≤◌, Bool, cond, List, [], ◌∷◌, map, length, refl, sym, ap, ◌∙◌, inl, inr, arith}
+use Rattle.std.specs.Prelude.{slice_set}
+use Rattle.std.specs.List.{remove}
+use Rattle.std.proofs.Math.ListN.{get_or-map}
+use Rattle.std.proofs.lemmas.List.Sums.{sum_by-cons}
+use Rattle.nvme_wire.specs.declared.zone_state.ZoneState.{ZoneState}
+use Rattle.nvme_wire.specs.declared.zone_state.ZoneState.TheVariants.{Empty, ImplicitlyOpened, ExplicitlyOpened, Closed, ReadOnly, Full, Offline}
+use Rattle.zone_states.specs.Transition.{is_active, is_open}
+use Rattle.zone_states.specs.Zone.{Zone}
+use Rattle.drive_port.specs.Drive.{ClosesOne, IsClosing, active_count, open_count}
+use Rattle.drive_port.specs.Run.{restarted_state, restarted_zone}
+use Rattle.drive_port.specs.Contents.{content_of, contents, content_at, usage_of}
+use Rattle.drive_port.specs.Step.{zone_at, nowhere}
+
+-- ---- closings
+
+pub IsClosing-refl : (zones : List Zone) → IsClosing zones zones
+IsClosing-refl [] = tt
+IsClosing-refl (z ∷ zs) = (record { blocks = refl; state = inl refl }, IsClosing-refl zs)
+
+ClosesOne-trans : (a b c : Zone) → ClosesOne a b → ClosesOne b c → ClosesOne a c
+ClosesOne-trans a b c p q = record {
+  blocks = q.blocks ∙ p.blocks;
+  state = elim q.state [
+    | inl same ↦ elim p.state [
+      | inl before ↦ inl (same ∙ before)
+      | inr closed ↦ inr (closed.0, same ∙ closed.1)
+    ]
+    | inr closed ↦ elim p.state [
+      | inl before ↦ inr (sym before ∙ closed.0, closed.1)
+      | inr twice ↦ inr (twice.0, closed.1)
+    ]
+  ];
+}
+
+pub IsClosing-trans : (a b c : List Zone) → IsClosing a b → IsClosing b c → IsClosing a c
+IsClosing-trans [] [] [] p q = tt
+IsClosing-trans (x ∷ xs) (y ∷ ys) (z ∷ zs) p q = (ClosesOne-trans x y z p.0 q.0, IsClosing-trans xs ys zs p.1 q.1)
+IsClosing-trans [] (y ∷ ys) c p q = absurd p
+IsClosing-trans (x ∷ xs) [] c p q = absurd p
+IsClosing-trans [] [] (z ∷ zs) p q = absurd q
+IsClosing-trans (x ∷ xs) (y ∷ ys) [] p q = absurd q
+
+pub IsClosing-remove : (a b : List Zone) (i : ℕ) → IsClosing a b → IsClosing (remove a i) (remove b i)
+IsClosing-remove [] [] zero h = tt
+IsClosing-remove [] [] (suc i) h = tt
+IsClosing-remove (x ∷ xs) (y ∷ ys) zero h = h.1
+IsClosing-remove (x ∷ xs) (y ∷ ys) (suc i) h = (h.0, IsClosing-remove xs ys i h.1)
+IsClosing-remove [] (y ∷ ys) i h = absurd h
+IsClosing-remove (x ∷ xs) [] i h = absurd h
+
+pub IsClosing-set : (a b : List Zone) (i : ℕ) (z y : Zone) → IsClosing a b → ClosesOne z y → IsClosing (slice_set a i z) (slice_set b i y)
+IsClosing-set [] [] i z y h one = tt
+IsClosing-set (u ∷ us) (v ∷ vs) zero z y h one = (one, h.1)
+IsClosing-set (u ∷ us) (v ∷ vs) (suc i) z y h one = (h.0, IsClosing-set us vs i z y h.1 one)
+IsClosing-set [] (v ∷ vs) i z y h one = absurd h
+IsClosing-set (u ∷ us) [] i z y h one = absurd h
+
+-- ---- contents
+
+pub content_of-closes : (z y : Zone) → ClosesOne z y → content_of y ≡ content_of z
+content_of-closes z y one =
+    elim one.state [
+      | inl same ↦ rw (same, one.blocks) refl
+      | inr closed ↦ rw (closed.0, closed.1, one.blocks) refl
+    ]
+
+pub contents-closing : (a b : List Zone) → IsClosing a b → contents b ≡ contents a
+contents-closing [] [] h = refl
+contents-closing (z ∷ zs) (y ∷ ys) h = rw (content_of-closes z y h.0, contents-closing zs ys h.1) refl
+contents-closing [] (y ∷ ys) h = absurd h
+contents-closing (z ∷ zs) [] h = absurd h
+
+usage-restarted : (state : ZoneState) → usage_of (restarted_state state) ≡ usage_of state
+usage-restarted Empty = refl
+usage-restarted ImplicitlyOpened = refl
+usage-restarted ExplicitlyOpened = refl
+usage-restarted Closed = refl
+usage-restarted ReadOnly = refl
+usage-restarted Full = refl
+usage-restarted Offline = refl
+
+pub contents-restarted : (zones : List Zone) → contents (map restarted_zone zones) ≡ contents zones
+contents-restarted [] = refl
+contents-restarted (z ∷ zs) = rw (usage-restarted z.state, contents-restarted zs) refl
+
+-- ---- places
+
+pub active-closes : (z y : Zone) → ClosesOne z y → is_active y.state ≡ is_active z.state
+active-closes z y one =
+    elim one.state [
+      | inl same ↦ rw same refl
+      | inr closed ↦ rw (closed.0, closed.1) refl
+    ]
+
+pub active_count-closing : (a b : List Zone) → IsClosing a b → active_count b ≡ active_count a
+active_count-closing [] [] h = refl
+active_count-closing (z ∷ zs) (y ∷ ys) h =
+    let one = ap {B = ℕ} (λ (b : Bool). cond b 1 0) (active-closes z y h.0) in
+    let rest = active_count-closing zs ys h.1 in
+    let was = sum_by-cons (λ (zone : Zone). cond (is_active zone.state) 1 0) z zs in
+    let is = sum_by-cons (λ (zone : Zone). cond (is_active zone.state) 1 0) y ys in
+    omega (arith, one, rest, was, is)
+active_count-closing [] (y ∷ ys) h = absurd h
+active_count-closing (z ∷ zs) [] h = absurd h
+
+open-closes : (z y : Zone) → ClosesOne z y → cond (is_open y.state) 1 0 ≤ cond (is_open z.state) 1 0
+open-closes z y one =
+    elim one.state [
+      | inl same ↦ rw same (omega arith)
+      | inr closed ↦ rw (closed.0, closed.1) (omega arith)
+    ]
+
+pub open_count-closing : (a b : List Zone) → IsClosing a b → open_count b ≤ open_count a
+open_count-closing [] [] h = omega arith
+open_count-closing (z ∷ zs) (y ∷ ys) h =
+    let one = open-closes z y h.0 in
+    let rest = open_count-closing zs ys h.1 in
+    let was = sum_by-cons (λ (zone : Zone). cond (is_open zone.state) 1 0) z zs in
+    let is = sum_by-cons (λ (zone : Zone). cond (is_open zone.state) 1 0) y ys in
+    omega (arith, one, rest, was, is)
+open_count-closing [] (y ∷ ys) h = absurd h
+open_count-closing (z ∷ zs) [] h = absurd h
+
+-- ---- one zone
+
+pub zone_at-closing : (a b : List Zone) (i : ℕ) → IsClosing a b → ClosesOne (zone_at a i) (zone_at b i)
+zone_at-closing [] [] i h = record { blocks = refl; state = inl refl }
+zone_at-closing (x ∷ xs) (y ∷ ys) zero h = h.0
+zone_at-closing (x ∷ xs) (y ∷ ys) (suc i) h = zone_at-closing xs ys i h.1
+zone_at-closing [] (y ∷ ys) i h = absurd h
+zone_at-closing (x ∷ xs) [] i h = absurd h
+
+pub content_at-contents : (zones : List Zone) (i : ℕ) → content_at (contents zones) i ≡ content_of (zone_at zones i)
+content_at-contents zones i = get_or-map content_of zones i nowhere
+
+-- the content of a zone after a closing
+pub content_at-closing : (a b : List Zone) (i : ℕ) → IsClosing a b → content_at (contents a) i ≡ content_of (zone_at b i)
+content_at-closing a b i h = content_at-contents a i ∙ sym (content_of-closes (zone_at a i) (zone_at b i) (zone_at-closing a b i h))
+
+pub length-closing : (a b : List Zone) → IsClosing a b → length b ≡ length a
+length-closing [] [] h = refl
+length-closing (x ∷ xs) (y ∷ ys) h = let rest = length-closing xs ys h.1 in omega (arith, rest)
+length-closing [] (y ∷ ys) h = absurd h
+length-closing (x ∷ xs) [] h = absurd h

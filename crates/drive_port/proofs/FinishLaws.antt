@@ -1,0 +1,93 @@
+-- What a Finish that succeeded did, and which Finish a drive can't refuse.
+use Rattle.std.proofs.Common.{◌≡◌, ℕ, ◌/◌, true, false, List, [], Result, Ok, Err, refl, sym, ap, ◌∙◌, arith}
+use Rattle.std.specs.Prelude.{OnOk}
+use Rattle.std.proofs.lemmas.Bool.{eq-eqb, leb-false, lt-leb}
+use Rattle.std.proofs.lemmas.List.{length-map, map-set}
+use Rattle.nvme_wire.specs.declared.command.Action.TheVariants as actions
+use Rattle.nvme_wire.specs.declared.command.Command.TheVariants.{Send}
+use Rattle.nvme_wire.specs.declared.status.Status.TheVariants.{Success}
+use Rattle.nvme_wire.specs.declared.zone_state.ZoneState.{ZoneState}
+use Rattle.nvme_wire.specs.declared.zone_state.ZoneState.TheVariants.{Empty, ImplicitlyOpened, ExplicitlyOpened, Closed, ReadOnly, Full, Offline}
+use Rattle.zone_states.specs.Transition.{state_after}
+use Rattle.zone_states.specs.Zone.{Zone}
+use Rattle.drive_port.specs.declared.calls.PortFault.{PortFault}
+use Rattle.drive_port.specs.declared.calls.PortFault.TheVariants.{Refused, Memory, Stopped}
+use Rattle.drive_port.specs.Drive.{DriveState, IsClosing, IsLawful}
+use Rattle.drive_port.specs.Step.{Performs, is_refusal, send_checks, zone_after, zone_at}
+use Rattle.drive_port.specs.Contents.{Content, content_at, content_of, contents, finished, is_usable, usage_of}
+use Rattle.drive_port.specs.Calls.{CanFinish, Finished, FinishGives, IsTaken}
+use Rattle.drive_port.proofs.ClosingLaws.{content_at-closing, content_of-closes, zone_at-closing}
+use Rattle.drive_port.proofs.StepLaws.{succeeded, succeeds}
+use Rattle.drive_port.proofs.CheckLaws.{AllPass}
+use Rattle.drive_port.proofs.AppendLaws.{zone-in_range}
+
+-- ---- one zone
+
+usable-passed : (state : ZoneState) → is_refusal (state_after state actions.Finish) ≡ false → is_usable (usage_of state) ≡ true
+usable-passed Empty e = refl
+usable-passed ImplicitlyOpened e = refl
+usable-passed ExplicitlyOpened e = refl
+usable-passed Closed e = refl
+usable-passed ReadOnly e = sym e
+usable-passed Full e = refl
+usable-passed Offline e = sym e
+
+usable-passes : (state : ZoneState) → is_usable (usage_of state) ≡ true → state_after state actions.Finish ≡ Ok Full
+usable-passes Empty u = refl
+usable-passes ImplicitlyOpened u = refl
+usable-passes ExplicitlyOpened u = refl
+usable-passes Closed u = refl
+usable-passes ReadOnly u = absurd (cc u)
+usable-passes Full u = refl
+usable-passes Offline u = absurd (cc u)
+
+content_of-finished : (zone : Zone) → is_usable (usage_of zone.state) ≡ true → content_of (zone_after actions.Finish zone (state_after zone.state actions.Finish)) ≡ finished (content_of zone)
+content_of-finished zone u = rw (usable-passes zone.state u) refl
+
+-- ---- a Finish that succeeded
+
+pub finish-succeeded : (old new : DriveState) (start : ℕ) (bytes returned : List ℕ) (value : ℕ) → IsLawful old
+    → Performs old (Ok (Send start actions.Finish false)) bytes Success value returned new → Finished old new start
+finish-succeeded old new start bytes returned value lawful step =
+    let s = succeeded old new (Ok (Send start actions.Finish false)) bytes returned value step in
+    let index = start / old.geometry.size in
+    let zone = zone_at step.middle index in
+    let at : content_at (contents old.zones) index ≡ content_of zone = content_at-closing old.zones step.middle index step.before in
+    let index_low = zone-in_range old start lawful (leb-false _ _ s.passed.1.0) in
+    let usable = usable-passed zone.state s.passed.1.1.0 in
+    record {
+      geometry = s.geometry;
+      counts = s.counts;
+      contents = record {
+        in_range = omega (arith, index_low, length-map old.zones content_of);
+        usable = rw at usable;
+        zones = s.after ∙ map-set content_of step.middle index (zone_after actions.Finish zone (state_after zone.state actions.Finish))
+            ∙ rw (s.before, content_of-finished zone usable, at) refl;
+      };
+    }
+
+pub finish-if_ok : {V : Type 0} (old new : DriveState) (start : ℕ) (result : Result V PortFault) → IsLawful old
+    → FinishGives old start result new → OnOk result (Finished old new start)
+finish-if_ok old new start (Ok value) lawful gives = finish-succeeded old new start [] gives.0 0 lawful gives.1
+finish-if_ok old new start (Err fault) lawful gives = tt
+
+-- ---- a Finish that isn't refused
+
+finish-passes : (old : DriveState) (start : ℕ) (middle : List Zone) → IsClosing old.zones middle → CanFinish old start
+    → AllPass (send_checks old.geometry middle (zone_at middle (start / old.geometry.size)) start actions.Finish)
+finish-passes old start middle closing can =
+    let index = start / old.geometry.size in
+    let zone = zone_at middle index in
+    let same = content_of-closes (zone_at old.zones index) zone (zone_at-closing old.zones middle index closing) in
+    let usage : usage_of zone.state ≡ usage_of (zone_at old.zones index).state = ap (λ (c : Content). c.usage) same in
+    let next = usable-passes zone.state (rw usage can.usable) in
+    (rw (eq-eqb _ _ can.aligned) refl, (lt-leb _ _ can.in_range, (rw next refl, tt)))
+
+pub finish-is_taken : {V : Type 0} (old new : DriveState) (start : ℕ) (result : Result V PortFault)
+    → FinishGives old start result new → CanFinish old start → IsTaken result
+finish-is_taken old new start (Ok value) gives can = tt
+finish-is_taken old new start (Err (Refused status)) gives can =
+    let step = gives.1.2 in
+    gives.1.0 (succeeds old new (Ok (Send start actions.Finish false)) [] gives.0 status gives.1.1 step (finish-passes old start step.middle step.before can))
+finish-is_taken old new start (Err Memory) gives can = tt
+finish-is_taken old new start (Err Stopped) gives can = tt

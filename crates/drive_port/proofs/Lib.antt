@@ -1,0 +1,10 @@
+pub mod ClosingLaws
+pub mod CheckLaws
+pub mod StepLaws
+pub mod AppendLaws
+pub mod ReadLaws
+pub mod FinishLaws
+pub mod SendLaws
+pub mod ReportLaws
+pub mod CountLaws
+pub mod BlankLaws

@@ -1,0 +1,87 @@
+-- What a Read that succeeded showed, and which Read a drive can't refuse.
+use Rattle.std.proofs.Common.{◌≡◌, ℕ, zero, suc, ◌+◌, ◌*◌, ◌/◌, ◌%◌, false, List, [], ◌∷◌, length, Result, Ok, Err, refl, ◌∙◌, inl, inr, arith}
+use Rattle.std.specs.List.{AllByRecursion}
+use Rattle.std.proofs.lemmas.Bool.{eq-eqb, le-ltb}
+use Rattle.std.proofs.lemmas.List.{length-append, length-replicate}
+use Rattle.nvme_wire.specs.declared.command.Command.TheVariants.{Read}
+use Rattle.nvme_wire.specs.declared.status.Status.TheVariants.{Success}
+use Rattle.nvme_wire.specs.declared.zone_state.ZoneState.TheVariants.{Offline}
+use Rattle.zone_states.specs.declared.geometry.Geometry.{Geometry}
+use Rattle.zone_states.specs.Zone.{Zone, IsLawfulZone}
+use Rattle.drive_port.specs.declared.calls.PortFault.{PortFault}
+use Rattle.drive_port.specs.declared.calls.PortFault.TheVariants.{Refused, Memory, Stopped}
+use Rattle.drive_port.specs.Drive.{DriveState, ClosesOne, IsClosing, IsLawful}
+use Rattle.drive_port.specs.Step.{Performs, block_in, bytes_from, is_state, read_checks, zone_at}
+use Rattle.drive_port.specs.Contents.{Counts, SameContents, bytes_at, contents}
+use Rattle.drive_port.specs.Calls.{CanRead, IsTaken, ReadGives}
+use Rattle.drive_port.proofs.ClosingLaws.{content_at-closing, content_at-contents, zone_at-closing}
+use Rattle.drive_port.proofs.StepLaws.{succeeded, succeeds}
+use Rattle.drive_port.proofs.CheckLaws.{AllPass}
+
+-- ---- lengths
+
+length-block_in : (size : ℕ) (blocks : List (List ℕ)) (offset : ℕ) → AllByRecursion (λ block. length block ≡ size) blocks → length (block_in size blocks offset) ≡ size
+length-block_in size [] offset whole = length-replicate size 0
+length-block_in size (b ∷ bs) zero whole = whole.0
+length-block_in size (b ∷ bs) (suc offset) whole = length-block_in size bs offset whole.1
+
+length-bytes_from : (size : ℕ) (blocks : List (List ℕ)) (offset count : ℕ) → AllByRecursion (λ block. length block ≡ size) blocks
+    → length (bytes_from size blocks offset count) ≡ count * size
+length-bytes_from size blocks offset zero whole = omega arith
+length-bytes_from size blocks offset (suc count) whole =
+    let one = length-block_in size blocks offset whole in
+    let rest = length-bytes_from size blocks (offset + 1) count whole in
+    omega (arith, one, rest, length-append (block_in size blocks offset) (bytes_from size blocks (offset + 1) count))
+
+whole-at : (geometry : Geometry) (zones : List Zone) (i : ℕ) → AllByRecursion (IsLawfulZone geometry) zones → AllByRecursion (λ block. length block ≡ geometry.block) (zone_at zones i).blocks
+whole-at geometry [] i all = tt
+whole-at geometry (z ∷ zs) zero all = all.0.whole
+whole-at geometry (z ∷ zs) (suc i) all = whole-at geometry zs i all.1
+
+pub length-bytes_at : (drive : DriveState) (address count : ℕ) → IsLawful drive → length (bytes_at drive.geometry (contents drive.zones) address count) ≡ count * drive.geometry.block
+length-bytes_at drive address count lawful =
+    let index = address / drive.geometry.size in
+    rw (content_at-contents drive.zones index) (length-bytes_from drive.geometry.block (zone_at drive.zones index).blocks (address % drive.geometry.size) count (whole-at drive.geometry drive.zones index lawful.zones))
+
+-- ---- a Read that succeeded
+
+-- the bytes of these blocks, and the contents as they were
+pub record Showed (old new : DriveState) (address blocks : ℕ) (returned : List ℕ) : Type 0 where
+  pub bytes : returned ≡ bytes_at old.geometry (contents old.zones) address blocks
+  pub counts : Counts old new 0
+  pub kept : SameContents old new
+
+pub read-succeeded : (old new : DriveState) (address blocks : ℕ) (bytes returned : List ℕ) (value : ℕ)
+    → Performs old (Ok (Read address blocks)) bytes Success value returned new → Showed old new address blocks returned
+read-succeeded old new address blocks bytes returned value step =
+    let s = succeeded old new (Ok (Read address blocks)) bytes returned value step in
+    record {
+      bytes = s.returned_is ∙ rw (content_at-closing old.zones step.middle (address / old.geometry.size) step.before) refl;
+      counts = s.counts;
+      kept = record { geometry = s.geometry; contents = s.after ∙ s.before };
+    }
+
+-- ---- a Read that isn't refused
+
+offline-closes : (z y : Zone) → ClosesOne z y → is_state Offline z.state ≡ false → is_state Offline y.state ≡ false
+offline-closes z y one e =
+    elim one.state [
+      | inl same ↦ rw same e
+      | inr closed ↦ rw closed.1 refl
+    ]
+
+read-passes : (old : DriveState) (address blocks : ℕ) (middle : List Zone) → IsClosing old.zones middle → CanRead old address blocks
+    → AllPass (read_checks old.geometry (zone_at middle (address / old.geometry.size)) address blocks)
+read-passes old address blocks middle closing can =
+    let index = address / old.geometry.size in
+    let readable = offline-closes (zone_at old.zones index) (zone_at middle index) (zone_at-closing old.zones middle index closing) can.readable in
+    (le-ltb _ _ can.few, (le-ltb _ _ can.in_range, (rw (eq-eqb _ _ can.one_zone) refl, (readable, tt))))
+
+pub read-is_taken : {V : Type 0} (old new : DriveState) (address blocks : ℕ) (returned : List ℕ) (result : Result V PortFault)
+    → ReadGives old address blocks result returned new → CanRead old address blocks → IsTaken result
+read-is_taken old new address blocks returned (Ok value) gives can = tt
+read-is_taken old new address blocks returned (Err (Refused status)) gives can =
+    let step = gives.2 in
+    gives.0 (succeeds old new (Ok (Read address blocks)) [] returned status gives.1 step (read-passes old address blocks step.middle step.before can))
+read-is_taken old new address blocks returned (Err Memory) gives can = tt
+read-is_taken old new address blocks returned (Err Stopped) gives can = tt

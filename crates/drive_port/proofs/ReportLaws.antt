@@ -1,0 +1,83 @@
+-- What a report that succeeded showed, and which report a drive can't refuse.
+use Rattle.std.proofs.Common.{◌≡◌, ℕ, ◌+◌, ◌-◌, ◌*◌, ◌/◌, ◌<◌, ◌≤◌, Bool, List, [], ◌∷◌, ◌++◌, if◌then◌else◌, length, take, drop, replicate, Result, Ok, Err, refl, ap, ◌∙◌, arith, length-append, length-take}
+use Rattle.std.specs.List.{flat_map}
+use Rattle.std.proofs.lemmas.Bool.{leb-false, lt-leb}
+use Rattle.std.proofs.lemmas.List.{length-replicate}
+use Rattle.std.proofs.Math.Nat.{mul-div-le}
+use Rattle.nvme_wire.specs.Descriptor.{descriptor_bytes, report_head_bytes}
+use Rattle.nvme_wire.specs.declared.descriptor.Descriptor.{Descriptor}
+use Rattle.nvme_wire.specs.declared.command.Choice.{Choice}
+use Rattle.nvme_wire.specs.declared.command.Command.TheVariants.{Receive}
+use Rattle.nvme_wire.specs.declared.status.Status.TheVariants.{Success}
+use Rattle.zone_states.specs.declared.geometry.Geometry.{Geometry}
+use Rattle.zone_states.specs.Zone.{Zone}
+use Rattle.zone_report.specs.Report.{descriptor_room, matching, report}
+use Rattle.drive_port.specs.declared.calls.PortFault.{PortFault}
+use Rattle.drive_port.specs.declared.calls.PortFault.TheVariants.{Refused, Memory, Stopped}
+use Rattle.drive_port.specs.Drive.{DriveState}
+use Rattle.drive_port.specs.Step.{Performs, end_of}
+use Rattle.drive_port.specs.Contents.{SameContents}
+use Rattle.drive_port.specs.Calls.{IsTaken, ReportGives, Reported}
+use Rattle.drive_port.proofs.ClosingLaws.{contents-closing}
+use Rattle.drive_port.proofs.StepLaws.{outcome-passes, succeeded, succeeds}
+
+-- ---- a report that succeeded
+
+pub report-succeeded : (old new : DriveState) (address : ℕ) (choice : Choice) (partial : Bool) (dwords : ℕ) (bytes returned : List ℕ) (value : ℕ)
+    → Performs old (Ok (Receive address dwords choice partial)) bytes Success value returned new → Reported old new address choice partial dwords returned
+report-succeeded old new address choice partial dwords bytes returned value step =
+    let s = succeeded old new (Ok (Receive address dwords choice partial)) bytes returned value step in
+    let gives = outcome-passes old.geometry step.middle (Ok (Receive address dwords choice partial)) bytes s.passed in
+    record {
+      geometry = s.geometry;
+      counts = s.counts;
+      in_range = leb-false _ _ s.passed.0;
+      zones = step.middle;
+      before = step.before;
+      bytes_are = s.returned_is;
+      after = rw gives at step.after;
+    }
+
+-- it left the contents
+pub reported-kept : (old new : DriveState) (address : ℕ) (choice : Choice) (partial : Bool) (dwords : ℕ) (bytes : List ℕ)
+    → Reported old new address choice partial dwords bytes → SameContents old new
+reported-kept old new address choice partial dwords bytes r = record {
+  geometry = r.geometry;
+  contents = contents-closing r.zones new.zones r.after ∙ contents-closing old.zones r.zones r.before;
+}
+
+-- ---- its length
+
+length-descriptors : (ds : List Descriptor) → length (flat_map descriptor_bytes ds) ≡ 64 * length ds
+length-descriptors [] = refl
+length-descriptors (d ∷ ds) = length-append (descriptor_bytes d) (flat_map descriptor_bytes ds) ∙ omega (arith, length-descriptors ds)
+
+length-parts : (head middle : List ℕ) (size shown : ℕ) → length head ≡ 64 → length middle ≡ 64 * shown → 64 + 64 * shown ≤ size
+    → length (head ++ middle ++ replicate (size - 64 - 64 * shown) 0) ≡ size
+length-parts head middle size shown h m fits =
+    let zeros = replicate {A = ℕ} (size - 64 - 64 * shown) 0 in
+    omega (arith, h, m, fits, length-append (head ++ middle) zeros, length-append head middle, length-replicate {A = ℕ} (size - 64 - 64 * shown) 0)
+
+pub length-report : (geometry : Geometry) (zones : List Zone) (address : ℕ) (choice : Choice) (partial : Bool) (dwords : ℕ) → 16 ≤ dwords
+    → length (report geometry zones address choice partial dwords) ≡ 4 * dwords
+length-report geometry zones address choice partial dwords low =
+    let first = address / geometry.size in
+    let named = matching geometry choice first (drop first zones) in
+    let shown = take (descriptor_room dwords) named in
+    let room : length shown ≤ descriptor_room dwords = omega (arith, length-take (descriptor_room dwords) named) in
+    length-parts (report_head_bytes (record { zones = if partial then length shown else length named })) (flat_map descriptor_bytes shown) (4 * dwords) (length shown)
+    refl (length-descriptors shown) (omega (arith, room, mul-div-le (4 * dwords - 64) 64))
+
+pub length-reported : (old new : DriveState) (address : ℕ) (choice : Choice) (partial : Bool) (dwords : ℕ) (bytes : List ℕ) → 16 ≤ dwords
+    → Reported old new address choice partial dwords bytes → length bytes ≡ 4 * dwords
+length-reported old new address choice partial dwords bytes low r = ap length r.bytes_are ∙ length-report old.geometry r.zones address choice partial dwords low
+
+-- ---- a report that isn't refused
+
+pub report-is_taken : {V : Type 0} (old new : DriveState) (address : ℕ) (choice : Choice) (partial : Bool) (dwords : ℕ) (returned : List ℕ) (result : Result V PortFault)
+    → ReportGives old address choice partial dwords result returned new → address < end_of old.geometry → IsTaken result
+report-is_taken old new address choice partial dwords returned (Ok value) gives low = tt
+report-is_taken old new address choice partial dwords returned (Err (Refused status)) gives low =
+    gives.0 (succeeds old new (Ok (Receive address dwords choice partial)) [] returned status gives.1 gives.2 (lt-leb _ _ low, tt))
+report-is_taken old new address choice partial dwords returned (Err Memory) gives low = tt
+report-is_taken old new address choice partial dwords returned (Err Stopped) gives low = tt

@@ -1,0 +1,193 @@
+-- What a Close and a Reset that succeeded did, and which a drive can't refuse.
+use Rattle.std.proofs.Common.{◌≡◌, ℕ, zero, suc, ◌/◌, ◌%◌, ◌<◌, true, false, not, List, [], ◌∷◌, length, Result, Ok, Err, refl, sym, ap, ◌∙◌, inl, arith}
+use Rattle.std.specs.Prelude.{OnOk, OnErr, ◌==◌, slice_set}
+use Rattle.std.proofs.lemmas.Bool.{eq-eqb, leb-false, lt-leb}
+use Rattle.std.proofs.lemmas.List.{length-map, map-set}
+use Rattle.nvme_wire.specs.declared.command.Action.{Action}
+use Rattle.nvme_wire.specs.declared.command.Action.TheVariants as actions
+use Rattle.nvme_wire.specs.declared.command.Command.TheVariants.{Send}
+use Rattle.nvme_wire.specs.declared.status.Status.TheVariants.{Success}
+use Rattle.nvme_wire.specs.declared.zone_state.ZoneState.{ZoneState}
+use Rattle.nvme_wire.specs.declared.zone_state.ZoneState.TheVariants.{Empty, ImplicitlyOpened, ExplicitlyOpened, Closed, ReadOnly, Full, Offline}
+use Rattle.zone_states.specs.Transition.{is_active, state_after}
+use Rattle.zone_states.specs.Zone.{Zone}
+use Rattle.drive_port.specs.declared.calls.PortFault.{PortFault}
+use Rattle.drive_port.specs.declared.calls.PortFault.TheVariants.{Refused, Memory, Stopped}
+use Rattle.drive_port.specs.Drive.{DriveState, ClosesOne, IsClosing, IsLawful}
+use Rattle.drive_port.specs.Step.{Performs, blocks_after, is_refusal, opening_checks, send_checks, zone_after, zone_at}
+use Rattle.drive_port.specs.Contents.{Content, SameContents, active, content_at, content_of, contents, emptied, is_usable, usage_of}
+use Rattle.drive_port.specs.Calls.{CanClose, CanReset, CloseGives, ClosedZone, IsTaken, ResetGives, ResetZone, SendGives}
+use Rattle.drive_port.proofs.ClosingLaws.{IsClosing-set, IsClosing-trans, active-closes, content_at-closing, content_of-closes, contents-closing, zone_at-closing}
+use Rattle.drive_port.proofs.StepLaws.{call-same, outcome-passes, succeeded, succeeds}
+use Rattle.drive_port.proofs.CheckLaws.{AllPass}
+use Rattle.drive_port.proofs.AppendLaws.{zone-in_range}
+
+-- ---- one zone
+
+closable-passed : (state : ZoneState) → is_refusal (state_after state actions.Close) ≡ false → is_active state ≡ true
+closable-passed Empty e = sym e
+closable-passed ImplicitlyOpened e = refl
+closable-passed ExplicitlyOpened e = refl
+closable-passed Closed e = refl
+closable-passed ReadOnly e = sym e
+closable-passed Full e = sym e
+closable-passed Offline e = sym e
+
+closable-passes : (state : ZoneState) → is_active state ≡ true → state_after state actions.Close ≡ Ok Closed
+closable-passes Empty a = absurd (cc a)
+closable-passes ImplicitlyOpened a = refl
+closable-passes ExplicitlyOpened a = refl
+closable-passes Closed a = refl
+closable-passes ReadOnly a = absurd (cc a)
+closable-passes Full a = absurd (cc a)
+closable-passes Offline a = absurd (cc a)
+
+resettable-passed : (state : ZoneState) → is_refusal (state_after state actions.Reset) ≡ false → is_usable (usage_of state) ≡ true
+resettable-passed Empty e = refl
+resettable-passed ImplicitlyOpened e = refl
+resettable-passed ExplicitlyOpened e = refl
+resettable-passed Closed e = refl
+resettable-passed ReadOnly e = sym e
+resettable-passed Full e = refl
+resettable-passed Offline e = sym e
+
+resettable-passes : (state : ZoneState) → is_usable (usage_of state) ≡ true → state_after state actions.Reset ≡ Ok Empty
+resettable-passes Empty u = refl
+resettable-passes ImplicitlyOpened u = refl
+resettable-passes ExplicitlyOpened u = refl
+resettable-passes Closed u = refl
+resettable-passes ReadOnly u = absurd (cc u)
+resettable-passes Full u = refl
+resettable-passes Offline u = absurd (cc u)
+
+-- ---- a Send that succeeded
+
+-- the zones that it leaves, by the state that it gives to the one
+sent-zones : (old new : DriveState) (start : ℕ) (action : Action) (next : ZoneState) (bytes returned : List ℕ) (value : ℕ)
+    → (step : Performs old (Ok (Send start action false)) bytes Success value returned new)
+    → state_after (zone_at step.middle (start / old.geometry.size)).state action ≡ Ok next
+    → IsClosing (slice_set old.zones (start / old.geometry.size) (record { state = next; blocks = blocks_after action (zone_at old.zones (start / old.geometry.size)).blocks })) new.zones
+sent-zones old new start action next bytes returned value step is =
+    let s = succeeded old new (Ok (Send start action false)) bytes returned value step in
+    let gives = outcome-passes old.geometry step.middle (Ok (Send start action false)) bytes s.passed in
+    let index = start / old.geometry.size in
+    let one = zone_at-closing old.zones step.middle index step.before in
+    let was : Zone = record { state = next; blocks = blocks_after action (zone_at old.zones index).blocks } in
+    let now : Zone = record { state = next; blocks = blocks_after action (zone_at step.middle index).blocks } in
+    let closes : ClosesOne was now = record { blocks = ap (blocks_after action) one.blocks; state = inl refl } in
+    let after : IsClosing (slice_set step.middle index now) new.zones = rw (gives, is) at step.after in
+    IsClosing-trans (slice_set old.zones index was) (slice_set step.middle index now) new.zones
+    (IsClosing-set old.zones step.middle index was now step.before closes) after
+
+close-succeeded : (old new : DriveState) (start : ℕ) (bytes returned : List ℕ) (value : ℕ) → IsLawful old
+    → Performs old (Ok (Send start actions.Close false)) bytes Success value returned new → ClosedZone old new start
+close-succeeded old new start bytes returned value lawful step =
+    let s = succeeded old new (Ok (Send start actions.Close false)) bytes returned value step in
+    let index = start / old.geometry.size in
+    let closable = closable-passed (zone_at step.middle index).state s.passed.1.1.0 in
+    record {
+      geometry = s.geometry;
+      counts = s.counts;
+      in_range = zone-in_range old start lawful (leb-false _ _ s.passed.1.0);
+      active = sym (active-closes _ _ (zone_at-closing old.zones step.middle index step.before)) ∙ closable;
+      zones = sent-zones old new start actions.Close Closed bytes returned value step (closable-passes _ closable);
+    }
+
+reset-succeeded : (old new : DriveState) (start : ℕ) (bytes returned : List ℕ) (value : ℕ) → IsLawful old
+    → Performs old (Ok (Send start actions.Reset false)) bytes Success value returned new → ResetZone old new start
+reset-succeeded old new start bytes returned value lawful step =
+    let s = succeeded old new (Ok (Send start actions.Reset false)) bytes returned value step in
+    let index = start / old.geometry.size in
+    let at : content_at (contents old.zones) index ≡ content_of (zone_at step.middle index) = content_at-closing old.zones step.middle index step.before in
+    let index_low = zone-in_range old start lawful (leb-false _ _ s.passed.1.0) in
+    let usable = resettable-passed (zone_at step.middle index).state s.passed.1.1.0 in
+    let zones = sent-zones old new start actions.Reset Empty bytes returned value step (resettable-passes _ usable) in
+    record {
+      geometry = s.geometry;
+      counts = s.counts;
+      contents = record {
+        in_range = omega (arith, index_low, length-map old.zones content_of);
+        usable = rw at usable;
+        zones = contents-closing _ _ zones ∙ map-set content_of old.zones index (record { state = Empty; blocks = [] });
+      };
+      zones = zones;
+    }
+
+pub close-if_ok : {V : Type 0} (old new : DriveState) (start : ℕ) (result : Result V PortFault) → IsLawful old
+    → CloseGives old start result new → OnOk result (ClosedZone old new start)
+close-if_ok old new start (Ok value) lawful gives = close-succeeded old new start [] gives.0 0 lawful gives.1
+close-if_ok old new start (Err fault) lawful gives = tt
+
+pub reset-if_ok : {V : Type 0} (old new : DriveState) (start : ℕ) (result : Result V PortFault) → IsLawful old
+    → ResetGives old start result new → OnOk result (ResetZone old new start)
+reset-if_ok old new start (Ok value) lawful gives = reset-succeeded old new start [] gives.0 0 lawful gives.1
+reset-if_ok old new start (Err fault) lawful gives = tt
+
+-- ---- contents
+
+pub send-if_err : {V : Type 0} (old new : DriveState) (start : ℕ) (action : Action) (result : Result V PortFault) → SendGives old start action result new → OnErr result (SameContents old new)
+send-if_err old new start action (Ok value) gives = tt
+send-if_err old new start action (Err fault) gives = (call-same old new (Send start action false) [] gives.0 (Err fault) gives.1).0
+
+usage-active : (state : ZoneState) → is_active state ≡ true → usage_of state ≡ active
+usage-active Empty a = absurd (cc a)
+usage-active ImplicitlyOpened a = refl
+usage-active ExplicitlyOpened a = refl
+usage-active Closed a = refl
+usage-active ReadOnly a = absurd (cc a)
+usage-active Full a = absurd (cc a)
+usage-active Offline a = absurd (cc a)
+
+-- a zone that is opened or Closed keeps its content where it is Closed
+contents-closed : (zones : List Zone) (i : ℕ) → is_active (zone_at zones i).state ≡ true
+    → contents (slice_set zones i (record { state = Closed; blocks = (zone_at zones i).blocks })) ≡ contents zones
+contents-closed [] i a = refl
+contents-closed (z ∷ zs) zero a = rw (usage-active z.state a) refl
+contents-closed (z ∷ zs) (suc i) a = ap (λ (rest : List Content). content_of z ∷ rest) (contents-closed zs i a)
+
+pub close-kept : {V : Type 0} (old new : DriveState) (start : ℕ) (result : Result V PortFault) → IsLawful old → CloseGives old start result new → SameContents old new
+close-kept old new start (Ok value) lawful gives =
+    let closed = close-succeeded old new start [] gives.0 0 lawful gives.1 in
+    record {
+      geometry = closed.geometry;
+      contents = contents-closing _ _ closed.zones ∙ contents-closed old.zones (start / old.geometry.size) closed.active;
+    }
+close-kept {V = V} old new start (Err fault) lawful gives = send-if_err {V = V} old new start actions.Close (Err fault) gives
+
+-- ---- a Send that isn't refused
+
+close-passes : (old : DriveState) (start : ℕ) (middle : List Zone) → IsClosing old.zones middle → CanClose old start
+    → AllPass (send_checks old.geometry middle (zone_at middle (start / old.geometry.size)) start actions.Close)
+close-passes old start middle closing can =
+    let index = start / old.geometry.size in
+    let is_active = active-closes (zone_at old.zones index) (zone_at middle index) (zone_at-closing old.zones middle index closing) ∙ can.active in
+    let next = closable-passes (zone_at middle index).state is_active in
+    (rw (eq-eqb _ _ can.aligned) refl, (lt-leb _ _ can.in_range, (rw next refl, tt)))
+
+pub close-is_taken : {V : Type 0} (old new : DriveState) (start : ℕ) (result : Result V PortFault)
+    → CloseGives old start result new → CanClose old start → IsTaken result
+close-is_taken old new start (Ok value) gives can = tt
+close-is_taken old new start (Err (Refused status)) gives can =
+    let step = gives.1.2 in
+    gives.1.0 (succeeds old new (Ok (Send start actions.Close false)) [] gives.0 status gives.1.1 step (close-passes old start step.middle step.before can))
+close-is_taken old new start (Err Memory) gives can = tt
+close-is_taken old new start (Err Stopped) gives can = tt
+
+reset-passes : (old : DriveState) (start : ℕ) (middle : List Zone) → IsClosing old.zones middle → CanReset old start
+    → AllPass (send_checks old.geometry middle (zone_at middle (start / old.geometry.size)) start actions.Reset)
+reset-passes old start middle closing can =
+    let index = start / old.geometry.size in
+    let zone = zone_at middle index in
+    let same = content_of-closes (zone_at old.zones index) zone (zone_at-closing old.zones middle index closing) in
+    let usage : usage_of zone.state ≡ usage_of (zone_at old.zones index).state = ap (λ (c : Content). c.usage) same in
+    let next = resettable-passes zone.state (rw usage can.usable) in
+    (rw (eq-eqb _ _ can.aligned) refl, (lt-leb _ _ can.in_range, (rw next refl, tt)))
+
+pub reset-is_taken : {V : Type 0} (old new : DriveState) (start : ℕ) (result : Result V PortFault)
+    → ResetGives old start result new → CanReset old start → IsTaken result
+reset-is_taken old new start (Ok value) gives can = tt
+reset-is_taken old new start (Err (Refused status)) gives can =
+    let step = gives.1.2 in
+    gives.1.0 (succeeds old new (Ok (Send start actions.Reset false)) [] gives.0 status gives.1.1 step (reset-passes old start step.middle step.before can))
+reset-is_taken old new start (Err Memory) gives can = tt
+reset-is_taken old new start (Err Stopped) gives can = tt

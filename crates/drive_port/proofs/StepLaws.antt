@@ -1,0 +1,237 @@
+-- What the status of a command says of its checks, its effect and the contents of the drive.
+use Rattle.std.proofs.Common.{◌≡◌, ◌≢◌, ℕ, ◌+◌, ◌/◌, ◌%◌, length, Bool, true, false, not, ◌&&◌, List, [], ◌∷◌, map, Option, Some, None, Result, Ok, Err, refl, sym, ap, ◌∙◌, arith}
+use Rattle.std.specs.Prelude.{OnErr, slice_set}
+use Rattle.std.proofs.lemmas.Bool.{and_parts}
+use Rattle.nvme_wire.specs.declared.command.Action.TheVariants as actions
+use Rattle.nvme_wire.specs.declared.command.Command.{Command}
+use Rattle.nvme_wire.specs.declared.command.Command.TheVariants.{Flush, Read, Write, Append, Send, Receive}
+use Rattle.nvme_wire.specs.declared.command.DecodeFault.{DecodeFault}
+use Rattle.nvme_wire.specs.declared.command.DecodeFault.TheVariants as faults
+use Rattle.nvme_wire.specs.declared.status.Status.{Status}
+use Rattle.nvme_wire.specs.declared.status.Status.TheVariants.{Success}
+use Rattle.zone_states.specs.declared.geometry.Geometry.{Geometry}
+use Rattle.zone_states.specs.Checks.{first_failing}
+use Rattle.zone_states.specs.Transition.{state_after}
+use Rattle.zone_states.specs.Zone.{Zone}
+use Rattle.zone_report.specs.Report.{report}
+use Rattle.drive_port.specs.declared.calls.PortFault.{PortFault}
+use Rattle.drive_port.specs.declared.calls.PortFault.TheVariants.{Refused, Memory, Stopped}
+use Rattle.drive_port.specs.Drive.{DriveState}
+use Rattle.drive_port.specs.Step.{Outcome, Performs, append_checks, bytes_from, decode_status, done, is_append, is_success, one_if, outcome, read_checks, receive_checks, send_checks, sent_zone, unless_refused, write_checks, write_effect, zone_after, zone_at}
+use Rattle.drive_port.specs.Contents.{Counts, SameContents, contents}
+use Rattle.drive_port.specs.Calls.{CallGives}
+use Rattle.drive_port.proofs.CheckLaws.{AllPass}
+use Rattle.drive_port.proofs.ClosingLaws.{IsClosing-refl, contents-closing}
+
+-- ---- a command is its checks and its effect
+
+abbrev pub checks_of : Geometry → List Zone → Result Command DecodeFault → List ℕ → List (Bool × Status)
+checks_of geometry zones (Err fault) bytes = (true, decode_status fault) ∷ []
+checks_of geometry zones (Ok Flush) bytes = []
+checks_of geometry zones (Ok (Read slba blocks)) bytes = read_checks geometry (zone_at zones (slba / geometry.size)) slba blocks
+checks_of geometry zones (Ok (Write slba blocks)) bytes = write_checks geometry zones (zone_at zones (slba / geometry.size)) slba blocks bytes
+checks_of geometry zones (Ok (Append zslba blocks)) bytes = append_checks geometry zones (zone_at zones (zslba / geometry.size)) zslba blocks bytes
+checks_of geometry zones (Ok (Send slba action true)) bytes = []
+checks_of geometry zones (Ok (Send slba action false)) bytes = send_checks geometry zones (zone_at zones (slba / geometry.size)) slba action
+checks_of geometry zones (Ok (Receive slba dwords choice partial)) bytes = receive_checks geometry slba
+
+-- what a command gives where none of its checks fails
+abbrev pub effect_of : Geometry → List Zone → Result Command DecodeFault → List ℕ → Outcome
+effect_of geometry zones (Err fault) bytes = done [] zones
+effect_of geometry zones (Ok Flush) bytes = done [] zones
+effect_of geometry zones (Ok (Read slba blocks)) bytes =
+    done (bytes_from geometry.block (zone_at zones (slba / geometry.size)).blocks (slba % geometry.size) blocks) zones
+effect_of geometry zones (Ok (Write slba blocks)) bytes = done [] (write_effect geometry zones (slba / geometry.size) blocks bytes)
+effect_of geometry zones (Ok (Append zslba blocks)) bytes =
+    let index = zslba / geometry.size in
+    record (done [] (write_effect geometry zones index blocks bytes)) { value = zslba + length (zone_at zones index).blocks }
+effect_of geometry zones (Ok (Send slba action true)) bytes = done [] (map (sent_zone action) zones)
+effect_of geometry zones (Ok (Send slba action false)) bytes =
+    let index = slba / geometry.size in
+    let zone = zone_at zones index in
+    done [] (slice_set zones index (zone_after action zone (state_after zone.state action)))
+effect_of geometry zones (Ok (Receive slba dwords choice partial)) bytes = done (report geometry zones slba choice partial dwords) zones
+
+outcome-is : (geometry : Geometry) (zones : List Zone) (command : Result Command DecodeFault) (bytes : List ℕ)
+    → outcome geometry zones command bytes ≡ unless_refused (first_failing (checks_of geometry zones command bytes)) zones (effect_of geometry zones command bytes)
+unfolding outcome
+outcome-is geometry zones (Err fault) bytes = refl
+outcome-is geometry zones (Ok Flush) bytes = refl
+outcome-is geometry zones (Ok (Read slba blocks)) bytes = refl
+outcome-is geometry zones (Ok (Write slba blocks)) bytes = refl
+outcome-is geometry zones (Ok (Append zslba blocks)) bytes = refl
+outcome-is geometry zones (Ok (Send slba action true)) bytes = refl
+outcome-is geometry zones (Ok (Send slba action false)) bytes = refl
+outcome-is geometry zones (Ok (Receive slba dwords choice partial)) bytes = refl
+
+effect-succeeds : (geometry : Geometry) (zones : List Zone) (command : Result Command DecodeFault) (bytes : List ℕ) → (effect_of geometry zones command bytes).status ≡ Success
+effect-succeeds geometry zones (Err fault) bytes = refl
+effect-succeeds geometry zones (Ok Flush) bytes = refl
+effect-succeeds geometry zones (Ok (Read slba blocks)) bytes = refl
+effect-succeeds geometry zones (Ok (Write slba blocks)) bytes = refl
+effect-succeeds geometry zones (Ok (Append zslba blocks)) bytes = refl
+effect-succeeds geometry zones (Ok (Send slba action true)) bytes = refl
+effect-succeeds geometry zones (Ok (Send slba action false)) bytes = refl
+effect-succeeds geometry zones (Ok (Receive slba dwords choice partial)) bytes = refl
+
+-- none of the checks has the status Success
+abbrev refuses : List (Bool × Status) → Bool
+refuses [] = true
+refuses (check ∷ checks) = not (is_success check.1) && refuses checks
+
+checks-refuse : (geometry : Geometry) (zones : List Zone) (command : Result Command DecodeFault) (bytes : List ℕ) → refuses (checks_of geometry zones command bytes) ≡ true
+checks-refuse geometry zones (Err faults.Opcode) bytes = refl
+checks-refuse geometry zones (Err faults.Namespace) bytes = refl
+checks-refuse geometry zones (Err faults.Field) bytes = refl
+checks-refuse geometry zones (Ok Flush) bytes = refl
+checks-refuse geometry zones (Ok (Read slba blocks)) bytes = refl
+checks-refuse geometry zones (Ok (Write slba blocks)) bytes = refl
+checks-refuse geometry zones (Ok (Append zslba blocks)) bytes = refl
+checks-refuse geometry zones (Ok (Send slba action true)) bytes = refl
+checks-refuse geometry zones (Ok (Send slba actions.Open false)) bytes = refl
+checks-refuse geometry zones (Ok (Send slba actions.Close false)) bytes = refl
+checks-refuse geometry zones (Ok (Send slba actions.Finish false)) bytes = refl
+checks-refuse geometry zones (Ok (Send slba actions.Reset false)) bytes = refl
+checks-refuse geometry zones (Ok (Send slba actions.Offline false)) bytes = refl
+checks-refuse geometry zones (Ok (Receive slba dwords choice partial)) bytes = refl
+
+-- ---- checks
+
+-- where the status is Success, each check was passed
+passed : (checks : List (Bool × Status)) (zones : List Zone) (effect : Outcome) → refuses checks ≡ true
+    → Success ≡ (unless_refused (first_failing checks) zones effect).status → AllPass checks
+passed [] zones effect r e = tt
+passed ((true, status) ∷ checks) zones effect r e = absurd (cc (rw (← e) at r))
+passed ((false, status) ∷ checks) zones effect r e = (refl, passed checks zones effect (and_parts (not (is_success status)) (refuses checks) r).1 e)
+
+-- where each check is passed, the command has its effect
+passes : (checks : List (Bool × Status)) (zones : List Zone) (effect : Outcome) → AllPass checks → unless_refused (first_failing checks) zones effect ≡ effect
+passes [] zones effect all = refl
+passes ((true, status) ∷ checks) zones effect all = absurd (cc (all.0))
+passes ((false, status) ∷ checks) zones effect all = passes checks zones effect all.1
+
+-- a command that passes its checks has its effect
+pub outcome-passes : (geometry : Geometry) (zones : List Zone) (command : Result Command DecodeFault) (bytes : List ℕ)
+    → AllPass (checks_of geometry zones command bytes) → outcome geometry zones command bytes ≡ effect_of geometry zones command bytes
+outcome-passes geometry zones command bytes all =
+    outcome-is geometry zones command bytes ∙ passes (checks_of geometry zones command bytes) zones (effect_of geometry zones command bytes) all
+
+-- ---- a success
+
+-- what a command that succeeded found and left
+pub record Succeeded (old : DriveState) (middle : List Zone) (command : Result Command DecodeFault) (bytes : List ℕ) (value : ℕ) (returned : List ℕ) (new : DriveState) : Type 0 where
+  pub passed : AllPass (checks_of old.geometry middle command bytes)
+  pub value_is : value ≡ (effect_of old.geometry middle command bytes).value
+  pub returned_is : returned ≡ (effect_of old.geometry middle command bytes).returned
+  pub before : contents middle ≡ contents old.zones
+  pub after : contents new.zones ≡ contents (effect_of old.geometry middle command bytes).zones
+  pub geometry : new.geometry ≡ old.geometry
+  pub counts : Counts old new (one_if (is_append command))
+
+one_if-true : (b : Bool) → one_if (b && true) ≡ one_if b
+one_if-true true = refl
+one_if-true false = refl
+
+pub succeeded : (old new : DriveState) (command : Result Command DecodeFault) (bytes returned : List ℕ) (value : ℕ)
+    → (step : Performs old command bytes Success value returned new) → Succeeded old step.middle command bytes value returned new
+succeeded old new command bytes returned value step =
+    let checks = checks_of old.geometry step.middle command bytes in
+    let effect = effect_of old.geometry step.middle command bytes in
+    let is = outcome-is old.geometry step.middle command bytes in
+    let all = passed checks step.middle effect (checks-refuse old.geometry step.middle command bytes) (step.status_is ∙ ap (λ (o : Outcome). o.status) is) in
+    let gives = outcome-passes old.geometry step.middle command bytes all in
+    record {
+      passed = all;
+      value_is = step.value_is ∙ ap (λ (o : Outcome). o.value) gives;
+      returned_is = step.returned_is ∙ ap (λ (o : Outcome). o.returned) gives;
+      before = contents-closing old.zones step.middle step.before;
+      after = contents-closing effect.zones new.zones (rw gives at step.after);
+      geometry = step.geometry;
+      counts = record {
+        completed = step.completed;
+        refused = omega (arith, step.refused);
+        appended = step.appended ∙ ap (λ (n : ℕ). old.appended + n) (one_if-true (is_append command));
+      };
+    }
+
+-- a command that passes its checks succeeds
+pub succeeds : (old new : DriveState) (command : Result Command DecodeFault) (bytes returned : List ℕ) (status : Status) (value : ℕ)
+    → (step : Performs old command bytes status value returned new) → AllPass (checks_of old.geometry step.middle command bytes) → status ≡ Success
+succeeds old new command bytes returned status value step all =
+    step.status_is ∙ ap (λ (o : Outcome). o.status) (outcome-passes old.geometry step.middle command bytes all) ∙ effect-succeeds old.geometry step.middle command bytes
+
+-- ---- a refusal
+
+-- no effect, and no bytes
+abbrev Nothing : Outcome → List Zone → Type 0
+Nothing given zones = (given.returned ≡ []) × (given.zones ≡ zones)
+
+refused_nothing : (refusal : Option Status) (zones : List Zone) (effect : Outcome) → effect.status ≡ Success
+    → (unless_refused refusal zones effect).status ≢ Success → Nothing (unless_refused refusal zones effect) zones
+refused_nothing None zones effect e bad = absurd (bad e)
+refused_nothing (Some status) zones effect e bad = (refl, refl)
+
+-- a refused command returns no bytes, and leaves the contents
+pub same_contents-refused : (old new : DriveState) (command : Result Command DecodeFault) (bytes returned : List ℕ) (status : Status) (value : ℕ)
+    → status ≢ Success → Performs old command bytes status value returned new → SameContents old new × (returned ≡ [])
+same_contents-refused old new command bytes returned status value bad step =
+    let is = outcome-is old.geometry step.middle command bytes in
+    let refusal = first_failing (checks_of old.geometry step.middle command bytes) in
+    let effect = effect_of old.geometry step.middle command bytes in
+    let refused = λ (e : (unless_refused refusal step.middle effect).status ≡ Success). bad (step.status_is ∙ ap (λ (o : Outcome). o.status) is ∙ e) in
+    let nothing = refused_nothing refusal step.middle effect (effect-succeeds old.geometry step.middle command bytes) refused in
+    let after = contents-closing step.middle new.zones (rw (is, nothing.1) at step.after) in
+    let before = contents-closing old.zones step.middle step.before in
+    (record { geometry = step.geometry; contents = after ∙ before }, step.returned_is ∙ ap (λ (o : Outcome). o.returned) is ∙ nothing.0)
+
+-- ---- calls
+
+-- a call that isn't Ok returned no bytes, and left the contents
+pub call-same : (old new : DriveState) (command : Command) (bytes returned : List ℕ) (result : Result ℕ PortFault)
+    → CallGives old command bytes result returned new → OnErr result (SameContents old new × (returned ≡ []))
+call-same old new command bytes returned (Ok value) gives = tt
+call-same old new command bytes returned (Err (Refused status)) gives = same_contents-refused old new (Ok command) bytes returned status gives.1 gives.0 gives.2
+call-same old new command bytes returned (Err Memory) gives = (rw gives.1 (record { geometry = refl; contents = refl }), gives.0)
+call-same old new command bytes returned (Err Stopped) gives = (rw gives.2 (record { geometry = refl; contents = refl }), gives.1)
+
+-- no command but an Append has a result
+effect-value : (geometry : Geometry) (zones : List Zone) (command : Command) (bytes : List ℕ) → is_append (Ok command) ≡ false → (effect_of geometry zones (Ok command) bytes).value ≡ 0
+effect-value geometry zones Flush bytes e = refl
+effect-value geometry zones (Read slba blocks) bytes e = refl
+effect-value geometry zones (Write slba blocks) bytes e = refl
+effect-value geometry zones (Append zslba blocks) bytes e = absurd (cc e)
+effect-value geometry zones (Send slba action true) bytes e = refl
+effect-value geometry zones (Send slba action false) bytes e = refl
+effect-value geometry zones (Receive slba dwords choice partial) bytes e = refl
+
+pub call-zero : (old new : DriveState) (command : Command) (bytes returned : List ℕ) (value : ℕ) → is_append (Ok command) ≡ false
+    → CallGives old command bytes (Ok value) returned new → CallGives old command bytes (Ok 0) returned new
+call-zero old new command bytes returned value other gives =
+    let zero = (succeeded old new (Ok command) bytes returned value gives).value_is ∙ effect-value old.geometry gives.middle command bytes other in
+    rw zero at gives
+
+pub on_err : {T E : Type 0} (result : Result T E) (P : Type 0) → P → OnErr result P
+on_err (Ok value) P p = tt
+on_err (Err error) P p = p
+
+-- ---- steps with no closing
+
+pub performs-plain : (old new : DriveState) (command : Result Command DecodeFault) (bytes returned : List ℕ) (status : Status) (value : ℕ)
+    → outcome old.geometry old.zones command bytes ≡ record { status = status; value = value; returned = returned; zones = new.zones }
+    → new.geometry ≡ old.geometry
+    → new.completed ≡ old.completed + 1
+    → new.refused ≡ old.refused + one_if (not (is_success status))
+    → new.appended ≡ old.appended + one_if (is_append command && is_success status)
+    → Performs old command bytes status value returned new
+performs-plain old new command bytes returned status value gives geometry completed refused appended = record {
+  middle = old.zones;
+  before = IsClosing-refl old.zones;
+  status_is = sym (ap (λ (o : Outcome). o.status) gives);
+  value_is = sym (ap (λ (o : Outcome). o.value) gives);
+  returned_is = sym (ap (λ (o : Outcome). o.returned) gives);
+  after = rw gives (IsClosing-refl new.zones);
+  geometry = geometry;
+  completed = completed;
+  refused = refused;
+  appended = appended;
+}

@@ -1,0 +1,26 @@
+use Rattle.std.proofs.Common.{Err, refl, rules}
+use Rattle.nvme_wire.specs.declared.command.Command.TheVariants.{Read}
+use Rattle.drive_port.proofs.StepLaws.{call-same, call-zero, on_err}
+use Rattle.drive_port.proofs.ReadLaws.{read-succeeded, read-is_taken, length-bytes_at}
+use Rattle.drive_port.proofs.calls.read.Goals as goal
+
+pub returns-in_err-call-clause-err : goal.returns-in_err-call-clause-err
+returns-in_err-call-clause-err g c = on_err _ _ (call-same _ _ _ _ _ (Err c.in_err-call.field-0.0) c.in_err-call.ensures.gives).1
+
+pub returns-in_err-call-clause-kept : goal.returns-in_err-call-clause-kept
+returns-in_err-call-clause-kept g c = (call-same _ _ _ _ _ (Err c.in_err-call.field-0.0) c.in_err-call.ensures.gives).0
+
+pub returns-in_err-call-clause-taken : goal.returns-in_err-call-clause-taken
+returns-in_err-call-clause-taken g c = read-is_taken (g.D.Device.drive c.args.device.now) (g.D.Device.drive c.call.new.device) c.args.slba c.args.blocks c.call.new.into.items c.from_residual.result (search rules)
+
+pub returns-clause-gives : goal.returns-clause-gives
+returns-clause-gives g c = call-zero _ _ (Read c.args.slba c.args.blocks) _ _ _ refl c.in_ok-call.ensures.gives
+
+pub returns-clause-shown : goal.returns-clause-shown
+returns-clause-shown g c = (read-succeeded _ _ c.args.slba c.args.blocks _ _ _ c.in_ok-call.ensures.gives).bytes
+
+pub returns-clause-length : goal.returns-clause-length
+returns-clause-length g c = rw (read-succeeded _ _ c.args.slba c.args.blocks _ _ _ c.in_ok-call.ensures.gives).bytes (length-bytes_at _ _ _ c.call.ensures.was_lawful)
+
+pub returns-clause-kept : goal.returns-clause-kept
+returns-clause-kept g c = (read-succeeded _ _ c.args.slba c.args.blocks _ _ _ c.in_ok-call.ensures.gives).kept

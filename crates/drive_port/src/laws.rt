@@ -1,0 +1,27 @@
+ghost use Rattle.std.specs.Prelude.{◌≡◌, ◌≤◌, List};
+ghost use Rattle.zone_states.specs.Zone.{Zone};
+ghost use Rattle.drive_port.specs.Drive.{DriveState, IsClosing, active_count, open_count};
+ghost use Rattle.drive_port.specs.Contents.{contents};
+ghost use Rattle.drive_port.specs.Run.{restarted};
+
+/// A closing of zones keeps their contents.
+pub fn closing_keeps_contents()
+    ensures { (old new : List Zone) → IsClosing old new → contents new ≡ contents old }
+{}
+
+/// To close no zone is a closing, and two closings after one another are one.
+pub fn closings_join()
+    ensures none { (zones : List Zone) → IsClosing zones zones }
+    ensures both { (old middle new : List Zone) → IsClosing old middle → IsClosing middle new → IsClosing old new }
+{}
+
+/// A closing keeps the number of active zones, and makes no more of them open.
+pub fn closing_takes_no_place()
+    ensures active { (old new : List Zone) → IsClosing old new → active_count new ≡ active_count old }
+    ensures open_zones { (old new : List Zone) → IsClosing old new → open_count new ≤ open_count old }
+{}
+
+/// A restart keeps the contents of a drive.
+pub fn restart_keeps_contents()
+    ensures { (drive : DriveState) → contents (restarted drive).zones ≡ contents drive.zones }
+{}

@@ -1,0 +1,112 @@
+-- Pages of places as one list: a page more, and a place changed.
+use Rattle.std.proofs.Common.{◌≡◌, ◌≢◌, ℕ, zero, suc, ◌+◌, ◌-◌, ◌*◌, ◌/◌, ◌%◌, ◌<◌, ◌≤◌, Bool, true, false, List, [], ◌∷◌, map, length, get_or, set, replicate, Option, Some, refl, sym, ap, ◌∙◌, inl, inr, arith}
+use Rattle.std.specs.List.{range_with_len}
+use Rattle.std.specs.Option.{unwrap_or, option_map, is_some, IsSome}
+use Rattle.std.proofs.lemmas.List.{get_or-set_same, get_or-set_other, length-set, length-replicate, get_or-replicate, get_or_past}
+use Rattle.std.proofs.lemmas.List.FromFn.{fill_by_all, length-map-range_with_len, get_or-map-range_with_len}
+use Rattle.std.proofs.lemmas.Bool.{cases_eq, cases_lt}
+use Rattle.logical_map.specs.declared.place.Place.{Place}
+use Rattle.logical_map.specs.declared.place.Place.TheVariants as places
+use Rattle.std.specs.Prelude.{Box}
+use Rattle.std.specs.declared.alloc.Global.{Global}
+use Rattle.std.specs.Ordering.{nat_cmp}
+use Rattle.std.specs.BTreeMap.{is_at}
+use Rattle.std.proofs.lemmas.Bool.{false≢true, ne_eqb}
+use Rattle.std.proofs.lemmas.Bool.Decides.{nat_tests}
+use Rattle.logical_map.specs.Places.{MapView, Reserves}
+use Rattle.logical_map.specs.Pages.{place_in, shown, ready}
+
+pub length-shown : (page : ℕ → Option (List Place)) (n : ℕ) → length (shown page n) ≡ n
+length-shown page n = length-map-range_with_len (place_in page) 0 n
+
+pub shown-at : (page : ℕ → Option (List Place)) (n block : ℕ) → block < n → get_or (shown page n) block places.None ≡ place_in page block
+shown-at page n block h = get_or-map-range_with_len (place_in page) 0 n block block places.None h (omega arith)
+
+-- where a page is missing there is no place
+pub none-at : (page : ℕ → Option (List Place)) (block : ℕ) → page (block / 256) ≡ Option.None → place_in page block ≡ places.None
+none-at page block e = ap (λ (p : Option (List Place)). unwrap_or (option_map (λ q. get_or q (block % 256) places.None) p) places.None) e
+
+pub some-at : (page : ℕ → Option (List Place)) (block : ℕ) (p : List Place) → page (block / 256) ≡ Some p → place_in page block ≡ get_or p (block % 256) places.None
+some-at page block p e = ap (λ (q : Option (List Place)). unwrap_or (option_map (λ r. get_or r (block % 256) places.None) q) places.None) e
+
+same-at : (page page' : ℕ → Option (List Place)) (block : ℕ) → page' (block / 256) ≡ page (block / 256) → place_in page' block ≡ place_in page block
+same-at page page' block e = ap (λ (q : Option (List Place)). unwrap_or (option_map (λ r. get_or r (block % 256) places.None) q) places.None) e
+
+pub shown-empty : (page : ℕ → Option (List Place)) (n : ℕ) → ((m : ℕ) → page m ≡ Option.None) → shown page n ≡ replicate n places.None
+shown-empty page n none = sym (fill_by_all (place_in page) (replicate n places.None) n places.None (length-replicate n places.None) (λ k h. get_or-replicate n k places.None places.None h ∙ sym (none-at page k (none (k / 256)))))
+
+-- a fresh page
+pub shown-reserve : (page page' : ℕ → Option (List Place)) (n number : ℕ) → page number ≡ Option.None → page' number ≡ Some (replicate 256 places.None) → ((m : ℕ) → m ≢ number → page' m ≡ page m) → shown page' n ≡ shown page n
+shown-reserve page page' n number none fresh others =
+    sym (fill_by_all (place_in page') (shown page n) n places.None (length-shown page n) (λ k h. shown-at page n k h ∙ sym (same k)))
+  where
+    same : (k : ℕ) → place_in page' k ≡ place_in page k
+    same k = elim (cases_eq (k / 256) number) as (λ _. place_in page' k ≡ place_in page k) [
+      | inl e ↦ some-at page' k (replicate 256 places.None) (ap page' e ∙ fresh) ∙ get_or-replicate 256 (k % 256) places.None places.None (omega arith) ∙ sym (none-at page k (ap page e ∙ none))
+      | inr n ↦ same-at page page' k (others (k / 256) n)
+    ]
+
+-- a place changed
+pub shown-set : (page page' : ℕ → Option (List Place)) (n block : ℕ) (p : List Place) (place : Place) → block < n → length p ≡ 256 → page (block / 256) ≡ Some p → page' (block / 256) ≡ Some (set p (block % 256) place) → ((m : ℕ) → m ≢ block / 256 → page' m ≡ page m)
+    → shown page' n ≡ set (shown page n) block place
+shown-set page page' n block p place h long old new others =
+    sym (fill_by_all (place_in page') (set (shown page n) block place) n places.None (length-set (shown page n) block place ∙ length-shown page n) each)
+  where
+    each : (k : ℕ) → k < n → get_or (set (shown page n) block place) k places.None ≡ place_in page' k
+    each k below = elim (cases_eq k block) as (λ _. get_or (set (shown page n) block place) k places.None ≡ place_in page' k) [
+      | inl e ↦ ap (λ (j : ℕ). get_or (set (shown page n) block place) j places.None) e ∙ get_or-set_same (shown page n) block place places.None (omega (arith, length-shown page n)) ∙ sym (get_or-set_same p (block % 256) place places.None (omega arith)) ∙ sym (some-at page' block (set p (block % 256) place) new) ∙ ap (place_in page') (sym e)
+      | inr differs ↦ get_or-set_other (shown page n) block k place places.None differs ∙ shown-at page n k below ∙ sym (elim (cases_eq (k / 256) (block / 256)) as (λ _. place_in page' k ≡ place_in page k) [
+        | inl e ↦ some-at page' k (set p (block % 256) place) (ap page' e ∙ new) ∙ get_or-set_other p (block % 256) (k % 256) place places.None (λ r. differs (omega (arith, e, r))) ∙ sym (some-at page k p (ap page e ∙ old))
+        | inr apart ↦ same-at page page' k (others (k / 256) apart)
+      ])
+    ]
+
+pub ready-at : (page : ℕ → Option (List Place)) (n block : ℕ) → block < n → get_or (ready page n) block false ≡ is_some (page (block / 256))
+ready-at page n block h = get_or-map-range_with_len (λ b. is_some (page (b / 256))) 0 n block block false h (omega arith)
+
+pub ready-past : (page : ℕ → Option (List Place)) (n block : ℕ) → n ≤ block → get_or (ready page n) block false ≡ false
+ready-past page n block h = get_or_past (ready page n) block false (omega (arith, length-map-range_with_len (λ b. is_some (page (b / 256))) 0 n))
+
+pub reserves_there : (page : ℕ → Option (List Place)) (n block : ℕ) → block < n → is_some (page (block / 256)) ≡ true → Reserves (record { places = shown page n; ready = ready page n }) block (record { places = shown page n; ready = ready page n })
+reserves_there page n block h there = record { places = refl; here = ready-at page n block h ∙ there; kept = λ other p. p }
+
+pub reserves_fresh : (page page' : ℕ → Option (List Place)) (n block : ℕ) → block < n → page (block / 256) ≡ Option.None → page' (block / 256) ≡ Some (replicate 256 places.None) → ((m : ℕ) → m ≢ block / 256 → page' m ≡ page m)
+    → Reserves (record { places = shown page n; ready = ready page n }) block (record { places = shown page' n; ready = ready page' n })
+reserves_fresh page page' n block h none fresh others = record {
+  places = shown-reserve page page' n (block / 256) none fresh others;
+  here = ready-at page' n block h ∙ ap is_some fresh;
+  kept = λ other p. elim (cases_lt other n) as (λ _. get_or (ready page' n) other false ≡ true) [
+    | inl below ↦ ready-at page' n other below ∙ elim (cases_eq (other / 256) (block / 256)) as (λ _. is_some (page' (other / 256)) ≡ true) [
+      | inl e ↦ ap (λ (k : ℕ). is_some (page' k)) e ∙ ap is_some fresh
+      | inr apart ↦ ap is_some (others (other / 256) apart) ∙ sym (ready-at page n other below) ∙ p
+    ]
+    | inr past ↦ absurd (false≢true (sym (ready-past page n other past) ∙ p))
+  ];
+}
+
+abbrev made : List Place → List Bool → MapView
+made a b = record { places = a; ready = b }
+
+pub sets : (page page' : ℕ → Option (List Place)) (n block : ℕ) (p : List Place) (place : Place) → block < n → length p ≡ 256 → page (block / 256) ≡ Some p → page' (block / 256) ≡ Some (set p (block % 256) place) → ((m : ℕ) → m ≢ block / 256 → page' m ≡ page m)
+    → made (shown page' n) (ready page' n) ≡ made (set (shown page n) block place) (ready page n)
+sets page page' n block p place h long old new others = both (shown page' n) (set (shown page n) block place) (ready page' n) (ready page n) (shown-set page page' n block p place h long old new others) same
+  where
+    there : (k : ℕ) → is_some (page k) ≡ is_some (page' k)
+    there k = elim (cases_eq k (block / 256)) as (λ _. is_some (page k) ≡ is_some (page' k)) [ inl e ↦ ap (λ (j : ℕ). is_some (page j)) e ∙ ap is_some old ∙ sym (ap is_some new) ∙ sym (ap (λ (j : ℕ). is_some (page' j)) e) | inr apart ↦ ap is_some (sym (others k apart)) ]
+
+    same : ready page' n ≡ ready page n
+    same = sym (fill_by_all (λ b. is_some (page' (b / 256))) (ready page n) n false (length-map-range_with_len (λ b. is_some (page (b / 256))) 0 n) (λ k below. ready-at page n k below ∙ there (k / 256)))
+
+    both : (a a' : List Place) (b b' : List Bool) → a ≡ a' → b ≡ b' → made a b ≡ made a' b'
+    both a a' b b' e f = rw (e, f) refl
+
+pub is_at-other : (a m : ℕ) → m ≢ a → is_at (nat_cmp a) m ≡ false
+is_at-other a m h = grind (arith, nat_tests)
+
+pub there-from : (o : Option (Box (List Place) Global)) → true ≡ is_some o → is_some (option_map (λ b. b.value) o) ≡ true
+there-from Option.None e = sym e
+there-from (Some b) e = refl
+
+pub missing-from : (o : Option (Box (List Place) Global)) → false ≡ is_some o → option_map (λ b. b.value) o ≡ Option.None
+missing-from Option.None e = refl
+missing-from (Some b) e = absurd (false≢true e)

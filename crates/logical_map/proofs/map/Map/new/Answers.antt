@@ -1,0 +1,11 @@
+use Rattle.std.proofs.Common.{◌≡◌, refl, ap}
+use Rattle.std.specs.Option.{option_map}
+use Rattle.std.specs.Map.{lookup}
+use Rattle.std.specs.BTreeMap.{is_at}
+use Rattle.std.specs.Ordering.{nat_cmp}
+use Rattle.logical_map.specs.Pages.{page_of}
+use Rattle.logical_map.proofs.Showing.{shown-empty}
+use Rattle.logical_map.proofs.map.Map.new.Goals as goal
+
+pub returns : goal.returns
+returns c = shown-empty (page_of c.new.result) c.args.count (λ m. rw c.new.ensures.empty refl)

@@ -1,0 +1,25 @@
+use Rattle.std.proofs.Common.{◌≡◌, sym, ◌∙◌, ap, arith, rules, ◌%◌, ◌/◌, set, true, is_some, Some}
+use Rattle.std.specs.Option.{option_map}
+use Rattle.std.proofs.lemmas.Bool.{false≢true}
+use Rattle.logical_map.specs.Pages.{page_of, shown}
+use Rattle.logical_map.proofs.Showing.{sets, length-shown, ready-at, is_at-other}
+use Rattle.logical_map.proofs.map.Map.set.Goals as goal
+
+pub returns : goal.returns
+returns c =
+    let w = Rattle.std.specs.Box.with_value c.in-Some.page.now c.put.new.page in
+    let h = c.get_mut.follows.holds w in
+    let u = h.3 (search rules) in
+    let page = page_of c.self.inside.pages in
+    let page' = page_of (c.get_mut.follows.lender w) in
+    let below = rw (← c.self.view_is) at c.requires.in_range in
+    rw (← c.self.view_is) (sets page page' c.self.inside.count c.args.block c.deref_mut.result.now c.args.place (omega (arith, below, length-shown page c.self.inside.count)) c.put.ensures.long
+    (ap (option_map (λ b. b.value)) (sym c.in-Some.ensures.value) ∙ ap Some (sym c.deref_mut.ensures.value)) (ap (option_map (λ b. b.value)) u.1 ∙ ap Some c.put.ensures.set)
+    (λ m apart. ap (option_map (λ b. b.value)) (u.2 m (is_at-other (c.args.block / 256) m apart))))
+
+pub returns-in_default : goal.returns-in_default
+returns-in_default c =
+    let page = page_of c.self.inside.pages in
+    let below = rw (← c.self.view_is) at c.requires.in_range in
+    let ready = rw (← c.self.view_is) at c.requires.ready in
+    absurd (false≢true (ap is_some (ap (option_map (λ b. b.value)) c.in_default.ensures.value) ∙ sym (ready-at page c.self.inside.count c.args.block (omega (arith, below, length-shown page c.self.inside.count))) ∙ ready))

@@ -1,0 +1,25 @@
+-- Pages of places, seen as one list: a page that is missing holds no place.
+use Rattle.std.specs.Prelude.{ℕ, ◌/◌, ◌%◌, Bool, List, map, slice_index_or, Option, Box}
+use Rattle.std.specs.declared.alloc.Global.{Global}
+use Rattle.std.specs.List.{range_with_len}
+use Rattle.std.specs.Option.{unwrap_or, option_map, is_some}
+use Rattle.std.specs.Ordering.{nat_cmp}
+use Rattle.std.specs.BTreeMap.{BTreeMap, get}
+use Rattle.logical_map.specs.declared.place.Place.{Place}
+use Rattle.logical_map.specs.declared.place.Place.TheVariants as places
+
+-- the place of a block, by a look-up of its page
+abbrev pub place_in : (ℕ → Option (List Place)) → ℕ → Place
+place_in page block = unwrap_or (option_map (λ p. slice_index_or p (block % 256) places.None) (page (block / 256))) places.None
+
+-- the places of all blocks
+abbrev pub shown : (ℕ → Option (List Place)) → ℕ → List Place
+shown page n = map (place_in page) (range_with_len 0 n)
+
+-- a map's page, by a look-up of its number
+abbrev pub page_of : BTreeMap ℕ (Box (List Place) Global) → ℕ → Option (List Place)
+page_of pages number = option_map (λ b. b.value) (get nat_cmp pages number)
+
+-- whether a block's page is there
+abbrev pub ready : (ℕ → Option (List Place)) → ℕ → List Bool
+ready page n = map (λ block. is_some (page (block / 256))) (range_with_len 0 n)

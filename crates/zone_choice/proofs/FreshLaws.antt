@@ -1,0 +1,111 @@
+-- A drive on which nothing is written agrees with tables that place nothing, and spells zeros.
+use Rattle.std.proofs.Common.{◌≡◌, ℕ, zero, suc, ◌+◌, ◌<◌, ◌≤◌, ◌^◌, Bool, true, false, cond, List, [], ◌∷◌, ◌++◌, map, length, get_or, replicate, Option, Some, None, refl, sym, ap, ◌∙◌, arith}
+use Rattle.std.specs.Prelude.{nat_eq}
+use Rattle.std.specs.List.{AllByRecursion, IsDistinct, count_by, range_with_len}
+use Rattle.std.proofs.lemmas.List.{length-map, length-replicate}
+use Rattle.std.proofs.lemmas.List.Sums.{sum_by-cons}
+use Rattle.zone_states.specs.declared.geometry.Geometry.{Geometry}
+use Rattle.zone_states.specs.Geometry.{IsInRange}
+use Rattle.drive_port.specs.Drive.{DriveState, IsLawful}
+use Rattle.drive_port.specs.Contents.{Content, content_at, content_of, contents, emptied, nothing}
+use Rattle.batch_log.specs.Log.{Batch, zero_block}
+use Rattle.logical_map.specs.Places.{MapView}
+use Rattle.logical_map.specs.declared.place.Place.{Place}
+use Rattle.logical_map.specs.declared.place.Place.TheVariants as places
+use Rattle.zone_choice.specs.declared.tables.Tables.{Tables}
+use Rattle.zone_choice.specs.Records.{Record, place, records, shown, told}
+use Rattle.zone_choice.specs.ZoneLogs.{HasLog, spelled_array, zone_log, zone_logs}
+use Rattle.zone_choice.specs.Mountable.{IsNumbered, sequences}
+use Rattle.zone_choice.specs.Reserve.{FitsReserve}
+use Rattle.zone_choice.specs.Roles.{RolesView}
+use Rattle.zone_choice.specs.Agreement.{Agrees, RolesAgree, drive_logs, spelled}
+use Rattle.zone_choice.proofs.AgreementLaws.{tables_with, zone_log-emptied}
+use Rattle.zone_choice.proofs.ContentLaws.{roles_with}
+
+abbrev pub AllEmptied : List Content → Type 0
+AllEmptied zones = AllByRecursion (λ zone. zone ≡ emptied) zones
+
+-- an empty zone has a log of no batch
+emptied-log : (geometry : Geometry) → HasLog geometry emptied
+unfolding zone_log
+emptied-log geometry = record { tail = []; front = record { spelled = refl; batches = tt }; end = refl }
+
+fresh-logs : (geometry : Geometry) (zones : List Content) → AllEmptied zones → AllByRecursion (HasLog geometry) zones
+fresh-logs geometry [] all = tt
+fresh-logs geometry (z ∷ zs) all = (rw all.0 (emptied-log geometry), fresh-logs geometry zs all.1)
+
+fresh-batches : (geometry : Geometry) (n : ℕ) (zones : List Content) → AllEmptied zones → AllByRecursion (AllByRecursion (IsNumbered n)) (zone_logs geometry zones)
+fresh-batches geometry n [] all = tt
+fresh-batches geometry n (z ∷ zs) all = (rw (all.0, zone_log-emptied) tt, fresh-batches geometry n zs all.1)
+
+fresh-sequences : (geometry : Geometry) (zones : List Content) → AllEmptied zones → sequences (zone_logs geometry zones) ≡ []
+fresh-sequences geometry [] all = refl
+fresh-sequences geometry (z ∷ zs) all = rw (all.0, zone_log-emptied) (fresh-sequences geometry zs all.1)
+
+fresh-records : (geometry : Geometry) (first : ℕ) (zones : List Content) → AllEmptied zones → records first (zone_logs geometry zones) ≡ []
+fresh-records geometry first [] all = refl
+fresh-records geometry first (z ∷ zs) all = rw (all.0, zone_log-emptied) (fresh-records geometry (suc first) zs all.1)
+
+-- where there is no record, the same is told of all blocks
+told-none : {X : Type 0} (f : Option Record → X) (a n : ℕ) → map (λ (block : ℕ). f None) (range_with_len a n) ≡ replicate n (f None)
+told-none f a zero = refl
+told-none {X} f a (suc n) = ap (λ (xs : List X). f None ∷ xs) (told-none f (a + 1) n)
+
+distinct-none : IsDistinct nat_eq []
+unfolding IsDistinct
+distinct-none = tt
+
+emptied-at : (zones : List Content) (zone : ℕ) → AllEmptied zones → zone < length zones → content_at zones zone ≡ emptied
+emptied-at [] zone all lt = absurd (omega arith)
+emptied-at (z ∷ zs) zero all lt = all.0
+emptied-at (z ∷ zs) (suc zone) all lt = emptied-at zs zone all.1 (omega arith)
+
+replicate-past : (n k : ℕ) → get_or (replicate n true) k false ≡ true → k < n
+replicate-past zero k e = absurd (cc)
+replicate-past (suc n) zero e = omega arith
+replicate-past (suc n) (suc k) e = omega (arith, replicate-past n k e)
+
+replicate-at : (n k : ℕ) → k < n → get_or (replicate n true) k false ≡ true
+replicate-at zero k lt = absurd (omega arith)
+replicate-at (suc n) zero lt = refl
+replicate-at (suc n) (suc k) lt = replicate-at n k (omega arith)
+
+count-all : (n : ℕ) → count_by (λ b. b) (replicate n true) ≡ n
+count-all zero = refl
+count-all (suc n) = omega (arith, sum_by-cons (λ (b : Bool). cond {A = ℕ} b 1 0) true (replicate n true), count-all n)
+
+fresh-roles : (capacity : ℕ) (zones : List Content) → AllEmptied zones → RolesAgree capacity zones (roles_with (replicate (length zones) true) None)
+fresh-roles capacity zones all = record {
+  count = length-replicate (length zones) true;
+  apart = tt;
+  host = tt;
+  empty = λ zone is_empty. emptied-at zones zone all (replicate-past (length zones) zone is_empty);
+  sealed = λ zone lt not_empty not_host. (let bad = replicate-at (length zones) zone lt in absurd (cc));
+}
+
+-- the tables of a fresh disk
+pub fresh_agrees : (drive : DriveState) (tables : Tables) (n : ℕ) → IsInRange drive.geometry → FitsReserve drive.geometry n → IsLawful drive → AllEmptied (contents drive.zones)
+    → tables.map.places ≡ replicate n places.None → tables.roles ≡ roles_with (replicate drive.geometry.zones true) None → tables.next ≡ 1 → Agrees drive tables n
+fresh_agrees drive tables n range reserve lawful all mapped roles next =
+    let g = drive.geometry in
+    let zones = contents drive.zones in
+    let none = fresh-sequences g zones all in
+    let count : drive.geometry.zones ≡ length zones = omega (arith, lawful.count, length-map drive.zones content_of) in
+    record {
+      geometry = range;
+      reserve = reserve;
+      lawful = lawful;
+      logs = fresh-logs g zones all;
+      batches = fresh-batches g n zones all;
+      distinct = rw none distinct-none;
+      older = rw none tt;
+      next = rw next (omega arith);
+      places = mapped ∙ rw (fresh-records g 0 zones all) (sym (told-none (place g.size) 0 n));
+      roles = rw (roles, count) (fresh-roles g.capacity zones all);
+      spare = rw roles (omega (arith, count-all drive.geometry.zones, range.zones));
+    }
+
+-- and its array
+pub fresh_spelled : (drive : DriveState) (n : ℕ) → AllEmptied (contents drive.zones) → spelled drive n ≡ replicate n (zero_block drive.geometry.block)
+unfolding spelled_array
+fresh_spelled drive n all = rw (fresh-records drive.geometry 0 (contents drive.zones) all) (told-none (shown drive.geometry.block) 0 n)

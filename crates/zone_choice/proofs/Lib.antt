@@ -1,0 +1,11 @@
+pub mod NewestLaws
+pub mod ReserveLaws
+pub mod ZoneLogLaws
+pub mod RolesLaws
+pub mod AllLaws
+pub mod SequenceLaws
+pub mod ContentLaws
+pub mod AgreementLaws
+pub mod CommandLaws
+pub mod ReadLaws
+pub mod FreshLaws

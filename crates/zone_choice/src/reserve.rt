@@ -1,0 +1,51 @@
+ghost use Rattle.std.specs.Prelude.{◌≡◌, ◌≤◌, ◌<◌, ◌↔◌, IsTrue};
+ghost use Rattle.zone_states.specs.Geometry.{IsInRange};
+ghost use Rattle.zone_choice.specs.Reserve.{FitsReserve, IsQuota, batch_most, fill};
+
+use zone_states::Geometry;
+
+/// Bytes of a header block before its entries, and of an entry.
+const HEAD_BYTES: u32 = 32;
+
+const ENTRY_BYTES: u32 = 8;
+
+/// How many entries a batch has at most. The geometry is one that `check` admits.
+pub fn batch_most(geometry: &Geometry) -> u32
+    requires { IsInRange geometry.now }
+    ensures most { result ≡ batch_most geometry.now }
+    ensures positive { 1 ≤ result }
+{
+    let room = (geometry.block - HEAD_BYTES) / ENTRY_BYTES;
+    room.min(geometry.transfer - 1)
+}
+
+/// How many blocks moving so many records may take: one for each, and a header for each batch. The
+/// geometry is one that `check` admits.
+pub fn fill(geometry: &Geometry, records: u32) -> u64
+    requires { IsInRange geometry.now }
+    ensures { result ≡ fill (batch_most geometry.now) records }
+{
+    let records = records as u64;
+    let headers = records.div_ceil(batch_most(geometry) as u64);
+    (records + headers).max(1)
+}
+
+/// The greatest number of records whose move leaves two blocks of a zone free.
+fn quota(geometry: &Geometry) -> u64
+    requires { IsInRange geometry.now }
+    ensures quota { IsQuota (batch_most geometry.now) geometry.now.capacity result }
+    ensures below { result ≤ geometry.now.capacity }
+{
+    let room = geometry.capacity as u64 - 2;
+    let batch_blocks = batch_most(geometry) as u64 + 1;
+    room - room.div_ceil(batch_blocks)
+}
+
+/// Whether a drive can serve `blocks` logical blocks: 1 to 2^31, and no more than its reserve allows.
+/// The geometry is one that `check` admits.
+pub fn fits_reserve(geometry: &Geometry, blocks: u64) -> bool
+    requires { IsInRange geometry.now }
+    ensures { IsTrue result ↔ FitsReserve geometry.now blocks }
+{
+    1 <= blocks && blocks <= 1 << 31 && blocks <= quota(geometry) * (geometry.zones as u64 - 1)
+}

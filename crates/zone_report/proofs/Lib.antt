@@ -1,0 +1,4 @@
+pub mod Listing
+pub mod MatchingLaws
+pub mod ReportLaws
+pub mod TextLaws

@@ -1,0 +1,15 @@
+ghost use Rattle.std.specs.Prelude.{◌≡◌, ◌<◌, List, length, slice_index_or};
+ghost use Rattle.zone_states.specs.Zone.{Zone};
+ghost use Rattle.zone_report.specs.Report.{status_of};
+
+use crate::status::ZoneStatus;
+
+/// The zones of a drive, as a report tells of them.
+pub trait ReportedZones {
+    ghost zones: { Self → List Zone };
+
+    /// What a report tells of the zone with this number.
+    fn status(&self, number: u32) -> ZoneStatus
+        requires { number < length (zones self.now) }
+        ensures { (none : Zone) → result ≡ status_of (slice_index_or (zones self.now) number none) };
+}

@@ -1,0 +1,54 @@
+-- Bytes behind one another are cut into blocks behind one another.
+use Rattle.std.proofs.Common.{◌≡◌, ℕ, zero, suc, ◌+◌, ◌*◌, ◌/◌, ◌≤◌, List, [], ◌∷◌, ◌++◌, length, take, drop, refl, ◌∙◌, Result, Ok, Err, OnOk, arith}
+use Rattle.std.proofs.lemmas.List.{take-append-le, drop-append-le, length-append, length-drop}
+use Rattle.std.proofs.lemmas.Nat.{div-mul-add}
+use Rattle.std.proofs.Math.Nat.{add-mul, div-zero}
+use Rattle.zone_states.specs.declared.geometry.Geometry.{Geometry}
+use Rattle.zone_states.specs.Zone.{cut_blocks}
+use Rattle.zone_states.specs.Stored.{IsWhole, StoredZone, WrittenBehind, stored_write}
+
+pub length-cut : (size n : ℕ) (xs : List ℕ) → length (cut_blocks size n xs) ≡ n
+length-cut size zero xs = refl
+length-cut size (suc n) xs = let rest = length-cut size n (drop size xs) in omega (arith, rest)
+
+pub cut-append : (size n m k : ℕ) (xs ys : List ℕ) → k ≡ n + m → length xs ≡ n * size → cut_blocks size k (xs ++ ys) ≡ cut_blocks size n xs ++ cut_blocks size m ys
+cut-append size zero m k [] ys e len = let same : k ≡ m = omega arith in rw same refl
+cut-append size zero m k (x ∷ xs) ys e len = absurd (omega arith)
+cut-append size (suc n) m zero xs ys e len = absurd (omega arith)
+cut-append size (suc n) m (suc k) xs ys e len =
+    let long : size ≤ length xs = omega arith in
+    let front : take size (xs ++ ys) ≡ take size xs = take-append-le size xs ys long in
+    let back : drop size (xs ++ ys) ≡ drop size xs ++ ys = drop-append-le size xs ys long in
+    let left : length (drop size xs) ≡ n * size = omega (arith, length-drop size xs) in
+    rw (front, back, cut-append size n m k (drop size xs) ys (omega arith) left) refl
+
+-- two whole lengths together hold as many blocks as both hold
+pub blocks_together : (size a b : ℕ) → a ≡ a / size * size → b ≡ b / size * size → (a + b) / size ≡ a / size + b / size
+blocks_together zero a b whole_a whole_b = omega (arith, div-zero a, div-zero b, div-zero (a + b))
+blocks_together (suc size) a b whole_a whole_b =
+    let n = a / suc size in
+    let m = b / suc size in
+    let total : a + b ≡ (n + m) * suc size + 0 = omega (arith, whole_a, whole_b, add-mul n m (suc size)) in
+    rw total (div-mul-add (n + m) (suc size) 0 (omega arith))
+
+-- bytes that are written behind a zone's own are blocks behind its own
+pub stored_write-behind : (geometry : Geometry) (zone : StoredZone) (bytes : List ℕ) → IsWhole geometry.block zone.bytes → IsWhole geometry.block bytes → WrittenBehind geometry zone bytes (stored_write geometry zone bytes)
+stored_write-behind geometry zone bytes whole_zone whole_bytes =
+    let size = geometry.block in
+    let n = length zone.bytes / size in
+    let m = length bytes / size in
+    let sum : length (zone.bytes ++ bytes) ≡ length zone.bytes + length bytes = length-append zone.bytes bytes in
+    let count : length (zone.bytes ++ bytes) / size ≡ n + m = rw sum (blocks_together size (length zone.bytes) (length bytes) whole_zone whole_bytes) in
+    let blocks : cut_blocks size (length (zone.bytes ++ bytes) / size) (zone.bytes ++ bytes) ≡ cut_blocks size n zone.bytes ++ cut_blocks size m bytes = cut-append size n m _ zone.bytes bytes count whole_zone in
+    let long : length (cut_blocks size n zone.bytes ++ cut_blocks size m bytes) ≡ n + m =
+    length-append (cut_blocks size n zone.bytes) (cut_blocks size m bytes) ∙ omega (arith, length-cut size n zone.bytes, length-cut size m bytes) in
+    record {
+      zone = rw (blocks, long, count) refl;
+      whole = rw count (sum ∙ omega (arith, whole_zone, whole_bytes, add-mul n m size));
+    }
+
+-- so it is where a growth succeeded
+pub written_on_ok : {V E : Type 0} (result : Result V E) (geometry : Geometry) (zone : StoredZone) (bytes : List ℕ) (new : StoredZone) → IsWhole geometry.block zone.bytes → IsWhole geometry.block bytes
+    → OnOk result (new ≡ stored_write geometry zone bytes) → OnOk result (WrittenBehind geometry zone bytes new)
+written_on_ok (Ok v) geometry zone bytes new whole_zone whole_bytes same = rw same (stored_write-behind geometry zone bytes whole_zone whole_bytes)
+written_on_ok (Err e) geometry zone bytes new whole_zone whole_bytes same = tt

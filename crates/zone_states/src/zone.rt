@@ -1,0 +1,282 @@
+ghost use Rattle.std.specs.Prelude.{◌≡◌, ◌+◌, ◌/◌, [], ◌∷◌, ◌++◌, map, length, Ok, Err, Some, None, IfErr, OnOk, OnErr, IfSome, OnSome, is_some, if◌then◌else◌};
+ghost use Rattle.zone_states.specs.Checks.{first_failing};
+ghost use Rattle.zone_states.specs.Sending.{zone_after};
+ghost use Rattle.zone_states.specs.Stored.{IsWhole, WrittenBehind, apply_result, refusal_of, stored_after, stored_write, zone_of};
+ghost use Rattle.zone_states.specs.Transition.{state_after};
+ghost use Rattle.zone_states.specs.Writing.{append_bytes_checks, data_checks, room_checks, state_checks, zone_append_checks, zone_write_checks, write_bytes_checks};
+ghost use Rattle.zone_states.specs.Zone.{cut_blocks, written_zone, opened_by_write};
+
+use crate::geometry::Geometry;
+use crate::transition::next_state;
+use nvme_wire::{Action, Status, ZoneState};
+use std::alloc::Global;
+use std::marker::Model;
+
+/// Why a zone did not do what it was to do. It is then as it was.
+#[derive(Clone, Copy, Debug, PartialEq, Eq)]
+pub enum ZoneFault {
+    /// The first check that failed.
+    Refused(Status),
+    /// A growth was refused.
+    OutOfMemory,
+}
+
+/// One zone: its state and its written blocks. The write pointer stands behind the last of them.
+#[derive(Drop)]
+pub struct Zone {
+    state: ZoneState,
+    written: Vec<u8>,
+}
+
+impl Model for Zone {
+    ghost use Rattle.zone_states.specs.Stored.{StoredZone};
+
+    ghost Value = { StoredZone };
+
+    ghost view = { λ z. record { state = z.state; bytes = z.written.items } };
+}
+
+// How many whole blocks so many bytes hold.
+fn blocks_in(geometry: &Geometry, bytes: usize) -> usize
+    ensures { result ≡ bytes / geometry.now.block }
+{
+    bytes.checked_div(geometry.block as usize).unwrap_or(0)
+}
+
+// How many blocks these bytes are, if they are whole blocks and no more than one transfer moves.
+fn block_count(geometry: &Geometry, bytes: &[u8]) -> Option<usize>
+    ensures some { IfSome result (λ blocks. blocks ≡ length bytes.now / geometry.now.block) }
+    ensures whole { OnSome result (IsWhole geometry.now.block bytes.now) }
+    ensures checks { (if is_some result then None else Some Status.InvalidField) ≡ first_failing
+        (data_checks geometry.now (length bytes.now / geometry.now.block) bytes.now) }
+{
+    let blocks = blocks_in(geometry, bytes.len());
+    if blocks > geometry.transfer as usize {
+        return None;
+    }
+    if bytes.len() != blocks * geometry.block as usize {
+        return None;
+    }
+    Some(blocks)
+}
+
+// What a Write or an Append leaves of a state that takes it, where the capacity is not reached.
+fn opened(state: ZoneState) -> ZoneState
+    ensures { result ≡ opened_by_write state }
+{
+    match state {
+        ZoneState::Empty | ZoneState::Closed => ZoneState::ImplicitlyOpened,
+        state => state,
+    }
+}
+
+impl Zone {
+    /// An Empty zone.
+    pub fn new(alloc: Global) -> Zone
+        ensures { result ≡ record { state = ZoneState.Empty; bytes = [] } }
+    {
+        Zone {
+            state: ZoneState::Empty,
+            written: Vec::new(alloc),
+        }
+    }
+
+    /// A zone in this state with these written blocks, whatever they are.
+    pub fn from_parts(state: ZoneState, written: Vec<u8>) -> Zone
+        ensures { result ≡ record { state = state; bytes = written.items } }
+    {
+        Zone { state, written }
+    }
+
+    pub fn state(&self) -> ZoneState
+        ensures { result ≡ self.now.state }
+    {
+        self.state
+    }
+
+    /// The bytes of the written blocks.
+    pub fn written(&self) -> &[u8]
+        ensures { result.now ≡ self.now.bytes }
+    {
+        self.written.as_slice()
+    }
+
+    // Why the state takes no Write and no Append.
+    fn state_refusal(&self) -> Option<Status>
+        ensures { (block : _) → result ≡ first_failing (state_checks (zone_of block self.now)) }
+    {
+        match self.state {
+            ZoneState::Full => Some(Status::ZoneIsFull),
+            ZoneState::ReadOnly => Some(Status::ZoneIsReadOnly),
+            ZoneState::Offline => Some(Status::ZoneIsOffline),
+            _ => None,
+        }
+    }
+
+    // Why there is no room for so many blocks more.
+    fn room_refusal(&self, geometry: &Geometry, blocks: u64) -> Option<Status>
+        ensures { result ≡ first_failing
+            (room_checks geometry.now (zone_of geometry.now.block self.now) blocks) }
+    {
+        let written = blocks_in(geometry, self.written.len()) as u64;
+        if written.saturating_add(blocks) > u64::from(geometry.capacity) {
+            return Some(Status::ZoneBoundaryError);
+        }
+        None
+    }
+
+    /// The first check on this zone that an Append of so many blocks fails. The limits on active and
+    /// open zones are not looked at.
+    pub fn append_refusal(&self, geometry: &Geometry, blocks: u64) -> Option<Status>
+        ensures { result ≡ first_failing
+            (zone_append_checks geometry.now (zone_of geometry.now.block self.now) blocks) }
+    {
+        if let Some(status) = self.state_refusal() {
+            return Some(status);
+        }
+        self.room_refusal(geometry, blocks)
+    }
+
+    /// The first check on this zone that a Write of so many blocks fails, from an offset in blocks on.
+    /// The limits on active and open zones are not looked at.
+    pub fn write_refusal(&self, geometry: &Geometry, offset: u64, blocks: u64) -> Option<Status>
+        ensures { result ≡ first_failing
+            (zone_write_checks geometry.now (zone_of geometry.now.block self.now) offset blocks) }
+    {
+        if let Some(status) = self.state_refusal() {
+            return Some(status);
+        }
+        if offset != blocks_in(geometry, self.written.len()) as u64 {
+            return Some(Status::ZoneInvalidWrite);
+        }
+        self.room_refusal(geometry, blocks)
+    }
+
+    // Writes these bytes behind the others.
+    fn extend(&mut self, geometry: &Geometry, bytes: &[u8]) -> Result<(), ZoneFault>
+        ensures ok { OnOk result (self.new ≡ stored_write geometry.now self.old bytes.now) }
+        ensures err { IfErr result (λ fault. fault ≡ ZoneFault.OutOfMemory) }
+        ensures kept { OnErr result (self.new ≡ self.old) }
+    {
+        if self.written.extend_from_slice(bytes).is_err() {
+            return Err(ZoneFault::OutOfMemory);
+        }
+        if blocks_in(geometry, self.written.len()) == geometry.capacity as usize {
+            self.state = ZoneState::Full;
+        } else {
+            self.state = opened(self.state);
+        }
+        Ok(())
+    }
+
+    /// Appends these bytes: whole blocks, no more than one transfer moves. This is one growth.
+    pub fn append(&mut self, geometry: &Geometry, bytes: &[u8]) -> Result<(), ZoneFault>
+        ensures checks { refusal_of result ≡ first_failing
+            (append_bytes_checks geometry.now (zone_of geometry.now.block self.old) bytes.now) }
+        ensures ok { OnOk result (self.new ≡ stored_write geometry.now self.old bytes.now) }
+        ensures blocks { IsWhole geometry.now.block self.old.bytes
+            → OnOk result (WrittenBehind geometry.now self.old bytes.now self.new) }
+        ensures err { OnErr result (self.new ≡ self.old) }
+    {
+        let Some(blocks) = block_count(geometry, bytes) else {
+            return Err(ZoneFault::Refused(Status::InvalidField));
+        };
+        if let Some(status) = self.append_refusal(geometry, blocks as u64) {
+            return Err(ZoneFault::Refused(status));
+        }
+        self.extend(geometry, bytes)
+    }
+
+    /// Writes these bytes from an offset in blocks on, which is that of the write pointer: whole blocks,
+    /// no more than one transfer moves. This is one growth.
+    pub fn write_at(
+        &mut self,
+        geometry: &Geometry,
+        offset: u64,
+        bytes: &[u8],
+    ) -> Result<(), ZoneFault>
+        ensures checks { refusal_of result ≡ first_failing
+            (write_bytes_checks geometry.now (zone_of geometry.now.block self.old) offset bytes.now) }
+        ensures ok { OnOk result (self.new ≡ stored_write geometry.now self.old bytes.now) }
+        ensures blocks { IsWhole geometry.now.block self.old.bytes
+            → OnOk result (WrittenBehind geometry.now self.old bytes.now self.new) }
+        ensures err { OnErr result (self.new ≡ self.old) }
+    {
+        let Some(blocks) = block_count(geometry, bytes) else {
+            return Err(ZoneFault::Refused(Status::InvalidField));
+        };
+        if let Some(status) = self.write_refusal(geometry, offset, blocks as u64) {
+            return Err(ZoneFault::Refused(status));
+        }
+        self.extend(geometry, bytes)
+    }
+
+    /// Does what a Zone Management Send does to one zone. This takes no memory, and the limits on active
+    /// and open zones, which an Open may meet, are the drive's matter.
+    pub fn apply(&mut self, action: Action) -> Result<(), ZoneFault>
+        ensures checks { result ≡ apply_result (state_after self.old.state action) }
+        ensures stored { self.new ≡ stored_after action self.old (state_after self.old.state action) }
+        ensures blocks { (block : _) → zone_of block self.new
+            ≡ zone_after action (zone_of block self.old) (state_after self.old.state action) }
+    {
+        match next_state(self.state, action) {
+            Ok(state) => self.state = state,
+            Err(status) => return Err(ZoneFault::Refused(status)),
+        }
+        if action == Action::Reset {
+            self.written.clear();
+        }
+        Ok(())
+    }
+}
+
+#[cfg(test)]
+mod tests {
+    use super::*;
+
+    const GEOMETRY: Geometry = Geometry {
+        block: 512,
+        zones: 4,
+        size: 8,
+        capacity: 6,
+        transfer: 4,
+        active: 2,
+        open: 2,
+    };
+
+    #[test]
+    fn fills_up_to_the_capacity(rt: HostRuntime) {
+        let mut zone = Zone::new(rt.alloc());
+        let two = [0xaa; 1024];
+        assert_eq!(rt; zone.append(&GEOMETRY, &two), Ok(()));
+        assert_eq!(rt; zone.append(&GEOMETRY, &two), Ok(()));
+        assert_eq!(rt; zone.state(), ZoneState::ImplicitlyOpened);
+        let three = [0xbb; 1536];
+        let past = ZoneFault::Refused(Status::ZoneBoundaryError);
+        assert_eq!(rt; zone.append(&GEOMETRY, &three), Err(past));
+        let elsewhere = ZoneFault::Refused(Status::ZoneInvalidWrite);
+        assert_eq!(rt; zone.write_at(&GEOMETRY, 3, &two), Err(elsewhere));
+        assert_eq!(rt; zone.write_at(&GEOMETRY, 4, &two), Ok(()));
+        assert_eq!(rt; zone.state(), ZoneState::Full);
+        assert_eq!(rt; zone.written().len(), 3072);
+        let full = ZoneFault::Refused(Status::ZoneIsFull);
+        assert_eq!(rt; zone.write_at(&GEOMETRY, 6, &two), Err(full));
+    }
+
+    #[test]
+    fn closes_finishes_and_resets(rt: HostRuntime) {
+        let mut zone = Zone::new(rt.alloc());
+        for (action, state) in [
+            (Action::Open, ZoneState::ExplicitlyOpened),
+            (Action::Close, ZoneState::Closed),
+            (Action::Finish, ZoneState::Full),
+        ] {
+            assert_eq!(rt; zone.apply(action), Ok(()));
+            assert_eq!(rt; zone.state(), state);
+        }
+        let refused = ZoneFault::Refused(Status::InvalidZoneStateTransition);
+        assert_eq!(rt; zone.apply(Action::Open), Err(refused));
+        assert_eq!(rt; zone.apply(Action::Reset), Ok(()));
+        assert_eq!(rt; zone.state(), ZoneState::Empty);
+    }
+}

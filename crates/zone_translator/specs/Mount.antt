@@ -1,0 +1,41 @@
+-- Which drives are mounted, and why others are not.
+use Rattle.std.specs.Prelude.{◌≡◌, ℕ, true}
+use Rattle.zone_states.specs.Geometry.{IsInRange}
+use Rattle.drive_port.specs.Drive.{DriveState}
+use Rattle.drive_port.specs.declared.calls.PortFault.{PortFault}
+use Rattle.drive_port.specs.declared.calls.PortFault.TheVariants as port
+use Rattle.drive_port.specs.Contents.{AreEmpty, SameContents, contents}
+use Rattle.zone_choice.specs.Reserve.{FitsReserve}
+use Rattle.zone_choice.specs.declared.tables.Tables.{Tables}
+use Rattle.zone_translator.specs.Changes.{AgreesWith, size_of}
+use Rattle.zone_translator.specs.declared.mount.MountFault.{MountFault}
+use Rattle.zone_translator.specs.declared.mount.MountFault.TheVariants.{Reserve, Limits, Halted, OutOfMemory, NotFresh}
+
+-- nothing is written on a drive: each zone is Empty
+abbrev pub IsFresh : DriveState → Type 0
+IsFresh drive = AreEmpty (contents drive.zones)
+
+-- why a drive isn't mounted as so many blocks, in the order of the refusals
+abbrev pub MountRefuses : DriveState → ℕ → MountFault → Type 0
+MountRefuses drive blocks Limits = IsInRange drive.geometry → ⊥
+MountRefuses drive blocks Reserve = IsInRange drive.geometry × (FitsReserve drive.geometry blocks → ⊥)
+MountRefuses drive blocks NotFresh = IsInRange drive.geometry × FitsReserve drive.geometry blocks × (IsFresh drive → ⊥)
+MountRefuses drive blocks Halted = drive.stopped ≡ true
+MountRefuses drive blocks OutOfMemory = Unit {0}
+
+-- the tables of a disk over a fresh drive
+pub record IsFreshDisk (old new : DriveState) (tables : Tables) (blocks : ℕ) : Type 0 where
+  pub agrees : AgreesWith new tables
+  pub size : size_of tables ≡ blocks
+  pub fresh : IsFresh old
+  pub same : SameContents old new
+  pub refused : new.refused ≡ old.refused
+
+-- What a drive that wasn't mounted has kept: all that it held. No command was refused.
+pub record KeepsDrive (old new : DriveState) : Type 0 where
+  pub same : SameContents old new
+  pub refused : new.refused ≡ old.refused
+
+abbrev pub mount_fault : PortFault → MountFault
+mount_fault port.Memory = OutOfMemory
+mount_fault fault = Halted

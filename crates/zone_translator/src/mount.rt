@@ -1,0 +1,73 @@
+ghost use Rattle.std.specs.Prelude.{◌≡◌, IfErr, OnOk, IfOk};
+ghost use Rattle.zone_translator.specs.Changes.{IsHalt};
+ghost use Rattle.zone_translator.specs.Mount.{IsFreshDisk, KeepsDrive, MountRefuses, mount_fault};
+
+use drive_port::{Device, PortFault, count_zones};
+use logical_map::Map;
+use nvme_wire::{Choice, ZoneState};
+use std::alloc::Global;
+use zone_choice::{Roles, Tables, fits_reserve};
+
+/// Why a drive is not mounted. `Limits`, `Reserve` and `NotFresh` come exactly where they hold, the
+/// first of them that does; a stop or a want of memory may come before `NotFresh`.
+#[derive(Clone, Copy, Debug, PartialEq, Eq)]
+pub enum MountFault {
+    /// The number of logical blocks is outside the drive's reserve.
+    Reserve,
+    /// The drive's geometry is out of range.
+    Limits,
+    /// The drive has stopped.
+    Halted,
+    /// A growth was refused.
+    OutOfMemory,
+    /// A zone of the drive is not Empty.
+    NotFresh,
+}
+
+/// What a halt of the drive is to a mount. The drive refuses no command of a mount.
+fn fault_of(fault: PortFault) -> MountFault
+    requires { IsHalt fault }
+    ensures { result ≡ mount_fault fault }
+{
+    match fault {
+        PortFault::Memory => MountFault::OutOfMemory,
+        PortFault::Stopped => MountFault::Halted,
+        PortFault::Refused(_) => unreachable!(),
+    }
+}
+
+/// The tables of a disk of so many blocks over a drive on which nothing is written. One report tells
+/// how many zones are Empty.
+pub(crate) fn fresh_tables<D: Device>(
+    alloc: Global,
+    device: &mut D,
+    blocks: u64,
+) -> Result<Tables, MountFault>
+    ensures ok { IfOk result (λ tables. IsFreshDisk (D.drive device.old) (D.drive device.new) tables blocks) }
+    ensures err { IfErr result (MountRefuses (D.drive device.old) blocks) }
+    ensures kept { KeepsDrive (D.drive device.old) (D.drive device.new) }
+{
+    let geometry = device.geometry();
+    let Ok(()) = geometry.check() else {
+        return Err(MountFault::Limits);
+    };
+    if !fits_reserve(&geometry, blocks) {
+        return Err(MountFault::Reserve);
+    }
+    let mut head = Vec::new(alloc);
+    let empty = match count_zones(device, Choice::InState(ZoneState::Empty), &mut head) {
+        Ok(empty) => empty,
+        Err(fault) => return Err(fault_of(fault)),
+    };
+    if empty != geometry.zones as u64 {
+        return Err(MountFault::NotFresh);
+    }
+    let Ok(roles) = Roles::new(alloc, geometry.zones) else {
+        return Err(MountFault::OutOfMemory);
+    };
+    Ok(Tables {
+        map: Map::new(alloc, blocks as u32),
+        roles,
+        next: 1,
+    })
+}
