@@ -1,17 +1,17 @@
 -- What a report that succeeded showed, and which report a drive can't refuse.
-use Rattle.std.proofs.Common.{◌≡◌, ℕ, ◌+◌, ◌-◌, ◌*◌, ◌/◌, ◌<◌, ◌≤◌, Bool, List, [], ◌∷◌, ◌++◌, if◌then◌else◌, length, take, drop, replicate, Result, Ok, Err, refl, ap, ◌∙◌, arith, length-append, length-take}
+use Rattle.std.proofs.Common.{◌≡◌, ℕ, ◌+◌, ◌-◌, ◌*◌, ◌/◌, ◌<◌, ◌≤◌, Bool, List, [], ◌++◌, if◌then◌else◌, length, take, drop, replicate, Result, Ok, Err, refl, ap, ◌∙◌, arith, length-append, length-take}
 use Rattle.std.specs.List.{flat_map}
 use Rattle.std.proofs.lemmas.Bool.{leb-false, lt-leb}
 use Rattle.std.proofs.lemmas.List.{length-replicate}
 use Rattle.std.proofs.Math.Nat.{mul-div-le}
 use Rattle.nvme_wire.specs.Descriptor.{descriptor_bytes, report_head_bytes}
-use Rattle.nvme_wire.specs.declared.descriptor.Descriptor.{Descriptor}
 use Rattle.nvme_wire.specs.declared.command.Choice.{Choice}
 use Rattle.nvme_wire.specs.declared.command.Command.TheVariants.{Receive}
 use Rattle.nvme_wire.specs.declared.status.Status.TheVariants.{Success}
 use Rattle.zone_states.specs.declared.geometry.Geometry.{Geometry}
 use Rattle.zone_states.specs.Zone.{Zone}
 use Rattle.zone_report.specs.Report.{descriptor_room, matching, report}
+use Rattle.zone_report.proofs.ReportLaws.{length-descriptors}
 use Rattle.drive_port.specs.declared.calls.PortFault.{PortFault}
 use Rattle.drive_port.specs.declared.calls.PortFault.TheVariants.{Refused, Memory, Stopped}
 use Rattle.drive_port.specs.Drive.{DriveState}
@@ -47,10 +47,6 @@ reported-kept old new address choice partial dwords bytes r = record {
 }
 
 -- ---- its length
-
-length-descriptors : (ds : List Descriptor) → length (flat_map descriptor_bytes ds) ≡ 64 * length ds
-length-descriptors [] = refl
-length-descriptors (d ∷ ds) = length-append (descriptor_bytes d) (flat_map descriptor_bytes ds) ∙ omega (arith, length-descriptors ds)
 
 length-parts : (head middle : List ℕ) (size shown : ℕ) → length head ≡ 64 → length middle ≡ 64 * shown → 64 + 64 * shown ≤ size
     → length (head ++ middle ++ replicate (size - 64 - 64 * shown) 0) ≡ size

@@ -1,6 +1,6 @@
 -- What a Close and a Reset that succeeded did, and which a drive can't refuse.
-use Rattle.std.proofs.Common.{◌≡◌, ℕ, zero, suc, ◌/◌, ◌%◌, ◌<◌, true, false, not, List, [], ◌∷◌, length, Result, Ok, Err, refl, sym, ap, ◌∙◌, inl, arith}
-use Rattle.std.specs.Prelude.{OnOk, OnErr, ◌==◌, slice_set}
+use Rattle.std.proofs.Common.{◌≡◌, ℕ, zero, suc, ◌/◌, true, false, List, [], ◌∷◌, Result, Ok, Err, refl, sym, ap, ◌∙◌, inl, arith}
+use Rattle.std.specs.Prelude.{OnOk, OnErr, slice_set}
 use Rattle.std.proofs.lemmas.Bool.{eq-eqb, leb-false, lt-leb}
 use Rattle.std.proofs.lemmas.List.{length-map, map-set}
 use Rattle.nvme_wire.specs.declared.command.Action.{Action}
@@ -14,8 +14,8 @@ use Rattle.zone_states.specs.Zone.{Zone}
 use Rattle.drive_port.specs.declared.calls.PortFault.{PortFault}
 use Rattle.drive_port.specs.declared.calls.PortFault.TheVariants.{Refused, Memory, Stopped}
 use Rattle.drive_port.specs.Drive.{DriveState, ClosesOne, IsClosing, IsLawful}
-use Rattle.drive_port.specs.Step.{Performs, blocks_after, is_refusal, opening_checks, send_checks, zone_after, zone_at}
-use Rattle.drive_port.specs.Contents.{Content, SameContents, active, content_at, content_of, contents, emptied, is_usable, usage_of}
+use Rattle.drive_port.specs.Step.{Performs, blocks_after, is_refusal, send_checks, zone_at}
+use Rattle.drive_port.specs.Contents.{Content, SameContents, active, content_at, content_of, contents, is_usable, usage_of}
 use Rattle.drive_port.specs.Calls.{CanClose, CanReset, CloseGives, ClosedZone, IsTaken, ResetGives, ResetZone, SendGives}
 use Rattle.drive_port.proofs.ClosingLaws.{IsClosing-set, IsClosing-trans, active-closes, content_at-closing, content_of-closes, contents-closing, zone_at-closing}
 use Rattle.drive_port.proofs.StepLaws.{call-same, outcome-passes, succeeded, succeeds}

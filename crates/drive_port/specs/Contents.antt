@@ -86,12 +86,12 @@ pub record Resets (old new : List Content) (index : ℕ) : Type 0 where
   pub usable : is_usable (content_at old index).usage ≡ true
   pub zones : new ≡ slice_set old index emptied
 
--- nothing but closings, and the geometry is the same
+-- the contents and the geometry are the same
 pub record SameContents (old new : DriveState) : Type 0 where
   pub geometry : new.geometry ≡ old.geometry
   pub contents : contents new.zones ≡ contents old.zones
 
--- one command more was completed, with success; it was an Append where the third is one
+-- one command more was completed, with success, and so many Appends more, none or one
 pub record Counts (old new : DriveState) (appends : ℕ) : Type 0 where
   pub completed : new.completed ≡ old.completed + 1
   pub refused : new.refused ≡ old.refused

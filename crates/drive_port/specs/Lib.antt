@@ -3,6 +3,8 @@ pub mod Step
 pub mod Run
 pub mod Contents
 pub mod Calls
+pub mod Stop
+pub mod Record
 pub mod Blank
 pub use Rattle.zone_states.specs.Zone
 pub use Rattle.zone_states.specs.Geometry

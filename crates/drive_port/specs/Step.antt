@@ -11,11 +11,14 @@ use Rattle.nvme_wire.specs.declared.command.Command.TheVariants.{Flush, Read, Wr
 use Rattle.nvme_wire.specs.declared.command.DecodeFault.{DecodeFault}
 use Rattle.nvme_wire.specs.declared.command.DecodeFault.TheVariants.{Opcode, Namespace, Field}
 use Rattle.nvme_wire.specs.declared.status.Status.{Status}
-use Rattle.nvme_wire.specs.declared.status.Status.TheVariants.{Success, InvalidCommandOpcode, InvalidField, InvalidNamespace, LbaOutOfRange, ZoneBoundaryError, ZoneIsFull, ZoneIsReadOnly, ZoneIsOffline, ZoneInvalidWrite, TooManyActiveZones, TooManyOpenZones, InvalidZoneStateTransition}
+use Rattle.nvme_wire.specs.declared.status.Status.TheVariants.{Success, InvalidCommandOpcode, InvalidField, InvalidNamespace, LbaOutOfRange, ZoneBoundaryError, ZoneIsOffline, ZoneInvalidWrite, TooManyActiveZones, TooManyOpenZones, InvalidZoneStateTransition}
 use Rattle.zone_states.specs.declared.geometry.Geometry.{Geometry}
 use Rattle.zone_states.specs.Checks.{first_failing}
 use Rattle.zone_states.specs.Transition.{state_after}
 use Rattle.zone_states.specs.Zone.{Zone, cut_blocks, written_zone}
+pub use Rattle.zone_states.specs.Transition.{is_state}
+pub use Rattle.zone_states.specs.Writing.{data_checks, state_checks}
+pub use Rattle.zone_states.specs.Sending.{blocks_after, zone_after}
 use Rattle.zone_report.specs.Report.{report}
 use Rattle.drive_port.specs.declared.device.Halt.{Halt}
 use Rattle.drive_port.specs.declared.device.Halt.TheVariants.{Memory, Stopped}
@@ -50,31 +53,6 @@ abbrev pub end_of : Geometry → ℕ
 end_of geometry = geometry.zones * geometry.size
 
 -- ---- checks, each with its status, in order
-
-abbrev pub is_state : ZoneState → ZoneState → Bool
-is_state states.Empty states.Empty = true
-is_state states.Closed states.Closed = true
-is_state states.ReadOnly states.ReadOnly = true
-is_state states.Full states.Full = true
-is_state states.Offline states.Offline = true
-is_state states.ImplicitlyOpened states.ImplicitlyOpened = true
-is_state states.ExplicitlyOpened states.ExplicitlyOpened = true
-is_state state other = false
-
--- the fields that a Write or an Append shares: no more blocks than one transfer, and data of just these blocks
-abbrev pub data_checks : Geometry → ℕ → List ℕ → List (Bool × Status)
-data_checks geometry blocks bytes =
-    (nat_lt geometry.transfer blocks, InvalidField)
-    ∷ (not (length bytes == blocks * geometry.block), InvalidField)
-    ∷ []
-
--- a zone that can't be written
-abbrev pub state_checks : Zone → List (Bool × Status)
-state_checks zone =
-    (is_state states.Full zone.state, ZoneIsFull)
-    ∷ (is_state states.ReadOnly zone.state, ZoneIsReadOnly)
-    ∷ (is_state states.Offline zone.state, ZoneIsOffline)
-    ∷ []
 
 -- an Empty zone wants an active and an open place, a Closed one an open place
 abbrev pub place_checks : Geometry → List Zone → Zone → List (Bool × Status)
@@ -143,15 +121,6 @@ bytes_from size blocks offset (suc count) = block_in size blocks offset ++ bytes
 abbrev pub write_effect : Geometry → List Zone → ℕ → ℕ → List ℕ → List Zone
 write_effect geometry zones index blocks bytes =
     slice_set zones index (written_zone geometry.capacity (zone_at zones index) (cut_blocks geometry.block blocks bytes))
-
--- the blocks that an action leaves: a Reset takes them away
-abbrev pub blocks_after : Action → List (List ℕ) → List (List ℕ)
-blocks_after actions.Reset blocks = []
-blocks_after action blocks = blocks
-
-abbrev pub zone_after : Action → Zone → Result ZoneState Status → Zone
-zone_after action zone (Ok state) = record { state = state; blocks = blocks_after action zone.blocks }
-zone_after action zone (Err status) = zone
 
 -- the states that an action on all zones acts on: the others stay
 abbrev pub is_selected : Action → ZoneState → Bool

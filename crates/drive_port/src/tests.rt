@@ -2,12 +2,18 @@ ghost use Rattle.std.specs.Prelude.{◌≡◌, ◌+◌, ◌<◌, ◌^◌, [], fa
 ghost use Rattle.drive_port.specs.Step.{outcome, is_append, is_success, one_if};
 ghost use Rattle.drive_port.specs.Blank.{blank, blank_geometry, blank_outcome, blank_zones};
 
-use crate::{Device, Geometry, Halt, PortFault, append, finish, read};
-use nvme_wire::{Command, Completion, DecodeFault, Status, entry_id};
+use crate::{
+    Device, Geometry, Halt, PortFault, Recorder, StopAfter, append, close, count_zones, finish,
+    read, report, reset,
+};
+use nvme_wire::{
+    Action, Choice, Command, Completion, DecodeFault, ReportHead, Status, ZoneState, entry_id,
+};
 use std::marker::Model;
 use std::test::Fail;
 
-/// Three Empty zones of four blocks. There is memory only to flush and to read single blocks.
+/// Three Empty zones of four blocks. There is memory only to flush, to read single blocks, to count
+/// the Empty zones, and to close and reset the first zone.
 #[derive(Drop)]
 struct BlankDrive {
     geometry: Geometry,
@@ -44,6 +50,31 @@ fn perform(
         Ok(Command::Flush) => Ok(Status::Success),
         Ok(Command::Read { slba, blocks: 1 }) if *slba >= 12 => Ok(Status::LbaOutOfRange),
         Ok(Command::Read { blocks: 1, .. }) => match into.extend_from_slice(&[0; 512]) {
+            Ok(()) => Ok(Status::Success),
+            Err(_) => Err(Halt::Memory),
+        },
+        Ok(
+            Command::Send {
+                slba: 0,
+                action: Action::Close,
+                all: false,
+            },
+        ) => Ok(Status::InvalidZoneStateTransition),
+        Ok(
+            Command::Send {
+                slba: 0,
+                action: Action::Reset,
+                all: false,
+            },
+        ) => Ok(Status::Success),
+        Ok(
+            Command::Receive {
+                slba: 0,
+                dwords: 16,
+                choice: Choice::InState(ZoneState::Empty),
+                partial: false,
+            },
+        ) => match into.extend_from_slice(&ReportHead { zones: 3 }.encode()) {
             Ok(()) => Ok(Status::Success),
             Err(_) => Err(Halt::Memory),
         },
@@ -145,4 +176,74 @@ fn changes_nothing_without_memory(rt: HostRuntime) {
     );
     assert_eq!(rt; finish(rt.alloc(), &mut drive, 0), Err(PortFault::Memory));
     assert_eq!(rt; drive.completed(), 0);
+}
+
+#[test]
+fn counts_empty_zones(rt: HostRuntime) {
+    let mut drive = BlankDrive::new();
+    let mut into = Vec::new(rt.alloc());
+    let choice = Choice::InState(ZoneState::Empty);
+    assert_eq!(rt; count_zones(&mut drive, choice, &mut into), Ok(3));
+    let mut head = [0; 64];
+    head[0] = 3;
+    assert_eq!(rt; into.as_slice(), head.as_slice());
+    assert_eq!(rt; report(&mut drive, 0, choice, false, 16, &mut into), Ok(()));
+    assert_eq!(rt; into.as_slice(), head.as_slice());
+    assert_eq!(rt; drive.completed(), 2);
+}
+
+#[test]
+fn resets_and_closes_an_empty_zone(rt: HostRuntime) {
+    let mut drive = BlankDrive::new();
+    assert_eq!(rt; reset(rt.alloc(), &mut drive, 0), Ok(()));
+    let refused = PortFault::Refused(Status::InvalidZoneStateTransition);
+    assert_eq!(rt; close(rt.alloc(), &mut drive, 0), Err(refused));
+    assert_eq!(rt; drive.completed(), 2);
+}
+
+#[test]
+fn stops_before_the_first_command(rt: HostRuntime) {
+    let mut device = StopAfter::new(BlankDrive::new(), 0);
+    let mut into = Vec::new(rt.alloc());
+    let flush = Command::Flush.encode(1);
+    assert_eq!(rt; device.submit(&flush, &[], &mut into), Err(Halt::Stopped));
+    assert!(rt; device.stopped());
+    assert_eq!(rt; device.completed(), 0);
+}
+
+#[test]
+fn stops_after_two_commands(rt: HostRuntime) {
+    let mut drive = BlankDrive::new();
+    let mut into = Vec::new(rt.alloc());
+    assert_eq!(rt; read(&mut drive, 0, 1, &mut into), Ok(()));
+    let mut device = StopAfter::new(drive, 2);
+    let past = PortFault::Refused(Status::LbaOutOfRange);
+    assert_eq!(rt; read(&mut device, 0, 1, &mut into), Ok(()));
+    assert_eq!(rt; read(&mut device, 12, 1, &mut into), Err(past));
+    assert_eq!(rt; read(&mut device, 0, 1, &mut into), Err(PortFault::Stopped));
+    assert_eq!(rt; device.completed(), 2);
+    let mut drive = device.into_inner();
+    assert_eq!(rt; drive.completed(), 3);
+    assert_eq!(rt; read(&mut drive, 0, 1, &mut into), Ok(()));
+    assert_eq!(rt; drive.completed(), 4);
+}
+
+#[test]
+fn records_completed_commands(rt: HostRuntime) {
+    let mut device = Recorder::new(rt.alloc(), StopAfter::new(BlankDrive::new(), 2));
+    let mut into = Vec::new(rt.alloc());
+    let flush = Command::Flush.encode(1);
+    let long = Command::Read { slba: 0, blocks: 2 }.encode(2);
+    let past = Command::Read {
+        slba: 12,
+        blocks: 1,
+    }
+    .encode(3);
+    assert!(rt; device.submit(&flush, &[], &mut into).is_ok());
+    assert_eq!(rt; device.submit(&long, &[], &mut into), Err(Halt::Memory));
+    assert!(rt; device.submit(&past, &[], &mut into).is_ok());
+    assert_eq!(rt; device.submit(&flush, &[], &mut into), Err(Halt::Stopped));
+    assert_eq!(rt; device.entries(), [flush, past].as_slice());
+    assert_eq!(rt; device.completed(), 2);
+    assert_eq!(rt; device.into_inner().into_inner().completed(), 2);
 }

@@ -112,7 +112,10 @@ mod tests {
         let fresh = map.get(last);
         map.reserve_for(last)?;
         map.set(last, Place::At(9));
-        assert_eq!(rt; (fresh, map.get(last), map.get(last - 1)), (Place::None, Place::At(9), Place::None));
+        assert_eq!(rt;
+            (fresh, map.get(last), map.get(last - 1)),
+            (Place::None, Place::At(9), Place::None)
+        );
         Ok(())
     }
 

@@ -1,4 +1,4 @@
--- The status of a completion: status code and status code type, in bits 31:16 of dword 3 (Base Specification 2.0, section 3.3.3.2.1).
+-- The status word of a completion: status code and status code type in bits 31:16 of dword 3, whose bit 16, the phase tag, is 0 here (Base Specification 2.0, sections 3.3.3.2 and 3.3.3.2.1).
 use Rattle.std.specs.Prelude.{ℕ, ◌==◌, if◌then◌else◌, Option, Some, None}
 use Rattle.nvme_wire.specs.declared.status.Status.{Status}
 use Rattle.nvme_wire.specs.declared.status.Status.TheVariants.{Success, InvalidCommandOpcode, InvalidField, InvalidNamespace, LbaOutOfRange, ZoneBoundaryError, ZoneIsFull, ZoneIsReadOnly, ZoneIsOffline, ZoneInvalidWrite, TooManyActiveZones, TooManyOpenZones, InvalidZoneStateTransition}

@@ -174,7 +174,7 @@ impl Zone {
         ensures checks { refusal_of result ≡ first_failing
             (append_bytes_checks geometry.now (zone_of geometry.now.block self.old) bytes.now) }
         ensures ok { OnOk result (self.new ≡ stored_write geometry.now self.old bytes.now) }
-        ensures blocks { IsWhole geometry.now.block self.old.bytes
+        ensures in_blocks { IsWhole geometry.now.block self.old.bytes
             → OnOk result (WrittenBehind geometry.now self.old bytes.now self.new) }
         ensures err { OnErr result (self.new ≡ self.old) }
     {
@@ -198,7 +198,7 @@ impl Zone {
         ensures checks { refusal_of result ≡ first_failing
             (write_bytes_checks geometry.now (zone_of geometry.now.block self.old) offset bytes.now) }
         ensures ok { OnOk result (self.new ≡ stored_write geometry.now self.old bytes.now) }
-        ensures blocks { IsWhole geometry.now.block self.old.bytes
+        ensures in_blocks { IsWhole geometry.now.block self.old.bytes
             → OnOk result (WrittenBehind geometry.now self.old bytes.now self.new) }
         ensures err { OnErr result (self.new ≡ self.old) }
     {
@@ -216,7 +216,7 @@ impl Zone {
     pub fn apply(&mut self, action: Action) -> Result<(), ZoneFault>
         ensures checks { result ≡ apply_result (state_after self.old.state action) }
         ensures stored { self.new ≡ stored_after action self.old (state_after self.old.state action) }
-        ensures blocks { (block : _) → zone_of block self.new
+        ensures in_blocks { (block : _) → zone_of block self.new
             ≡ zone_after action (zone_of block self.old) (state_after self.old.state action) }
     {
         match next_state(self.state, action) {

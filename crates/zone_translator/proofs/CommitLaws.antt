@@ -1,5 +1,5 @@
 -- An Append of a batch to the host zone, and what it writes.
-use Rattle.std.proofs.Common.{◌≡◌, ◌⊎◌, ℕ, zero, suc, ◌+◌, ◌-◌, ◌*◌, ◌/◌, ◌<◌, ◌≤◌, ◌^◌, List, [], ◌∷◌, ◌++◌, length, take, drop, Option, Some, Err, refl, sym, ap, subst, ◌∙◌, inl, inr, arith}
+use Rattle.std.proofs.Common.{◌≡◌, ℕ, zero, suc, ◌+◌, ◌-◌, ◌*◌, ◌/◌, ◌≤◌, ◌^◌, List, ◌∷◌, length, take, drop, Option, Some, Err, refl, sym, ap, ◌∙◌, inl, inr, arith}
 use Rattle.std.proofs.lemmas.List.{length-append, take_at}
 use Rattle.std.proofs.lemmas.Nat.{div-mul-add}
 use Rattle.std.proofs.Math.Nat.{add-mul}
@@ -8,11 +8,11 @@ use Rattle.zone_states.specs.declared.geometry.Geometry.{Geometry}
 use Rattle.zone_states.specs.Geometry.{IsInRange}
 use Rattle.zone_states.specs.Zone.{cut_blocks}
 use Rattle.drive_port.specs.Calls.{Appended, AppendGives, CanAppend, IsTaken, IsWholeBlocks, block_count}
-use Rattle.drive_port.specs.Contents.{Appends, content_at, contents}
+use Rattle.drive_port.specs.Contents.{content_at, contents}
 use Rattle.drive_port.specs.Drive.{DriveState, IsLawful}
 use Rattle.drive_port.specs.declared.calls.PortFault.{PortFault}
-use Rattle.batch_log.specs.Header.{entry_room, head_size, header_block}
-use Rattle.batch_log.specs.Log.{batch_blocks, batch_size}
+use Rattle.batch_log.specs.Header.{entry_room, header_block}
+use Rattle.batch_log.specs.Log.{batch_size}
 use Rattle.batch_log.proofs.HeaderLaws.{header_length}
 use Rattle.logical_map.specs.Places.{MapView}
 use Rattle.zone_choice.specs.declared.roles.Filling.{Filling}
@@ -20,11 +20,11 @@ use Rattle.zone_choice.specs.declared.tables.Tables.{Tables}
 use Rattle.zone_choice.specs.Agreement.{Agrees, spelled}
 use Rattle.zone_choice.specs.Reserve.{batch_most}
 use Rattle.zone_choice.specs.Roles.{RolesView, filling_after, wrote}
-use Rattle.zone_choice.proofs.AgreementLaws.{AppendsBatch, agrees_append, length-spelled, spelled_append, tables_with}
+use Rattle.zone_choice.proofs.AgreementLaws.{AppendsBatch, agrees_append, length-spelled, spelled_append}
 use Rattle.zone_choice.specs.Records.{batch_records, over, place}
 use Rattle.zone_choice.proofs.CommandLaws.{can_append, zone-start}
 use Rattle.zone_choice.proofs.ContentLaws.{roles_with}
-use Rattle.zone_translator.specs.Batches.{data_entries, host_heading, places_from}
+use Rattle.zone_translator.specs.Batches.{host_heading, places_from}
 use Rattle.zone_translator.specs.Changes.{AgreesWith, CanCommit, WritesBlocks, data_of, size_of}
 use Rattle.zone_translator.specs.Flat.{replaced}
 use Rattle.zone_translator.proofs.BatchLaws.{data_count-entries, entries-below, host-heading, host_batch, over-place, over-shown}
@@ -71,8 +71,8 @@ sized drive tables host first count bytes can =
       cut = rw number (ap (λ (h : List ℕ). h ∷ data_of block count bytes) front);
     }
   where
-  size-is : (drive : DriveState) (tables : Tables) → AgreesWith drive tables → size_of tables ≤ 2 ^ 31
-  size-is drive tables agrees = agrees.reserve.1
+    size-is : (drive : DriveState) (tables : Tables) → AgreesWith drive tables → size_of tables ≤ 2 ^ 31
+    size-is drive tables agrees = agrees.reserve.1
 
 -- the Append is of whole blocks, and the drive takes it
 pub whole_blocks : (drive : DriveState) (tables : Tables) (host : Filling) (first count : ℕ) (bytes : List ℕ) → CanCommit drive tables host first count bytes → IsWholeBlocks drive.geometry.block bytes
@@ -90,7 +90,7 @@ commit_can : (drive : DriveState) (tables : Tables) (host : Filling) (first coun
 commit_can drive tables host first count start bytes can start-is =
     let s = sized drive tables host first count bytes can in
     can_append drive tables.map tables.roles.empty host tables.next (size_of tables) start (block_count drive.geometry bytes) (with-host drive tables (Some host) (size_of tables) can.host_is can.agrees) start-is
-      (omega (arith, s.count_is)) (omega (arith, s.count_is, (few-entries drive.geometry count can.few).1, can.agrees.geometry.transfer)) (omega (arith, s.count_is, can.room))
+    (omega (arith, s.count_is)) (omega (arith, s.count_is, (few-entries drive.geometry count can.few).1, can.agrees.geometry.transfer)) (omega (arith, s.count_is, can.room))
 
 pub commit_halts : (old new : DriveState) (tables : Tables) (host : Filling) (first count start : ℕ) (bytes : List ℕ) (fault : PortFault) → CanCommit old tables host first count bytes → start ≡ host.zone * old.geometry.size
     → AppendGives old start bytes (Err fault) new → (CanAppend old start (block_count old.geometry bytes) → IsTaken {V = ℕ} (Err fault)) → Halts old new tables.next fault
@@ -132,16 +132,16 @@ commit_writes old new tables map roles host first count start address bytes can 
     let here : length (content_at (contents old.zones) (start / g.size)).blocks ≡ host.written = rw (start-is, index) with.roles.host.0 in
     let behind : address + 1 ≡ host.zone * g.size + (host.written + 1) = omega (arith, appended.address_is, here, start-is) in
     let placed : map.places ≡ over (place g.size) (batch_records host.zone host.written b) tables.map.places =
-      rw map-is (sym (over-place g.size tables.next host.zone host.written first count (address + 1) body tables.map.places behind can.in_range)) in
+    rw map-is (sym (over-place g.size tables.next host.zone host.written first count (address + 1) body tables.map.places behind can.in_range)) in
     let size : batch_size b ≡ count + 1 = omega (arith, data_count-entries first count) in
     let roles_are : roles ≡ roles_with tables.roles.empty (Some (record { zone = host.zone; written = host.written + batch_size b })) =
-      roles-is ∙ ap (λ (h : Option Filling). roles_with tables.roles.empty (filling_after h (count + 1))) can.host_is
-      ∙ ap (λ (k : ℕ). roles_with tables.roles.empty (Some (record { zone = host.zone; written = host.written + k }))) (sym size) in
+    roles-is ∙ ap (λ (h : Option Filling). roles_with tables.roles.empty (filling_after h (count + 1))) can.host_is
+    ∙ ap (λ (k : ℕ). roles_with tables.roles.empty (Some (record { zone = host.zone; written = host.written + k }))) (sym size) in
     let agrees : Agrees new (record { map = map; roles = roles; next = tables.next + 1 }) n = rw roles_are (agrees_append old new tables.map map tables.roles.empty host tables.next n b with a placed) in
     let long : length map.places ≡ n = rw map-is (length-replaced tables.map.places first (places_from (address + 1) count)) in
     let array : spelled new n ≡ replaced (spelled old n) first body =
-      spelled_append old new tables.map tables.roles.empty host tables.next n b with a
-      ∙ over-shown g.block tables.next host.zone host.written first count body (spelled old n) (length-cut g.block count (drop g.block bytes)) (omega (arith, length-spelled old n, can.in_range)) in
+    spelled_append old new tables.map tables.roles.empty host tables.next n b with a
+    ∙ over-shown g.block tables.next host.zone host.written first count body (spelled old n) (length-cut g.block count (drop g.block bytes)) (omega (arith, length-spelled old n, can.in_range)) in
     record {
       agrees = rw long agrees;
       size = long;

@@ -1,5 +1,5 @@
 -- The calls of a disk, by what its parts change.
-use Rattle.std.proofs.Common.{◌≡◌, ℕ, zero, suc, ◌+◌, ◌-◌, ◌<◌, ◌≤◌, Bool, true, false, ◌||◌, List, [], ◌∷◌, ◌++◌, length, take, drop, get_or, replicate, Option, Some, None, Ok, Err, refl, sym, ap, ◌∙◌, arith, append_assoc, append-nil}
+use Rattle.std.proofs.Common.{◌≡◌, ℕ, zero, suc, ◌+◌, ◌<◌, ◌≤◌, Bool, true, false, ◌||◌, List, [], ◌∷◌, ◌++◌, length, take, drop, get_or, replicate, Some, None, Ok, Err, refl, sym, ap, ◌∙◌, arith, append_assoc, append-nil}
 use Rattle.std.specs.Prelude.{Result}
 use Rattle.std.specs.List.{concat}
 use Rattle.std.proofs.lemmas.List.{get_or-drop, length-drop, length-replicate, take_more}
@@ -13,7 +13,7 @@ use Rattle.zone_translator.specs.Calls.{ReadAnswers, ReadGives, WriteAnswers, Wr
 use Rattle.zone_translator.specs.Changes.{IsCause, KeepsArray, WritesBlocks, size_of}
 use Rattle.zone_translator.specs.Flat.{IsFront, blocks_from, replaced}
 use Rattle.zone_translator.specs.Read.{IsReadFault}
-use Rattle.zone_translator.proofs.FlatLaws.{replaced-append, replaced-none}
+use Rattle.zone_translator.proofs.FlatLaws.{replaced-append}
 use Rattle.zone_translator.specs.View.{DiskView, KeepsDisk, array_of}
 
 -- what a disk of these parts is seen as

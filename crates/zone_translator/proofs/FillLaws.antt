@@ -1,5 +1,5 @@
 -- A batch of one byte is prepared and appended.
-use Rattle.std.proofs.Common.{◌≡◌, ◌⊎◌, ℕ, zero, suc, ◌+◌, ◌-◌, ◌*◌, ◌<◌, ◌≤◌, ◌^◌, min, List, [], ◌∷◌, ◌++◌, length, take, drop, replicate, Some, refl, sym, ap, ◌∙◌, inl, inr, arith}
+use Rattle.std.proofs.Common.{◌≡◌, ℕ, zero, suc, ◌+◌, ◌*◌, ◌<◌, ◌≤◌, ◌^◌, List, ◌∷◌, ◌++◌, length, take, drop, replicate, Some, refl, sym, ap, ◌∙◌, inl, inr, arith}
 use Rattle.std.proofs.lemmas.List.{drop_at, length-replicate}
 use Rattle.std.proofs.Math.Nat.{add-mul}
 use Rattle.zone_states.specs.declared.geometry.Geometry.{Geometry}
@@ -11,7 +11,6 @@ use Rattle.batch_log.proofs.HeaderLaws.{header_length}
 use Rattle.logical_map.specs.Places.{MapView}
 use Rattle.zone_choice.specs.declared.roles.Filling.{Filling}
 use Rattle.zone_choice.specs.declared.tables.Tables.{Tables}
-use Rattle.zone_choice.specs.Agreement.{Agrees}
 use Rattle.zone_choice.specs.Reserve.{batch_most}
 use Rattle.zone_translator.specs.declared.buffer.BatchBuffer.{BatchBuffer}
 use Rattle.zone_translator.specs.Batches.{batch_count, host_heading}
@@ -20,7 +19,6 @@ use Rattle.zone_translator.specs.Changes.{AgreesWith, CanCommit, KeepsArray, Wri
 use Rattle.zone_translator.specs.Flat.{replaced}
 use Rattle.zone_translator.proofs.BatchLaws.{host-heading}
 use Rattle.zone_translator.proofs.CommitLaws.{few-entries, large-block}
-use Rattle.zone_translator.proofs.RoomLaws.{keeps-join}
 
 -- tables whose map has more room
 abbrev pub with_map : Tables → MapView → Tables
@@ -103,16 +101,18 @@ can_commit old tables map batch host first left count byte agrees is room next s
     let most : count ≤ batch_most old.geometry = omega arith in
     let g = old.geometry in
     let large = large-block g agrees.geometry in
-    let h = headed g.block tables.next first count byte map batch (omega arith) (few-entries g count most).0 (omega arith) (omega (arith, agrees.reserve.1)) prepared in
-    (record {
-      agrees = agrees-map old tables map same agrees;
-      host_is = is;
-      room = omega arith;
-      some = one;
-      few = most;
-      next = next;
-      in_range = omega (arith, ap length same);
-      ready = prepared.ready;
-      data_length = ap length h.behind ∙ length-replicate (count * g.block) byte;
-      bytes_are = prepared.bytes ∙ ap (λ (xs : List ℕ). header_block g.block (host_heading tables.next first count) ++ xs) (sym h.behind);
-    }, ap (cut_blocks g.block count) h.behind ∙ cut-replicate g.block count byte)
+    let h = headed g.block tables.next first count byte map batch (omega arith) (few-entries g count most).0 (omega arith) (omega (arith, agrees.reserve.1)) prepared in (
+      record {
+        agrees = agrees-map old tables map same agrees;
+        host_is = is;
+        room = omega arith;
+        some = one;
+        few = most;
+        next = next;
+        in_range = omega (arith, ap length same);
+        ready = prepared.ready;
+        data_length = ap length h.behind ∙ length-replicate (count * g.block) byte;
+        bytes_are = prepared.bytes ∙ ap (λ (xs : List ℕ). header_block g.block (host_heading tables.next first count) ++ xs) (sym h.behind);
+      },
+      ap (cut_blocks g.block count) h.behind ∙ cut-replicate g.block count byte,
+    )

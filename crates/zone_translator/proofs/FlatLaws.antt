@@ -1,6 +1,6 @@
 -- Lists in which a run of elements is replaced.
-use Rattle.std.proofs.Common.{◌≡◌, ℕ, zero, suc, ◌+◌, ◌-◌, ◌<◌, ◌≤◌, List, [], ◌∷◌, ◌++◌, length, take, drop, set, get_or, refl, sym, ap, ◌∙◌, arith}
-use Rattle.zone_translator.specs.Flat.{IsFront, replaced}
+use Rattle.std.proofs.Common.{◌≡◌, ℕ, zero, suc, ◌+◌, ◌<◌, List, [], ◌∷◌, ◌++◌, length, set, refl, sym, ap, ◌∙◌, arith}
+use Rattle.zone_translator.specs.Flat.{replaced}
 
 pub length-replaced : {X : Type 0} (xs : List X) (first : ℕ) (ys : List X) → length (replaced xs first ys) ≡ length xs
 length-replaced [] first ys = refl

@@ -1,10 +1,10 @@
 -- A fresh drive is mounted.
-use Rattle.std.proofs.Common.{◌≡◌, ◌≢◌, ℕ, ◌<◌, ◌≤◌, true, Bool, List, replicate, length, Option, None, refl, sym, ap, ◌∙◌, arith}
+use Rattle.std.proofs.Common.{◌≡◌, ◌≢◌, ℕ, true, Bool, List, replicate, length, Option, None, sym, ap, ◌∙◌}
 use Rattle.std.proofs.lemmas.List.{length-replicate}
 use Rattle.zone_states.specs.declared.geometry.Geometry.{Geometry}
 use Rattle.zone_states.specs.Geometry.{IsInRange}
 use Rattle.drive_port.specs.Drive.{DriveState, IsLawful}
-use Rattle.drive_port.specs.Contents.{SameContents, contents}
+use Rattle.drive_port.specs.Contents.{SameContents}
 use Rattle.batch_log.specs.Log.{zero_block}
 use Rattle.logical_map.specs.declared.place.Place.TheVariants as places
 use Rattle.zone_choice.specs.declared.tables.Tables.{Tables}
@@ -15,7 +15,7 @@ use Rattle.zone_choice.specs.Agreement.{Agrees, spelled}
 use Rattle.zone_choice.proofs.AgreementLaws.{agrees_same, spelled_same}
 use Rattle.zone_choice.proofs.ContentLaws.{roles_with}
 use Rattle.zone_choice.proofs.FreshLaws.{fresh_agrees, fresh_spelled}
-use Rattle.zone_translator.specs.Changes.{AgreesWith, size_of}
+use Rattle.zone_translator.specs.Changes.{size_of}
 use Rattle.zone_translator.specs.Mount.{IsFresh, IsFreshDisk, MountRefuses}
 use Rattle.zone_translator.specs.declared.mount.MountFault.TheVariants.{NotFresh}
 

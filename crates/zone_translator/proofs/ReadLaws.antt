@@ -1,5 +1,5 @@
 -- One block is read.
-use Rattle.std.proofs.Common.{◌≡◌, ℕ, ◌+◌, ◌<◌, List, [], ◌∷◌, ◌++◌, length, get_or, replicate, Err, refl, sym, ap, ◌∙◌, arith, append-nil}
+use Rattle.std.proofs.Common.{◌≡◌, ℕ, ◌<◌, List, [], get_or, replicate, Err, refl, sym, ◌∙◌, arith, append-nil}
 use Rattle.nvme_wire.specs.declared.command.Command.TheVariants.{Read}
 use Rattle.drive_port.specs.Calls.{CanRead, IsTaken, ReadGives}
 use Rattle.drive_port.specs.Contents.{Counts, SameContents, block_at, bytes_at, contents}

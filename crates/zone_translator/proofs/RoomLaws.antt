@@ -1,25 +1,22 @@
 -- The host zone is sealed and taken, and the array stays.
-use Rattle.std.proofs.Common.{◌≡◌, ◌≢◌, ℕ, zero, suc, ◌+◌, ◌*◌, ◌<◌, ◌≤◌, Bool, true, false, cond, List, [], ◌∷◌, map, length, set, get_or, Option, Some, None, Ok, Err, refl, sym, ap, subst, ◌∙◌, inl, inr, arith}
+use Rattle.std.proofs.Common.{◌≡◌, ℕ, suc, ◌*◌, ◌<◌, ◌≤◌, Bool, true, false, cond, List, [], ◌∷◌, length, get_or, Option, Some, None, Err, refl, subst, ◌∙◌, arith}
 use Rattle.std.specs.List.{count_by}
-use Rattle.std.proofs.lemmas.Bool.{cases_eq}
-use Rattle.std.proofs.lemmas.List.{length-map}
 use Rattle.std.proofs.lemmas.List.Sums.{sum_by-cons}
 use Rattle.nvme_wire.specs.declared.command.Action.TheVariants.{Finish}
 use Rattle.nvme_wire.specs.declared.command.Command.{Command}
 use Rattle.nvme_wire.specs.declared.command.Command.TheVariants.{Send}
 use Rattle.drive_port.specs.Calls.{CallGives, CanFinish, Finished, FinishGives, IsTaken}
-use Rattle.drive_port.specs.Contents.{Content, Usage, SameContents, empty, active, full, unusable, content_at, contents, emptied, nothing}
+use Rattle.drive_port.specs.Contents.{Content, full, content_at, contents, nothing}
 use Rattle.drive_port.specs.Drive.{DriveState, IsLawful}
 use Rattle.drive_port.specs.declared.calls.PortFault.{PortFault}
 use Rattle.drive_port.specs.declared.calls.PortFault.TheVariants as port
 use Rattle.zone_choice.specs.declared.roles.Filling.{Filling}
 use Rattle.zone_choice.specs.declared.tables.Tables.{Tables}
-use Rattle.zone_choice.specs.Agreement.{Agrees, RolesAgree, is_host_at, spelled}
-use Rattle.zone_choice.specs.Roles.{IsLowestEmpty, RolesView, empty_count, is_empty_at, taken}
+use Rattle.zone_choice.specs.Agreement.{Agrees, RolesAgree}
+use Rattle.zone_choice.specs.Roles.{IsLowestEmpty, RolesView, empty_count, taken}
 use Rattle.zone_choice.proofs.AgreementLaws.{agrees_finish, agrees_seal, agrees_take, tables_with}
 use Rattle.zone_choice.proofs.CommandLaws.{can_finish, host_is_writable, zone-start}
-use Rattle.zone_choice.proofs.ContentLaws.{count-zero, roles_with}
-use Rattle.zone_translator.specs.declared.fault.DiskFault.{DiskFault}
+use Rattle.zone_choice.proofs.ContentLaws.{roles_with}
 use Rattle.zone_translator.specs.Changes.{AgreesWith, IsCause, IsHalt, KeepsArray, disk_fault, empty_zones, is_empty_usage, size_of}
 
 pub keeps-refl : (drive : DriveState) (tables : Tables) → AgreesWith drive tables → KeepsArray drive drive tables tables
@@ -60,7 +57,7 @@ pub finish_halts : (V : Type 0) (old new : DriveState) (tables : Tables) (host :
     → FinishGives {V = V} old start (Err fault) new → (CanFinish old start → IsTaken {V = V} (Err fault)) → Halts old new tables.next fault
 finish_halts V old new tables host start fault agrees is start-is gives passed =
     halts V old new (Send start Finish false) [] gives.0 fault tables.next gives.1
-      (passed (can_finish old tables.map tables.roles.empty host tables.next (size_of tables) start (with-host old tables (Some host) (size_of tables) is agrees) start-is))
+    (passed (can_finish old tables.map tables.roles.empty host tables.next (size_of tables) start (with-host old tables (Some host) (size_of tables) is agrees) start-is))
 
 abbrev pub sealed : Tables → RolesView → Tables
 sealed tables roles = record { map = tables.map; roles = roles; next = tables.next }
@@ -84,7 +81,7 @@ keeps-finish old new tables roles host start agrees is start-is room finished la
     let with = with-host old tables (Some host) n is agrees in
     let index = (zone-start host.zone old.geometry.size agrees.geometry.size.0).0 in
     let done = agrees_finish old new tables.map tables.roles.empty host tables.next n with
-      (host_is_writable old tables.map tables.roles.empty host tables.next n with room) finished.geometry lawful (rw (start-is, index) at finished.contents) in
+    (host_is_writable old tables.map tables.roles.empty host tables.next n with room) finished.geometry lawful (rw (start-is, index) at finished.contents) in
     record {
       agrees = rw roles-is done.0;
       array = done.1;
@@ -122,9 +119,9 @@ count-le (z ∷ zs) (b ∷ bs) e none =
     let here : cond {A = ℕ} (is_empty_usage z.usage) 1 0 ≤ cond {A = ℕ} b 1 0 = one b (none 0 (omega arith)) in
     omega (arith, sum_by-cons (λ (zone : Content). cond {A = ℕ} (is_empty_usage zone.usage) 1 0) z zs, sum_by-cons (λ (x : Bool). cond {A = ℕ} x 1 0) b bs, rest, here)
   where
-  one : (b : Bool) → (b ≡ false → is_empty_usage z.usage ≡ false) → cond {A = ℕ} (is_empty_usage z.usage) 1 0 ≤ cond {A = ℕ} b 1 0
-  one true h = at_most (is_empty_usage z.usage)
-  one false h = rw (h refl) (omega arith)
+    one : (b : Bool) → (b ≡ false → is_empty_usage z.usage ≡ false) → cond {A = ℕ} (is_empty_usage z.usage) 1 0 ≤ cond {A = ℕ} b 1 0
+    one true h = at_most (is_empty_usage z.usage)
+    one false h = rw (h refl) (omega arith)
 
 -- where no host zone and fewer than two zones of the role empty are, at most one zone of the drive is Empty
 pub few-empty : (drive : DriveState) (tables : Tables) → AgreesWith drive tables → tables.roles.host ≡ None → empty_count tables.roles < 2 → empty_zones drive ≤ 1

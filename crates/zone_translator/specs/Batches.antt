@@ -6,7 +6,6 @@ use Rattle.zone_choice.specs.Reserve.{batch_most}
 use Rattle.batch_log.specs.declared.header.Entry.{Entry}
 use Rattle.batch_log.specs.declared.header.Kind.TheVariants.{Host}
 use Rattle.batch_log.specs.Header.{Heading}
-use Rattle.batch_log.specs.Log.{Batch}
 use Rattle.logical_map.specs.declared.place.Place.{Place}
 use Rattle.logical_map.specs.declared.place.Place.TheVariants as places
 

@@ -1,5 +1,5 @@
 -- The batch that a disk is about to append.
-use Rattle.std.specs.Prelude.{◌≡◌, ◌≤◌, ◌+◌, ◌*◌, ◌^◌, ◌<◌, ℕ, ◌++◌, drop, length, replicate}
+use Rattle.std.specs.Prelude.{◌≡◌, ◌*◌, ℕ, ◌++◌, replicate}
 use Rattle.batch_log.specs.declared.header.Kind.TheVariants.{Host}
 use Rattle.batch_log.specs.Header.{header_block}
 use Rattle.logical_map.specs.Places.{MapView}

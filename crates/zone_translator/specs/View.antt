@@ -1,5 +1,5 @@
 -- What a disk is seen as.
-use Rattle.std.specs.Prelude.{◌≡◌, ℕ, ◌+◌, ◌<◌, Bool, List}
+use Rattle.std.specs.Prelude.{◌≡◌, ℕ, ◌+◌, Bool, List}
 use Rattle.drive_port.specs.Drive.{DriveState}
 use Rattle.zone_choice.specs.Agreement.{spelled}
 use Rattle.zone_choice.specs.Mountable.{IsMountable}

@@ -1,8 +1,11 @@
-use Rattle.std.proofs.Common.{◌≡◌, ◌+◌, refl, sym, ◌∙◌}
+use Rattle.std.proofs.Common.{◌+◌, refl, sym, ◌∙◌}
 use Rattle.zone_translator.proofs.BatchLaws.{entries-more}
 use Rattle.zone_translator.proofs.batch.name_blocks.Goals as goal
 
 pub loop-i-preserved : goal.loop-i-preserved
-loop-i-preserved c =
-    (c.loop-i.invariant.0, c.loop-i.invariant.1, c.loop-i.invariant.2,
-      c.in_ok-push.ensures.items ∙ rw c.loop-i.invariant.3 (sym (entries-more c.args.first c.loop-i.i (c.args.first + c.loop-i.i) refl)))
+loop-i-preserved c = (
+  c.loop-i.invariant.0,
+  c.loop-i.invariant.1,
+  c.loop-i.invariant.2,
+  c.in_ok-push.ensures.items ∙ rw c.loop-i.invariant.3 (sym (entries-more c.args.first c.loop-i.i (c.args.first + c.loop-i.i) refl)),
+)

@@ -1,4 +1,4 @@
-use Rattle.std.proofs.Common.{◌≡◌, ◌+◌}
+use Rattle.std.proofs.Common.{◌≡◌}
 use Rattle.batch_log.specs.declared.header.Kind.TheVariants.{Host}
 use Rattle.zone_translator.specs.Batches.{data_entries}
 use Rattle.zone_translator.proofs.batch.name_blocks.Given as goal

@@ -1,4 +1,4 @@
-use Rattle.std.proofs.Common.{◌≡◌, ◌≤◌}
+use Rattle.std.proofs.Common.{◌≡◌}
 use Rattle.zone_translator.specs.Batches.{places_from}
 use Rattle.zone_translator.specs.Flat.{replaced}
 use Rattle.zone_translator.proofs.batch.place_blocks.Given as goal

@@ -1,4 +1,4 @@
-use Rattle.std.proofs.Common.{◌≤◌, arith}
+use Rattle.std.proofs.Common.{arith}
 use Rattle.zone_translator.proofs.BatchLaws.{host-heading}
 use Rattle.zone_translator.proofs.fill.prepare.Goals as goal
 

@@ -1,6 +1,6 @@
-use Rattle.std.proofs.Common.{◌≡◌, ◌∙◌, ◌++◌, List, ℕ, ap, sym, refl, replicate}
+use Rattle.std.proofs.Common.{◌∙◌, ◌++◌, List, ℕ, ap}
 use Rattle.zone_states.specs.declared.geometry.Geometry.{Geometry}
-use Rattle.zone_translator.proofs.ReadLaws.{keeps-read, place_halts, place_shown, zeros_shown}
+use Rattle.zone_translator.proofs.ReadLaws.{place_halts, place_shown, zeros_shown}
 use Rattle.zone_translator.proofs.RoomLaws.{keeps-halt, keeps-refl}
 use Rattle.zone_translator.proofs.read.read_block.Goals as goal
 

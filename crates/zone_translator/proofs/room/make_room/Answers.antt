@@ -1,7 +1,7 @@
 use Rattle.std.proofs.Common.{arith, sym}
 use Rattle.zone_choice.proofs.CommandLaws.{host-few}
 use Rattle.zone_translator.specs.Changes.{size_of}
-use Rattle.zone_translator.proofs.RoomLaws.{keeps-join, with-host}
+use Rattle.zone_translator.proofs.RoomLaws.{with-host}
 use Rattle.zone_translator.proofs.room.make_room.Goals as goal
 
 pub overflow_add-host : goal.overflow_add-host

@@ -1,6 +1,6 @@
-use Rattle.std.proofs.Common.{◌≡◌, ◌∙◌, refl, sym, ap, ◌*◌, ℕ, arith}
+use Rattle.std.proofs.Common.{refl, arith}
 use Rattle.zone_choice.proofs.CommandLaws.{host-few, host-full}
-use Rattle.zone_translator.specs.Changes.{IsCause, size_of}
+use Rattle.zone_translator.specs.Changes.{size_of}
 use Rattle.zone_translator.proofs.RoomLaws.{finish_halts, keeps-finish, keeps-halt, keeps-seal, with-host}
 use Rattle.zone_translator.proofs.room.retire.Goals as goal
 
@@ -9,7 +9,7 @@ returns-then-host-geometry-clause-kept g c =
     let t = c.args.tables.now in
     let with = with-host _ t _ (size_of t) c.requires.host c.requires.agrees in
     keeps-seal _ t _ c.args.host c.requires.agrees c.requires.host c.seal.ensures
-      (host-full _ t.map t.roles.empty c.args.host t.next (size_of t) with (rw (← c.geometry-geometry.ensures.value) c.if-host-geometry.true))
+    (host-full _ t.map t.roles.empty c.args.host t.next (size_of t) with (rw (← c.geometry-geometry.ensures.value) c.if-host-geometry.true))
 
 pub fault_of-requires : goal.fault_of-requires
 fault_of-requires g c =
@@ -29,5 +29,5 @@ returns-clause-kept g c =
     let with = with-host _ t _ (size_of t) c.requires.host c.requires.agrees in
     let few = host-few _ t.map t.roles.empty c.args.host t.next (size_of t) with in
     keeps-finish _ _ t _ c.args.host _ c.requires.agrees c.requires.host (rw c.geometry-geometry.ensures.value refl)
-      (let other = rw c.geometry-geometry.ensures.value at c.if-host-geometry.false in omega (arith, few, other))
-      c.in_default.ensures.finished c.finish.ensures.lawful c.seal-2.ensures
+    (let other = rw c.geometry-geometry.ensures.value at c.if-host-geometry.false in omega (arith, few, other))
+    c.in_default.ensures.finished c.finish.ensures.lawful c.seal-2.ensures

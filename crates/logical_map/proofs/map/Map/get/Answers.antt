@@ -1,6 +1,6 @@
-use Rattle.std.proofs.Common.{◌≡◌, sym, ◌∙◌, ap, arith}
+use Rattle.std.proofs.Common.{sym, ◌∙◌, ap, arith}
 use Rattle.std.specs.Option.{option_map}
-use Rattle.logical_map.specs.Pages.{page_of, shown}
+use Rattle.logical_map.specs.Pages.{page_of}
 use Rattle.logical_map.proofs.Showing.{shown-at, length-shown, none-at, some-at}
 use Rattle.logical_map.proofs.map.Map.get.Goals as goal
 

@@ -1,8 +1,4 @@
-use Rattle.std.proofs.Common.{◌≡◌, refl, ap}
-use Rattle.std.specs.Option.{option_map}
-use Rattle.std.specs.Map.{lookup}
-use Rattle.std.specs.BTreeMap.{is_at}
-use Rattle.std.specs.Ordering.{nat_cmp}
+use Rattle.std.proofs.Common.{refl}
 use Rattle.logical_map.specs.Pages.{page_of}
 use Rattle.logical_map.proofs.Showing.{shown-empty}
 use Rattle.logical_map.proofs.map.Map.new.Goals as goal

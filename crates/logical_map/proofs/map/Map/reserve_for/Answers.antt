@@ -1,6 +1,6 @@
-use Rattle.std.proofs.Common.{◌≡◌, ◌≢◌, sym, ◌∙◌, ap, arith, rules, ◌%◌, ◌/◌, set, true, is_some, Some}
+use Rattle.std.proofs.Common.{◌∙◌, ap, arith, ◌/◌, Some}
 use Rattle.std.specs.Option.{option_map}
-use Rattle.logical_map.specs.Pages.{page_of, shown}
+use Rattle.logical_map.specs.Pages.{page_of}
 use Rattle.logical_map.proofs.Showing.{reserves_there, reserves_fresh, length-shown, is_at-other, there-from, missing-from}
 use Rattle.logical_map.proofs.map.Map.reserve_for.Goals as goal
 

@@ -1,7 +1,7 @@
-use Rattle.std.proofs.Common.{◌≡◌, sym, ◌∙◌, ap, arith, rules, ◌%◌, ◌/◌, set, true, is_some, Some}
+use Rattle.std.proofs.Common.{sym, ◌∙◌, ap, arith, rules, ◌/◌, is_some, Some}
 use Rattle.std.specs.Option.{option_map}
 use Rattle.std.proofs.lemmas.Bool.{false≢true}
-use Rattle.logical_map.specs.Pages.{page_of, shown}
+use Rattle.logical_map.specs.Pages.{page_of}
 use Rattle.logical_map.proofs.Showing.{sets, length-shown, ready-at, is_at-other}
 use Rattle.logical_map.proofs.map.Map.set.Goals as goal
 

@@ -1,5 +1,4 @@
-use Rattle.std.proofs.Common.{true, refl}
-use Rattle.zone_translator.specs.Changes.{IsCause}
+use Rattle.std.proofs.Common.{true}
 use Rattle.zone_translator.proofs.DiskLaws.{kept-disk, written-disk}
 use Rattle.zone_translator.proofs.disk.Disk.fill_some.Goals as goal
 

@@ -1,4 +1,4 @@
-use Rattle.std.proofs.Common.{◌≡◌, true, refl}
+use Rattle.std.proofs.Common.{true}
 use Rattle.zone_translator.proofs.DiskLaws.{kept-disk}
 use Rattle.zone_translator.proofs.disk.Disk.read_one.Goals as goal
 
