@@ -113,7 +113,8 @@ fn is_source(kind: Kind, source: u32) -> bool
     }
 }
 
-pub(crate) fn is_heading(header: &Header, block_bytes: usize) -> bool
+/// Whether a block of so many bytes, 32 at least, can be the spelling of the header.
+pub fn is_heading(header: &Header, block_bytes: usize) -> bool
     requires size { head_size ≤ block_bytes }
     requires sequence { header.now.sequence < 2 ^ 64 }
     ensures { IsTrue result ↔ IsHeading block_bytes (heading_of header.now) }

@@ -49,6 +49,14 @@ abbrev pub is_usable : Usage → Bool
 is_usable unusable = false
 is_usable usage = true
 
+abbrev pub is_active_usage : Usage → Bool
+is_active_usage active = true
+is_active_usage usage = false
+
+abbrev pub is_full : Usage → Bool
+is_full full = true
+is_full usage = false
+
 -- what a Write or an Append leaves of a zone: it is full where its blocks reach the capacity
 abbrev pub filled : ℕ → List (List ℕ) → Content
 filled capacity blocks = record { usage = if length blocks == capacity then full else active; blocks = blocks }

@@ -7,14 +7,14 @@ use Rattle.std.proofs.lemmas.List.Sums.{sum_by-cons, sum_by-set}
 use Rattle.std.proofs.lemmas.List.FromFn.{length-map-range_with_len}
 use Rattle.zone_states.specs.declared.geometry.Geometry.{Geometry}
 use Rattle.drive_port.specs.Drive.{DriveState, IsLawful}
-use Rattle.drive_port.specs.Contents.{Content, SameContents, full, Appends, Finishes, content_at, contents, emptied, is_writable, nothing}
+use Rattle.drive_port.specs.Contents.{Content, SameContents, full, Appends, Finishes, content_at, contents, emptied, is_writable, nothing, is_full}
 use Rattle.batch_log.specs.declared.header.Entry.{Entry}
 use Rattle.batch_log.specs.Log.{Batch, IsBatch, batch_blocks, batch_size, log_size}
 use Rattle.zone_choice.specs.declared.roles.Filling.{Filling}
 use Rattle.zone_choice.specs.declared.tables.Tables.{Tables}
 use Rattle.logical_map.specs.Places.{MapView}
 use Rattle.zone_choice.specs.Records.{append_log, batch_records, new_records, newest, over, place, records, shown}
-use Rattle.zone_choice.specs.ZoneLogs.{HasLog, is_full, log_at, spelled_array, zone_log, zone_logs}
+use Rattle.zone_choice.specs.ZoneLogs.{HasLog, log_at, spelled_array, zone_log, zone_logs}
 use Rattle.zone_choice.specs.Mountable.{IsMountable, IsNumbered, is_partly_written, sequences}
 use Rattle.zone_choice.specs.Roles.{RolesView}
 use Rattle.zone_choice.specs.Agreement.{Agrees, RolesAgree, drive_logs, is_host_at, spelled}

@@ -1,5 +1,5 @@
 -- A drive on which nothing is written agrees with tables that place nothing, and spells zeros.
-use Rattle.std.proofs.Common.{◌≡◌, ℕ, zero, suc, ◌+◌, ◌<◌, ◌≤◌, ◌^◌, Bool, true, false, cond, List, [], ◌∷◌, ◌++◌, map, length, get_or, replicate, Option, Some, None, refl, sym, ap, ◌∙◌, arith}
+use Rattle.std.proofs.Common.{◌≡◌, ℕ, zero, suc, ◌+◌, ◌<◌, Bool, true, false, cond, List, [], ◌∷◌, map, length, get_or, replicate, Option, None, refl, sym, ap, ◌∙◌, arith}
 use Rattle.std.specs.Prelude.{nat_eq}
 use Rattle.std.specs.List.{AllByRecursion, IsDistinct, count_by, range_with_len}
 use Rattle.std.proofs.lemmas.List.{length-map, length-replicate}
@@ -7,19 +7,16 @@ use Rattle.std.proofs.lemmas.List.Sums.{sum_by-cons}
 use Rattle.zone_states.specs.declared.geometry.Geometry.{Geometry}
 use Rattle.zone_states.specs.Geometry.{IsInRange}
 use Rattle.drive_port.specs.Drive.{DriveState, IsLawful}
-use Rattle.drive_port.specs.Contents.{Content, content_at, content_of, contents, emptied, nothing}
-use Rattle.batch_log.specs.Log.{Batch, zero_block}
-use Rattle.logical_map.specs.Places.{MapView}
-use Rattle.logical_map.specs.declared.place.Place.{Place}
+use Rattle.drive_port.specs.Contents.{Content, content_at, content_of, contents, emptied}
+use Rattle.batch_log.specs.Log.{zero_block}
 use Rattle.logical_map.specs.declared.place.Place.TheVariants as places
 use Rattle.zone_choice.specs.declared.tables.Tables.{Tables}
-use Rattle.zone_choice.specs.Records.{Record, place, records, shown, told}
+use Rattle.zone_choice.specs.Records.{Record, place, records, shown}
 use Rattle.zone_choice.specs.ZoneLogs.{HasLog, spelled_array, zone_log, zone_logs}
 use Rattle.zone_choice.specs.Mountable.{IsNumbered, sequences}
 use Rattle.zone_choice.specs.Reserve.{FitsReserve}
-use Rattle.zone_choice.specs.Roles.{RolesView}
-use Rattle.zone_choice.specs.Agreement.{Agrees, RolesAgree, drive_logs, spelled}
-use Rattle.zone_choice.proofs.AgreementLaws.{tables_with, zone_log-emptied}
+use Rattle.zone_choice.specs.Agreement.{Agrees, RolesAgree, spelled}
+use Rattle.zone_choice.proofs.AgreementLaws.{zone_log-emptied}
 use Rattle.zone_choice.proofs.ContentLaws.{roles_with}
 
 abbrev pub AllEmptied : List Content → Type 0

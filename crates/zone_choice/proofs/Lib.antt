@@ -9,3 +9,6 @@ pub mod AgreementLaws
 pub mod CommandLaws
 pub mod ReadLaws
 pub mod FreshLaws
+pub mod HeardLaws
+pub mod ImageLaws
+pub mod MountableLaws

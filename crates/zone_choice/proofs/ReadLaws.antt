@@ -10,7 +10,7 @@ use Rattle.nvme_wire.specs.declared.zone_state.ZoneState.{ZoneState}
 use Rattle.nvme_wire.specs.declared.zone_state.ZoneState.TheVariants as states
 use Rattle.zone_states.specs.declared.geometry.Geometry.{Geometry}
 use Rattle.drive_port.specs.Drive.{DriveState}
-use Rattle.drive_port.specs.Contents.{Content, block_at, content_at, content_of, contents, is_usable, nothing, usage_of}
+use Rattle.drive_port.specs.Contents.{Content, block_at, content_at, content_of, contents, is_usable, nothing, usage_of, is_full}
 use Rattle.drive_port.specs.Calls.{CanRead}
 use Rattle.drive_port.specs.Step.{block_in, end_of, is_state, zone_at}
 use Rattle.batch_log.specs.declared.header.Entry.{Entry}
@@ -20,7 +20,7 @@ use Rattle.logical_map.specs.declared.place.Place.{Place}
 use Rattle.logical_map.specs.declared.place.Place.TheVariants as places
 use Rattle.zone_choice.specs.declared.tables.Tables.{Tables}
 use Rattle.zone_choice.specs.Records.{IsNewest, Record, array_of, batch_records, entry_content, entry_offset, entry_records, log_records, newest, place, records, shown}
-use Rattle.zone_choice.specs.ZoneLogs.{HasLog, is_full, padding, readable, spelled_array, zone_log, zone_logs}
+use Rattle.zone_choice.specs.ZoneLogs.{HasLog, padding, readable, spelled_array, zone_log, zone_logs}
 use Rattle.zone_choice.specs.Agreement.{Agrees, spelled}
 use Rattle.zone_choice.proofs.AllLaws.{all-append, all-at, all-weaker}
 use Rattle.zone_choice.proofs.CommandLaws.{content-zone, zone-few}

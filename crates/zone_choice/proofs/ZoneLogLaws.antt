@@ -5,11 +5,11 @@ use Rattle.std.proofs.lemmas.Bool.{eqb-true}
 use Rattle.std.proofs.lemmas.List.{map-set, length-map, set-get_or}
 use Rattle.std.proofs.Math.ListN.{get_or-map}
 use Rattle.zone_states.specs.declared.geometry.Geometry.{Geometry}
-use Rattle.drive_port.specs.Contents.{Content, Usage, empty, active, full, unusable, content_at, filled, finished, is_writable, nothing}
+use Rattle.drive_port.specs.Contents.{Content, Usage, empty, active, full, unusable, content_at, filled, finished, is_writable, nothing, is_full}
 use Rattle.batch_log.specs.Log.{Batch, IsBatch, IsLog, batch_blocks, log_of, zero_block}
 use Rattle.batch_log.proofs.LogLaws.{one_log, append_batch, finish}
 use Rattle.zone_choice.specs.Records.{array, records, shown}
-use Rattle.zone_choice.specs.ZoneLogs.{HasLog, is_full, padding, readable, spelled_array, zone_log, zone_logs}
+use Rattle.zone_choice.specs.ZoneLogs.{HasLog, padding, readable, spelled_array, zone_log, zone_logs}
 use Rattle.zone_choice.specs.Laws.{AppendLogs, AppendSpells, FinishLogs}
 use Rattle.zone_choice.proofs.NewestLaws.{told-append_log}
 
@@ -38,7 +38,7 @@ pub has_log-blocks : (geometry : Geometry) (content : Content) → is_full conte
 has_log-blocks geometry content e has = rw (e, append-nil content.blocks) at has
 
 -- a zone with these readable blocks has the log that they are read as
-zone_log-read : (geometry : Geometry) (content : Content) (blocks : List (List ℕ)) → readable geometry content ≡ blocks → zone_log geometry content ≡ log_of blocks
+pub zone_log-read : (geometry : Geometry) (content : Content) (blocks : List (List ℕ)) → readable geometry content ≡ blocks → zone_log geometry content ≡ log_of blocks
 unfolding zone_log
 zone_log-read geometry content blocks e = ap log_of e
 

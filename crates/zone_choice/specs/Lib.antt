@@ -5,3 +5,4 @@ pub mod Mountable
 pub mod Roles
 pub mod Agreement
 pub mod Laws
+pub mod Reference

@@ -1,18 +1,14 @@
 -- Which drives can be mounted as n logical blocks.
-use Rattle.std.specs.Prelude.{◌≡◌, ◌≢◌, ◌⊎◌, ℕ, ◌<◌, ◌≤◌, ◌^◌, ◌==◌, ◌&&◌, not, nat_eq, Bool, true, false, List, [], ◌∷◌, map, length, count_by, Option, Some, None}
+use Rattle.std.specs.Prelude.{◌≡◌, ◌≢◌, ◌⊎◌, ℕ, ◌<◌, ◌≤◌, ◌^◌, ◌==◌, ◌&&◌, not, nat_eq, Bool, true, List, [], ◌∷◌, map, length, count_by, Option, Some, None}
 use Rattle.std.specs.List.{flat_map, AllByRecursion, IsDistinct}
 use Rattle.zone_states.specs.declared.geometry.Geometry.{Geometry}
 use Rattle.drive_port.specs.Drive.{DriveState, IsLawful}
-use Rattle.drive_port.specs.Contents.{Content, Usage, active, contents, is_usable}
+use Rattle.drive_port.specs.Contents.{Content, contents, is_active_usage, is_usable}
 use Rattle.batch_log.specs.declared.header.Kind.TheVariants.{Move}
 use Rattle.batch_log.specs.declared.header.Entry.{Entry}
 use Rattle.batch_log.specs.Log.{Batch}
 use Rattle.zone_choice.specs.Records.{array_of, without}
 use Rattle.zone_choice.specs.ZoneLogs.{HasLog, zone_logs, log_at}
-
-abbrev pub is_active_usage : Usage → Bool
-is_active_usage active = true
-is_active_usage usage = false
 
 -- opened or Closed, with at least one block
 abbrev pub is_partly_written : Content → Bool

@@ -1,13 +1,9 @@
 -- The logs of a drive's zones, and the array that the drive spells.
 use Rattle.std.specs.Prelude.{ℕ, ◌-◌, Bool, true, false, List, [], ◌++◌, map, length, replicate, slice_index_or}
 use Rattle.zone_states.specs.declared.geometry.Geometry.{Geometry}
-use Rattle.drive_port.specs.Contents.{Content, Usage, full}
+use Rattle.drive_port.specs.Contents.{Content, is_full}
 use Rattle.batch_log.specs.Log.{Batch, IsLog, log_of, zero_block}
 use Rattle.zone_choice.specs.Records.{array_of}
-
-abbrev pub is_full : Usage → Bool
-is_full full = true
-is_full usage = false
 
 -- what stands behind the written blocks of a zone, as a host can tell: in a full zone zero blocks up to the capacity, since a report doesn't tell how far a finished zone was written
 abbrev pub padding : Geometry → Bool → ℕ → List (List ℕ)

@@ -3,9 +3,12 @@
 #![tactic(auto)]
 
 mod laws;
+pub mod reference;
 mod reserve;
 mod roles;
 mod tables;
+#[cfg(test)]
+mod tests;
 
 pub use laws::{
     append_first, append_logs, append_spells, append_writes, finish_logs, newest_is_live,
