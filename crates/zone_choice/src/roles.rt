@@ -1,4 +1,4 @@
-ghost use Rattle.std.specs.Prelude.{◌≡◌, ◌≤◌, ◌<◌, ◌+◌, ◌^◌, ℕ, IfOk, IfSome, IfNone, None, Some, false, length, replicate, slice_set, true};
+ghost use Rattle.std.specs.Prelude.{◌≡◌, ◌≤◌, ◌<◌, ◌+◌, ◌^◌, ℕ, IfOk, IfSome, IfNone, None, Some, false, replicate, true};
 ghost use Rattle.zone_choice.specs.Roles.{IsLowestEmpty, RolesView, empty_count, is_empty_at, taken, written_after, wrote};
 
 use std::alloc::{AllocError, Global};

@@ -1,10 +1,10 @@
-ghost use Rattle.std.specs.Prelude.{◌≡◌, ◌+◌, ◌/◌, [], ◌∷◌, ◌++◌, map, length, Ok, Err, Some, None, IfErr, OnOk, OnErr, IfSome, OnSome, is_some, if◌then◌else◌};
+ghost use Rattle.std.specs.Prelude.{◌≡◌, ◌/◌, [], length, Ok, Err, Some, None, IfErr, OnOk, OnErr, IfSome, OnSome, is_some, if◌then◌else◌};
 ghost use Rattle.zone_states.specs.Checks.{first_failing};
 ghost use Rattle.zone_states.specs.Sending.{zone_after};
 ghost use Rattle.zone_states.specs.Stored.{IsWhole, WrittenBehind, apply_result, refusal_of, stored_after, stored_write, zone_of};
 ghost use Rattle.zone_states.specs.Transition.{state_after};
 ghost use Rattle.zone_states.specs.Writing.{append_bytes_checks, data_checks, room_checks, state_checks, zone_append_checks, zone_write_checks, write_bytes_checks};
-ghost use Rattle.zone_states.specs.Zone.{cut_blocks, written_zone, opened_by_write};
+ghost use Rattle.zone_states.specs.Zone.{opened_by_write};
 
 use crate::geometry::Geometry;
 use crate::transition::next_state;

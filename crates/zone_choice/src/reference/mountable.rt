@@ -1,9 +1,9 @@
 //! Whether zones can be mounted, clause by clause.
 
-ghost use Rattle.std.specs.Prelude.{◌≡◌, ◌≢◌, ◌⊎◌, ◌↔◌, ◌<◌, ◌≤◌, ◌++◌, ℕ, [], count_by, length, nat_eq, true, IfNone, IfOk, IfSome, IsTrue, OnOk};
+ghost use Rattle.std.specs.Prelude.{◌≡◌, ◌⊎◌, ◌↔◌, ◌<◌, ◌≤◌, ◌++◌, ℕ, [], count_by, length, nat_eq, true, IfNone, IfOk, IfSome, IsTrue, OnOk};
 ghost use Rattle.std.specs.List.{AllByRecursion, IsDistinct};
 ghost use Rattle.zone_states.specs.Geometry.{IsInRange};
-ghost use Rattle.drive_port.specs.Contents.{is_usable, usage_of, is_active_usage};
+ghost use Rattle.drive_port.specs.Contents.{is_active_usage, is_usable, usage_of};
 ghost use Rattle.batch_log.specs.Reference.{batch_of, blocks_of};
 ghost use Rattle.zone_choice.specs.Mountable.{AreMountable, HasSpare, IsBefore, IsHalfClean, IsMoveFrom, IsNumbered, IsSpare, IsVacant, first_sequence, is_partly_written, log_sequences, sequences};
 ghost use Rattle.zone_choice.specs.ZoneLogs.{log_at};
