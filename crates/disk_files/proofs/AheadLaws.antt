@@ -1,0 +1,66 @@
+-- Bytes of a line are taken from those that were read ahead.
+use Rattle.std.proofs.Common.{◌≡◌, ◌≢◌, ℕ, ◌+◌, ◌-◌, ◌<◌, ◌≤◌, List, [], ◌∷◌, ◌++◌, length, take, drop, get_or, Some, None, Ok, refl, sym, ap, ◌∙◌, arith, append_assoc}
+use Rattle.std.specs.Prelude.{position, slice_range}
+use Rattle.std.proofs.lemmas.Bool.{eqb-true}
+use Rattle.std.proofs.lemmas.List.{drop-drop, drop-take, drop_more, get_or-take, length-take, take-append-drop, take-take, drop_min}
+use Rattle.std.proofs.lemmas.List.Quantifiers.{position-Some}
+use Rattle.disk_files.specs.Ahead.{ReadsPart}
+use Rattle.disk_files.specs.Line.{NoFeed, feed, is_feed}
+use Rattle.disk_files.specs.declared.ahead.Part.TheVariants.{Front, Line}
+use Rattle.disk_files.proofs.PlaceLaws.{All-None}
+
+slice_range-drop : (bytes : List ℕ) (start end k : ℕ) → start + k ≤ end → slice_range bytes (start + k) end ≡ drop k (slice_range bytes start end)
+slice_range-drop bytes start end k fits =
+    let n : end - start ≡ k + (end - (start + k)) = omega arith in
+    rw (n, drop-take, drop-drop) refl
+
+-- a line feed stands at a place among the first m bytes, and none before it
+record EndsAt (ahead : List ℕ) (m place : ℕ) : Type 0 where
+  within : place < length (take m ahead)
+  below : place < m
+  no_feed : NoFeed (take place (take m ahead))
+  text : ahead ≡ (take place (take m ahead) ++ feed ∷ []) ++ drop (place + 1) ahead
+
+ends_at : (ahead : List ℕ) (m place : ℕ) → position is_feed (take m ahead) ≡ Some place → EndsAt ahead m place
+ends_at ahead m place e =
+    let front = take m ahead in
+    let first = position-Some is_feed front place 0 e in
+    let below : place < m = omega (arith, first.0, length-take m ahead) in
+    let inside : place < length ahead = omega (arith, first.0, length-take m ahead) in
+    let short : place ≤ m = omega arith in
+    let fed : get_or ahead place 0 ≡ feed = eqb-true (get_or ahead place 0) feed (rw get_or-take at first.1) in
+    record {
+      within = first.0;
+      below = below;
+      no_feed = λ k d lt.
+          let before : k < place = omega (arith, lt, length-take place front) in
+          rw get_or-take ((position-Some is_feed front place d e).2 k before);
+      text = sym (take-append-drop place ahead) ∙ rw (take-take place m ahead short, append_assoc, ← fed, ← drop_more ahead place 0 inside) refl;
+    }
+
+pub line_taken : (bytes before after : List ℕ) (start end m room place : ℕ) → m ≤ room → start ≤ end
+    → position is_feed (take m (slice_range bytes start end)) ≡ Some place → after ≡ before ++ take place (take m (slice_range bytes start end))
+    → ReadsPart (Some (slice_range bytes start end)) (Some (slice_range bytes (start + (place + 1)) end)) room before after (Ok Line)
+line_taken bytes before after start end m room place fits order e text =
+    let ahead = slice_range bytes start end in
+    let ends = ends_at ahead m place e in
+    let inside : start + (place + 1) ≤ end = omega (arith, ends.within, length-take m ahead, length-take (end - start) (drop start bytes)) in (
+      take place (take m ahead),
+      record { text = text; no_feed = ends.no_feed },
+      ends.text ∙ rw (slice_range-drop bytes start end (place + 1) inside) refl,
+      omega (arith, ends.below, length-take place (take m ahead)),
+    )
+
+pub front_taken : (bytes before after : List ℕ) (start end m room : ℕ) → m ≤ room → start ≤ end
+    → position is_feed (take m (slice_range bytes start end)) ≡ None → length (take m (slice_range bytes start end)) ≢ 0 → after ≡ before ++ take m (slice_range bytes start end)
+    → ReadsPart (Some (slice_range bytes start end)) (Some (slice_range bytes (start + length (take m (slice_range bytes start end))) end)) room before after (Ok Front)
+front_taken bytes before after start end m room fits order e some text =
+    let ahead = slice_range bytes start end in
+    let n = length (take m ahead) in
+    let inside : start + n ≤ end = omega (arith, length-take m ahead, length-take (end - start) (drop start bytes)) in (
+      take m ahead,
+      record { text = text; no_feed = All-None is_feed (take m ahead) e },
+      sym (take-append-drop m ahead) ∙ rw (slice_range-drop bytes start end n inside, length-take m ahead, drop_min m ahead) refl,
+      λ none. some (ap length none),
+      omega (arith, length-take m ahead),
+    )

@@ -1,0 +1,7 @@
+pub mod AheadLaws
+pub mod GrammarLaws
+pub mod LineLaws
+pub mod PlaceLaws
+pub mod ReadingLaws
+pub mod ReplyLaws
+pub mod WordLaws

@@ -1,0 +1,31 @@
+-- What is known of a list by the first place that passes a test.
+use Rattle.std.proofs.Common.{◌≡◌, ℕ, ◌+◌, Bool, false, not, List, [], ◌∷◌, length, take, drop, Some, None, refl, arith}
+use Rattle.std.specs.Prelude.{position}
+use Rattle.std.specs.List.{All, position_or_len, slice_split}
+use Rattle.std.proofs.lemmas.Bool.Decides.{nat_tests}
+use Rattle.std.proofs.lemmas.List.Quantifiers.{position-Some}
+use Rattle.std.proofs.lemmas.List.Splits.{slice_split_first, slice_split_none}
+use Rattle.std.proofs.lemmas.List.Sums.{fails_before_first, position_or_len_is, prefix_len-le-length}
+
+module _ (p : ℕ → Bool) (xs : List ℕ) where
+  -- there is a first place
+  pub position_or_len-Some : (i : ℕ) → position p xs ≡ Some i → position_or_len p xs ≡ i
+  position_or_len-Some i e =
+      let first = position-Some p xs i 0 e in
+      position_or_len_is p xs i 0 (omega arith) first.2 (λ _. first.1)
+
+  -- no place passes
+  pub position_or_len-None : position p xs ≡ None → length xs ≡ position_or_len p xs
+  position_or_len-None e = grind (arith, nat_tests, prefix_len-le-length (λ x. not (p x)) xs)
+
+  pub All-None : position p xs ≡ None → All (λ x. p x ≡ false) xs
+  All-None e = let whole = position_or_len-None e in λ k d lt. fails_before_first p xs k d (omega arith)
+
+  pub slice_split-Some : (i : ℕ) → position p xs ≡ Some i → slice_split p xs ≡ take i xs ∷ slice_split p (drop (i + 1) xs)
+  slice_split-Some i e =
+      let first = position-Some p xs i 0 e in
+      let place = position_or_len-Some i e in
+      rw (slice_split_first p xs 0 (omega arith), place) refl
+
+  pub slice_split-None : position p xs ≡ None → slice_split p xs ≡ xs ∷ []
+  slice_split-None e = slice_split_none p xs (All-None e)

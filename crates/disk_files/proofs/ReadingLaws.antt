@@ -1,0 +1,79 @@
+-- A line is read part by part.
+use Rattle.std.proofs.Common.{◌≡◌, ◌≢◌, ℕ, ◌+◌, ◌<◌, ◌≤◌, true, false, not, List, [], ◌∷◌, ◌++◌, length, Option, Some, None, Ok, Err, refl, sym, ap, ◌∙◌, arith, append_assoc}
+use Rattle.std.specs.List.{position_or_len}
+use Rattle.std.specs.Io.KnownBytes.{Consumes, IsAtEnd, Keeps}
+use Rattle.std.proofs.lemmas.List.{append-nil, drop-drop, drop_all, drop_at, get_or_append_left, get_or_at, length-append, length-take, take_all, take_at}
+use Rattle.std.proofs.lemmas.List.Elements.{All-append}
+use Rattle.std.proofs.lemmas.List.Folds.{prefix_len-append}
+use Rattle.std.proofs.lemmas.List.Sums.{position_or_len_is}
+use Rattle.std.proofs.lemmas.Bool.Decides.{nat_tests}
+use Rattle.disk_files.specs.Ahead.{PutsBehind}
+use Rattle.disk_files.specs.Line.{NoFeed, ReadsLine, behind_line, feed, first_line, is_feed}
+use Rattle.disk_files.specs.declared.line_reader.LineFault.TheVariants.{Long}
+use Rattle.disk_files.specs.declared.line_reader.TheConstants.{LONGEST_LINE}
+
+-- ---- the first line of bytes
+
+module _ (line : List ℕ) (none : NoFeed line) where
+  place_none : position_or_len is_feed line ≡ length line
+  place_none = position_or_len_is is_feed line (length line) 0 (omega arith) (λ k lt. none k 0 lt) (λ lt. absurd (omega arith))
+
+  place_feed : (rest : List ℕ) → position_or_len is_feed (line ++ feed ∷ rest) ≡ length line
+  place_feed rest =
+      let bytes = line ++ feed ∷ rest in
+      let long : length line ≤ length bytes = omega (arith, length-append line (feed ∷ rest)) in
+      position_or_len_is is_feed bytes (length line) 0 long (λ k lt. rw get_or_append_left (none k 0 lt)) (λ lt. rw (get_or_at line feed rest 0 (length line) refl) refl)
+
+  place_more : (rest : List ℕ) → length line ≤ position_or_len is_feed (line ++ rest)
+  place_more rest = grind (arith, nat_tests, prefix_len-append (λ b. not (is_feed b)) line rest, place_none)
+
+  pub first_line-feed : (rest : List ℕ) → first_line (line ++ feed ∷ rest) ≡ line
+  first_line-feed rest = rw (place_feed rest) (take_at line (feed ∷ rest) (length line) refl)
+
+  pub behind_line-feed : (rest : List ℕ) → behind_line (line ++ feed ∷ rest) ≡ rest
+  behind_line-feed rest = rw (place_feed rest, ← drop-drop 1 (length line) (line ++ feed ∷ rest), drop_at line (feed ∷ rest) (length line) refl) refl
+
+  first_line-none : first_line line ≡ line
+  first_line-none = take_all (position_or_len is_feed line) line (omega (arith, place_none))
+
+  behind_line-none : behind_line line ≡ []
+  behind_line-none = drop_all (position_or_len is_feed line + 1) line (omega (arith, place_none))
+
+  length-first_line : (rest : List ℕ) → length line ≤ length (first_line (line ++ rest))
+  length-first_line rest = omega (arith, place_more rest, length-take (position_or_len is_feed (line ++ rest)) (line ++ rest), length-append line rest)
+
+-- ---- where the bytes are known
+
+-- the line feed is read
+pub line_done : (old mid new : Option (List ℕ)) (before line bytes : List ℕ) → NoFeed before → Consumes old mid before
+    → PutsBehind before line bytes → Consumes mid new (bytes ++ feed ∷ []) → ReadsLine old new line (Ok true)
+line_done None mid new before line bytes none p puts q = tt
+line_done (Some xs) None new before line bytes none p puts q = absurd p
+line_done (Some xs) (Some ys) None before line bytes none p puts q = absurd q
+line_done (Some xs) (Some ys) (Some zs) before line bytes none p puts q =
+    let clean : NoFeed (before ++ bytes) = All-append (λ b. is_feed b ≡ false) before bytes none puts.no_feed in
+    let text : xs ≡ (before ++ bytes) ++ feed ∷ zs = p ∙ rw (q, append_assoc bytes (feed ∷ []) zs, append_assoc before bytes (feed ∷ zs)) refl in
+    record {
+      some = λ e. absurd (omega (arith, ap length (sym text ∙ e), length-append (before ++ bytes) (feed ∷ zs)));
+      line_is = puts.text ∙ rw (text, first_line-feed (before ++ bytes) clean zs) refl;
+      rest_is = rw (text, behind_line-feed (before ++ bytes) clean zs) refl;
+    }
+
+-- the reader ends behind a line
+pub line_ends : (old mid new : Option (List ℕ)) (line : List ℕ) → NoFeed line → Consumes old mid line → Keeps mid new → IsAtEnd new → line ≢ [] → ReadsLine old new line (Ok true)
+line_ends None mid new line none p q end some = tt
+line_ends (Some xs) None new line none p q end some = absurd p
+line_ends (Some xs) (Some ys) None line none p q end some = absurd q
+line_ends (Some xs) (Some ys) (Some zs) line none p q end some =
+    let text : xs ≡ line = p ∙ rw (← q, end) (append-nil line) in
+    record {
+      some = λ e. some (sym text ∙ e);
+      line_is = rw (text, first_line-none line none) refl;
+      rest_is = end ∙ rw (text, behind_line-none line none) refl;
+    }
+
+-- no line feed is found in time
+pub too_long : (old new : Option (List ℕ)) (line : List ℕ) → NoFeed line → Consumes old new line → LONGEST_LINE < length line → ReadsLine old new line (Err Long)
+too_long None new line none p long = tt
+too_long (Some xs) None line none p long = absurd p
+too_long (Some xs) (Some ys) line none p long = (record { no_feed = none; text = p }, rw p (omega (arith, length-first_line line none ys)))

@@ -1,0 +1,6 @@
+pub mod Ahead
+pub mod Line
+pub mod Output
+pub mod Reply
+pub mod TraceLine
+pub mod Words

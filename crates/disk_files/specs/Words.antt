@@ -1,0 +1,46 @@
+-- The words of a line, and the numbers and bytes that words spell.
+use Rattle.std.specs.Prelude.{ℕ, ◌+◌, ◌-◌, ◌*◌, ◌^◌, ◌==◌, nat_lt, nat_le, ◌&&◌, if◌then◌else◌, Bool, List, [], ◌∷◌, length, Option, Some, None, option_and_then}
+use Rattle.std.specs.Char.{is_ascii_digit}
+use Rattle.std.specs.List.{slice_split}
+use Rattle.hex.specs.Hex.{hex_digit_value}
+
+-- the ? of an option: the second step, if the first gave a value
+infixl 10 ◌>>=◌
+abbrev pub ◌>>=◌ : {A B : Type 0} → Option A → (A → Option B) → Option B
+o >>= f = option_and_then f o
+
+abbrev pub is_space : ℕ → Bool
+is_space b = b == 32
+
+-- the words of a line: one space stands between each and the next
+abbrev pub words_of : List ℕ → List (List ℕ)
+words_of line = slice_split is_space line
+
+-- the words of what follows a word, if a space does
+abbrev pub words_behind : Option (List ℕ) → List (List ℕ)
+words_behind None = []
+words_behind (Some line) = words_of line
+
+-- the number of a value's digits and those of a word
+abbrev pub digits_behind : ℕ → List ℕ → Option ℕ
+digits_behind value [] = Some value
+digits_behind value (b ∷ bs) = if is_ascii_digit b then digits_behind (10 * value + (b - 48)) bs else None
+
+abbrev pub below_limit : ℕ → Option ℕ
+below_limit n = if nat_lt n (2 ^ 64) then Some n else None
+
+-- a number has 1 to 20 decimal digits, and is below 2^64
+abbrev pub number_of : List ℕ → Option ℕ
+number_of word =
+    if nat_le 1 (length word) && nat_le (length word) 20 then digits_behind 0 word >>= below_limit
+    else None
+
+-- a byte has two hexadecimal digits, of either case
+abbrev pub byte_of : List ℕ → Option ℕ
+byte_of (high ∷ low ∷ []) = do
+  h ← hex_digit_value high
+  l ← hex_digit_value low
+  Some (h * 16 + l)
+byte_of [] = None
+byte_of (high ∷ []) = None
+byte_of (high ∷ low ∷ more ∷ rest) = None

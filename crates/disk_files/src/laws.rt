@@ -1,0 +1,34 @@
+//! What holds of all lines and blocks. Each function carries one law as its contract, and does nothing.
+
+ghost use Rattle.std.specs.Prelude.{◌≡◌, ℕ, ◌*◌, ◌<◌, ◌^◌, List, [], ◌∷◌, ◌++◌, Some, codes, decimal, length};
+ghost use Rattle.std.specs.List.{AllByRecursion, concat};
+ghost use Rattle.hex.specs.Hex.{encode_lower};
+ghost use Rattle.disk_files.specs.Line.{NoFeed, behind_line, feed, first_line};
+ghost use Rattle.disk_files.specs.Reply.{blocks_in};
+ghost use Rattle.disk_files.specs.TraceLine.{trace_line};
+ghost use Rattle.disk_files.specs.declared.trace_line.TraceLine.TheVariants as lines;
+
+/// A line that is written with its line feed is read again.
+pub fn line_again()
+    ensures first { (line rest : List ℕ) → NoFeed line → first_line (line ++ feed ∷ rest) ≡ line }
+    ensures behind { (line rest : List ℕ) → NoFeed line → behind_line (line ++ feed ∷ rest) ≡ rest }
+{}
+
+/// Every read and every fill has a line in the grammar.
+pub fn trace_line_again()
+    ensures read { (first blocks : ℕ) → first < 2 ^ 64 → blocks < 2 ^ 64 →
+        trace_line (codes "read " ++ decimal first ++ codes " " ++ decimal blocks)
+        ≡ Some (lines.Read first blocks) }
+    ensures fill { (first blocks byte : ℕ) → first < 2 ^ 64 → blocks < 2 ^ 64 → byte < 2 ^ 8 →
+        trace_line (codes "fill " ++ decimal first ++ codes " " ++ decimal blocks ++ codes " "
+        ++ encode_lower (byte ∷ []))
+        ≡ Some (lines.Fill first blocks byte) }
+{}
+
+/// Blocks of one size that are joined are cut apart again.
+pub fn blocks_again()
+    ensures long { (size : ℕ) (blocks : List (List ℕ)) → AllByRecursion (λ block. length block ≡ size) blocks →
+        length (concat blocks) ≡ length blocks * size }
+    ensures blocks { (size : ℕ) (blocks : List (List ℕ)) → AllByRecursion (λ block. length block ≡ size) blocks →
+        blocks_in size (length blocks) (concat blocks) ≡ blocks }
+{}

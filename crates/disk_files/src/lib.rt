@@ -1,0 +1,21 @@
+//! The texts and files of a disk: lines of a trace, and the replies to them.
+#![tactic(auto)]
+
+mod ahead;
+mod bytes;
+pub mod laws;
+mod line_reader;
+mod output;
+mod reply;
+mod trace_line;
+mod words;
+
+pub use line_reader::{LONGEST_LINE, LineFault, LineReader};
+pub use output::{WriteFault, write_out};
+pub use reply::{ok_reply, out_of_range_reply, read_reply};
+pub use trace_line::{TraceLine, is_skipped};
+
+#[cfg(test)]
+mod fakes;
+#[cfg(test)]
+mod tests;

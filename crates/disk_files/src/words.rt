@@ -1,0 +1,40 @@
+ghost use Rattle.std.specs.Prelude.{◌≡◌, ◌∷◌, option_copied};
+ghost use Rattle.disk_files.specs.Words.{byte_of, number_of, words_behind, words_of};
+
+use crate::bytes::first_place;
+use hex::FromHex;
+
+/// The first word of a line, and what follows the space behind it.
+pub fn split_word(line: &[u8]) -> (&[u8], Option<&[u8]>)
+    ensures { words_of line.now ≡ result.0.now ∷ words_behind (option_copied result.1) }
+{
+    match first_place(line, b' ') {
+        Some(place) => (&line[..place], Some(&line[place + 1..])),
+        None => (line, None),
+    }
+}
+
+/// The number that a word of 1 to 20 decimal digits spells, below 2^64.
+pub fn number(word: &[u8]) -> Option<u64>
+    ensures { result ≡ number_of word.now }
+{
+    if word.is_empty() || word.len() > 20 {
+        return None;
+    }
+    let mut value: u128 = 0;
+    for byte in word {
+        if !byte.is_ascii_digit() {
+            return None;
+        }
+        value = 10 * value + u128::from(*byte - b'0');
+    }
+    u64::try_from(value).ok()
+}
+
+/// The byte that a word of two hexadecimal digits, of either case, spells.
+pub fn byte(word: &[u8]) -> Option<u8>
+    ensures { result ≡ byte_of word.now }
+{
+    let [byte] = <[u8; 1]>::from_hex(word).ok()?;
+    Some(byte)
+}

@@ -1,0 +1,261 @@
+-- What a command gives, by its checks and its effect.
+use Rattle.std.proofs.Common.{◌≡◌, ◌≢◌, ℕ, false, true, map, ◌+◌, ◌-◌, ◌*◌, ◌/◌, ◌%◌, ◌≤◌, List, [], ◌++◌, length, take, drop, replicate, Option, Some, None, Result, Ok, Err, refl, ap, ◌∙◌}
+use Rattle.nvme_wire.specs.declared.command.Command.{Command}
+use Rattle.nvme_wire.specs.declared.command.DecodeFault.{DecodeFault}
+use Rattle.nvme_wire.specs.declared.command.Command.TheVariants.{Append, Flush, Read, Send, Write}
+use Rattle.nvme_wire.specs.declared.command.DecodeFault.TheVariants as faults
+use Rattle.nvme_wire.specs.declared.command.Action.{Action}
+use Rattle.nvme_wire.specs.declared.command.Action.TheVariants.{Close, Finish, Open, Reset, Offline}
+use Rattle.nvme_wire.specs.declared.status.Status.{Status}
+use Rattle.nvme_wire.specs.declared.status.Status.TheVariants.{Success}
+use Rattle.zone_states.specs.declared.geometry.Geometry.{Geometry}
+use Rattle.zone_states.specs.Checks.{first_failing}
+use Rattle.zone_states.specs.Stored.{IsWhole, zone_of}
+use Rattle.zone_states.specs.Zone.{Zone}
+use Rattle.drive_port.specs.Drive.{DriveState, open_count}
+use Rattle.drive_port.specs.Step.{Outcome, bytes_from, decode_status, done, outcome, read_checks, sent_zone, unless_refused, write_effect, zone_at}
+use Rattle.zone_drive.specs.declared.reply.Reply.{Reply}
+use Rattle.zone_drive.specs.Choice.{Gives, PlaceGives, performed, wants_open_place, with_room}
+use Rattle.zone_drive.specs.Sending.{Opens, send_first, sent_to}
+use Rattle.zone_drive.specs.Writing.{WritesBehind, append_first, write_first}
+use Rattle.zone_drive.proofs.OpeningLaws.{AllOther, by_choice, opening, opening-done, opening-no_place, opening-refused, other}
+use Rattle.zone_drive.proofs.PlaceLaws.{apart, zone_at-closing}
+use Rattle.zone_drive.proofs.ReadLaws.{read-copies}
+
+pub outcome-Read : (geometry : Geometry) (zones : List Zone) (slba blocks : ℕ) (bytes : List ℕ) (refusal : Option Status)
+    → refusal ≡ first_failing (read_checks geometry (zone_at zones (slba / geometry.size)) slba blocks)
+    → outcome geometry zones (Ok (Read slba blocks)) bytes
+    ≡ unless_refused refusal zones (done (bytes_from geometry.block (zone_at zones (slba / geometry.size)).blocks (slba % geometry.size) blocks) zones)
+unfolding outcome
+outcome-Read geometry zones slba blocks bytes refusal e = rw e refl
+
+-- ---- commands that may open a zone
+
+abbrev append_effect : Geometry → ℕ → ℕ → List ℕ → List Zone → Outcome
+append_effect geometry zslba blocks bytes zones =
+    let index = zslba / geometry.size in
+    record (done [] (write_effect geometry zones index blocks bytes)) { value = zslba + length (zone_at zones index).blocks }
+
+performed-Append : (geometry : Geometry) (zones : List Zone) (zslba blocks : ℕ) (bytes : List ℕ)
+    → performed geometry zones (Ok (Append zslba blocks)) bytes
+    ≡ by_choice (opening geometry (λ zone. append_first geometry zone zslba blocks bytes) (append_effect geometry zslba blocks bytes) (zslba / geometry.size)) zones
+unfolding outcome
+performed-Append geometry zones zslba blocks bytes = refl
+
+abbrev write_done : Geometry → ℕ → ℕ → List ℕ → List Zone → Outcome
+write_done geometry slba blocks bytes zones = done [] (write_effect geometry zones (slba / geometry.size) blocks bytes)
+
+performed-Write : (geometry : Geometry) (zones : List Zone) (slba blocks : ℕ) (bytes : List ℕ)
+    → performed geometry zones (Ok (Write slba blocks)) bytes
+    ≡ by_choice (opening geometry (λ zone. write_first geometry zone slba blocks bytes) (write_done geometry slba blocks bytes) (slba / geometry.size)) zones
+unfolding outcome
+performed-Write geometry zones slba blocks bytes = refl
+
+AllOther-append : (geometry : Geometry) (zone : Zone) (zslba blocks : ℕ) (bytes : List ℕ) → AllOther (append_first geometry zone zslba blocks bytes)
+AllOther-append geometry zone zslba blocks bytes = (refl, (refl, (refl, (refl, (refl, (refl, (refl, (refl, tt))))))))
+
+AllOther-write : (geometry : Geometry) (zone : Zone) (slba blocks : ℕ) (bytes : List ℕ) → AllOther (write_first geometry zone slba blocks bytes)
+AllOther-write geometry zone slba blocks bytes = (refl, (refl, (refl, (refl, (refl, (refl, (refl, (refl, tt))))))))
+
+-- a command that is refused, and leaves the drive
+pub gives-same : (old : DriveState) (command : Result Command DecodeFault) (bytes : List ℕ) (status : Status)
+    → performed old.geometry old.zones command bytes ≡ record { status = status; value = 0; returned = []; zones = old.zones } → Gives old command bytes (record { status = status; value = 0 }) [] old
+gives-same old command bytes status is = record { outcome = is; others = refl }
+
+pub append-refused : (old : DriveState) (zslba blocks : ℕ) (bytes : List ℕ) (status : Status)
+    → Some status ≡ first_failing (append_first old.geometry (zone_at old.zones (zslba / old.geometry.size)) zslba blocks bytes)
+    → Gives old (Ok (Append zslba blocks)) bytes (record { status = status; value = 0 }) [] old
+append-refused old zslba blocks bytes status e =
+    let index = zslba / old.geometry.size in
+    let first = λ (zone : Zone). append_first old.geometry zone zslba blocks bytes in
+    gives-same old (Ok (Append zslba blocks)) bytes status
+    (performed-Append old.geometry old.zones zslba blocks bytes
+    ∙ opening-refused old.geometry first (append_effect old.geometry zslba blocks bytes) index old.zones status (AllOther-append old.geometry (zone_at old.zones index) zslba blocks bytes) e)
+
+-- the zone itself is not closed for its own place
+zone-with_room : (geometry : Geometry) (zones : List Zone) (index : ℕ) (closing : Option ℕ) → PlaceGives geometry zones (zone_at zones index) (Ok closing) → zone_at (with_room zones closing) index ≡ zone_at zones index
+zone-with_room geometry zones index None place = refl
+zone-with_room geometry zones index (Some low) (place, lowest) = zone_at-closing zones index low (apart geometry zones index low place lowest) lowest
+
+-- how a command ended whose places refused it, or didn't
+abbrev pub ended : Option Status → ℕ → Reply
+ended (Some status) value = record { status = status; value = 0 }
+ended None value = record { status = Success; value = value }
+
+pub append-ended : (old new : DriveState) (zslba blocks : ℕ) (bytes : List ℕ) (refusal : Option Status)
+    → None ≡ first_failing (append_first old.geometry (zone_at old.zones (zslba / old.geometry.size)) zslba blocks bytes)
+    → length bytes / old.geometry.block ≡ blocks → open_count old.zones ≤ old.geometry.open → WritesBehind old (zslba / old.geometry.size) bytes refusal new
+    → Gives old (Ok (Append zslba blocks)) bytes (ended refusal (zslba + length (zone_at old.zones (zslba / old.geometry.size)).blocks)) [] new
+append-ended old new zslba blocks bytes (Some status) passed count most (place, same) =
+    let index = zslba / old.geometry.size in
+    let first = λ (zone : Zone). append_first old.geometry zone zslba blocks bytes in
+    rw same (gives-same old (Ok (Append zslba blocks)) bytes status
+    (performed-Append old.geometry old.zones zslba blocks bytes
+    ∙ opening-no_place old.geometry first (append_effect old.geometry zslba blocks bytes) index old.zones status passed place))
+append-ended old new zslba blocks bytes None passed count most (closing, place, changed) =
+    let index = zslba / old.geometry.size in
+    let first = λ (zone : Zone). append_first old.geometry zone zslba blocks bytes in
+    rw changed (record {
+      outcome = performed-Append old.geometry old.zones zslba blocks bytes
+          ∙ opening-done old.geometry first (append_effect old.geometry zslba blocks bytes) index old.zones closing (λ middle. refl) most passed place
+          ∙ rw (zone-with_room old.geometry old.zones index closing place, count) refl;
+      others = refl;
+    })
+
+pub write-refused : (old : DriveState) (slba blocks : ℕ) (bytes : List ℕ) (status : Status)
+    → Some status ≡ first_failing (write_first old.geometry (zone_at old.zones (slba / old.geometry.size)) slba blocks bytes)
+    → Gives old (Ok (Write slba blocks)) bytes (record { status = status; value = 0 }) [] old
+write-refused old slba blocks bytes status e =
+    let index = slba / old.geometry.size in
+    let first = λ (zone : Zone). write_first old.geometry zone slba blocks bytes in
+    gives-same old (Ok (Write slba blocks)) bytes status
+    (performed-Write old.geometry old.zones slba blocks bytes
+    ∙ opening-refused old.geometry first (write_done old.geometry slba blocks bytes) index old.zones status (AllOther-write old.geometry (zone_at old.zones index) slba blocks bytes) e)
+
+pub write-ended : (old new : DriveState) (slba blocks : ℕ) (bytes : List ℕ) (refusal : Option Status)
+    → None ≡ first_failing (write_first old.geometry (zone_at old.zones (slba / old.geometry.size)) slba blocks bytes)
+    → length bytes / old.geometry.block ≡ blocks → open_count old.zones ≤ old.geometry.open → WritesBehind old (slba / old.geometry.size) bytes refusal new
+    → Gives old (Ok (Write slba blocks)) bytes (ended refusal 0) [] new
+write-ended old new slba blocks bytes (Some status) passed count most (place, same) =
+    let index = slba / old.geometry.size in
+    let first = λ (zone : Zone). write_first old.geometry zone slba blocks bytes in
+    rw same (gives-same old (Ok (Write slba blocks)) bytes status
+    (performed-Write old.geometry old.zones slba blocks bytes
+    ∙ opening-no_place old.geometry first (write_done old.geometry slba blocks bytes) index old.zones status passed place))
+write-ended old new slba blocks bytes None passed count most (closing, place, changed) =
+    let index = slba / old.geometry.size in
+    let first = λ (zone : Zone). write_first old.geometry zone slba blocks bytes in
+    rw changed (record {
+      outcome = performed-Write old.geometry old.zones slba blocks bytes
+          ∙ opening-done old.geometry first (write_done old.geometry slba blocks bytes) index old.zones closing (λ middle. refl) most passed place
+          ∙ rw count refl;
+      others = refl;
+    })
+
+-- ---- an action on one zone
+
+pub performed-plain : (geometry : Geometry) (zones : List Zone) (command : Result Command DecodeFault) (bytes : List ℕ) (given : Outcome)
+    → outcome geometry zones command bytes ≡ given → wants_open_place given.status ≡ false → performed geometry zones command bytes ≡ given
+performed-plain geometry zones command bytes given is none = rw (is, none) is
+
+outcome-Send : (geometry : Geometry) (zones : List Zone) (slba : ℕ) (action : Action) (bytes : List ℕ) → action ≢ Open
+    → outcome geometry zones (Ok (Send slba action false)) bytes
+    ≡ unless_refused (first_failing (send_first geometry (zone_at zones (slba / geometry.size)) slba action)) zones (done [] (sent_to zones (slba / geometry.size) action))
+unfolding outcome
+outcome-Send geometry zones slba Open bytes other = absurd (other refl)
+outcome-Send geometry zones slba Close bytes other = refl
+outcome-Send geometry zones slba Finish bytes other = refl
+outcome-Send geometry zones slba Reset bytes other = refl
+outcome-Send geometry zones slba Offline bytes other = refl
+
+performed-Open : (geometry : Geometry) (zones : List Zone) (slba : ℕ) (bytes : List ℕ)
+    → performed geometry zones (Ok (Send slba Open false)) bytes
+    ≡ by_choice (opening geometry (λ zone. send_first geometry zone slba Open) (λ middle. done [] (sent_to middle (slba / geometry.size) Open)) (slba / geometry.size)) zones
+unfolding outcome
+performed-Open geometry zones slba bytes = refl
+
+-- none of the first checks of an action has the status of the open places
+send-other : (geometry : Geometry) (zone : Zone) (slba : ℕ) (action : Action) → AllOther (send_first geometry zone slba action)
+send-other geometry zone slba action = (refl, (refl, (refl, tt)))
+
+refused-other : (old : DriveState) (slba : ℕ) (action : Action) (bytes : List ℕ) (status : Status) → action ≢ Open
+    → Some status ≡ first_failing (send_first old.geometry (zone_at old.zones (slba / old.geometry.size)) slba action)
+    → Gives old (Ok (Send slba action false)) bytes (record { status = status; value = 0 }) [] old
+refused-other old slba action bytes status apart e =
+    let checks = send_first old.geometry (zone_at old.zones (slba / old.geometry.size)) slba action in
+    let is : outcome old.geometry old.zones (Ok (Send slba action false)) bytes ≡ unless_refused (Some status) old.zones (done [] old.zones) = outcome-Send old.geometry old.zones slba action bytes apart ∙ rw (← e) refl in
+    gives-same old (Ok (Send slba action false)) bytes status
+    (performed-plain old.geometry old.zones (Ok (Send slba action false)) bytes _ is (other checks status (send-other old.geometry (zone_at old.zones (slba / old.geometry.size)) slba action) e))
+
+pub send-refused : (old : DriveState) (slba : ℕ) (action : Action) (bytes : List ℕ) (status : Status)
+    → Some status ≡ first_failing (send_first old.geometry (zone_at old.zones (slba / old.geometry.size)) slba action)
+    → Gives old (Ok (Send slba action false)) bytes (record { status = status; value = 0 }) [] old
+send-refused old slba Open bytes status e =
+    let index = slba / old.geometry.size in
+    gives-same old (Ok (Send slba Open false)) bytes status
+    (performed-Open old.geometry old.zones slba bytes
+    ∙ opening-refused old.geometry (λ zone. send_first old.geometry zone slba Open) (λ middle. done [] (sent_to middle index Open)) index old.zones status (send-other old.geometry (zone_at old.zones index) slba Open) e)
+send-refused old slba Close bytes status e = refused-other old slba Close bytes status (λ (same : Close ≡ Open). cc same) e
+send-refused old slba Finish bytes status e = refused-other old slba Finish bytes status (λ (same : Finish ≡ Open). cc same) e
+send-refused old slba Reset bytes status e = refused-other old slba Reset bytes status (λ (same : Reset ≡ Open). cc same) e
+send-refused old slba Offline bytes status e = refused-other old slba Offline bytes status (λ (same : Offline ≡ Open). cc same) e
+
+pub open-ended : (old new : DriveState) (slba : ℕ) (bytes : List ℕ) (refusal : Option Status)
+    → None ≡ first_failing (send_first old.geometry (zone_at old.zones (slba / old.geometry.size)) slba Open)
+    → open_count old.zones ≤ old.geometry.open → Opens old (slba / old.geometry.size) refusal new
+    → Gives old (Ok (Send slba Open false)) bytes (ended refusal 0) [] new
+open-ended old new slba bytes (Some status) passed most (place, same) =
+    let index = slba / old.geometry.size in
+    rw same (gives-same old (Ok (Send slba Open false)) bytes status
+    (performed-Open old.geometry old.zones slba bytes
+    ∙ opening-no_place old.geometry (λ zone. send_first old.geometry zone slba Open) (λ middle. done [] (sent_to middle index Open)) index old.zones status passed place))
+open-ended old new slba bytes None passed most (closing, place, changed) =
+    let index = slba / old.geometry.size in
+    rw changed (record {
+      outcome = performed-Open old.geometry old.zones slba bytes
+          ∙ opening-done old.geometry (λ zone. send_first old.geometry zone slba Open) (λ middle. done [] (sent_to middle index Open)) index old.zones closing (λ middle. refl) most passed place;
+      others = refl;
+    })
+
+pub send-done : (old new : DriveState) (slba : ℕ) (action : Action) (bytes : List ℕ) → action ≢ Open
+    → None ≡ first_failing (send_first old.geometry (zone_at old.zones (slba / old.geometry.size)) slba action)
+    → new ≡ record old { zones = sent_to old.zones (slba / old.geometry.size) action }
+    → Gives old (Ok (Send slba action false)) bytes (record { status = Success; value = 0 }) [] new
+send-done old new slba action bytes apart passed changed =
+    let is : outcome old.geometry old.zones (Ok (Send slba action false)) bytes ≡ done [] (sent_to old.zones (slba / old.geometry.size) action) = outcome-Send old.geometry old.zones slba action bytes apart ∙ rw (← passed) refl in
+    rw changed (record { outcome = performed-plain old.geometry old.zones (Ok (Send slba action false)) bytes _ is refl; others = refl })
+
+-- ---- a Read
+
+read-other : (geometry : Geometry) (zone : Zone) (slba blocks : ℕ) → AllOther (read_checks geometry zone slba blocks)
+read-other geometry zone slba blocks = (refl, (refl, (refl, (refl, tt))))
+
+pub read-refused : (old : DriveState) (slba blocks : ℕ) (bytes : List ℕ) (status : Status)
+    → Some status ≡ first_failing (read_checks old.geometry (zone_at old.zones (slba / old.geometry.size)) slba blocks)
+    → Gives old (Ok (Read slba blocks)) bytes (record { status = status; value = 0 }) [] old
+read-refused old slba blocks bytes status e =
+    let zone = zone_at old.zones (slba / old.geometry.size) in
+    let is = outcome-Read old.geometry old.zones slba blocks bytes (Some status) e in
+    gives-same old (Ok (Read slba blocks)) bytes status
+    (performed-plain old.geometry old.zones (Ok (Read slba blocks)) bytes _ is (other (read_checks old.geometry zone slba blocks) status (read-other old.geometry zone slba blocks) e))
+
+-- a Read that is done returns what is copied of the bytes that are stored
+pub read-copied : (old : DriveState) (slba blocks : ℕ) (bytes written returned : List ℕ) (from long : ℕ)
+    → None ≡ first_failing (read_checks old.geometry (zone_at old.zones (slba / old.geometry.size)) slba blocks)
+    → zone_of old.geometry.block (record { state = (zone_at old.zones (slba / old.geometry.size)).state; bytes = written }) ≡ zone_at old.zones (slba / old.geometry.size)
+    → IsWhole old.geometry.block written → from ≡ slba % old.geometry.size * old.geometry.block → long ≡ blocks * old.geometry.block
+    → returned ≡ take long (drop from written) ++ replicate (long - length (drop from written)) 0
+    → Gives old (Ok (Read slba blocks)) bytes (record { status = Success; value = 0 }) returned old
+read-copied old slba blocks bytes written returned from long passed stored whole from_is long_is copied =
+    let shown = copied ∙ read-copies old.geometry.block (length written / old.geometry.block) (slba % old.geometry.size) blocks from long written whole from_is long_is in
+    let blocks_are = ap (λ (zone : Zone). zone.blocks) stored in
+    let is : outcome old.geometry old.zones (Ok (Read slba blocks)) bytes ≡ done returned old.zones = outcome-Read old.geometry old.zones slba blocks bytes None passed ∙ rw (shown, blocks_are) refl in
+    record { outcome = performed-plain old.geometry old.zones (Ok (Read slba blocks)) bytes _ is refl; others = refl }
+
+-- ---- the other commands
+
+fault-performed : (geometry : Geometry) (zones : List Zone) (fault : DecodeFault) (bytes : List ℕ)
+    → performed geometry zones (Err fault) bytes ≡ record { status = decode_status fault; value = 0; returned = []; zones = zones }
+unfolding outcome
+fault-performed geometry zones faults.Opcode bytes = refl
+fault-performed geometry zones faults.Namespace bytes = refl
+fault-performed geometry zones faults.Field bytes = refl
+
+flush-performed : (geometry : Geometry) (zones : List Zone) (bytes : List ℕ) → performed geometry zones (Ok Flush) bytes ≡ done [] zones
+unfolding outcome
+flush-performed geometry zones bytes = refl
+
+all-performed : (geometry : Geometry) (zones : List Zone) (slba : ℕ) (action : Action) (bytes : List ℕ)
+    → performed geometry zones (Ok (Send slba action true)) bytes ≡ done [] (map (sent_zone action) zones)
+unfolding outcome
+all-performed geometry zones slba action bytes = refl
+
+pub gives-fault : (old : DriveState) (fault : DecodeFault) (bytes : List ℕ) → Gives old (Err fault) bytes (record { status = decode_status fault; value = 0 }) [] old
+gives-fault old fault bytes = record { outcome = fault-performed old.geometry old.zones fault bytes; others = refl }
+
+pub gives-flush : (old : DriveState) (bytes : List ℕ) → Gives old (Ok Flush) bytes (record { status = Success; value = 0 }) [] old
+gives-flush old bytes = record { outcome = flush-performed old.geometry old.zones bytes; others = refl }
+
+pub gives-all : (old new : DriveState) (slba : ℕ) (action : Action) (bytes : List ℕ) → new ≡ record old { zones = map (sent_zone action) old.zones }
+    → Gives old (Ok (Send slba action true)) bytes (record { status = Success; value = 0 }) [] new
+gives-all old new slba action bytes changed = rw changed (record { outcome = all-performed old.geometry old.zones slba action bytes; others = refl })

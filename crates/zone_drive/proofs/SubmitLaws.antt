@@ -1,0 +1,70 @@
+-- A command that this drive does is a step of a device.
+use Rattle.std.proofs.Common.{◌≡◌, ℕ, ◌+◌, ◌<◌, ◌^◌, Bool, true, false, cond, not, ◌&&◌, List, [], ◌∷◌, refl, sym, ap, ◌∙◌, inl, inr}
+use Rattle.nvme_wire.specs.Entry.{decode_of, id_of}
+use Rattle.nvme_wire.specs.Completion.{completion_bytes}
+use Rattle.nvme_wire.specs.declared.zone_state.ZoneState.{ZoneState}
+use Rattle.nvme_wire.specs.declared.zone_state.ZoneState.TheVariants.{Empty, ImplicitlyOpened, ExplicitlyOpened, Closed, ReadOnly, Full, Offline}
+use Rattle.zone_states.specs.Transition.{is_state}
+use Rattle.zone_states.specs.Zone.{Zone}
+use Rattle.drive_port.specs.Drive.{ClosesOne, DriveState, IsClosing}
+use Rattle.drive_port.specs.Step.{Completes, Outcome, is_append, is_success, one_if, outcome}
+use Rattle.zone_drive.specs.declared.reply.Reply.{Reply}
+use Rattle.zone_drive.specs.Choice.{Gives, chosen, close_lowest, closed, wants_open_place}
+use Rattle.zone_drive.specs.Counts.{counted}
+
+-- ---- the choice is a closing
+
+same_zones : (zones : List Zone) → IsClosing zones zones
+same_zones [] = tt
+same_zones (zone ∷ zones) = (record { blocks = refl; state = inl refl }, same_zones zones)
+
+closes-one : (zone : Zone) → is_state ImplicitlyOpened zone.state ≡ true → ClosesOne zone (closed zone)
+closes-one zone opened = record { blocks = refl; state = inr (implicit zone.state opened, refl) }
+  where
+    implicit : (state : ZoneState) → is_state ImplicitlyOpened state ≡ true → state ≡ ImplicitlyOpened
+    implicit ImplicitlyOpened e = refl
+    implicit Empty e = absurd (cc e)
+    implicit ExplicitlyOpened e = absurd (cc e)
+    implicit Closed e = absurd (cc e)
+    implicit ReadOnly e = absurd (cc e)
+    implicit Full e = absurd (cc e)
+    implicit Offline e = absurd (cc e)
+
+closes-lowest : (zones : List Zone) → IsClosing zones (close_lowest zones)
+closes-lowest [] = tt
+closes-lowest (zone ∷ zones) = either (is_state ImplicitlyOpened zone.state) refl (closes-lowest zones)
+  where
+    either : (implicit : Bool) → is_state ImplicitlyOpened zone.state ≡ implicit → IsClosing zones (close_lowest zones) → IsClosing (zone ∷ zones) (cond implicit (closed zone ∷ zones) (zone ∷ close_lowest zones))
+    either true e rest = (closes-one zone e, same_zones zones)
+    either false e rest = (record { blocks = refl; state = inl refl }, rest)
+
+closes-chosen : (wants : Bool) (zones : List Zone) → IsClosing zones (cond wants (close_lowest zones) zones)
+closes-chosen true zones = closes-lowest zones
+closes-chosen false zones = same_zones zones
+
+-- ---- the step
+
+pub completes : (old middle new : DriveState) (entry bytes returned completion : List ℕ) (reply : Reply) → Gives old (decode_of entry) bytes reply returned middle
+    → new ≡ counted middle (decode_of entry) reply.status → completion ≡ completion_bytes (record { result = reply.value; id = id_of entry; status = reply.status })
+    → reply.value < 2 ^ 64 → Completes old entry bytes completion returned new
+completes old middle new entry bytes returned completion reply gives counts spelled fits =
+    let command = decode_of entry in
+    let others = gives.others in
+    record {
+      status = reply.status;
+      value = reply.value;
+      fits = fits;
+      spelled = spelled;
+      performs = record {
+        middle = chosen old.geometry old.zones command bytes;
+        before = closes-chosen (wants_open_place (outcome old.geometry old.zones command bytes).status) old.zones;
+        status_is = sym (ap (λ (o : Outcome). o.status) gives.outcome);
+        value_is = sym (ap (λ (o : Outcome). o.value) gives.outcome);
+        returned_is = sym (ap (λ (o : Outcome). o.returned) gives.outcome);
+        after = rw (gives.outcome, counts) (same_zones middle.zones);
+        geometry = ap (λ (d : DriveState). d.geometry) counts ∙ ap (λ (d : DriveState). d.geometry) others;
+        completed = ap (λ (d : DriveState). d.completed) counts ∙ ap (λ (d : DriveState). d.completed + 1) others;
+        refused = ap (λ (d : DriveState). d.refused) counts ∙ ap (λ (d : DriveState). d.refused + one_if (not (is_success reply.status))) others;
+        appended = ap (λ (d : DriveState). d.appended) counts ∙ ap (λ (d : DriveState). d.appended + one_if (is_append command && is_success reply.status)) others;
+      };
+    }

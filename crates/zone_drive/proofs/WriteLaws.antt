@@ -1,0 +1,176 @@
+-- What a Write or an Append keeps and leaves of what is stored.
+use Rattle.std.proofs.Common.{◌≡◌, ◌≢◌, ℕ, zero, suc, ◌+◌, ◌*◌, ◌/◌, ◌^◌, ◌<◌, ◌≤◌, Bool, true, false, cond, not, eqb, List, [], ◌∷◌, ◌++◌, length, drop, set, get_or, None, refl, ap, ◌∙◌, arith}
+use Rattle.std.specs.List.{AllByRecursion}
+use Rattle.std.proofs.Math.Nat.{div-lt_iff_lt-mul, mul-le-mul}
+use Rattle.std.proofs.lemmas.Bool.{eqb-false, eqb-true, ltb-false}
+use Rattle.std.proofs.lemmas.List.{get_or-map, length-append, length-drop, length-map, length-take-le, length-set, map-set}
+use Rattle.nvme_wire.specs.declared.zone_state.ZoneState.{ZoneState}
+use Rattle.nvme_wire.specs.declared.zone_state.ZoneState.TheVariants.{Empty, ImplicitlyOpened, ExplicitlyOpened, Closed, ReadOnly, Full, Offline}
+use Rattle.zone_states.specs.declared.geometry.Geometry.{Geometry}
+use Rattle.zone_states.specs.Checks.{first_failing}
+use Rattle.zone_states.specs.Transition.{is_active, is_open}
+use Rattle.zone_states.specs.Zone.{Zone, IsLawfulZone, MayHold, cut_blocks, opened_by_write, written_zone}
+use Rattle.zone_states.specs.Writing.{append_bytes_checks}
+use Rattle.zone_states.specs.Stored.{StoredZone, IsWhole, zone_of}
+use Rattle.drive_port.specs.Step.{end_of, nowhere, one_if, zone_at}
+use Rattle.zone_drive.specs.Stored.{IsCounted, Replaces, zones_of}
+use Rattle.zone_states.proofs.Cutting.{length-cut}
+use Rattle.zone_drive.proofs.CountLaws.{active-set, open-set}
+
+-- ---- lists
+
+all-set : {X : Type 0} (P : X → Type 0) (xs : List X) (i : ℕ) (y : X) → AllByRecursion P xs → P y → AllByRecursion P (set xs i y)
+all-set P [] i y all p = tt
+all-set P (x ∷ xs) zero y all p = (p, all.1)
+all-set P (x ∷ xs) (suc i) y all p = (all.0, all-set P xs i y all.1 p)
+
+pub all-at : {X : Type 0} (P : X → Type 0) (xs : List X) (i : ℕ) (d : X) → AllByRecursion P xs → i < length xs → P (get_or xs i d)
+all-at P [] i d all lt = absurd (omega arith)
+all-at P (x ∷ xs) zero d all lt = all.0
+all-at P (x ∷ xs) (suc i) d all lt = all-at P xs i d all.1 (omega arith)
+
+-- a stored zone in blocks
+pub zone_at-stored : (block : ℕ) (zones : List StoredZone) (index : ℕ) (d : StoredZone) → index < length zones → zone_at (zones_of block zones) index ≡ zone_of block (get_or zones index d)
+zone_at-stored block zones index d lt = get_or-map (zone_of block) zones index d nowhere lt
+
+pub lawful-at : (geometry : Geometry) (zones : List StoredZone) (active open_zones index : ℕ) → IsCounted geometry zones active open_zones → index < length zones
+    → IsLawfulZone geometry (zone_at (zones_of geometry.block zones) index)
+lawful-at geometry zones active open_zones index counted lt =
+    all-at (IsLawfulZone geometry) (zones_of geometry.block zones) index nowhere counted.lawful (omega (arith, lt, length-map zones (zone_of geometry.block)))
+
+-- ---- one zone changed
+
+pub counted-set : (geometry : Geometry) (zones : List StoredZone) (active open_zones : ℕ) (index : ℕ) (new : StoredZone) (active' open' : ℕ)
+    → IsCounted geometry zones active open_zones → index < length zones
+    → IsLawfulZone geometry (zone_of geometry.block new) → IsWhole geometry.block new.bytes
+    → active' + one_if (is_active (zone_at (zones_of geometry.block zones) index).state) ≡ active + one_if (is_active new.state)
+    → open' + one_if (is_open (zone_at (zones_of geometry.block zones) index).state) ≡ open_zones + one_if (is_open new.state)
+    → IsCounted geometry (set zones index new) active' open'
+counted-set geometry zones active open_zones index new active' open' old lt lawful whole a o =
+    let b = geometry.block in
+    let same : zones_of b (set zones index new) ≡ set (zones_of b zones) index (zone_of b new) = map-set (zone_of b) zones index new in
+    let below : index < length (zones_of b zones) = omega (arith, lt, length-map zones (zone_of b)) in
+    record {
+      in_range = old.in_range;
+      count = length-set zones index new ∙ old.count;
+      lawful = rw same (all-set (IsLawfulZone geometry) (zones_of b zones) index (zone_of b new) old.lawful lawful);
+      whole = all-set (λ (zone : StoredZone). IsWhole b zone.bytes) zones index new old.whole whole;
+      active_is = rw same (omega (arith, a, old.active_is, active-set (zones_of b zones) index (zone_of b new) below));
+      open_is = rw same (omega (arith, o, old.open_is, open-set (zones_of b zones) index (zone_of b new) below));
+    }
+
+pub replaces : (geometry : Geometry) (zones : List StoredZone) (active open_zones : ℕ) (index : ℕ) (d new : StoredZone) (zone : Zone) (active' open' : ℕ)
+    → IsCounted geometry zones active open_zones → index < length zones
+    → zone_of geometry.block new ≡ zone → IsLawfulZone geometry zone → IsWhole geometry.block new.bytes
+    → active' + one_if (is_active (get_or zones index d).state) ≡ active + one_if (is_active new.state)
+    → open' + one_if (is_open (get_or zones index d).state) ≡ open_zones + one_if (is_open new.state)
+    → Replaces geometry zones index zone (set zones index new) active' open'
+replaces geometry zones active open_zones index d new zone active' open' counted lt is lawful whole a o =
+    let b = geometry.block in
+    let state : (zone_at (zones_of b zones) index).state ≡ (get_or zones index d).state = ap (λ (z : Zone). z.state) (zone_at-stored b zones index d lt) in
+    record {
+      counted = counted-set geometry zones active open_zones index new active' open' counted lt (rw is lawful) whole (rw state a) (rw state o);
+      zones = map-set (zone_of b) zones index new ∙ rw is refl;
+    }
+
+-- a zone takes no place that is not counted
+pub active-counted : (geometry : Geometry) (zones : List StoredZone) (active open_zones : ℕ) (index : ℕ) (d : StoredZone)
+    → IsCounted geometry zones active open_zones → index < length zones → one_if (is_active (get_or zones index d).state) ≤ active
+active-counted geometry zones active open_zones index d counted lt =
+    let b = geometry.block in
+    let state = ap (λ (z : Zone). one_if (is_active z.state)) (zone_at-stored b zones index d lt) in
+    let below : index < length (zones_of b zones) = omega (arith, lt, length-map zones (zone_of b)) in
+    omega (arith, counted.active_is, active-set (zones_of b zones) index nowhere below, state)
+
+pub open-counted : (geometry : Geometry) (zones : List StoredZone) (active open_zones : ℕ) (index : ℕ) (d : StoredZone)
+    → IsCounted geometry zones active open_zones → index < length zones → one_if (is_open (get_or zones index d).state) ≤ open_zones
+open-counted geometry zones active open_zones index d counted lt =
+    let b = geometry.block in
+    let state = ap (λ (z : Zone). one_if (is_open z.state)) (zone_at-stored b zones index d lt) in
+    let below : index < length (zones_of b zones) = omega (arith, lt, length-map zones (zone_of b)) in
+    omega (arith, counted.open_is, open-set (zones_of b zones) index nowhere below, state)
+
+-- ---- checks
+
+-- none of the checks fails
+abbrev pub AllPass : {F : Type 0} → List (Bool × F) → Type 0
+AllPass [] = Unit {0}
+AllPass (check ∷ checks) = (check.0 ≡ false) × AllPass checks
+
+pub all-passed : {F : Type 0} (checks : List (Bool × F)) → None ≡ first_failing checks → AllPass checks
+all-passed [] e = tt
+all-passed ((true, f) ∷ checks) e = absurd (cc e)
+all-passed ((false, f) ∷ checks) e = (refl, all-passed checks e)
+
+-- ---- lawful zones
+
+all-append : {X : Type 0} (P : X → Type 0) (xs ys : List X) → AllByRecursion P xs → AllByRecursion P ys → AllByRecursion P (xs ++ ys)
+all-append P [] ys all p = p
+all-append P (x ∷ xs) ys all p = (all.0, all-append P xs ys all.1 p)
+
+pub cut-whole : (size n : ℕ) (bytes : List ℕ) → length bytes ≡ n * size → AllByRecursion (λ (block : List ℕ). length block ≡ size) (cut_blocks size n bytes)
+cut-whole size zero bytes e = tt
+cut-whole size (suc n) bytes e =
+    let long : size ≤ length bytes = omega arith in
+    (length-take-le size bytes long, cut-whole size n (drop size bytes) (omega (arith, length-drop size bytes)))
+
+may_hold-written : (reached : Bool) (state : ZoneState) (capacity n : ℕ) → n ≤ capacity → (reached ≡ false → n ≢ capacity) → MayHold (cond reached Full (opened_by_write state)) capacity n
+may_hold-written true state capacity n le ne = le
+may_hold-written false Empty capacity n le ne = let apart = ne refl in omega arith
+may_hold-written false ImplicitlyOpened capacity n le ne = let apart = ne refl in omega arith
+may_hold-written false ExplicitlyOpened capacity n le ne = let apart = ne refl in omega arith
+may_hold-written false Closed capacity n le ne = let apart = ne refl in omega arith
+may_hold-written false ReadOnly capacity n le ne = le
+may_hold-written false Full capacity n le ne = le
+may_hold-written false Offline capacity n le ne = le
+
+pub lawful-written : (geometry : Geometry) (zone : Zone) (bytes : List ℕ) → IsLawfulZone geometry zone → IsWhole geometry.block bytes
+    → None ≡ first_failing (append_bytes_checks geometry zone bytes)
+    → IsLawfulZone geometry (written_zone geometry.capacity zone (cut_blocks geometry.block (length bytes / geometry.block) bytes))
+lawful-written geometry zone bytes lawful whole checks =
+    let n = length bytes / geometry.block in
+    let all = zone.blocks ++ cut_blocks geometry.block n bytes in
+    let count : length all ≡ length zone.blocks + n = length-append zone.blocks (cut_blocks geometry.block n bytes) ∙ omega (arith, length-cut geometry.block n bytes) in
+    let passed = all-passed (append_bytes_checks geometry zone bytes) checks in
+    let room : length zone.blocks + n ≤ geometry.capacity = ltb-false _ _ passed.1.1.1.1.1.0 in
+    record {
+      written = may_hold-written (eqb (length all) geometry.capacity) zone.state geometry.capacity (length all) (omega arith) (eqb-false _ _);
+      whole = all-append _ zone.blocks (cut_blocks geometry.block n bytes) lawful.whole (cut-whole geometry.block n bytes whole);
+    }
+
+not-false : (b : Bool) → not b ≡ false → b ≡ true
+not-false true e = refl
+not-false false e = absurd (cc e)
+
+-- data that passes its checks is whole blocks
+pub whole-checked : (geometry : Geometry) (zone : Zone) (bytes : List ℕ) → None ≡ first_failing (append_bytes_checks geometry zone bytes) → IsWhole geometry.block bytes
+whole-checked geometry zone bytes checks =
+    let passed = all-passed (append_bytes_checks geometry zone bytes) checks in
+    eqb-true _ _ (not-false _ passed.1.0)
+
+-- ---- how much is written
+
+pub may_hold-le : (state : ZoneState) (capacity n : ℕ) → MayHold state capacity n → n ≤ capacity
+may_hold-le Empty capacity n h = omega arith
+may_hold-le ImplicitlyOpened capacity n h = omega arith
+may_hold-le ExplicitlyOpened capacity n h = omega arith
+may_hold-le Closed capacity n h = omega arith
+may_hold-le ReadOnly capacity n h = h
+may_hold-le Full capacity n h = h
+may_hold-le Offline capacity n h = h
+
+pub zone-in_range : (geometry : Geometry) (zones : List StoredZone) (active open_zones address : ℕ) → IsCounted geometry zones active open_zones → address < end_of geometry
+    → address / geometry.size < length zones
+zone-in_range geometry zones active open_zones address counted lt =
+    let some : 0 < geometry.size = omega (arith, counted.in_range.size.0) in
+    let below : address / geometry.size < geometry.zones = (div-lt_iff_lt-mul some).1 lt in
+    omega (arith, below, counted.count)
+
+pub written-most : (geometry : Geometry) (zones : List StoredZone) (active open_zones address : ℕ) → IsCounted geometry zones active open_zones → address < end_of geometry
+    → address + length (zone_at (zones_of geometry.block zones) (address / geometry.size)).blocks ≤ 2 ^ 37
+written-most geometry zones active open_zones address counted lt =
+    let index = address / geometry.size in
+    let lawful = lawful-at geometry zones active open_zones index counted (zone-in_range geometry zones active open_zones address counted lt) in
+    let few = may_hold-le (zone_at (zones_of geometry.block zones) index).state geometry.capacity _ lawful.written in
+    let small : end_of geometry ≤ 65536 * 2 ^ 20 = mul-le-mul counted.in_range.zones.1 counted.in_range.size.1 in
+    omega (arith, few, small, lt, counted.in_range.capacity.1, counted.in_range.size.1)

@@ -1,0 +1,20 @@
+use Rattle.zone_states.specs.Stored.{IsWhole, StoredZone}
+use Rattle.drive_port.specs.Step.{zone_at}
+use Rattle.zone_drive.specs.Stored.{zones_of}
+use Rattle.zone_drive.proofs.WriteLaws.{all-at, lawful-at, lawful-written, replaces, whole-checked, zone_at-stored}
+use Rattle.zone_drive.proofs.changes.write_zone.Goals as goal
+
+pub returns-clause-ok : goal.returns-clause-ok
+returns-clause-ok c =
+    let geometry = c.args.geometry.now in
+    let zones = c.args.zones.now in
+    let index = c.args.index in
+    let d = c.index-zones-index.result in
+    let whole = all-at (λ (zone : StoredZone). IsWhole geometry.block zone.bytes) zones index d c.requires.counted.whole c.requires.in_range in
+    let behind = c.in-Ok.ensures.in_blocks whole in
+    let was = zone_at-stored geometry.block zones index d c.requires.in_range in
+    let zone = zone_at (zones_of geometry.block zones) index in
+    let lawful = lawful-written geometry zone c.args.bytes.now (lawful-at geometry zones _ _ index c.requires.counted c.requires.in_range)
+    (whole-checked geometry zone c.args.bytes.now c.requires.checks) c.requires.checks in
+    replaces geometry zones _ _ index d c.append.new.self _ _ _ c.requires.counted c.requires.in_range (rw was behind.zone) lawful behind.whole
+    (rw (c.state-before.ensures, c.state.ensures) at c.moved.ensures.active) (rw (c.state-before.ensures, c.state.ensures) at c.moved.ensures.open_zones)

@@ -1,0 +1,7 @@
+pub mod Stored
+pub mod Choice
+pub mod Faults
+pub mod Writing
+pub mod Sending
+pub mod Counts
+pub mod Spelled

@@ -1,0 +1,61 @@
+-- How a drive is stored, and what a fresh one holds.
+use Rattle.std.specs.Prelude.{◌≡◌, ℕ, ◌/◌, ◌%◌, ◌≤◌, ◌==◌, nat_lt, nat_le, ◌&&◌, Bool, false, List, [], map, length, replicate, slice_set}
+use Rattle.std.specs.List.{AllByRecursion}
+use Rattle.nvme_wire.specs.declared.zone_state.ZoneState.{ZoneState}
+use Rattle.nvme_wire.specs.declared.zone_state.ZoneState.TheVariants.{Empty, ImplicitlyOpened, ExplicitlyOpened, Closed}
+use Rattle.zone_states.specs.declared.geometry.Geometry.{Geometry}
+use Rattle.zone_states.specs.Geometry.{IsInRange}
+use Rattle.zone_states.specs.Zone.{Zone, IsLawfulZone}
+use Rattle.zone_states.specs.Stored.{StoredZone, IsWhole, zone_of}
+use Rattle.drive_port.specs.Drive.{DriveState, active_count, open_count}
+
+-- the zones that are stored, in blocks of a size
+abbrev pub zones_of : ℕ → List StoredZone → List Zone
+zones_of block zones = map (zone_of block) zones
+
+-- Each zone holds whole blocks, as many as its state allows, and so many zones are active and open as is counted.
+pub record IsCounted (geometry : Geometry) (zones : List StoredZone) (active open_zones : ℕ) : Type 0 where
+  pub in_range : IsInRange geometry
+  pub count : length zones ≡ geometry.zones
+  pub lawful : AllByRecursion (IsLawfulZone geometry) (zones_of geometry.block zones)
+  pub whole : AllByRecursion (λ zone. IsWhole geometry.block zone.bytes) zones
+  pub active_is : active ≡ active_count (zones_of geometry.block zones)
+  pub open_is : open_zones ≡ open_count (zones_of geometry.block zones)
+
+-- one zone has become another, and all are counted
+pub record Replaces (geometry : Geometry) (old : List StoredZone) (index : ℕ) (zone : Zone) (new : List StoredZone) (active open_zones : ℕ) : Type 0 where
+  pub counted : IsCounted geometry new active open_zones
+  pub zones : zones_of geometry.block new ≡ slice_set (zones_of geometry.block old) index zone
+
+-- no more than may be
+pub record IsStored (geometry : Geometry) (zones : List StoredZone) (active open_zones : ℕ) : Type 0 where
+  pub counted : IsCounted geometry zones active open_zones
+  pub active_most : active ≤ geometry.active
+  pub open_most : open_zones ≤ geometry.open
+
+-- a drive of these zones, which has completed no command
+abbrev pub unused : Geometry → List Zone → DriveState
+unused geometry zones = record { geometry = geometry; zones = zones; completed = 0; refused = 0; appended = 0; stopped = false }
+
+-- a drive in which nothing was ever written
+abbrev pub fresh : Geometry → DriveState
+fresh geometry = unused geometry (replicate geometry.zones (record { state = Empty; blocks = [] }))
+
+-- Zones that a drive of this geometry can have: as many as it has, each with whole blocks, as many as its state allows, and no more of them active and open than may be.
+pub record AreZones (geometry : Geometry) (zones : List StoredZone) : Type 0 where
+  pub count : length zones ≡ geometry.zones
+  pub whole : AllByRecursion (λ zone. IsWhole geometry.block zone.bytes) zones
+  pub lawful : AllByRecursion (IsLawfulZone geometry) (zones_of geometry.block zones)
+  pub active : active_count (zones_of geometry.block zones) ≤ geometry.active
+  pub open_zones : open_count (zones_of geometry.block zones) ≤ geometry.open
+
+-- the same of one zone, as a test
+abbrev pub may_hold : ZoneState → ℕ → ℕ → Bool
+may_hold Empty capacity written = written == 0
+may_hold ImplicitlyOpened capacity written = nat_lt written capacity
+may_hold ExplicitlyOpened capacity written = nat_lt written capacity
+may_hold Closed capacity written = nat_lt written capacity
+may_hold state capacity written = nat_le written capacity
+
+abbrev pub is_lawful : Geometry → StoredZone → Bool
+is_lawful geometry zone = length zone.bytes % geometry.block == 0 && may_hold zone.state geometry.capacity (length zone.bytes / geometry.block)

@@ -1,0 +1,135 @@
+ghost use Rattle.std.specs.Prelude.{◌≡◌, ◌<◌, ◌^◌, [], IfOk, IfErr, OnErr, Ok, nat_le};
+ghost use Rattle.drive_port.specs.Drive.{IsLawful};
+ghost use Rattle.drive_port.specs.Step.{SubmitGives, decode_status};
+ghost use Rattle.zone_drive.specs.Choice.{AnswersByChoice, Gives};
+ghost use Rattle.zone_drive.specs.Counts.{counted};
+ghost use Rattle.zone_drive.specs.Spelled.{IsSpelled};
+
+use crate::drive::Drive;
+use crate::reply::Reply;
+use drive_port::{Device, Geometry, Halt};
+use nvme_wire::{Command, Completion, DecodeFault, Status, entry_id};
+
+fn fault_status(fault: DecodeFault) -> Status
+    ensures { result ≡ decode_status fault }
+{
+    match fault {
+        DecodeFault::Opcode => Status::InvalidCommandOpcode,
+        DecodeFault::Namespace => Status::InvalidNamespace,
+        DecodeFault::Field => Status::InvalidField,
+    }
+}
+
+impl Drive {
+    // Does a command.
+    fn execute(&mut self, command: Command, bytes: &[u8], into: &mut Vec<u8>) -> Result<Reply, Halt>
+        requires nothing { into.old.items ≡ [] }
+        requires spelled { IsSpelled command }
+        ensures ok { IfOk result (λ reply.
+            Gives self.old (Ok command) bytes.now reply into.new.items self.new) }
+        ensures err { IfErr result (λ halt. halt ≡ Halt.Memory) }
+        ensures kept { OnErr result (self.new ≡ self.old) }
+        ensures returned { OnErr result (into.new.items ≡ []) }
+    {
+        match command {
+            Command::Flush => Ok(Reply::done(0)),
+            Command::Read { slba, blocks } => self.read(slba, blocks, into),
+            Command::Write { slba, blocks } => self.write(slba, blocks, bytes),
+            Command::Append { zslba, blocks } => self.append(zslba, blocks, bytes),
+            Command::Send { slba, action, all } => Ok(self.send(slba, action, all)),
+            Command::Receive {
+                slba,
+                dwords,
+                choice,
+                partial,
+            } => self.receive(slba, dwords, choice, partial, into),
+        }
+    }
+
+    // Does the command of an entry, or refuses an entry that spells none.
+    fn perform(
+        &mut self,
+        command: Result<Command, DecodeFault>,
+        bytes: &[u8],
+        into: &mut Vec<u8>,
+    ) -> Result<Reply, Halt>
+        requires nothing { into.old.items ≡ [] }
+        requires spelled { IfOk command IsSpelled }
+        ensures ok { IfOk result (λ reply.
+            Gives self.old command bytes.now reply into.new.items self.new) }
+        ensures err { IfErr result (λ halt. halt ≡ Halt.Memory) }
+        ensures kept { OnErr result (self.new ≡ self.old) }
+        ensures returned { OnErr result (into.new.items ≡ []) }
+    {
+        match command {
+            Ok(command) => self.execute(command, bytes, into),
+            Err(fault) => Ok(Reply::refused(fault_status(fault))),
+        }
+    }
+
+    // Counts a command that was completed.
+    fn count(&mut self, command: Result<Command, DecodeFault>, status: Status)
+        requires { self.old.completed < 2 ^ 63 }
+        ensures counted { self.new ≡ counted self.old command status }
+        ensures lawful { IsLawful self.new }
+    {
+        self.completed += 1;
+        if status != Status::Success {
+            self.refused += 1;
+            return;
+        }
+        if let Ok(Command::Append { .. }) = command {
+            self.appended += 1;
+        }
+    }
+}
+
+impl Device for Drive {
+    ghost drive = { λ d. d };
+
+    fn geometry(&self) -> Geometry {
+        self.geometry
+    }
+
+    fn completed(&self) -> u64 {
+        self.completed
+    }
+
+    fn stopped(&self) -> bool
+        ensures value { result ≡ self.now.stopped }
+        ensures lawful { IsLawful self.now }
+        ensures by_count { self.now.stopped ≡ nat_le (2 ^ 63) self.now.completed }
+    {
+        self.completed >= 1 << 63
+    }
+
+    fn submit(
+        &mut self,
+        entry: &[u8; 64],
+        bytes: &[u8],
+        into: &mut Vec<u8>,
+    ) -> Result<[u8; 16], Halt>
+        ensures gives { SubmitGives self.old entry.now bytes.now result into.new.items self.new }
+        ensures was_lawful { IsLawful self.old }
+        ensures lawful { IsLawful self.new }
+
+        // It closes nothing but for want of an open place, and stops only by its count.
+        ensures choice { IfOk result (λ completion.
+            AnswersByChoice self.old entry.now bytes.now completion into.new.items self.new) }
+        ensures stops { self.new.stopped ≡ nat_le (2 ^ 63) self.new.completed }
+    {
+        into.clear();
+        if self.stopped() {
+            return Err(Halt::Stopped);
+        }
+        let command = Command::decode(entry);
+        let reply = self.perform(command, bytes, into)?;
+        self.count(command, reply.status);
+        let completion = Completion {
+            result: reply.value,
+            id: entry_id(entry),
+            status: reply.status,
+        };
+        Ok(completion.encode())
+    }
+}

@@ -1,0 +1,190 @@
+ghost use Rattle.std.specs.Prelude.{◌≡◌, ◌<◌, ◌≤◌, ◌↔◌, [], length, replicate, IfErr, IfOk, IfSome, IsSome, OnOk};
+ghost use Rattle.std.specs.List.{AllByRecursion, list_all};
+ghost use Rattle.zone_states.specs.Geometry.{IsInRange};
+ghost use Rattle.zone_states.specs.Stored.{IsWhole, zone_of};
+ghost use Rattle.drive_port.specs.Run.{restarted};
+ghost use Rattle.drive_port.specs.Step.{zone_at};
+ghost use Rattle.zone_drive.specs.Faults.{IsFault, IsFreshFault};
+ghost use Rattle.zone_drive.specs.Stored.{AreZones, fresh, is_lawful, unused, zones_of};
+
+use crate::changes::counted;
+use crate::places::Places;
+use std::alloc::{AllocError, Global};
+use std::marker::Model;
+use zone_states::{Action, Geometry, GeometryFault, Zone, ZoneState};
+
+/// Why there is no drive.
+#[derive(Clone, Copy, Debug, PartialEq, Eq)]
+pub enum DriveFault {
+    /// The first part of the geometry that is out of range.
+    Geometry(GeometryFault),
+    /// A growth was refused.
+    OutOfMemory,
+    /// The zones are none that a drive of this geometry can have.
+    Zones,
+}
+
+/// A zoned drive in memory. It closes a zone by itself only where a command needs an open place and
+/// the limit on open zones is met: then it is the lowest implicitly opened zone, if there is one.
+#[derive(Drop)]
+pub struct Drive {
+    pub(crate) geometry: Geometry,
+    pub(crate) zones: Vec<Zone>,
+    // How many zones are active and open.
+    pub(crate) places: Places,
+    pub(crate) completed: u64,
+    // Of the completed commands, those with a status other than Success, and the Appends among the rest.
+    pub(crate) refused: u64,
+    pub(crate) appended: u64,
+    pub(crate) alloc: Global,
+}
+
+impl Model for Drive {
+    ghost use Rattle.std.specs.Prelude.{nat_le, ◌^◌, ◌≤◌};
+    ghost use Rattle.drive_port.specs.Drive.{DriveState};
+
+    ghost Value = { DriveState };
+
+    ghost use Rattle.zone_drive.specs.Stored.{zones_of, IsStored};
+
+    ghost view = { λ d. record {
+      geometry = d.geometry;
+      zones = zones_of d.geometry.block d.zones.items;
+      completed = d.completed;
+      refused = d.refused;
+      appended = d.appended;
+      stopped = nat_le (2 ^ 63) d.completed;
+    } };
+
+    ghost invariant = { λ d. IsStored d.geometry d.zones.items d.places.active_zones d.places.open_zones
+        × (d.completed ≤ 2 ^ 63) × (d.refused ≤ d.completed) × (d.appended ≤ d.completed) };
+}
+
+// Whether a zone holds whole blocks, as many as its state allows.
+fn is_lawful(geometry: &Geometry, zone: &Zone) -> bool
+    requires { 1 ≤ geometry.now.block }
+    ensures { result ≡ is_lawful geometry.now zone.now }
+{
+    let block = geometry.block as usize;
+    if zone.written().len() % block != 0 {
+        return false;
+    }
+    let written = zone.written().len() / block;
+    let capacity = geometry.capacity as usize;
+    match zone.state() {
+        ZoneState::Empty => written == 0,
+        ZoneState::ImplicitlyOpened | ZoneState::ExplicitlyOpened | ZoneState::Closed => {
+            written < capacity
+        }
+        ZoneState::Full | ZoneState::ReadOnly | ZoneState::Offline => written <= capacity,
+    }
+}
+
+fn all_lawful(geometry: &Geometry, zones: &[Zone]) -> bool
+    requires { 1 ≤ geometry.now.block }
+    ensures { result ≡ list_all (is_lawful geometry.now) zones.now }
+{
+    zones.iter().all(|zone| is_lawful(geometry, zone))
+}
+
+fn empty_zones(alloc: Global, count: u32) -> Result<Vec<Zone>, AllocError>
+    ensures { IfOk result (λ zones.
+        zones.items ≡ replicate count (record { state = ZoneState.Empty; bytes = [] })) }
+{
+    let mut zones = Vec::new(alloc);
+    for _ in 0..count {
+        zones.push(Zone::new(alloc))?;
+    }
+    Ok(zones)
+}
+
+impl Drive {
+    /// A drive of this shape, all of whose zones are Empty.
+    pub fn new(alloc: Global, geometry: Geometry) -> Result<Drive, DriveFault>
+        ensures ok { IfOk result (λ drive. drive ≡ fresh geometry) }
+        ensures in_range { OnOk result (IsInRange geometry) }
+        ensures err { IfErr result (λ fault. IsFreshFault geometry fault) }
+    {
+        if let Err(fault) = geometry.check() {
+            return Err(DriveFault::Geometry(fault));
+        }
+        let Ok(zones) = empty_zones(alloc, geometry.zones) else {
+            return Err(DriveFault::OutOfMemory);
+        };
+        Ok(Drive {
+            geometry,
+            zones,
+            places: Places {
+                active_zones: 0,
+                open_zones: 0,
+            },
+            completed: 0,
+            refused: 0,
+            appended: 0,
+            alloc,
+        })
+    }
+
+    /// A drive of this shape with these zones, which has completed no command. This takes no memory.
+    pub fn from_zones(
+        alloc: Global,
+        geometry: Geometry,
+        zones: Vec<Zone>,
+    ) -> Result<Drive, DriveFault>
+        ensures ok { IfOk result (λ drive.
+            drive ≡ unused geometry (zones_of geometry.block zones.items)) }
+        ensures lawful { OnOk result (IsInRange geometry × AreZones geometry zones.items) }
+        ensures err { IfErr result (λ fault. IsFault geometry zones.items fault) }
+    {
+        if let Err(fault) = geometry.check() {
+            return Err(DriveFault::Geometry(fault));
+        }
+        if zones.len() != geometry.zones as usize {
+            return Err(DriveFault::Zones);
+        }
+        if !all_lawful(&geometry, &zones) {
+            return Err(DriveFault::Zones);
+        }
+        let places = counted(&zones);
+        if places.active_zones > geometry.active || places.open_zones > geometry.open {
+            return Err(DriveFault::Zones);
+        }
+        Ok(Drive {
+            geometry,
+            zones,
+            places,
+            completed: 0,
+            refused: 0,
+            appended: 0,
+            alloc,
+        })
+    }
+
+    /// The zone with a number.
+    pub fn zone(&self, index: usize) -> Option<&Zone>
+        ensures some { IfSome result (λ zone. zone_of self.now.geometry.block zone.now
+            ≡ zone_at self.now.zones index) }
+        ensures whole { IfSome result (λ zone. IsWhole self.now.geometry.block zone.now.bytes) }
+        ensures in_range { IsSome result ↔ (index < length self.now.zones) }
+    {
+        self.zones.get(index)
+    }
+
+    /// All zones, in ascending order.
+    pub fn zones(&self) -> &[Zone]
+        ensures zones { zones_of self.now.geometry.block result.now ≡ self.now.zones }
+        ensures whole { AllByRecursion (λ zone. IsWhole self.now.geometry.block zone.bytes) result.now }
+    {
+        &self.zones
+    }
+
+    /// Open zones become Closed, and the counts begin again. This takes no memory.
+    pub fn restart(&mut self)
+        ensures { self.new ≡ restarted self.old }
+    {
+        self.send_to_all(Action::Close);
+        self.completed = 0;
+        self.refused = 0;
+        self.appended = 0;
+    }
+}

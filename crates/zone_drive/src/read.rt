@@ -1,0 +1,91 @@
+ghost use Rattle.std.specs.Prelude.{◌≡◌, ℕ, ◌+◌, ◌-◌, ◌/◌, List, [], ◌++◌, length, take, drop, replicate, Ok, IfOk, OnOk, IfErr, OnErr};
+ghost use Rattle.zone_states.specs.Checks.{first_failing};
+ghost use Rattle.zone_states.specs.Stored.{IsWhole, zone_of};
+ghost use Rattle.drive_port.specs.Step.{read_checks, zone_at};
+ghost use Rattle.zone_drive.specs.Choice.{Gives};
+
+use crate::drive::Drive;
+use crate::reply::Reply;
+use drive_port::Halt;
+use nvme_wire::{Command, Status};
+use std::alloc::AllocError;
+use zone_states::ZoneState;
+
+impl Drive {
+    // The first check that a Read fails.
+    fn read_refusal(&self, slba: u64, blocks: u32) -> Option<Status>
+        ensures { result ≡ first_failing
+            (read_checks self.now.geometry
+            (zone_at self.now.zones (slba / self.now.geometry.size)) slba blocks) }
+    {
+        let size = u64::from(self.geometry.size);
+        let behind = slba.saturating_add(u64::from(blocks));
+        if blocks > self.geometry.transfer {
+            return Some(Status::InvalidField);
+        }
+        if behind > self.end() {
+            return Some(Status::LbaOutOfRange);
+        }
+        if slba / size != behind.saturating_sub(1) / size {
+            return Some(Status::ZoneBoundaryError);
+        }
+        if self.state_at(slba / size) == ZoneState::Offline {
+            return Some(Status::ZoneIsOffline);
+        }
+        None
+    }
+
+    // The bytes that are written in the zone with a number. There are none past the last zone.
+    fn written_at(&self, index: u64) -> &[u8]
+        ensures zone { (let zone = zone_at self.now.zones index in
+            zone_of self.now.geometry.block (record { state = zone.state; bytes = result.now }) ≡ zone) }
+        ensures whole { IsWhole self.now.geometry.block result.now }
+    {
+        match self.zones.get(index as usize) {
+            Some(zone) => zone.written(),
+            None => &[],
+        }
+    }
+
+    /// A Read: `into` gets the bytes of the blocks, zeros for those that are not written.
+    pub(crate) fn read(&self, slba: u64, blocks: u32, into: &mut Vec<u8>) -> Result<Reply, Halt>
+        requires { into.old.items ≡ [] }
+        ensures ok { (bytes : List ℕ) → IfOk result (λ reply.
+            Gives self.now (Ok (Command.Read slba blocks)) bytes reply into.new.items self.now) }
+        ensures err { IfErr result (λ halt. halt ≡ Halt.Memory) }
+        ensures nothing { OnErr result (into.new.items ≡ []) }
+    {
+        if let Some(status) = self.read_refusal(slba, blocks) {
+            return Ok(Reply::refused(status));
+        }
+        let size = self.size();
+        let written = self.written_at(slba / size);
+        let from = (slba % size) as usize * self.block();
+        let len = blocks as usize * self.block();
+        match copy(bytes_behind(written, from), len, into) {
+            Ok(()) => Ok(Reply::done(0)),
+            Err(_) => {
+                into.clear();
+                Err(Halt::Memory)
+            }
+        }
+    }
+}
+
+// The bytes behind so many of them; none where there are fewer.
+fn bytes_behind(bytes: &[u8], from: usize) -> &[u8]
+    ensures { result.now ≡ drop from bytes.now }
+{
+    &bytes[bytes.len().min(from)..]
+}
+
+// So many bytes from the front of those that are stored, and zeros where there are no more.
+fn copy(stored: &[u8], len: usize, into: &mut Vec<u8>) -> Result<(), AllocError>
+    requires { into.old.items ≡ [] }
+    ensures { OnOk result (into.new.items
+        ≡ take len stored.now ++ replicate (len - length stored.now) 0) }
+{
+    into.extend_from_slice(&stored[..stored.len().min(len)])?;
+    into.resize(len, 0)?;
+    Ok(())
+}

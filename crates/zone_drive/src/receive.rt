@@ -1,0 +1,51 @@
+ghost use Rattle.std.specs.Prelude.{◌≡◌, ◌≤◌, ℕ, List, [], Ok, IfOk, IfErr, OnErr};
+ghost use Rattle.zone_drive.specs.Choice.{Gives};
+
+use crate::drive::Drive;
+use crate::reply::Reply;
+use drive_port::Halt;
+use nvme_wire::{Choice, Command, Status};
+use zone_report::{ReportFault, ReportedZones, ZoneStatus, report_bytes};
+
+impl ReportedZones for Drive {
+    ghost zones = { λ d. d.zones };
+
+    fn status(&self, number: u32) -> ZoneStatus {
+        let zone = &self.zones[number as usize];
+        ZoneStatus {
+            state: zone.state(),
+            written: (zone.written().len() / self.geometry.block as usize) as u32,
+        }
+    }
+}
+
+impl Drive {
+    /// A Zone Management Receive: `into` gets the report of the zones from the one that holds `slba` on.
+    pub(crate) fn receive(
+        &self,
+        slba: u64,
+        dwords: u64,
+        choice: Choice,
+        partial: bool,
+        into: &mut Vec<u8>,
+    ) -> Result<Reply, Halt>
+        requires nothing { into.old.items ≡ [] }
+        requires room { 16 ≤ dwords }
+        ensures ok { (bytes : List ℕ) → IfOk result (λ reply.
+            Gives self.now (Ok (Command.Receive slba dwords choice partial)) bytes
+            reply into.new.items self.now) }
+        ensures err { IfErr result (λ halt. halt ≡ Halt.Memory) }
+        ensures returned { OnErr result (into.new.items ≡ []) }
+    {
+        let geometry = self.geometry;
+        match report_bytes(self.alloc, self, geometry, slba, choice, partial, dwords) {
+            Ok(bytes) => {
+                *into = bytes;
+                Ok(Reply::done(0))
+            }
+            Err(ReportFault::Range) => Ok(Reply::refused(Status::LbaOutOfRange)),
+            Err(ReportFault::OutOfMemory) => Err(Halt::Memory),
+            Err(ReportFault::Field) => unreachable!(),
+        }
+    }
+}

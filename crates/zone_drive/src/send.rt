@@ -1,0 +1,107 @@
+ghost use Rattle.std.specs.Prelude.{◌≡◌, ◌≢◌, ◌/◌, ◌<◌, ◌≤◌, false, map, List, ℕ, [], Some, None, Ok};
+ghost use Rattle.zone_states.specs.Checks.{first_failing};
+ghost use Rattle.drive_port.specs.Drive.{open_count};
+ghost use Rattle.drive_port.specs.Step.{end_of, sent_zone, zone_at};
+ghost use Rattle.zone_drive.specs.Choice.{Gives};
+ghost use Rattle.zone_drive.specs.Sending.{Opens, send_first, sent_to};
+
+use crate::changes::{apply_to_all, apply_to_zone, open_with_room};
+use crate::drive::Drive;
+use crate::reply::Reply;
+use nvme_wire::{Action, Command, Status};
+use zone_states::next_state;
+
+impl Drive {
+    // The first check that an action on one zone fails, its places left out.
+    fn send_refusal(&self, slba: u64, action: Action) -> Option<Status>
+        ensures { result ≡ first_failing (send_first self.now.geometry
+            (zone_at self.now.zones (slba / self.now.geometry.size)) slba action) }
+    {
+        let size = u64::from(self.geometry.size);
+        if slba % size != 0 {
+            return Some(Status::InvalidField);
+        }
+        if slba >= self.end() {
+            return Some(Status::LbaOutOfRange);
+        }
+        match next_state(self.state_at(slba / size), action) {
+            Ok(_) => None,
+            Err(_) => Some(Status::InvalidZoneStateTransition),
+        }
+    }
+
+    // Opens the zone that holds an address, which can be opened. A status says which of the places that
+    // it needs is not there.
+    fn open(&mut self, address: u64) -> Option<Status>
+        requires { address < end_of self.old.geometry }
+        ensures opens { Opens self.old (address / self.old.geometry.size) result self.new }
+        ensures limit { open_count self.old.zones ≤ self.old.geometry.open }
+    {
+        let index = address / self.size();
+        let closing = match self.place_for(index) {
+            Ok(closing) => closing,
+            Err(status) => return Some(status),
+        };
+        let geometry = self.geometry;
+        open_with_room(
+            &geometry,
+            &mut self.zones,
+            &mut self.places,
+            index as usize,
+            closing,
+        );
+        None
+    }
+
+    // Does an action that is no Open on the zone that holds an address.
+    fn apply(&mut self, address: u64, action: Action)
+        requires in_range { address < end_of self.old.geometry }
+        requires other { action ≢ Action.Open }
+        ensures { (let zones = sent_to self.old.zones (address / self.old.geometry.size) action in
+            self.new ≡ record self.old { zones = zones }) }
+    {
+        let geometry = self.geometry;
+        let index = (address / u64::from(geometry.size)) as usize;
+        let _ = apply_to_zone(&geometry, &mut self.zones, &mut self.places, index, action);
+    }
+
+    // A Zone Management Send to one zone.
+    fn send_to_one(&mut self, slba: u64, action: Action) -> Reply
+        ensures { (bytes : List ℕ) →
+            Gives self.old (Ok (Command.Send slba action false)) bytes result [] self.new }
+    {
+        if let Some(status) = self.send_refusal(slba, action) {
+            return Reply::refused(status);
+        }
+        match action {
+            Action::Open => match self.open(slba) {
+                Some(status) => Reply::refused(status),
+                None => Reply::done(0),
+            },
+            action => {
+                self.apply(slba, action);
+                Reply::done(0)
+            }
+        }
+    }
+
+    /// Does an action on all zones.
+    pub(crate) fn send_to_all(&mut self, action: Action)
+        ensures { self.new ≡ record self.old { zones = map (sent_zone action) self.old.zones } }
+    {
+        let geometry = self.geometry;
+        apply_to_all(&geometry, &mut self.zones, &mut self.places, action);
+    }
+
+    /// A Zone Management Send, to one zone or to all. To all it always succeeds.
+    pub(crate) fn send(&mut self, slba: u64, action: Action, all: bool) -> Reply
+        ensures { (bytes : List ℕ) →
+            Gives self.old (Ok (Command.Send slba action all)) bytes result [] self.new }
+    {
+        if all {
+            self.send_to_all(action);
+            return Reply::done(0);
+        }
+        self.send_to_one(slba, action)
+    }
+}

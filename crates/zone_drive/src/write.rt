@@ -1,0 +1,128 @@
+ghost use Rattle.std.specs.Prelude.{◌≡◌, ◌/◌, ◌<◌, ◌≤◌, [], Some, None, Ok, IfNone, IfOk, IfErr, OnErr, length};
+ghost use Rattle.zone_states.specs.Checks.{first_failing};
+ghost use Rattle.zone_states.specs.Writing.{append_bytes_checks, data_checks};
+ghost use Rattle.drive_port.specs.Drive.{open_count};
+ghost use Rattle.drive_port.specs.Step.{end_of, zone_at};
+ghost use Rattle.zone_drive.specs.Choice.{Gives};
+ghost use Rattle.zone_drive.specs.Writing.{WritesBehind, append_first, write_first};
+
+use crate::changes::write_with_room;
+use crate::drive::Drive;
+use crate::reply::Reply;
+use drive_port::Halt;
+use nvme_wire::{Command, Status};
+
+impl Drive {
+    // Whether the data is so many blocks, and no more than one transfer moves.
+    fn data_refusal(&self, blocks: u32, bytes: &[u8]) -> Option<Status>
+        ensures checks { result ≡ first_failing (data_checks self.now.geometry blocks bytes.now) }
+        ensures count { IfNone result (length bytes.now / self.now.geometry.block ≡ blocks) }
+    {
+        if blocks > self.geometry.transfer {
+            return Some(Status::InvalidField);
+        }
+        if bytes.len() as u64 != u64::from(blocks) * u64::from(self.geometry.block) {
+            return Some(Status::InvalidField);
+        }
+        None
+    }
+
+    // The first check that an Append fails, its places left out.
+    fn append_refusal(&self, zslba: u64, blocks: u32, bytes: &[u8]) -> Option<Status>
+        ensures checks { result ≡ first_failing (append_first self.now.geometry
+            (zone_at self.now.zones (zslba / self.now.geometry.size)) zslba blocks bytes.now) }
+        ensures count { IfNone result (length bytes.now / self.now.geometry.block ≡ blocks) }
+    {
+        if let Some(status) = self.data_refusal(blocks, bytes) {
+            return Some(status);
+        }
+        if zslba % self.size() != 0 {
+            return Some(Status::InvalidField);
+        }
+        if zslba >= self.end() {
+            return Some(Status::LbaOutOfRange);
+        }
+        let zone = self.zone_holding(zslba);
+        zone.append_refusal(&self.geometry, u64::from(blocks))
+    }
+
+    // The first check that a Write fails, its places left out.
+    fn write_refusal(&self, slba: u64, blocks: u32, bytes: &[u8]) -> Option<Status>
+        requires { 1 ≤ blocks }
+        ensures checks { result ≡ first_failing (write_first self.now.geometry
+            (zone_at self.now.zones (slba / self.now.geometry.size)) slba blocks bytes.now) }
+        ensures count { IfNone result (length bytes.now / self.now.geometry.block ≡ blocks) }
+    {
+        if let Some(status) = self.data_refusal(blocks, bytes) {
+            return Some(status);
+        }
+        if slba.saturating_add(u64::from(blocks)) > self.end() {
+            return Some(Status::LbaOutOfRange);
+        }
+        let zone = self.zone_holding(slba);
+        zone.write_refusal(&self.geometry, slba % self.size(), u64::from(blocks))
+    }
+
+    // Writes whole blocks behind those of the zone that holds an address, which takes them. A status says
+    // which of the places that it needs is not there.
+    fn write_behind(&mut self, address: u64, bytes: &[u8]) -> Result<Option<Status>, Halt>
+        requires in_range { address < end_of self.old.geometry }
+        requires checks { None ≡ first_failing (append_bytes_checks self.old.geometry
+            (zone_at self.old.zones (address / self.old.geometry.size)) bytes.now) }
+        ensures ok { IfOk result (λ refusal.
+            WritesBehind self.old (address / self.old.geometry.size) bytes.now refusal self.new) }
+        ensures limit { open_count self.old.zones ≤ self.old.geometry.open }
+        ensures err { IfErr result (λ halt. halt ≡ Halt.Memory) }
+        ensures kept { OnErr result (self.new ≡ self.old) }
+    {
+        let index = address / self.size();
+        let closing = match self.place_for(index) {
+            Ok(closing) => closing,
+            Err(status) => return Ok(Some(status)),
+        };
+        let geometry = self.geometry;
+        write_with_room(
+            &geometry,
+            &mut self.zones,
+            &mut self.places,
+            index as usize,
+            bytes,
+            closing,
+        )?;
+        Ok(None)
+    }
+
+    /// A Zone Append: it answers the address of its first block. This is one growth of the zone.
+    pub(crate) fn append(&mut self, zslba: u64, blocks: u32, bytes: &[u8]) -> Result<Reply, Halt>
+        ensures ok { IfOk result (λ reply.
+            Gives self.old (Ok (Command.Append zslba blocks)) bytes.now reply [] self.new) }
+        ensures err { IfErr result (λ halt. halt ≡ Halt.Memory) }
+        ensures kept { OnErr result (self.new ≡ self.old) }
+    {
+        if let Some(status) = self.append_refusal(zslba, blocks, bytes) {
+            return Ok(Reply::refused(status));
+        }
+        let pointer = zslba + self.written_in(zslba);
+        match self.write_behind(zslba, bytes)? {
+            Some(status) => Ok(Reply::refused(status)),
+            None => Ok(Reply::done(pointer)),
+        }
+    }
+
+    /// A Write. This is one growth of the zone.
+    pub(crate) fn write(&mut self, slba: u64, blocks: u32, bytes: &[u8]) -> Result<Reply, Halt>
+        requires { 1 ≤ blocks }
+        ensures ok { IfOk result (λ reply.
+            Gives self.old (Ok (Command.Write slba blocks)) bytes.now reply [] self.new) }
+        ensures err { IfErr result (λ halt. halt ≡ Halt.Memory) }
+        ensures kept { OnErr result (self.new ≡ self.old) }
+    {
+        if let Some(status) = self.write_refusal(slba, blocks, bytes) {
+            return Ok(Reply::refused(status));
+        }
+        match self.write_behind(slba, bytes)? {
+            Some(status) => Ok(Reply::refused(status)),
+            None => Ok(Reply::done(0)),
+        }
+    }
+}
