@@ -22,6 +22,6 @@ pub struct Header {
     pub sequence: u64,
     /// The zone that a Move empties, 0 for a Host batch.
     pub source: u32,
-    /// At most (block bytes - 32) / 8 entries, of distinct blocks.
+    /// At most `entry_room` entries, of distinct blocks.
     pub entries: Vec<Entry>,
 }

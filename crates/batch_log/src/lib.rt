@@ -12,4 +12,4 @@ mod spelling;
 mod tests;
 
 pub use header::{Entry, Header, Kind};
-pub use spelling::header_bytes;
+pub use spelling::{entry_room, header_bytes};

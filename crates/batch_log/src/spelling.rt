@@ -1,6 +1,6 @@
 ghost use Rattle.std.specs.Prelude.{◌≡◌, ◌⊎◌, ◌≤◌, ◌<◌, ◌*◌, ◌^◌, length};
 ghost use Rattle.std.specs.List.{flat_map, AllByRecursion};
-ghost use Rattle.batch_log.specs.Header.{IsHeading, heading_of, kind_code, entry_word, entry_bytes, head_bytes, head_size, header_block};
+ghost use Rattle.batch_log.specs.Header.{IsHeading, heading_of, kind_code, entry_room, entry_word, entry_bytes, head_bytes, head_size, header_block};
 
 use crate::header::{Entry, Header, Kind};
 use byteorder::{ByteOrder, LittleEndian};
@@ -13,6 +13,13 @@ pub(crate) const TRIM_BIT: u64 = 1 << 63;
 const MAGIC: [u8; 8] = *b"ZLOGBAT1";
 
 const VERSION: u16 = 1;
+
+/// How many entries a header block of so many bytes has room for.
+pub fn entry_room(block_bytes: u32) -> u32
+    ensures { result ≡ entry_room block_bytes }
+{
+    block_bytes.saturating_sub(HEAD_SIZE as u32) / 8
+}
 
 fn code(kind: Kind) -> u16
     ensures { result ≡ kind_code kind }

@@ -1,13 +1,13 @@
 -- Numbers and bytes that are written are read again.
-use Rattle.std.proofs.Common.{◌≡◌, ℕ, ◌+◌, ◌-◌, ◌*◌, ◌/◌, ◌%◌, ◌^◌, ◌<◌, ◌≤◌, true, false, List, [], ◌∷◌, ◌++◌, length, Some, None, inl, inr, zero-add, refl, ap, ◌∙◌, arith, append_assoc, if◌then◌else◌}
+use Rattle.std.proofs.Common.{◌≡◌, ℕ, ◌+◌, ◌-◌, ◌*◌, ◌/◌, ◌%◌, ◌^◌, ◌<◌, ◌≤◌, true, false, List, [], ◌∷◌, ◌++◌, length, Some, None, zero, suc, zero-add, refl, ap, ◌∙◌, arith, append_assoc, if◌then◌else◌}
 use Rattle.std.specs.Prelude.{codes, decimal, nat_le, nat_lt, slice_index, ◌&&◌}
 use Rattle.std.specs.Char.{is_ascii_digit}
 use Rattle.std.specs.List.{All}
-use Rattle.std.proofs.lemmas.Bool.Decides.{eqb_tells, nat_tests}
+use Rattle.std.proofs.lemmas.Bool.Decides.{nat_tests}
 use Rattle.std.proofs.lemmas.Fmt.{decimal_by_steps, decimal_nonempty, length-decimal-le}
 use Rattle.std.proofs.lemmas.List.Elements.{All-append, All-cons, All-nil}
 use Rattle.std.proofs.lemmas.List.Splits.{slice_split_at, slice_split_none}
-use Rattle.hex.specs.Hex.{encode_lower, encode_with, hex_digit_value, lower_digits}
+use Rattle.hex.specs.Hex.{IsBytes, encode_lower, encode_with, hex_digit_value, lower_digits}
 use Rattle.hex.proofs.HexLemmas.{IsDigits-lower_digits}
 use Rattle.disk_files.specs.Words.{byte_of, digits_behind, is_space, number_of, words_of, ◌>>=◌}
 
@@ -71,21 +71,32 @@ byte_of-encode_lower b small =
     let whole : b / 16 * 16 + b % 16 ≡ b = omega arith in
     rw (IsDigits-lower_digits (b / 16) (omega arith), IsDigits-lower_digits (b % 16) (omega arith), whole) refl
 
--- a space is no digit
-digit-no_space : (b d : ℕ) → hex_digit_value b ≡ Some d → is_space b ≡ false
-digit-no_space b d e = elim (eqb_tells b 32) [
-  | inl t ↦ let none : None ≡ Some d = rw t.1 at e in absurd cc
-  | inr t ↦ t.0
-]
+-- digits stand above the space and the line feed
+abbrev pub AboveSpaces : List ℕ → Type 0
+AboveSpaces word = All (λ b. 48 ≤ b) word
 
-pub NoSpace-encode_lower : (b : ℕ) → b < 2 ^ 8 → NoSpace (encode_lower (b ∷ []))
+digit-large : (b d : ℕ) → hex_digit_value b ≡ Some d → 48 ≤ b
+digit-large b d e = grind (arith)
+
+pub AboveSpaces-encode_lower : (bytes : List ℕ) → IsBytes bytes → AboveSpaces (encode_lower bytes)
 unfolding encode_with
-NoSpace-encode_lower b small =
-    let P : ℕ → Type 0 = λ c. is_space c ≡ false in
+AboveSpaces-encode_lower [] fits = All-nil (λ b. 48 ≤ b)
+AboveSpaces-encode_lower (b ∷ bytes) fits =
+    let P : ℕ → Type 0 = λ c. 48 ≤ c in
+    let small : b < 256 = fits 0 in
     let high = slice_index lower_digits (b / 16) in
     let low = slice_index lower_digits (b % 16) in
-    All-cons P high (low ∷ []) (digit-no_space high (b / 16) (IsDigits-lower_digits (b / 16) (omega arith)))
-    (All-cons P low [] (digit-no_space low (b % 16) (IsDigits-lower_digits (b % 16) (omega arith))) (All-nil P))
+    let rest = encode_lower bytes in
+    let behind = AboveSpaces-encode_lower bytes (λ i. fits (suc i)) in
+    All-cons P high (low ∷ rest) (digit-large high (b / 16) (IsDigits-lower_digits (b / 16) (omega arith)))
+    (All-cons P low rest (digit-large low (b % 16) (IsDigits-lower_digits (b % 16) (omega arith))) behind)
+
+pub NoSpace-encode_lower : (bytes : List ℕ) → IsBytes bytes → NoSpace (encode_lower bytes)
+NoSpace-encode_lower bytes fits = λ k d lt. let large = AboveSpaces-encode_lower bytes fits k d lt in grind (arith, nat_tests)
+
+pub IsBytes-one : (b : ℕ) → b < 2 ^ 8 → IsBytes (b ∷ [])
+IsBytes-one b small zero = small
+IsBytes-one b small (suc i) = omega arith
 
 -- ---- words
 

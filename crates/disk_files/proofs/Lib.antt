@@ -2,6 +2,8 @@ pub mod AheadLaws
 pub mod GrammarLaws
 pub mod LineLaws
 pub mod PlaceLaws
+pub mod RawLaws
+pub mod RawTextLaws
 pub mod ReadingLaws
 pub mod ReplyLaws
 pub mod WordLaws

@@ -1,6 +1,7 @@
 pub mod Ahead
 pub mod Line
 pub mod Output
+pub mod RawLine
 pub mod Reply
 pub mod TraceLine
 pub mod Words

@@ -44,3 +44,12 @@ byte_of (high ∷ low ∷ []) = do
 byte_of [] = None
 byte_of (high ∷ []) = None
 byte_of (high ∷ low ∷ more ∷ rest) = None
+
+-- bytes have two hexadecimal digits each, of either case
+abbrev pub bytes_of : List ℕ → Option (List ℕ)
+bytes_of [] = Some []
+bytes_of (high ∷ []) = None
+bytes_of (high ∷ low ∷ rest) = do
+  b ← byte_of (high ∷ low ∷ [])
+  bs ← bytes_of rest
+  Some (b ∷ bs)

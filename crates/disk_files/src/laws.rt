@@ -2,8 +2,9 @@
 
 ghost use Rattle.std.specs.Prelude.{◌≡◌, ℕ, ◌*◌, ◌<◌, ◌^◌, List, [], ◌∷◌, ◌++◌, Some, codes, decimal, length};
 ghost use Rattle.std.specs.List.{AllByRecursion, concat};
-ghost use Rattle.hex.specs.Hex.{encode_lower};
+ghost use Rattle.hex.specs.Hex.{IsBytes, encode_lower};
 ghost use Rattle.disk_files.specs.Line.{NoFeed, behind_line, feed, first_line};
+ghost use Rattle.disk_files.specs.RawLine.{raw_answer, raw_line, raw_reply_text, raw_text};
 ghost use Rattle.disk_files.specs.Reply.{blocks_in};
 ghost use Rattle.disk_files.specs.TraceLine.{trace_line};
 ghost use Rattle.disk_files.specs.declared.trace_line.TraceLine.TheVariants as lines;
@@ -23,6 +24,15 @@ pub fn trace_line_again()
         trace_line (codes "fill " ++ decimal first ++ codes " " ++ decimal blocks ++ codes " "
         ++ encode_lower (byte ∷ []))
         ≡ Some (lines.Fill first blocks byte) }
+{}
+
+/// A raw line with and without data is read again, and so is a reply to one.
+pub fn raw_line_again()
+    ensures line { (entry bytes : List ℕ) → IsBytes entry → length entry ≡ 64 → IsBytes bytes →
+        raw_line (raw_text entry bytes) ≡ Some (entry, bytes) }
+    ensures reply { (completion bytes : List ℕ) →
+        IsBytes completion → length completion ≡ 16 → IsBytes bytes →
+        raw_answer (first_line (raw_reply_text completion bytes)) ≡ Some (completion, bytes) }
 {}
 
 /// Blocks of one size that are joined are cut apart again.

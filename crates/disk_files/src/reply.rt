@@ -1,4 +1,6 @@
-ghost use Rattle.std.specs.Prelude.{◌≡◌, ◌+◌, ◌/◌, ◌%◌, ◌^◌, ◌≤◌, ◌++◌, OnErr, OnOk, length};
+ghost use Rattle.std.specs.Prelude.{◌≡◌, ◌+◌, ◌*◌, ◌/◌, ◌%◌, ◌^◌, ◌<◌, ◌≤◌, ◌++◌, OnErr, OnOk, length, vec_capacity, vec_len};
+ghost use Rattle.hex.specs.Hex.{encode_lower};
+ghost use Rattle.disk_files.specs.RawLine.{raw_reply_text};
 ghost use Rattle.disk_files.specs.Reply.{block_line, blocks_in, ok_text, out_of_range_text, read_text, same_byte};
 
 use crate::bytes::are_all;
@@ -71,4 +73,37 @@ pub fn read_reply(
         write_block(first + i as u64, block, out)?;
     }
     ok_reply(out)
+}
+
+/// Puts the digits of bytes, in lower case, behind what `out` holds, which has the room for them.
+fn put_digits(bytes: &[u8], out: &mut Vec<u8>)
+    requires { vec_len out.old + 2 * length bytes.now ≤ vec_capacity out.old }
+    ensures items { out.new.items ≡ out.old.items ++ encode_lower bytes.now }
+    ensures len { vec_len out.new ≡ vec_len out.old + 2 * length bytes.now }
+    ensures capacity { vec_capacity out.old ≤ vec_capacity out.new }
+{
+    let start = out.len();
+    out.resize(start + 2 * bytes.len(), 0).unwrap();
+    hex::encode_to_slice(bytes, &mut out[start..]).unwrap();
+}
+
+/// Puts the reply to a raw line behind what `out` holds: the completion and, where data came back, that
+/// data. Refused for memory, which is wanted only where `out` has too little room, `out` stays as it was.
+pub fn raw_reply(completion: &[u8; 16], bytes: &[u8], out: &mut Vec<u8>) -> Result<(), AllocError>
+    ensures ok { let text = raw_reply_text completion.now bytes.now in
+        OnOk result (out.new.items ≡ out.old.items ++ text) }
+    ensures err { OnErr result (out.new.items ≡ out.old.items) }
+    ensures full { OnErr result
+        (vec_capacity out.old < vec_len out.old + 34 + 2 * length bytes.now) }
+{
+    // The digits of the completion, a space, the digits of the data, and a line feed.
+    let room = bytes.len().saturating_mul(2).saturating_add(34);
+    out.reserve(room)?;
+    put_digits(completion, out);
+    if !bytes.is_empty() {
+        out.push(b' ').unwrap();
+        put_digits(bytes, out);
+    }
+    out.push(b'\n').unwrap();
+    Ok(())
 }

@@ -1,5 +1,5 @@
 -- A drive takes the commands of a disk whose tables agree with it.
-use Rattle.std.proofs.Common.{◌≡◌, ◌≢◌, ℕ, zero, suc, ◌+◌, ◌*◌, ◌/◌, ◌%◌, ◌<◌, ◌≤◌, Bool, true, false, cond, List, [], ◌∷◌, length, get_or, Some, refl, sym, ap, inl, inr, arith}
+use Rattle.std.proofs.Common.{◌≡◌, ◌≢◌, ℕ, zero, suc, ◌+◌, ◌*◌, ◌/◌, ◌%◌, ◌<◌, ◌≤◌, Bool, true, false, cond, List, [], ◌∷◌, length, get_or, Some, None, refl, sym, ap, inl, inr, arith}
 use Rattle.std.specs.List.{count_by, remove}
 use Rattle.std.proofs.Math.ListN.{get_or-map}
 use Rattle.std.proofs.lemmas.List.{length-map}
@@ -59,6 +59,12 @@ others-inactive : (capacity : ℕ) (zones : List Zone) (empties : List Bool) (ho
 others-inactive capacity zones empties host k agree lt ne =
     settled-closed (zone_at zones k).state
     (rw content-zone at (roles-settled capacity (contents zones) (roles_with empties (Some host)) k agree (omega (arith, length-map zones content_of)) (ne_eqb host.zone k (λ e. ne (sym e)))))
+
+-- without a host zone no zone is active
+pub none-active : (drive : DriveState) (places : MapView) (empties : List Bool) (next n : ℕ) → Agrees drive (tables_with places (roles_with empties None) next) n → active_count drive.zones ≡ 0
+none-active drive places empties next n agrees =
+    count-zero (λ (z : Zone). is_active z.state) drive.zones nowhere
+    (λ k lt. settled-closed (zone_at drive.zones k).state (rw content-zone at (roles-settled drive.geometry.capacity (contents drive.zones) (roles_with empties None) k agrees.roles (omega (arith, length-map drive.zones content_of)) refl)))
 
 -- where a zone starts
 pub zone-start : (zone size : ℕ) → 1 ≤ size → (zone * size / size ≡ zone) × (zone * size % size ≡ 0)

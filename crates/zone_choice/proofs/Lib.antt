@@ -8,6 +8,7 @@ pub mod ContentLaws
 pub mod AgreementLaws
 pub mod CommandLaws
 pub mod ReadLaws
+pub mod WholeLaws
 pub mod FreshLaws
 pub mod HeardLaws
 pub mod ImageLaws

@@ -133,7 +133,7 @@ usable-online states.ReadOnly h = refl
 usable-online states.Full h = refl
 usable-online states.Offline h = absurd (cc)
 
-all-among : (P : Record → Type 0) (rs : List Record) (r : Record) → AllByRecursion P rs → Contains rs r → P r
+pub all-among : (P : Record → Type 0) (rs : List Record) (r : Record) → AllByRecursion P rs → Contains rs r → P r
 all-among P rs r all c = subst P c.2 (all-at P rs c.0 r all c.1)
 
 -- ---- a block of the array

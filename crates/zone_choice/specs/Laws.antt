@@ -2,10 +2,13 @@
 use Rattle.std.specs.Prelude.{◌≡◌, ℕ, ◌<◌, ◌^◌, true, List, ◌++◌, length}
 use Rattle.std.specs.List.{AllByRecursion}
 use Rattle.zone_states.specs.declared.geometry.Geometry.{Geometry}
+use Rattle.drive_port.specs.Drive.{DriveState}
 use Rattle.drive_port.specs.Contents.{Content, Appends, Finishes, content_at, is_writable}
 use Rattle.batch_log.specs.Log.{Batch, IsBatch, batch_blocks}
 use Rattle.zone_choice.specs.Records.{Record, AllBelow, IsNewest, append_log, array_of, map_of, new_records, newest, over, place, records, shown}
 use Rattle.zone_choice.specs.ZoneLogs.{HasLog, spelled_array, zone_logs}
+use Rattle.zone_choice.specs.Mountable.{IsMountable}
+use Rattle.zone_choice.specs.Agreement.{spelled}
 
 -- `newest` finds a live record of the block, where there is a record of it
 abbrev pub NewestIsLive : Type 0
@@ -58,3 +61,10 @@ FinishLogs =
     (geometry : Geometry) (old new : List Content) (zone : ℕ)
     → geometry.block < 2 ^ 32 → HasLog geometry (content_at old zone) → is_writable (content_at old zone).usage ≡ true
     → Finishes old new zone → SameLogs geometry old new
+
+-- The array that a drive spells has its number of blocks. On a drive that can be mounted each is a whole block.
+abbrev pub SpelledCount : Type 0
+SpelledCount = (drive : DriveState) (n : ℕ) → length (spelled drive n) ≡ n
+
+abbrev pub SpelledWhole : Type 0
+SpelledWhole = (drive : DriveState) (n : ℕ) → IsMountable drive n → AllByRecursion (λ block. length block ≡ drive.geometry.block) (spelled drive n)

@@ -1,7 +1,7 @@
 //! What holds of all records and of all drives' contents. Each function carries one law as its
 //! contract, and does nothing.
 
-ghost use Rattle.zone_choice.specs.Laws.{AppendFirst, AppendLogs, AppendPlaces, AppendSpells, AppendWrites, FinishLogs, NewestIsLive};
+ghost use Rattle.zone_choice.specs.Laws.{AppendFirst, AppendLogs, AppendPlaces, AppendSpells, AppendWrites, FinishLogs, NewestIsLive, SpelledCount, SpelledWhole};
 
 /// `newest` finds a live record of the block, where there is a record of it.
 pub fn newest_is_live()
@@ -32,4 +32,10 @@ pub fn append_spells()
 /// A Finish of a zone that could be written keeps all logs.
 pub fn finish_logs()
     ensures { FinishLogs }
+{}
+
+/// The spelled array has its number of blocks; on a drive that can be mounted each is a whole block.
+pub fn spelled_blocks()
+    ensures count { SpelledCount }
+    ensures whole { SpelledWhole }
 {}

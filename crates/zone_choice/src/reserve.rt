@@ -2,12 +2,8 @@ ghost use Rattle.std.specs.Prelude.{◌≡◌, ◌≤◌, ◌<◌, ◌↔◌, Is
 ghost use Rattle.zone_states.specs.Geometry.{IsInRange};
 ghost use Rattle.zone_choice.specs.Reserve.{FitsReserve, IsQuota, batch_most, fill};
 
+use batch_log::entry_room;
 use zone_states::Geometry;
-
-/// Bytes of a header block before its entries, and of an entry.
-const HEAD_BYTES: u32 = 32;
-
-const ENTRY_BYTES: u32 = 8;
 
 /// How many entries a batch has at most. The geometry is one that `check` admits.
 pub fn batch_most(geometry: &Geometry) -> u32
@@ -15,8 +11,7 @@ pub fn batch_most(geometry: &Geometry) -> u32
     ensures most { result ≡ batch_most geometry.now }
     ensures positive { 1 ≤ result }
 {
-    let room = (geometry.block - HEAD_BYTES) / ENTRY_BYTES;
-    room.min(geometry.transfer - 1)
+    entry_room(geometry.block).min(geometry.transfer - 1)
 }
 
 /// How many blocks moving so many records may take: one for each, and a header for each batch. The

@@ -1,11 +1,12 @@
 -- The calls of a disk, by what its parts change.
 use Rattle.std.proofs.Common.{◌≡◌, ℕ, zero, suc, ◌+◌, ◌<◌, ◌≤◌, Bool, true, false, ◌||◌, List, [], ◌∷◌, ◌++◌, length, take, drop, get_or, replicate, Some, None, Ok, Err, refl, sym, ap, ◌∙◌, arith, append_assoc, append-nil}
 use Rattle.std.specs.Prelude.{Result}
-use Rattle.std.specs.List.{concat}
+use Rattle.std.specs.List.{AllByRecursion, concat}
 use Rattle.std.proofs.lemmas.List.{get_or-drop, length-drop, length-replicate, take_more}
 use Rattle.drive_port.specs.Drive.{DriveState}
 use Rattle.zone_choice.specs.declared.tables.Tables.{Tables}
-use Rattle.zone_choice.proofs.AgreementLaws.{agrees_mountable}
+use Rattle.zone_choice.proofs.AgreementLaws.{agrees_mountable, length-spelled}
+use Rattle.zone_choice.proofs.WholeLaws.{whole-spelled}
 use Rattle.zone_choice.specs.Mountable.{IsMountable}
 use Rattle.zone_translator.specs.declared.fault.DiskFault.{DiskFault}
 use Rattle.zone_translator.specs.declared.fault.DiskFault.TheVariants.{OutOfRange, OutOfMemory, Stopped, Spent, NoRoom}
@@ -19,6 +20,13 @@ use Rattle.zone_translator.specs.View.{DiskView, KeepsDisk, array_of}
 -- what a disk of these parts is seen as
 abbrev pub view_of : DriveState → Tables → Bool → DiskView
 view_of drive tables stopped = record { drive = drive; size = size_of tables; next = tables.next; stopped = stopped }
+
+-- the array has the disk's number of blocks, and on a drive that can be mounted each is a whole block
+pub length-array : (disk : DiskView) → length (array_of disk) ≡ disk.size
+length-array disk = length-spelled disk.drive disk.size
+
+pub whole-array : (disk : DiskView) → IsMountable disk.drive disk.size → AllByRecursion (λ block. length block ≡ disk.drive.geometry.block) (array_of disk)
+whole-array disk mountable = whole-spelled disk.drive disk.size mountable
 
 pub kept-disk : (old new : DriveState) (tables tables' : Tables) (was is : Bool) → KeepsArray old new tables tables' → KeepsDisk (view_of old tables was) (view_of new tables' is)
 kept-disk old new tables tables' was is kept = record {

@@ -1,5 +1,5 @@
 -- A fresh drive is mounted.
-use Rattle.std.proofs.Common.{◌≡◌, ◌≢◌, ℕ, true, Bool, List, replicate, length, Option, None, sym, ap, ◌∙◌}
+use Rattle.std.proofs.Common.{◌≡◌, ◌≢◌, ℕ, ◌+◌, true, Bool, List, replicate, length, Option, None, sym, ap, ◌∙◌, arith}
 use Rattle.std.proofs.lemmas.List.{length-replicate}
 use Rattle.zone_states.specs.declared.geometry.Geometry.{Geometry}
 use Rattle.zone_states.specs.Geometry.{IsInRange}
@@ -24,9 +24,9 @@ not-fresh drive geometry blocks number same range fits all other =
     (rw same at range, rw same at fits, λ fresh. other (all fresh ∙ sym (ap (λ (g : Geometry). g.zones) same)))
 
 pub fresh-disk : (old new : DriveState) (geometry : Geometry) (blocks number : ℕ) (tables : Tables) → geometry ≡ old.geometry → IsInRange geometry → FitsReserve geometry blocks → (number ≡ old.geometry.zones → IsFresh old) → number ≡ geometry.zones
-    → IsLawful old → IsLawful new → SameContents old new → new.refused ≡ old.refused
+    → IsLawful old → IsLawful new → SameContents old new → new.refused ≡ old.refused → new.appended ≡ old.appended + 0
     → tables.map.places ≡ replicate blocks places.None → tables.roles ≡ roles_with (replicate geometry.zones true) None → tables.next ≡ 1 → IsFreshDisk old new tables blocks
-fresh-disk old new geometry blocks number tables same range fits all all_empty was lawful contents_are refused mapped roles next =
+fresh-disk old new geometry blocks number tables same range fits all all_empty was lawful contents_are refused appended mapped roles next =
     let zones = ap (λ (g : Geometry). g.zones) same in
     let fresh = all (all_empty ∙ zones) in
     let size : size_of tables ≡ blocks = ap length mapped ∙ length-replicate blocks places.None in
@@ -35,8 +35,10 @@ fresh-disk old new geometry blocks number tables same range fits all all_empty w
       agrees = agrees_same old new tables (size_of tables) contents_are lawful (rw size agrees);
       size = size;
       fresh = fresh;
+      next = next;
       same = contents_are;
       refused = refused;
+      appended = omega (arith, appended);
     }
 
 pub roles-are : (roles : RolesView) (empties : List Bool) (host : Option Filling) → roles.empty ≡ empties → roles.host ≡ host → roles ≡ roles_with empties host

@@ -12,12 +12,12 @@ use Rattle.drive_port.specs.declared.calls.PortFault.{PortFault}
 use Rattle.drive_port.specs.declared.calls.PortFault.TheVariants as port
 use Rattle.zone_choice.specs.declared.roles.Filling.{Filling}
 use Rattle.zone_choice.specs.declared.tables.Tables.{Tables}
-use Rattle.zone_choice.specs.Agreement.{Agrees, RolesAgree}
+use Rattle.zone_choice.specs.Agreement.{Agrees}
 use Rattle.zone_choice.specs.Roles.{IsLowestEmpty, RolesView, empty_count, taken}
 use Rattle.zone_choice.proofs.AgreementLaws.{agrees_finish, agrees_seal, agrees_take, tables_with}
-use Rattle.zone_choice.proofs.CommandLaws.{can_finish, host_is_writable, zone-start}
+use Rattle.zone_choice.proofs.CommandLaws.{can_finish, host_is_writable, none-active, zone-start}
 use Rattle.zone_choice.proofs.ContentLaws.{roles_with}
-use Rattle.zone_translator.specs.Changes.{AgreesWith, IsCause, IsHalt, KeepsArray, disk_fault, empty_zones, is_empty_usage, size_of}
+use Rattle.zone_translator.specs.Changes.{AgreesWith, IsFilledUp, IsCause, IsHalt, KeepsArray, disk_fault, is_empty_usage, size_of}
 
 pub keeps-refl : (drive : DriveState) (tables : Tables) → AgreesWith drive tables → KeepsArray drive drive tables tables
 keeps-refl drive tables agrees = record { agrees = agrees; array = refl; places = refl; next = refl; geometry = refl; refused = refl; appended = refl }
@@ -123,8 +123,11 @@ count-le (z ∷ zs) (b ∷ bs) e none =
     one true h = at_most (is_empty_usage z.usage)
     one false h = rw (h refl) (omega arith)
 
--- where no host zone and fewer than two zones of the role empty are, at most one zone of the drive is Empty
-pub few-empty : (drive : DriveState) (tables : Tables) → AgreesWith drive tables → tables.roles.host ≡ None → empty_count tables.roles < 2 → empty_zones drive ≤ 1
-few-empty drive tables agrees is few =
-    let agree : RolesAgree drive.geometry.capacity (contents drive.zones) (roles_with tables.roles.empty None) = (with-host drive tables None (size_of tables) is agrees).roles in
-    omega (arith, few, count-le (contents drive.zones) tables.roles.empty agree.count (λ k lt not_empty. rw (agree.sealed k lt not_empty refl) refl))
+-- where there is no host zone, and fewer than two zones have the role empty, the drive is filled up
+pub filled-up : (drive : DriveState) (tables : Tables) → AgreesWith drive tables → tables.roles.host ≡ None → empty_count tables.roles < 2 → IsFilledUp drive
+filled-up drive tables agrees is few =
+    let with = with-host drive tables None (size_of tables) is agrees in
+    record {
+      none_active = none-active drive tables.map tables.roles.empty tables.next (size_of tables) with;
+      few_empty = omega (arith, few, count-le (contents drive.zones) tables.roles.empty with.roles.count (λ k lt not_empty. rw (with.roles.sealed k lt not_empty refl) refl));
+    }

@@ -1,6 +1,6 @@
 -- What the parts of a disk's calls change, of a drive and the tables that agree with it.
 use Rattle.std.specs.Prelude.{◌≡◌, ℕ, ◌≤◌, ◌<◌, ◌+◌, ◌*◌, ◌^◌, Bool, true, false, List, ◌++◌, length, drop, count_by, Some}
-use Rattle.drive_port.specs.Drive.{DriveState}
+use Rattle.drive_port.specs.Drive.{DriveState, active_count}
 use Rattle.drive_port.specs.Contents.{Content, Usage, empty, contents}
 use Rattle.drive_port.specs.declared.calls.PortFault.{PortFault}
 use Rattle.drive_port.specs.declared.calls.PortFault.TheVariants as port
@@ -31,13 +31,18 @@ is_empty_usage usage = false
 abbrev pub empty_zones : DriveState → ℕ
 empty_zones drive = count_by (λ (zone : Content). is_empty_usage zone.usage) (contents drive.zones)
 
--- why a refusal came: the drive has stopped, the sequences are used up, or at most one zone is Empty; of memory nothing can be said
+-- a drive is filled up, but for a zone that is kept: no zone is opened or Closed, and at most one is Empty
+pub record IsFilledUp (drive : DriveState) : Type 0 where
+  pub none_active : active_count drive.zones ≡ 0
+  pub few_empty : empty_zones drive ≤ 1
+
+-- why a refusal came: the drive has stopped, the sequences are used up, or the drive is filled up; of memory nothing can be said
 abbrev pub IsCause : DriveState → ℕ → DiskFault → Type 0
 IsCause drive next OutOfRange = ⊥
 IsCause drive next OutOfMemory = Unit {0}
 IsCause drive next Stopped = drive.stopped ≡ true
 IsCause drive next Spent = next ≡ 2 ^ 63
-IsCause drive next NoRoom = empty_zones drive ≤ 1
+IsCause drive next NoRoom = IsFilledUp drive
 
 -- the drive and the tables agree as before, and the array, the map and the next sequence are the same; no command was refused, and nothing was appended
 pub record KeepsArray (old new : DriveState) (tables tables' : Tables) : Type 0 where

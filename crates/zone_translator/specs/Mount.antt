@@ -28,13 +28,16 @@ pub record IsFreshDisk (old new : DriveState) (tables : Tables) (blocks : ℕ) :
   pub agrees : AgreesWith new tables
   pub size : size_of tables ≡ blocks
   pub fresh : IsFresh old
+  pub next : tables.next ≡ 1
   pub same : SameContents old new
   pub refused : new.refused ≡ old.refused
+  pub appended : new.appended ≡ old.appended
 
--- What a drive that wasn't mounted has kept: all that it held. No command was refused.
+-- What a mount keeps of a drive: all that it holds. No command was refused, and nothing was appended.
 pub record KeepsDrive (old new : DriveState) : Type 0 where
   pub same : SameContents old new
   pub refused : new.refused ≡ old.refused
+  pub appended : new.appended ≡ old.appended
 
 abbrev pub mount_fault : PortFault → MountFault
 mount_fault port.Memory = OutOfMemory

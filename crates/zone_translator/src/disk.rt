@@ -1,5 +1,7 @@
 ghost use Rattle.std.specs.Prelude.{◌≡◌, ◌+◌, ◌<◌, ◌≤◌, ◌++◌, ◌||◌, ◌^◌, [], IfErr, IfOk, OnOk, OnErr, false, length, replicate, slice_index_or};
 ghost use Rattle.zone_choice.specs.Mountable.{IsMountable};
+ghost use Rattle.zone_choice.specs.Reserve.{FitsReserve};
+ghost use Rattle.zone_states.specs.Geometry.{IsInRange};
 ghost use Rattle.zone_translator.specs.Calls.{ReadAnswers, WriteAnswers, answer_before, is_stopped, known_answer};
 ghost use Rattle.zone_translator.specs.Changes.{IsCause};
 ghost use Rattle.zone_translator.specs.Flat.{replaced};
@@ -46,6 +48,8 @@ impl<D: Device + Drop> Disk<D> {
     /// fault the drive is given back, and holds what it held.
     pub fn mount(alloc: Global, mut device: D, blocks: u64) -> Result<Disk<D>, (MountFault, D)>
         ensures size { IfOk result (λ disk. (disk.size ≡ blocks) × (disk.stopped ≡ false)) }
+        ensures next { IfOk result (λ disk. disk.next ≡ 1) }
+        ensures fits { IfOk result (λ disk. IsInRange disk.drive.geometry × FitsReserve disk.drive.geometry disk.size) }
         ensures fresh { OnOk result (IsFresh (D.drive device)) }
         ensures array { IfOk result (λ disk. array_of disk ≡ replicate blocks (zero_block (D.drive device).geometry.block)) }
         ensures drive { IfOk result (λ disk. KeepsDrive (D.drive device) disk.drive) }

@@ -10,7 +10,7 @@ pub enum DiskFault {
     /// The drive holds a batch with the last sequence number. A write has put a front of its blocks in
     /// place, and reads go on.
     Spent,
-    /// No zone is left for the host's batches. A write has put a front of its blocks in place, and
-    /// reads go on.
+    /// No zone is left for the host's batches: none is opened or Closed, and the last Empty one is
+    /// kept. A write has put a front of its blocks in place, and reads go on.
     NoRoom,
 }

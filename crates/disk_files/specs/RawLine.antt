@@ -1,0 +1,45 @@
+-- Raw lines and the replies to them, in hexadecimal digits: an entry or a completion, and data beside it.
+use Rattle.std.specs.Prelude.{ℕ, ◌*◌, ◌==◌, if◌then◌else◌, List, [], ◌∷◌, ◌++◌, length, codes, Option, Some, None}
+use Rattle.hex.specs.Hex.{encode_lower}
+use Rattle.disk_files.specs.Words.{bytes_of, words_of, ◌>>=◌}
+
+-- so many bytes
+abbrev pub exact_bytes_of : ℕ → List ℕ → Option (List ℕ)
+exact_bytes_of count word = if length word == 2 * count then bytes_of word else None
+
+-- data is one byte at least
+abbrev pub data_of : List ℕ → Option (List ℕ)
+data_of [] = None
+data_of (digit ∷ digits) = bytes_of (digit ∷ digits)
+
+-- so many bytes, and the data beside them, if there is any
+abbrev pub raw_of : ℕ → List (List ℕ) → Option (List ℕ × List ℕ)
+raw_of count (word ∷ []) = do
+  bytes ← exact_bytes_of count word
+  Some (bytes, [])
+raw_of count (word ∷ digits ∷ []) = do
+  bytes ← exact_bytes_of count word
+  beside ← data_of digits
+  Some (bytes, beside)
+raw_of count words = None
+
+-- the entry of a raw line, and the data beside it
+abbrev pub raw_line : List ℕ → Option (List ℕ × List ℕ)
+raw_line line = raw_of 64 (words_of line)
+
+-- the completion of a reply, and the data that came back
+abbrev pub raw_answer : List ℕ → Option (List ℕ × List ℕ)
+raw_answer line = raw_of 16 (words_of line)
+
+-- data behind a space, or nothing
+abbrev pub beside_text : List ℕ → List ℕ
+beside_text [] = []
+beside_text (b ∷ bs) = codes " " ++ encode_lower (b ∷ bs)
+
+-- an entry or a completion, and data beside it, in lower case
+abbrev pub raw_text : List ℕ → List ℕ → List ℕ
+raw_text bytes beside = encode_lower bytes ++ beside_text beside
+
+-- the reply to a raw line
+abbrev pub raw_reply_text : List ℕ → List ℕ → List ℕ
+raw_reply_text completion bytes = raw_text completion bytes ++ codes "\n"

@@ -1,0 +1,4 @@
+pub mod RunLaws
+pub mod LineLaws
+pub mod TraceLaws
+pub mod RawRunLaws
