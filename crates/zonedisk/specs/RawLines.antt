@@ -35,9 +35,9 @@ abbrev pub RawAnswers : DriveState → Option (List ℕ × List ℕ) → List �
 RawAnswers old None reply new = (reply ≡ []) × (new ≡ old)
 RawAnswers old (Some call) reply new = RepliesToEntry old call.0 call.1 reply new
 
--- a drive that halts has changed nothing
+-- a drive that halts has changed nothing, and has stopped or not
 abbrev pub IsHalt : DriveState → DiskFault → DriveState → Type 0
-IsHalt old OutOfMemory new = new ≡ old
+IsHalt old OutOfMemory new = (new ≡ old) × (old.stopped ≡ false)
 IsHalt old Stopped new = (new ≡ old) × (old.stopped ≡ true)
 IsHalt old fault new = ⊥
 
