@@ -6,3 +6,4 @@ pub mod Buffer
 pub mod Calls
 pub mod Read
 pub mod Mount
+pub mod Laws

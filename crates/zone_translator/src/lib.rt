@@ -6,6 +6,7 @@ mod buffer;
 mod disk;
 mod fault;
 mod fill;
+mod laws;
 mod mount;
 mod read;
 mod room;
@@ -13,6 +14,7 @@ mod status;
 
 pub use disk::Disk;
 pub use fault::DiskFault;
+pub use laws::{write_keeps_others, written_reads_back};
 pub use mount::MountFault;
 pub use status::DiskStatus;
 
