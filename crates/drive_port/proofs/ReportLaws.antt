@@ -14,12 +14,12 @@ use Rattle.zone_report.specs.Report.{descriptor_room, matching, report}
 use Rattle.zone_report.proofs.ReportLaws.{length-descriptors}
 use Rattle.drive_port.specs.declared.calls.PortFault.{PortFault}
 use Rattle.drive_port.specs.declared.calls.PortFault.TheVariants.{Refused, Memory, Stopped}
-use Rattle.drive_port.specs.Drive.{DriveState}
+use Rattle.drive_port.specs.Drive.{DriveState, IsClosing}
 use Rattle.drive_port.specs.Step.{Performs, end_of}
 use Rattle.drive_port.specs.Contents.{SameContents}
-use Rattle.drive_port.specs.Calls.{IsTaken, ReportGives, Reported}
-use Rattle.drive_port.proofs.ClosingLaws.{contents-closing}
-use Rattle.drive_port.proofs.StepLaws.{counts-success, outcome-passes, succeeded, succeeds}
+use Rattle.drive_port.specs.Calls.{IsNotRefused, ReportGives, Reported}
+use Rattle.drive_port.proofs.ClosingLaws.{IsClosing-trans, contents-closing}
+use Rattle.drive_port.proofs.StepLaws.{call-closing, counts-success, outcome-passes, succeeded, succeeds}
 
 -- ---- a report that succeeded
 
@@ -46,6 +46,13 @@ reported-kept old new address choice partial dwords bytes r = record {
   contents = contents-closing r.zones new.zones r.after ∙ contents-closing old.zones r.zones r.before;
 }
 
+pub report-closing : {V : Type 0} (old new : DriveState) (address : ℕ) (choice : Choice) (partial : Bool) (dwords : ℕ) (returned : List ℕ) (result : Result V PortFault)
+    → ReportGives old address choice partial dwords result returned new → IsClosing old.zones new.zones
+report-closing old new address choice partial dwords returned (Ok value) gives =
+    let r = report-succeeded old new address choice partial dwords [] returned 0 gives.1 in
+    IsClosing-trans old.zones r.zones new.zones r.before r.after
+report-closing old new address choice partial dwords returned (Err fault) gives = call-closing old new (Receive address dwords choice partial) [] returned fault gives
+
 -- ---- its length
 
 length-parts : (head middle : List ℕ) (size shown : ℕ) → length head ≡ 64 → length middle ≡ 64 * shown → 64 + 64 * shown ≤ size
@@ -71,7 +78,7 @@ length-reported old new address choice partial dwords bytes low r = ap length r.
 -- ---- a report that isn't refused
 
 pub report-is_taken : {V : Type 0} (old new : DriveState) (address : ℕ) (choice : Choice) (partial : Bool) (dwords : ℕ) (returned : List ℕ) (result : Result V PortFault)
-    → ReportGives old address choice partial dwords result returned new → address < end_of old.geometry → IsTaken result
+    → ReportGives old address choice partial dwords result returned new → address < end_of old.geometry → IsNotRefused result
 report-is_taken old new address choice partial dwords returned (Ok value) gives low = tt
 report-is_taken old new address choice partial dwords returned (Err (Refused status)) gives low =
     gives.1 (succeeds old.geometry old.zones new.zones (Ok (Receive address dwords choice partial)) [] returned status gives.2 gives.3.effect (lt-leb _ _ low, tt))

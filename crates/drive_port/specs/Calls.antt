@@ -7,10 +7,10 @@ use Rattle.nvme_wire.specs.declared.command.Choice.{Choice}
 use Rattle.nvme_wire.specs.declared.command.Command.{Command}
 use Rattle.nvme_wire.specs.declared.command.Command.TheVariants.{Append, Read, Receive, Send}
 use Rattle.nvme_wire.specs.declared.status.Status.TheVariants.{Success}
-use Rattle.nvme_wire.specs.declared.zone_state.ZoneState.TheVariants.{Closed, Empty, Offline}
+use Rattle.nvme_wire.specs.declared.zone_state.ZoneState.TheVariants.{Closed, Empty, Full, Offline}
 use Rattle.zone_states.specs.declared.geometry.Geometry.{Geometry}
 use Rattle.zone_states.specs.Transition.{is_active}
-use Rattle.zone_states.specs.Zone.{Zone, cut_blocks}
+use Rattle.zone_states.specs.Zone.{Zone, cut_blocks, written_zone}
 use Rattle.zone_report.specs.Report.{is_chosen, report}
 use Rattle.drive_port.specs.declared.calls.PortFault.{PortFault}
 use Rattle.drive_port.specs.declared.calls.PortFault.TheVariants.{Refused, Memory, Stopped}
@@ -48,6 +48,10 @@ pub record IsWholeBlocks (block : ℕ) (bytes : List ℕ) : Type 0 where
 -- how many blocks these are
 abbrev pub block_count : Geometry → List ℕ → ℕ
 block_count geometry bytes = length bytes / geometry.block
+
+-- the zone that starts there
+abbrev pub zone_from : DriveState → ℕ → Zone
+zone_from drive start = zone_at drive.zones (start / drive.geometry.size)
 
 -- ---- the calls
 
@@ -93,20 +97,18 @@ pub record Finished (old new : DriveState) (start : ℕ) : Type 0 where
   pub counts : Counts old new 0
   pub contents : Finishes (contents old.zones) (contents new.zones) (start / old.geometry.size)
 
--- The zone that starts there was opened or Closed, and is Closed.
+-- The zone that starts there was opened or Closed; a Close keeps its content.
 pub record ClosedZone (old new : DriveState) (start : ℕ) : Type 0 where
   pub geometry : new.geometry ≡ old.geometry
   pub counts : Counts old new 0
   pub in_range : start / old.geometry.size < length old.zones
-  pub active : is_active (zone_at old.zones (start / old.geometry.size)).state ≡ true
-  pub zones : IsClosing (slice_set old.zones (start / old.geometry.size) (record { state = Closed; blocks = (zone_at old.zones (start / old.geometry.size)).blocks })) new.zones
+  pub active : is_active (zone_from old start).state ≡ true
 
 -- The zone that starts there is Empty.
 pub record ResetZone (old new : DriveState) (start : ℕ) : Type 0 where
   pub geometry : new.geometry ≡ old.geometry
   pub counts : Counts old new 0
   pub contents : Resets (contents old.zones) (contents new.zones) (start / old.geometry.size)
-  pub zones : IsClosing (slice_set old.zones (start / old.geometry.size) (record { state = Empty; blocks = [] })) new.zones
 
 -- These bytes are the report of the zones as they stood at a moment of the call: a closing of those before it, which those after it are a closing of.
 pub record Reported (old new : DriveState) (address : ℕ) (choice : Choice) (partial : Bool) (dwords : ℕ) (bytes : List ℕ) : Type 0 where
@@ -138,8 +140,8 @@ pub record CanAppend (drive : DriveState) (start blocks : ℕ) : Type 0 where
   pub aligned : start % drive.geometry.size ≡ 0
   pub in_range : start < end_of drive.geometry
   pub few : blocks ≤ drive.geometry.transfer
-  pub writable : is_writable (usage_of (zone_at drive.zones (start / drive.geometry.size)).state) ≡ true
-  pub room : length (zone_at drive.zones (start / drive.geometry.size)).blocks + blocks ≤ drive.geometry.capacity
+  pub writable : is_writable (usage_of (zone_from drive start).state) ≡ true
+  pub room : length (zone_from drive start).blocks + blocks ≤ drive.geometry.capacity
   pub active : active_count (remove drive.zones (start / drive.geometry.size)) < drive.geometry.active
   pub open_zones : open_count (remove drive.zones (start / drive.geometry.size)) < drive.geometry.open
 
@@ -154,21 +156,47 @@ pub record CanRead (drive : DriveState) (address blocks : ℕ) : Type 0 where
 pub record CanFinish (drive : DriveState) (start : ℕ) : Type 0 where
   pub aligned : start % drive.geometry.size ≡ 0
   pub in_range : start < end_of drive.geometry
-  pub usable : is_usable (usage_of (zone_at drive.zones (start / drive.geometry.size)).state) ≡ true
+  pub usable : is_usable (usage_of (zone_from drive start).state) ≡ true
 
 -- It takes a Close of a zone that is opened or Closed.
 pub record CanClose (drive : DriveState) (start : ℕ) : Type 0 where
   pub aligned : start % drive.geometry.size ≡ 0
   pub in_range : start < end_of drive.geometry
-  pub active : is_active (zone_at drive.zones (start / drive.geometry.size)).state ≡ true
+  pub active : is_active (zone_from drive start).state ≡ true
 
 -- It takes a Reset of a zone that is usable.
 pub record CanReset (drive : DriveState) (start : ℕ) : Type 0 where
   pub aligned : start % drive.geometry.size ≡ 0
   pub in_range : start < end_of drive.geometry
-  pub usable : is_usable (usage_of (zone_at drive.zones (start / drive.geometry.size)).state) ≡ true
+  pub usable : is_usable (usage_of (zone_from drive start).state) ≡ true
 
--- a call that wasn't refused
-abbrev pub IsTaken : {V : Type 0} → Result V PortFault → Type 0
-IsTaken (Err (Refused status)) = ⊥
-IsTaken result = Unit {0}
+-- ---- what a call leaves of the zones
+
+-- A call that changes one zone. Where it succeeded, this zone starts there, and the controller may have closed zones before it and after it; where it was refused, the controller may have closed zones; where the device halted, nothing changed.
+abbrev pub Leaves : {V : Type 0} → DriveState → ℕ → Zone → Result V PortFault → DriveState → Type 0
+Leaves old start zone (Ok value) new = IsClosing (slice_set old.zones (start / old.geometry.size) zone) new.zones
+Leaves old start zone (Err (Refused status)) new = IsClosing old.zones new.zones
+Leaves old start zone (Err Memory) new = new ≡ old
+Leaves old start zone (Err Stopped) new = new ≡ old
+
+-- the zone has these blocks after its own, and is Full where they reach its capacity
+abbrev pub AppendLeaves : DriveState → ℕ → List ℕ → Result ℕ PortFault → DriveState → Type 0
+AppendLeaves old start bytes result new =
+    Leaves old start (written_zone old.geometry.capacity (zone_from old start) (cut_blocks old.geometry.block (block_count old.geometry bytes) bytes)) result new
+
+-- the zone has its blocks, and is Full
+abbrev pub FinishLeaves : {V : Type 0} → DriveState → ℕ → Result V PortFault → DriveState → Type 0
+FinishLeaves old start result new = Leaves old start (record { state = Full; blocks = (zone_from old start).blocks }) result new
+
+-- the zone has its blocks, and is Closed
+abbrev pub CloseLeaves : {V : Type 0} → DriveState → ℕ → Result V PortFault → DriveState → Type 0
+CloseLeaves old start result new = Leaves old start (record { state = Closed; blocks = (zone_from old start).blocks }) result new
+
+-- the zone is Empty
+abbrev pub ResetLeaves : {V : Type 0} → DriveState → ℕ → Result V PortFault → DriveState → Type 0
+ResetLeaves old start result new = Leaves old start (record { state = Empty; blocks = [] }) result new
+
+-- a call that was not refused: it succeeded, or the device halted
+abbrev pub IsNotRefused : {V : Type 0} → Result V PortFault → Type 0
+IsNotRefused (Err (Refused status)) = ⊥
+IsNotRefused result = Unit {0}

@@ -54,9 +54,9 @@ end_of geometry = geometry.zones * geometry.size
 
 -- ---- checks, each with its status, in order
 
--- an Empty zone wants an active and an open place, a Closed one an open place
-abbrev pub place_checks : Geometry → List Zone → Zone → List (Bool × Status)
-place_checks geometry zones zone =
+-- an Empty zone needs an active and an open resource, a Closed one an open resource
+abbrev pub resource_checks : Geometry → List Zone → Zone → List (Bool × Status)
+resource_checks geometry zones zone =
     (is_state states.Empty zone.state && nat_le geometry.active (active_count zones), TooManyActiveZones)
     ∷ ((is_state states.Empty zone.state || is_state states.Closed zone.state) && nat_le geometry.open (open_count zones), TooManyOpenZones)
     ∷ []
@@ -76,7 +76,7 @@ write_checks geometry zones zone slba blocks bytes =
     ∷ state_checks zone
     ++ (not (slba % geometry.size == length zone.blocks), ZoneInvalidWrite)
     ∷ (nat_lt geometry.capacity (length zone.blocks + blocks), ZoneBoundaryError)
-    ∷ place_checks geometry zones zone
+    ∷ resource_checks geometry zones zone
 
 abbrev pub append_checks : Geometry → List Zone → Zone → ℕ → ℕ → List ℕ → List (Bool × Status)
 append_checks geometry zones zone zslba blocks bytes =
@@ -85,11 +85,11 @@ append_checks geometry zones zone zslba blocks bytes =
     ∷ (nat_le (end_of geometry) zslba, LbaOutOfRange)
     ∷ state_checks zone
     ++ (nat_lt geometry.capacity (length zone.blocks + blocks), ZoneBoundaryError)
-    ∷ place_checks geometry zones zone
+    ∷ resource_checks geometry zones zone
 
--- an Open wants the places that a write does
+-- an Open needs the resources that a write does
 abbrev pub opening_checks : Action → Geometry → List Zone → Zone → List (Bool × Status)
-opening_checks actions.Open geometry zones zone = place_checks geometry zones zone
+opening_checks actions.Open geometry zones zone = resource_checks geometry zones zone
 opening_checks action geometry zones zone = []
 
 abbrev pub is_refusal : Result ZoneState Status → Bool

@@ -1,8 +1,9 @@
 ghost use Rattle.std.specs.Prelude.{◌≡◌, ◌*◌, ◌<◌, ◌≤◌, ◌^◌, true, false, [], length, Err, IfOk, OnOk, OnErr};
 ghost use Rattle.nvme_wire.specs.Entry.{IsAdmitted};
+ghost use Rattle.drive_port.specs.Drive.{IsClosing};
 ghost use Rattle.drive_port.specs.Step.{end_of};
 ghost use Rattle.drive_port.specs.Contents.{AreEmpty, Counts, SameContents, bytes_at, contents};
-ghost use Rattle.drive_port.specs.Calls.{Appended, AppendGives, CallGives, CanAppend, CanClose, CanFinish, CanRead, CanReset, CloseGives, ClosedZone, Counted, Finished, FinishGives, IsTaken, IsWholeBlocks, Obeys, ReadGives, ReportGives, Reported, ResetGives, ResetZone, SendGives, block_count};
+ghost use Rattle.drive_port.specs.Calls.{Appended, AppendGives, AppendLeaves, CallGives, CanAppend, CanClose, CanFinish, CanRead, CanReset, CloseGives, CloseLeaves, ClosedZone, Counted, Finished, FinishGives, FinishLeaves, IsNotRefused, IsWholeBlocks, Obeys, ReadGives, ReportGives, Reported, ResetGives, ResetLeaves, ResetZone, SendGives, block_count};
 
 use crate::device::{Device, Halt};
 use nvme_wire::{Action, Choice, Command, Completion, ReportHead, Status, ZoneState};
@@ -56,7 +57,8 @@ pub fn append<D: Device>(
     ensures gives { AppendGives (D.drive device.old) zone_start bytes.now result (D.drive device.new) }
     ensures appended { IfOk result (λ address. Appended (D.drive device.old) (D.drive device.new) zone_start bytes.now address) }
     ensures err { OnErr result (SameContents (D.drive device.old) (D.drive device.new)) }
-    ensures taken { CanAppend (D.drive device.old) zone_start (block_count (D.drive device.old).geometry bytes.now) → IsTaken result }
+    ensures leaves { AppendLeaves (D.drive device.old) zone_start bytes.now result (D.drive device.new) }
+    ensures taken { CanAppend (D.drive device.old) zone_start (block_count (D.drive device.old).geometry bytes.now) → IsNotRefused result }
     ensures obeys { Obeys (D.drive device.old) result (D.drive device.new) }
 {
     let blocks = bytes.len() / device.geometry().block as usize;
@@ -84,7 +86,8 @@ pub fn read<D: Device>(
     ensures counts { OnOk result (Counts (D.drive device.old) (D.drive device.new) 0) }
     ensures err { OnErr result (into.new.items ≡ []) }
     ensures kept { SameContents (D.drive device.old) (D.drive device.new) }
-    ensures taken { CanRead (D.drive device.old) slba blocks → IsTaken result }
+    ensures closing { IsClosing (D.drive device.old).zones (D.drive device.new).zones }
+    ensures taken { CanRead (D.drive device.old) slba blocks → IsNotRefused result }
     ensures obeys { Obeys (D.drive device.old) result (D.drive device.new) }
 {
     call(device, &Command::Read { slba, blocks }, &[], into)?;
@@ -118,7 +121,8 @@ pub fn finish<D: Device>(alloc: Global, device: &mut D, zone_start: u64) -> Resu
     ensures gives { FinishGives (D.drive device.old) zone_start result (D.drive device.new) }
     ensures finished { OnOk result (Finished (D.drive device.old) (D.drive device.new) zone_start) }
     ensures err { OnErr result (SameContents (D.drive device.old) (D.drive device.new)) }
-    ensures taken { CanFinish (D.drive device.old) zone_start → IsTaken result }
+    ensures leaves { FinishLeaves (D.drive device.old) zone_start result (D.drive device.new) }
+    ensures taken { CanFinish (D.drive device.old) zone_start → IsNotRefused result }
     ensures obeys { Obeys (D.drive device.old) result (D.drive device.new) }
 {
     send(alloc, device, zone_start, Action::Finish)
@@ -130,7 +134,8 @@ pub fn close<D: Device>(alloc: Global, device: &mut D, zone_start: u64) -> Resul
     ensures gives { CloseGives (D.drive device.old) zone_start result (D.drive device.new) }
     ensures closed { OnOk result (ClosedZone (D.drive device.old) (D.drive device.new) zone_start) }
     ensures kept { SameContents (D.drive device.old) (D.drive device.new) }
-    ensures taken { CanClose (D.drive device.old) zone_start → IsTaken result }
+    ensures leaves { CloseLeaves (D.drive device.old) zone_start result (D.drive device.new) }
+    ensures taken { CanClose (D.drive device.old) zone_start → IsNotRefused result }
     ensures obeys { Obeys (D.drive device.old) result (D.drive device.new) }
 {
     send(alloc, device, zone_start, Action::Close)
@@ -141,7 +146,8 @@ pub fn reset<D: Device>(alloc: Global, device: &mut D, zone_start: u64) -> Resul
     ensures gives { ResetGives (D.drive device.old) zone_start result (D.drive device.new) }
     ensures reset { OnOk result (ResetZone (D.drive device.old) (D.drive device.new) zone_start) }
     ensures err { OnErr result (SameContents (D.drive device.old) (D.drive device.new)) }
-    ensures taken { CanReset (D.drive device.old) zone_start → IsTaken result }
+    ensures leaves { ResetLeaves (D.drive device.old) zone_start result (D.drive device.new) }
+    ensures taken { CanReset (D.drive device.old) zone_start → IsNotRefused result }
     ensures obeys { Obeys (D.drive device.old) result (D.drive device.new) }
 {
     send(alloc, device, zone_start, Action::Reset)
@@ -165,7 +171,8 @@ pub fn report<D: Device>(
     ensures length { OnOk result (length into.new.items ≡ 4 * dwords) }
     ensures err { OnErr result (into.new.items ≡ []) }
     ensures kept { SameContents (D.drive device.old) (D.drive device.new) }
-    ensures taken { slba < end_of (D.drive device.old).geometry → IsTaken result }
+    ensures closing { IsClosing (D.drive device.old).zones (D.drive device.new).zones }
+    ensures taken { slba < end_of (D.drive device.old).geometry → IsNotRefused result }
     ensures obeys { Obeys (D.drive device.old) result (D.drive device.new) }
 {
     let command = Command::Receive {
@@ -192,7 +199,8 @@ pub fn count_zones<D: Device>(
         (λ number. AreEmpty (contents (D.drive device.old).zones) → number ≡ (D.drive device.old).geometry.zones) }
     ensures err { OnErr result (into.new.items ≡ []) }
     ensures kept { SameContents (D.drive device.old) (D.drive device.new) }
-    ensures taken { 0 < end_of (D.drive device.old).geometry → IsTaken result }
+    ensures closing { IsClosing (D.drive device.old).zones (D.drive device.new).zones }
+    ensures taken { 0 < end_of (D.drive device.old).geometry → IsNotRefused result }
     ensures obeys { Obeys (D.drive device.old) result (D.drive device.new) }
 {
     report(device, 0, choice, false, 16, into)?;

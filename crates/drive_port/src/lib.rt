@@ -10,7 +10,7 @@ mod stop;
 pub use calls::{PortFault, append, close, count_zones, finish, read, report, reset};
 pub use device::{Device, Halt};
 pub use laws::{
-    closing_keeps_contents, closing_takes_no_place, closings_join, restart_keeps_contents,
+    closing_keeps_contents, closing_takes_no_resource, closings_join, restart_keeps_contents,
 };
 pub use recorder::Recorder;
 pub use stop::StopAfter;
