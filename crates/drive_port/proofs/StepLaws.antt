@@ -33,7 +33,7 @@ checks_of geometry zones (Ok (Write slba blocks)) bytes = write_checks geometry 
 checks_of geometry zones (Ok (Append zslba blocks)) bytes = append_checks geometry zones (zone_at zones (zslba / geometry.size)) zslba blocks bytes
 checks_of geometry zones (Ok (Send slba action true)) bytes = []
 checks_of geometry zones (Ok (Send slba action false)) bytes = send_checks geometry zones (zone_at zones (slba / geometry.size)) slba action
-checks_of geometry zones (Ok (Receive slba dwords choice partial)) bytes = receive_checks geometry slba
+checks_of geometry zones (Ok (Receive slba dwords options partial)) bytes = receive_checks geometry slba
 
 -- what a command gives where none of its checks fails
 abbrev pub effect_of : Geometry → List Zone → Result Command DecodeFault → List ℕ → Outcome
@@ -50,7 +50,7 @@ effect_of geometry zones (Ok (Send slba action false)) bytes =
     let index = slba / geometry.size in
     let zone = zone_at zones index in
     done [] (slice_set zones index (zone_after action zone (state_after zone.state action)))
-effect_of geometry zones (Ok (Receive slba dwords choice partial)) bytes = done (report geometry zones slba choice partial dwords) zones
+effect_of geometry zones (Ok (Receive slba dwords options partial)) bytes = done (report geometry zones slba options partial dwords) zones
 
 outcome-is : (geometry : Geometry) (zones : List Zone) (command : Result Command DecodeFault) (bytes : List ℕ)
     → outcome geometry zones command bytes ≡ unless_refused (first_failing (checks_of geometry zones command bytes)) zones (effect_of geometry zones command bytes)
@@ -62,7 +62,7 @@ outcome-is geometry zones (Ok (Write slba blocks)) bytes = refl
 outcome-is geometry zones (Ok (Append zslba blocks)) bytes = refl
 outcome-is geometry zones (Ok (Send slba action true)) bytes = refl
 outcome-is geometry zones (Ok (Send slba action false)) bytes = refl
-outcome-is geometry zones (Ok (Receive slba dwords choice partial)) bytes = refl
+outcome-is geometry zones (Ok (Receive slba dwords options partial)) bytes = refl
 
 effect-succeeds : (geometry : Geometry) (zones : List Zone) (command : Result Command DecodeFault) (bytes : List ℕ) → (effect_of geometry zones command bytes).status ≡ Success
 effect-succeeds geometry zones (Err fault) bytes = refl
@@ -72,7 +72,7 @@ effect-succeeds geometry zones (Ok (Write slba blocks)) bytes = refl
 effect-succeeds geometry zones (Ok (Append zslba blocks)) bytes = refl
 effect-succeeds geometry zones (Ok (Send slba action true)) bytes = refl
 effect-succeeds geometry zones (Ok (Send slba action false)) bytes = refl
-effect-succeeds geometry zones (Ok (Receive slba dwords choice partial)) bytes = refl
+effect-succeeds geometry zones (Ok (Receive slba dwords options partial)) bytes = refl
 
 -- none of the checks has the status Success
 abbrev refuses : List (Bool × Status) → Bool
@@ -93,7 +93,7 @@ checks-refuse geometry zones (Ok (Send slba actions.Close false)) bytes = refl
 checks-refuse geometry zones (Ok (Send slba actions.Finish false)) bytes = refl
 checks-refuse geometry zones (Ok (Send slba actions.Reset false)) bytes = refl
 checks-refuse geometry zones (Ok (Send slba actions.Offline false)) bytes = refl
-checks-refuse geometry zones (Ok (Receive slba dwords choice partial)) bytes = refl
+checks-refuse geometry zones (Ok (Receive slba dwords options partial)) bytes = refl
 
 -- ---- checks
 
@@ -219,7 +219,7 @@ effect-value geometry zones (Write slba blocks) bytes e = refl
 effect-value geometry zones (Append zslba blocks) bytes e = absurd (cc e)
 effect-value geometry zones (Send slba action true) bytes e = refl
 effect-value geometry zones (Send slba action false) bytes e = refl
-effect-value geometry zones (Receive slba dwords choice partial) bytes e = refl
+effect-value geometry zones (Receive slba dwords options partial) bytes e = refl
 
 pub call-zero : (old new : DriveState) (command : Command) (bytes returned : List ℕ) (value : ℕ) → is_append (Ok command) ≡ false
     → CallGives old command bytes (Ok value) returned new → CallGives old command bytes (Ok 0) returned new

@@ -3,7 +3,7 @@ use Rattle.std.specs.Prelude.{◌≡◌, ◌≢◌, ℕ, ◌+◌, ◌-◌, ◌/�
 use Rattle.std.specs.List.{remove}
 use Rattle.nvme_wire.specs.declared.command.Action.{Action}
 use Rattle.nvme_wire.specs.declared.command.Action.TheVariants.{Close, Finish, Reset}
-use Rattle.nvme_wire.specs.declared.command.Choice.{Choice}
+use Rattle.nvme_wire.specs.declared.command.ReportingOptions.{ReportingOptions}
 use Rattle.nvme_wire.specs.declared.command.Command.{Command}
 use Rattle.nvme_wire.specs.declared.command.Command.TheVariants.{Append, Read, Receive, Send}
 use Rattle.nvme_wire.specs.declared.status.Status.TheVariants.{Success}
@@ -81,10 +81,10 @@ abbrev pub ResetGives : {V : Type 0} → DriveState → ℕ → Result V PortFau
 ResetGives old start result new = SendGives old start Reset result new
 
 -- one report
-abbrev pub ReportGives : {V : Type 0} → DriveState → ℕ → Choice → Bool → ℕ → Result V PortFault → List ℕ → DriveState → Type 0
-ReportGives old address choice partial dwords result returned new = CallGives old (Receive address dwords choice partial) [] (with_zero result) returned new
+abbrev pub ReportGives : {V : Type 0} → DriveState → ℕ → ReportingOptions → Bool → ℕ → Result V PortFault → List ℕ → DriveState → Type 0
+ReportGives old address options partial dwords result returned new = CallGives old (Receive address dwords options partial) [] (with_zero result) returned new
 
--- These bytes were appended to the zone that starts there: they lie at an address just behind what was written.
+-- These bytes were appended to the zone that starts there: they lie at an address just after what was written.
 pub record Appended (old new : DriveState) (start : ℕ) (bytes : List ℕ) (address : ℕ) : Type 0 where
   pub geometry : new.geometry ≡ old.geometry
   pub counts : Counts old new 1
@@ -110,32 +110,32 @@ pub record ResetZone (old new : DriveState) (start : ℕ) : Type 0 where
   pub counts : Counts old new 0
   pub contents : Resets (contents old.zones) (contents new.zones) (start / old.geometry.size)
 
--- These bytes are the report of the zones as they stood at a moment of the call: a closing of those before it, which those after it are a closing of.
-pub record Reported (old new : DriveState) (address : ℕ) (choice : Choice) (partial : Bool) (dwords : ℕ) (bytes : List ℕ) : Type 0 where
+-- These bytes are the report of the zones as they were at a moment of the call: a closing of those before it, which those after it are a closing of.
+pub record Reported (old new : DriveState) (address : ℕ) (options : ReportingOptions) (partial : Bool) (dwords : ℕ) (bytes : List ℕ) : Type 0 where
   pub geometry : new.geometry ≡ old.geometry
   pub counts : Counts old new 0
   pub in_range : address < end_of old.geometry
   pub zones : List Zone
   pub before : IsClosing old.zones zones
-  pub bytes_are : bytes ≡ report old.geometry zones address choice partial dwords
+  pub bytes_are : bytes ≡ report old.geometry zones address options partial dwords
   pub after : IsClosing zones new.zones
 
 -- how many zones a report names
-abbrev pub chosen_count : Choice → List Zone → ℕ
-chosen_count choice zones = count_by (λ zone. is_chosen choice zone.state) zones
+abbrev pub chosen_count : ReportingOptions → List Zone → ℕ
+chosen_count options zones = count_by (λ zone. is_chosen options zone.state) zones
 
--- So many zones were chosen, as the zones stood at a moment of the call.
-pub record Counted (old new : DriveState) (choice : Choice) (number : ℕ) : Type 0 where
+-- This is the number of zones that are chosen, of the zones as they were at a moment of the call.
+pub record Counted (old new : DriveState) (options : ReportingOptions) (number : ℕ) : Type 0 where
   pub geometry : new.geometry ≡ old.geometry
   pub counts : Counts old new 0
   pub zones : List Zone
   pub before : IsClosing old.zones zones
-  pub number_is : number ≡ chosen_count choice zones
+  pub number_is : number ≡ chosen_count options zones
   pub after : IsClosing zones new.zones
 
 -- ---- when a drive has to take a command
 
--- The drive takes an Append of so many blocks there: the address is that of a zone that can be written and has room for them, and among the other zones fewer are active and open than may be.
+-- The drive takes an Append of that many blocks there: the address is that of a zone that can be written and has room for them, and among the other zones fewer are active and open than may be.
 pub record CanAppend (drive : DriveState) (start blocks : ℕ) : Type 0 where
   pub aligned : start % drive.geometry.size ≡ 0
   pub in_range : start < end_of drive.geometry
@@ -145,7 +145,7 @@ pub record CanAppend (drive : DriveState) (start blocks : ℕ) : Type 0 where
   pub active : active_count (remove drive.zones (start / drive.geometry.size)) < drive.geometry.active
   pub open_zones : open_count (remove drive.zones (start / drive.geometry.size)) < drive.geometry.open
 
--- It takes a Read of so many blocks there: they lie in one zone, which isn't Offline, and are no more than one transfer moves.
+-- It takes a Read of that many blocks there: they lie in one zone, which isn't Offline, and are no more than one transfer moves.
 pub record CanRead (drive : DriveState) (address blocks : ℕ) : Type 0 where
   pub few : blocks ≤ drive.geometry.transfer
   pub in_range : address + blocks ≤ end_of drive.geometry

@@ -9,7 +9,7 @@ pub fn closing_keeps_contents()
     ensures { (old new : List Zone) → IsClosing old new → contents new ≡ contents old }
 {}
 
-/// To close no zone is a closing, and two closings after one another are one.
+/// Closing no zone is a closing, and two closings one after the other are one.
 pub fn closings_join()
     ensures none { (zones : List Zone) → IsClosing zones zones }
     ensures both { (old middle new : List Zone) → IsClosing old middle → IsClosing middle new → IsClosing old new }
