@@ -1,5 +1,5 @@
 -- What an Append that succeeded did, and which Append a drive can't refuse.
-use Rattle.std.proofs.Common.{◌≡◌, ℕ, zero, suc, ◌+◌, ◌/◌, ◌%◌, ◌<◌, Bool, true, false, not, eqb, cond, List, ◌++◌, length, drop, Result, Ok, Err, refl, ap, ◌∙◌, arith}
+use Rattle.std.proofs.Common.{◌≡◌, ℕ, zero, suc, ◌+◌, ◌/◌, ◌%◌, ◌<◌, Bool, true, false, not, eqb, cond, List, ◌++◌, length, drop, Result, Ok, Err, refl, ap, ◌∙◌, inl, inr, arith}
 use Rattle.std.specs.Prelude.{IfOk, OnErr, nat_lt, ◌==◌}
 use Rattle.std.proofs.lemmas.Bool.{eq-eqb, leb-false, le-ltb, lt-leb, ltb-false}
 use Rattle.std.proofs.lemmas.List.{length-map, map-set}
@@ -11,13 +11,13 @@ use Rattle.nvme_wire.specs.declared.zone_state.ZoneState.TheVariants.{Empty, Imp
 use Rattle.zone_states.specs.Zone.{Zone, cut_blocks, opened_by_write, written_zone}
 use Rattle.drive_port.specs.declared.calls.PortFault.{PortFault}
 use Rattle.drive_port.specs.declared.calls.PortFault.TheVariants.{Refused, Memory, Stopped}
-use Rattle.drive_port.specs.Drive.{DriveState, IsClosing, IsLawful}
+use Rattle.drive_port.specs.Drive.{ClosesOne, DriveState, IsClosing, IsLawful}
 use Rattle.drive_port.specs.Step.{Performs, append_checks, end_of, zone_at}
 use Rattle.drive_port.specs.Contents.{Content, SameContents, content_at, content_of, contents, filled, full, active, is_writable, usage_of}
-use Rattle.drive_port.specs.Calls.{Appended, AppendGives, CanAppend, IsTaken, IsWholeBlocks, block_count}
-use Rattle.drive_port.proofs.ClosingLaws.{content_at-closing, content_of-closes, zone_at-closing}
-use Rattle.drive_port.proofs.StepLaws.{call-same, counts-success, succeeded, succeeds}
-use Rattle.drive_port.proofs.CheckLaws.{AllPass, data-pass, place-pass, state-pass, state-passed}
+use Rattle.drive_port.specs.Calls.{Appended, AppendGives, AppendLeaves, CanAppend, IsNotRefused, IsWholeBlocks, block_count}
+use Rattle.drive_port.proofs.ClosingLaws.{IsClosing-set_after, content_at-closing, content_of-closes, zone_at-closing}
+use Rattle.drive_port.proofs.StepLaws.{call-same, counts-success, leaves-err, outcome-passes, succeeded, succeeds}
+use Rattle.drive_port.proofs.CheckLaws.{AllPass, data-pass, resource-pass, state-pass, state-passed}
 
 -- ---- one zone
 
@@ -73,6 +73,30 @@ append-succeeded old new start bytes returned value lawful step =
       };
     }
 
+-- ---- the zones that an Append leaves
+
+-- blocks written to a zone that was implicitly opened and then closed open it again
+written-closes : (capacity : ℕ) (zone closed : Zone) (blocks : List (List ℕ)) → ClosesOne zone closed → written_zone capacity closed blocks ≡ written_zone capacity zone blocks
+written-closes capacity zone closed blocks one =
+    elim one.state [
+      | inl same ↦ rw (same, one.blocks) refl
+      | inr closing ↦ rw (closing.0, closing.1, one.blocks) refl
+    ]
+
+pub append-leaves : (old new : DriveState) (start : ℕ) (bytes : List ℕ) (result : Result ℕ PortFault) → AppendGives old start bytes result new → AppendLeaves old start bytes result new
+append-leaves old new start bytes (Ok value) gives =
+    let command = Append start (block_count old.geometry bytes) in
+    let effect = gives.1.1.effect in
+    let index = start / old.geometry.size in
+    let blocks = cut_blocks old.geometry.block (block_count old.geometry bytes) bytes in
+    let s = succeeded old.geometry old.zones new.zones (Ok command) bytes gives.0 value effect in
+    let same = written-closes old.geometry.capacity (zone_at old.zones index) (zone_at effect.middle index) blocks (zone_at-closing old.zones effect.middle index effect.before) in
+    IsClosing-set_after old.zones effect.middle new.zones index (written_zone old.geometry.capacity (zone_at old.zones index) blocks) effect.before
+    (rw (outcome-passes old.geometry effect.middle (Ok command) bytes s.passed, same) at effect.after)
+append-leaves old new start bytes (Err fault) gives =
+    leaves-err ℕ old new start (written_zone old.geometry.capacity (zone_at old.zones (start / old.geometry.size)) (cut_blocks old.geometry.block (block_count old.geometry bytes) bytes))
+    (Append start (block_count old.geometry bytes)) bytes gives.0 fault gives.1
+
 -- ---- an Append that isn't refused
 
 append-passes : (old : DriveState) (start : ℕ) (bytes : List ℕ) (middle : List Zone) → IsLawful old → IsClosing old.zones middle
@@ -87,10 +111,10 @@ append-passes old start bytes middle lawful closing whole can =
     let low = zone-in_range old start lawful can.in_range in
     let states = state-pass zone (rw usage can.writable) in
     let room : nat_lt old.geometry.capacity (length zone.blocks + block_count old.geometry bytes) ≡ false = rw blocks (le-ltb _ _ can.room) in
-    let places = place-pass old.geometry old.zones middle index closing low can.active can.open_zones in
+    let resources = resource-pass old.geometry old.zones middle index closing low can.active can.open_zones in
     let aligned : not (start % old.geometry.size == 0) ≡ false = rw (eq-eqb _ _ can.aligned) refl in
     let fits = data-pass old.geometry bytes whole can.few in
-    (fits.0, (fits.1.0, (aligned, (lt-leb _ _ can.in_range, (states.0, (states.1.0, (states.1.1.0, (room, places))))))))
+    (fits.0, (fits.1.0, (aligned, (lt-leb _ _ can.in_range, (states.0, (states.1.0, (states.1.1.0, (room, resources))))))))
 
 pub append-if_ok : (old new : DriveState) (start : ℕ) (bytes : List ℕ) (result : Result ℕ PortFault) → IsLawful old
     → AppendGives old start bytes result new → IfOk result (λ address. Appended old new start bytes address)
@@ -98,7 +122,7 @@ append-if_ok old new start bytes (Ok value) lawful gives = append-succeeded old 
 append-if_ok old new start bytes (Err fault) lawful gives = tt
 
 pub append-is_taken : (old new : DriveState) (start : ℕ) (bytes : List ℕ) (result : Result ℕ PortFault) → IsLawful old
-    → IsWholeBlocks old.geometry.block bytes → AppendGives old start bytes result new → CanAppend old start (block_count old.geometry bytes) → IsTaken result
+    → IsWholeBlocks old.geometry.block bytes → AppendGives old start bytes result new → CanAppend old start (block_count old.geometry bytes) → IsNotRefused result
 append-is_taken old new start bytes (Ok value) lawful whole gives can = tt
 append-is_taken old new start bytes (Err (Refused status)) lawful whole gives can =
     let step = gives.1.3 in

@@ -31,10 +31,10 @@ pub blank-completes : (completed refused : ℕ) (entry bytes completion returned
     → outcome blank_geometry blank_zones (decode_of entry) bytes ≡ blank_outcome status returned
     → completion ≡ completion_bytes (record { result = 0; id = id_of entry; status = status })
     → Completes (blank completed refused) entry bytes completion returned (blank (completed + 1) (refused + one_if (not (is_success status))))
-blank-completes completed refused entry bytes completion returned status other gives spelled = record {
+blank-completes completed refused entry bytes completion returned status other gives encoded = record {
   status = status;
   value = 0;
   fits = omega arith;
-  spelled = spelled;
+  encoded = encoded;
   performs = performs-plain (blank completed refused) (blank (completed + 1) (refused + one_if (not (is_success status)))) (decode_of entry) bytes returned status 0 gives refl refl refl (rw other refl);
 }

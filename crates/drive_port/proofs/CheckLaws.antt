@@ -10,7 +10,7 @@ use Rattle.zone_states.specs.declared.geometry.Geometry.{Geometry}
 use Rattle.zone_states.specs.Transition.{is_active, is_open}
 use Rattle.zone_states.specs.Zone.{Zone}
 use Rattle.drive_port.specs.Drive.{IsClosing, active_count, open_count}
-use Rattle.drive_port.specs.Step.{data_checks, is_state, nowhere, place_checks, state_checks, zone_at}
+use Rattle.drive_port.specs.Step.{data_checks, is_state, nowhere, resource_checks, state_checks, zone_at}
 use Rattle.drive_port.specs.Contents.{is_writable, usage_of}
 use Rattle.drive_port.specs.Calls.{IsWholeBlocks, block_count}
 use Rattle.drive_port.proofs.ClosingLaws.{IsClosing-remove, active_count-closing, length-closing, open_count-closing}
@@ -52,33 +52,33 @@ state-pass zone w = passes zone.state w
     passes Full w = absurd (cc w)
     passes Offline w = absurd (cc w)
 
--- ---- places
+-- ---- resources
 
-empty_place : (state : ZoneState) (limit count others : ℕ) → others + cond (is_active state) 1 0 ≡ count → others < limit
+empty_resource : (state : ZoneState) (limit count others : ℕ) → others + cond (is_active state) 1 0 ≡ count → others < limit
     → (is_state Empty state && leb limit count) ≡ false
-empty_place Empty limit count others e lt = lt-leb limit count (omega arith)
-empty_place ImplicitlyOpened limit count others e lt = refl
-empty_place ExplicitlyOpened limit count others e lt = refl
-empty_place Closed limit count others e lt = refl
-empty_place ReadOnly limit count others e lt = refl
-empty_place Full limit count others e lt = refl
-empty_place Offline limit count others e lt = refl
+empty_resource Empty limit count others e lt = lt-leb limit count (omega arith)
+empty_resource ImplicitlyOpened limit count others e lt = refl
+empty_resource ExplicitlyOpened limit count others e lt = refl
+empty_resource Closed limit count others e lt = refl
+empty_resource ReadOnly limit count others e lt = refl
+empty_resource Full limit count others e lt = refl
+empty_resource Offline limit count others e lt = refl
 
-closed_place : (state : ZoneState) (limit count others : ℕ) → others + cond (is_open state) 1 0 ≡ count → others < limit
+closed_resource : (state : ZoneState) (limit count others : ℕ) → others + cond (is_open state) 1 0 ≡ count → others < limit
     → ((is_state Empty state || is_state Closed state) && leb limit count) ≡ false
-closed_place Empty limit count others e lt = lt-leb limit count (omega arith)
-closed_place Closed limit count others e lt = lt-leb limit count (omega arith)
-closed_place ImplicitlyOpened limit count others e lt = refl
-closed_place ExplicitlyOpened limit count others e lt = refl
-closed_place ReadOnly limit count others e lt = refl
-closed_place Full limit count others e lt = refl
-closed_place Offline limit count others e lt = refl
+closed_resource Empty limit count others e lt = lt-leb limit count (omega arith)
+closed_resource Closed limit count others e lt = lt-leb limit count (omega arith)
+closed_resource ImplicitlyOpened limit count others e lt = refl
+closed_resource ExplicitlyOpened limit count others e lt = refl
+closed_resource ReadOnly limit count others e lt = refl
+closed_resource Full limit count others e lt = refl
+closed_resource Offline limit count others e lt = refl
 
--- a zone has its places, also after a closing, where fewer of the other zones hold one than may
-pub place-pass : (geometry : Geometry) (old middle : List Zone) (index : ℕ) → IsClosing old middle → index < length old
+-- there are resources for a zone, also after a closing, where fewer of the other zones hold them than may
+pub resource-pass : (geometry : Geometry) (old middle : List Zone) (index : ℕ) → IsClosing old middle → index < length old
     → active_count (remove old index) < geometry.active → open_count (remove old index) < geometry.open
-    → AllPass (place_checks geometry middle (zone_at middle index))
-place-pass geometry old middle index closing low few_active few_open =
+    → AllPass (resource_checks geometry middle (zone_at middle index))
+resource-pass geometry old middle index closing low few_active few_open =
     let state = (zone_at middle index).state in
     let inside : index < length middle = omega (arith, low, length-closing old middle closing) in
     let others = IsClosing-remove old middle index closing in
@@ -86,6 +86,6 @@ place-pass geometry old middle index closing low few_active few_open =
     let open_sum = sum_by-remove (λ (z : Zone). cond (is_open z.state) 1 0) middle index nowhere inside in
     let active_others : active_count (remove middle index) < geometry.active = omega (arith, few_active, active_count-closing (remove old index) (remove middle index) others) in
     let open_others : open_count (remove middle index) < geometry.open = omega (arith, few_open, open_count-closing (remove old index) (remove middle index) others) in
-    let empty = empty_place state geometry.active (active_count middle) (active_count (remove middle index)) active_sum active_others in
-    let closed = closed_place state geometry.open (open_count middle) (open_count (remove middle index)) open_sum open_others in
+    let empty = empty_resource state geometry.active (active_count middle) (active_count (remove middle index)) active_sum active_others in
+    let closed = closed_resource state geometry.open (open_count middle) (open_count (remove middle index)) open_sum open_others in
     (empty, (closed, tt))

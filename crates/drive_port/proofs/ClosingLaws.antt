@@ -57,6 +57,11 @@ IsClosing-set (u ∷ us) (v ∷ vs) (suc i) z y h one = (h.0, IsClosing-set us v
 IsClosing-set [] (v ∷ vs) i z y h one = absurd h
 IsClosing-set (u ∷ us) [] i z y h one = absurd h
 
+-- a zone that is set after a closing may as well be set before it
+pub IsClosing-set_after : (old middle new : List Zone) (i : ℕ) (zone : Zone) → IsClosing old middle → IsClosing (slice_set middle i zone) new → IsClosing (slice_set old i zone) new
+IsClosing-set_after old middle new i zone before after =
+    IsClosing-trans (slice_set old i zone) (slice_set middle i zone) new (IsClosing-set old middle i zone zone before (record { blocks = refl; state = inl refl })) after
+
 -- ---- contents
 
 pub content_of-closes : (z y : Zone) → ClosesOne z y → content_of y ≡ content_of z
@@ -85,7 +90,7 @@ pub contents-restarted : (zones : List Zone) → contents (map restarted_zone zo
 contents-restarted [] = refl
 contents-restarted (z ∷ zs) = rw (usage-restarted z.state, contents-restarted zs) refl
 
--- ---- places
+-- ---- resources
 
 pub active-closes : (z y : Zone) → ClosesOne z y → is_active y.state ≡ is_active z.state
 active-closes z y one =

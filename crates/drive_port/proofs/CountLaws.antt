@@ -5,8 +5,8 @@ use Rattle.std.proofs.Math.Nat.{zero-div}
 use Rattle.std.proofs.lemmas.List.{nil_from_length}
 use Rattle.std.proofs.lemmas.List.Sums.{count_by-le-length, sum_by-cons}
 use Rattle.nvme_wire.specs.Descriptor.{report_head_bytes}
-use Rattle.nvme_wire.specs.declared.command.Choice.{Choice}
-use Rattle.nvme_wire.specs.declared.command.Choice.TheVariants.{InState}
+use Rattle.nvme_wire.specs.declared.command.ReportingOptions.{ReportingOptions}
+use Rattle.nvme_wire.specs.declared.command.ReportingOptions.TheVariants.{InState}
 use Rattle.nvme_wire.specs.declared.descriptor.Descriptor.{Descriptor}
 use Rattle.nvme_wire.specs.declared.zone_state.ZoneState.{ZoneState}
 use Rattle.nvme_wire.specs.declared.zone_state.ZoneState.TheVariants.{Empty, ImplicitlyOpened, ExplicitlyOpened, Closed, ReadOnly, Full, Offline}
@@ -24,28 +24,28 @@ one_more : (chosen : Bool) (d : Descriptor) (ds : List Descriptor) (n : ℕ) →
 one_more true d ds n e = omega (arith, e)
 one_more false d ds n e = omega (arith, e)
 
-length-matching : (geometry : Geometry) (choice : Choice) (number : ℕ) (zones : List Zone) → length (matching geometry choice number zones) ≡ chosen_count choice zones
-length-matching geometry choice number [] = refl
-length-matching geometry choice number (z ∷ zs) =
-    one_more (is_chosen choice z.state) (descriptor_of geometry number (status_of z)) (matching geometry choice (number + 1) zs) (chosen_count choice zs)
-    (length-matching geometry choice (number + 1) zs)
-    ∙ sym (sum_by-cons (λ (zone : Zone). cond (is_chosen choice zone.state) 1 0) z zs)
+length-matching : (geometry : Geometry) (options : ReportingOptions) (number : ℕ) (zones : List Zone) → length (matching geometry options number zones) ≡ chosen_count options zones
+length-matching geometry options number [] = refl
+length-matching geometry options number (z ∷ zs) =
+    one_more (is_chosen options z.state) (descriptor_of geometry number (status_of z)) (matching geometry options (number + 1) zs) (chosen_count options zs)
+    (length-matching geometry options (number + 1) zs)
+    ∙ sym (sum_by-cons (λ (zone : Zone). cond (is_chosen options zone.state) 1 0) z zs)
 
 -- a report that has room for its head alone
-report-head : (geometry : Geometry) (choice : Choice) (zones : List Zone) → report geometry zones 0 choice false 16 ≡ report_head_bytes (record { zones = chosen_count choice zones })
-report-head geometry choice zones = rw (zero-div geometry.size, length-matching geometry choice 0 zones) refl
+report-head : (geometry : Geometry) (options : ReportingOptions) (zones : List Zone) → report geometry zones 0 options false 16 ≡ report_head_bytes (record { zones = chosen_count options zones })
+report-head geometry options zones = rw (zero-div geometry.size, length-matching geometry options 0 zones) refl
 
-pub reported-head : (old new : DriveState) (choice : Choice) (bytes : List ℕ) → (r : Reported old new 0 choice false 16 bytes)
-    → bytes ≡ report_head_bytes (record { zones = chosen_count choice r.zones })
-reported-head old new choice bytes r = r.bytes_are ∙ report-head old.geometry choice r.zones
+pub reported-head : (old new : DriveState) (options : ReportingOptions) (bytes : List ℕ) → (r : Reported old new 0 options false 16 bytes)
+    → bytes ≡ report_head_bytes (record { zones = chosen_count options r.zones })
+reported-head old new options bytes r = r.bytes_are ∙ report-head old.geometry options r.zones
 
-pub chosen-fits : (old : DriveState) (choice : Choice) (zones : List Zone) → IsLawful old → IsClosing old.zones zones → chosen_count choice zones < 2 ^ 64
-chosen-fits old choice zones lawful closing =
-    omega (arith, count_by-le-length (λ (zone : Zone). is_chosen choice zone.state) zones, length-closing old.zones zones closing, lawful.count, lawful.geometry.zones)
+pub chosen-fits : (old : DriveState) (options : ReportingOptions) (zones : List Zone) → IsLawful old → IsClosing old.zones zones → chosen_count options zones < 2 ^ 64
+chosen-fits old options zones lawful closing =
+    omega (arith, count_by-le-length (λ (zone : Zone). is_chosen options zone.state) zones, length-closing old.zones zones closing, lawful.count, lawful.geometry.zones)
 
-pub reported-counts : (old new : DriveState) (choice : Choice) (bytes : List ℕ) (number : ℕ) → (r : Reported old new 0 choice false 16 bytes)
-    → number ≡ chosen_count choice r.zones → Counted old new choice number
-reported-counts old new choice bytes number r is = record { geometry = r.geometry; counts = r.counts; zones = r.zones; before = r.before; number_is = is; after = r.after }
+pub reported-counts : (old new : DriveState) (options : ReportingOptions) (bytes : List ℕ) (number : ℕ) → (r : Reported old new 0 options false 16 bytes)
+    → number ≡ chosen_count options r.zones → Counted old new options number
+reported-counts old new options bytes number r is = record { geometry = r.geometry; counts = r.counts; zones = r.zones; before = r.before; number_is = is; after = r.after }
 
 -- ---- zones that are Empty
 
@@ -115,15 +115,15 @@ empty_all (z ∷ zs) (y ∷ ys) closing all =
 empty_all [] (y ∷ ys) closing all = absurd closing
 empty_all (z ∷ zs) [] closing all = absurd closing
 
-pub counted-all_empty : (old new : DriveState) (choice : Choice) (number : ℕ) → IsLawful old → Counted old new choice number
-    → choice ≡ InState Empty → number ≡ old.geometry.zones → AreEmpty (contents old.zones)
-counted-all_empty old new choice number lawful counted only e =
+pub counted-all_empty : (old new : DriveState) (options : ReportingOptions) (number : ℕ) → IsLawful old → Counted old new options number
+    → options ≡ InState Empty → number ≡ old.geometry.zones → AreEmpty (contents old.zones)
+counted-all_empty old new options number lawful counted only e =
     let number_is = rw only at counted.number_is in
     all_empty old.geometry old.zones counted.zones lawful.zones counted.before
     (omega (arith, number_is, e, lawful.count, length-closing old.zones counted.zones counted.before))
 
-pub counted-empty_all : (old new : DriveState) (choice : Choice) (number : ℕ) → IsLawful old → Counted old new choice number
-    → choice ≡ InState Empty → AreEmpty (contents old.zones) → number ≡ old.geometry.zones
-counted-empty_all old new choice number lawful counted only all =
+pub counted-empty_all : (old new : DriveState) (options : ReportingOptions) (number : ℕ) → IsLawful old → Counted old new options number
+    → options ≡ InState Empty → AreEmpty (contents old.zones) → number ≡ old.geometry.zones
+counted-empty_all old new options number lawful counted only all =
     let number_is = rw only at counted.number_is in
     omega (arith, number_is, empty_all old.zones counted.zones counted.before all, lawful.count, length-closing old.zones counted.zones counted.before)

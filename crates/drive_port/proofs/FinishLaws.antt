@@ -15,11 +15,12 @@ use Rattle.drive_port.specs.declared.calls.PortFault.TheVariants.{Refused, Memor
 use Rattle.drive_port.specs.Drive.{DriveState, IsClosing, IsLawful}
 use Rattle.drive_port.specs.Step.{Performs, is_refusal, send_checks, zone_after, zone_at}
 use Rattle.drive_port.specs.Contents.{Content, content_at, content_of, contents, finished, is_usable, usage_of}
-use Rattle.drive_port.specs.Calls.{CanFinish, Finished, FinishGives, IsTaken}
+use Rattle.drive_port.specs.Calls.{CanFinish, Finished, FinishGives, FinishLeaves, IsNotRefused}
 use Rattle.drive_port.proofs.ClosingLaws.{content_at-closing, content_of-closes, zone_at-closing}
-use Rattle.drive_port.proofs.StepLaws.{counts-success, succeeded, succeeds}
+use Rattle.drive_port.proofs.StepLaws.{counts-success, leaves-err, succeeded, succeeds}
 use Rattle.drive_port.proofs.CheckLaws.{AllPass}
 use Rattle.drive_port.proofs.AppendLaws.{zone-in_range}
+use Rattle.drive_port.proofs.SendLaws.{sent-zones}
 
 -- ---- one zone
 
@@ -71,6 +72,15 @@ pub finish-if_ok : {V : Type 0} (old new : DriveState) (start : ℕ) (result : R
 finish-if_ok old new start (Ok value) lawful gives = finish-succeeded old new start [] gives.0 0 lawful gives.1.1
 finish-if_ok old new start (Err fault) lawful gives = tt
 
+pub finish-leaves : {V : Type 0} (old new : DriveState) (start : ℕ) (result : Result V PortFault) → FinishGives old start result new → FinishLeaves old start result new
+finish-leaves old new start (Ok value) gives =
+    let step = gives.1.1 in
+    let s = succeeded old.geometry old.zones new.zones (Ok (Send start actions.Finish false)) [] gives.0 0 step.effect in
+    let state = (zone_at step.effect.middle (start / old.geometry.size)).state in
+    sent-zones old new start actions.Finish Full [] gives.0 0 step (usable-passes state (usable-passed state s.passed.1.1.0))
+finish-leaves {V = V} old new start (Err fault) gives =
+    leaves-err V old new start (record { state = Full; blocks = (zone_at old.zones (start / old.geometry.size)).blocks }) (Send start actions.Finish false) [] gives.0 fault gives.1
+
 -- ---- a Finish that isn't refused
 
 finish-passes : (old : DriveState) (start : ℕ) (middle : List Zone) → IsClosing old.zones middle → CanFinish old start
@@ -84,7 +94,7 @@ finish-passes old start middle closing can =
     (rw (eq-eqb _ _ can.aligned) refl, (lt-leb _ _ can.in_range, (rw next refl, tt)))
 
 pub finish-is_taken : {V : Type 0} (old new : DriveState) (start : ℕ) (result : Result V PortFault)
-    → FinishGives old start result new → CanFinish old start → IsTaken result
+    → FinishGives old start result new → CanFinish old start → IsNotRefused result
 finish-is_taken old new start (Ok value) gives can = tt
 finish-is_taken old new start (Err (Refused status)) gives can =
     let step = gives.1.3 in

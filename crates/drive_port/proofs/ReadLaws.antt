@@ -13,9 +13,9 @@ use Rattle.drive_port.specs.declared.calls.PortFault.TheVariants.{Refused, Memor
 use Rattle.drive_port.specs.Drive.{DriveState, ClosesOne, IsClosing, IsLawful}
 use Rattle.drive_port.specs.Step.{Performs, block_in, bytes_from, is_state, read_checks, zone_at}
 use Rattle.drive_port.specs.Contents.{Counts, SameContents, bytes_at, contents}
-use Rattle.drive_port.specs.Calls.{CanRead, IsTaken, ReadGives}
-use Rattle.drive_port.proofs.ClosingLaws.{content_at-closing, content_at-contents, zone_at-closing}
-use Rattle.drive_port.proofs.StepLaws.{counts-success, succeeded, succeeds}
+use Rattle.drive_port.specs.Calls.{CanRead, IsNotRefused, ReadGives}
+use Rattle.drive_port.proofs.ClosingLaws.{IsClosing-trans, content_at-closing, content_at-contents, zone_at-closing}
+use Rattle.drive_port.proofs.StepLaws.{call-closing, counts-success, outcome-passes, succeeded, succeeds}
 use Rattle.drive_port.proofs.CheckLaws.{AllPass}
 
 -- ---- lengths
@@ -61,6 +61,13 @@ read-succeeded old new address blocks bytes returned value step =
       kept = record { geometry = step.geometry; contents = s.after ∙ s.before };
     }
 
+pub read-closing : {V : Type 0} (old new : DriveState) (address blocks : ℕ) (returned : List ℕ) (result : Result V PortFault) → ReadGives old address blocks result returned new → IsClosing old.zones new.zones
+read-closing old new address blocks returned (Ok value) gives =
+    let effect = gives.1.effect in
+    let s = succeeded old.geometry old.zones new.zones (Ok (Read address blocks)) [] returned 0 effect in
+    IsClosing-trans old.zones effect.middle new.zones effect.before (rw (outcome-passes old.geometry effect.middle (Ok (Read address blocks)) [] s.passed) at effect.after)
+read-closing old new address blocks returned (Err fault) gives = call-closing old new (Read address blocks) [] returned fault gives
+
 -- ---- a Read that isn't refused
 
 offline-closes : (z y : Zone) → ClosesOne z y → is_state Offline z.state ≡ false → is_state Offline y.state ≡ false
@@ -78,7 +85,7 @@ read-passes old address blocks middle closing can =
     (le-ltb _ _ can.few, (le-ltb _ _ can.in_range, (rw (eq-eqb _ _ can.one_zone) refl, (readable, tt))))
 
 pub read-is_taken : {V : Type 0} (old new : DriveState) (address blocks : ℕ) (returned : List ℕ) (result : Result V PortFault)
-    → ReadGives old address blocks result returned new → CanRead old address blocks → IsTaken result
+    → ReadGives old address blocks result returned new → CanRead old address blocks → IsNotRefused result
 read-is_taken old new address blocks returned (Ok value) gives can = tt
 read-is_taken old new address blocks returned (Err (Refused status)) gives can =
     let step = gives.3 in

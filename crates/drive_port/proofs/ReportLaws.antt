@@ -5,7 +5,7 @@ use Rattle.std.proofs.lemmas.Bool.{leb-false, lt-leb}
 use Rattle.std.proofs.lemmas.List.{length-replicate}
 use Rattle.std.proofs.Math.Nat.{mul-div-le}
 use Rattle.nvme_wire.specs.Descriptor.{descriptor_bytes, report_head_bytes}
-use Rattle.nvme_wire.specs.declared.command.Choice.{Choice}
+use Rattle.nvme_wire.specs.declared.command.ReportingOptions.{ReportingOptions}
 use Rattle.nvme_wire.specs.declared.command.Command.TheVariants.{Receive}
 use Rattle.nvme_wire.specs.declared.status.Status.TheVariants.{Success}
 use Rattle.zone_states.specs.declared.geometry.Geometry.{Geometry}
@@ -14,23 +14,23 @@ use Rattle.zone_report.specs.Report.{descriptor_room, matching, report}
 use Rattle.zone_report.proofs.ReportLaws.{length-descriptors}
 use Rattle.drive_port.specs.declared.calls.PortFault.{PortFault}
 use Rattle.drive_port.specs.declared.calls.PortFault.TheVariants.{Refused, Memory, Stopped}
-use Rattle.drive_port.specs.Drive.{DriveState}
+use Rattle.drive_port.specs.Drive.{DriveState, IsClosing}
 use Rattle.drive_port.specs.Step.{Performs, end_of}
 use Rattle.drive_port.specs.Contents.{SameContents}
-use Rattle.drive_port.specs.Calls.{IsTaken, ReportGives, Reported}
-use Rattle.drive_port.proofs.ClosingLaws.{contents-closing}
-use Rattle.drive_port.proofs.StepLaws.{counts-success, outcome-passes, succeeded, succeeds}
+use Rattle.drive_port.specs.Calls.{IsNotRefused, ReportGives, Reported}
+use Rattle.drive_port.proofs.ClosingLaws.{IsClosing-trans, contents-closing}
+use Rattle.drive_port.proofs.StepLaws.{call-closing, counts-success, outcome-passes, succeeded, succeeds}
 
 -- ---- a report that succeeded
 
-pub report-succeeded : (old new : DriveState) (address : ℕ) (choice : Choice) (partial : Bool) (dwords : ℕ) (bytes returned : List ℕ) (value : ℕ)
-    → Performs old (Ok (Receive address dwords choice partial)) bytes Success value returned new → Reported old new address choice partial dwords returned
-report-succeeded old new address choice partial dwords bytes returned value step =
-    let s = succeeded old.geometry old.zones new.zones (Ok (Receive address dwords choice partial)) bytes returned value step.effect in
-    let gives = outcome-passes old.geometry step.effect.middle (Ok (Receive address dwords choice partial)) bytes s.passed in
+pub report-succeeded : (old new : DriveState) (address : ℕ) (options : ReportingOptions) (partial : Bool) (dwords : ℕ) (bytes returned : List ℕ) (value : ℕ)
+    → Performs old (Ok (Receive address dwords options partial)) bytes Success value returned new → Reported old new address options partial dwords returned
+report-succeeded old new address options partial dwords bytes returned value step =
+    let s = succeeded old.geometry old.zones new.zones (Ok (Receive address dwords options partial)) bytes returned value step.effect in
+    let gives = outcome-passes old.geometry step.effect.middle (Ok (Receive address dwords options partial)) bytes s.passed in
     record {
       geometry = step.geometry;
-      counts = counts-success old new (Ok (Receive address dwords choice partial)) bytes returned value step;
+      counts = counts-success old new (Ok (Receive address dwords options partial)) bytes returned value step;
       in_range = leb-false _ _ s.passed.0;
       zones = step.effect.middle;
       before = step.effect.before;
@@ -39,12 +39,19 @@ report-succeeded old new address choice partial dwords bytes returned value step
     }
 
 -- it left the contents
-pub reported-kept : (old new : DriveState) (address : ℕ) (choice : Choice) (partial : Bool) (dwords : ℕ) (bytes : List ℕ)
-    → Reported old new address choice partial dwords bytes → SameContents old new
-reported-kept old new address choice partial dwords bytes r = record {
+pub reported-kept : (old new : DriveState) (address : ℕ) (options : ReportingOptions) (partial : Bool) (dwords : ℕ) (bytes : List ℕ)
+    → Reported old new address options partial dwords bytes → SameContents old new
+reported-kept old new address options partial dwords bytes r = record {
   geometry = r.geometry;
   contents = contents-closing r.zones new.zones r.after ∙ contents-closing old.zones r.zones r.before;
 }
+
+pub report-closing : {V : Type 0} (old new : DriveState) (address : ℕ) (options : ReportingOptions) (partial : Bool) (dwords : ℕ) (returned : List ℕ) (result : Result V PortFault)
+    → ReportGives old address options partial dwords result returned new → IsClosing old.zones new.zones
+report-closing old new address options partial dwords returned (Ok value) gives =
+    let r = report-succeeded old new address options partial dwords [] returned 0 gives.1 in
+    IsClosing-trans old.zones r.zones new.zones r.before r.after
+report-closing old new address options partial dwords returned (Err fault) gives = call-closing old new (Receive address dwords options partial) [] returned fault gives
 
 -- ---- its length
 
@@ -54,26 +61,26 @@ length-parts head middle size shown h m fits =
     let zeros = replicate {A = ℕ} (size - 64 - 64 * shown) 0 in
     omega (arith, h, m, fits, length-append (head ++ middle) zeros, length-append head middle, length-replicate {A = ℕ} (size - 64 - 64 * shown) 0)
 
-pub length-report : (geometry : Geometry) (zones : List Zone) (address : ℕ) (choice : Choice) (partial : Bool) (dwords : ℕ) → 16 ≤ dwords
-    → length (report geometry zones address choice partial dwords) ≡ 4 * dwords
-length-report geometry zones address choice partial dwords low =
+pub length-report : (geometry : Geometry) (zones : List Zone) (address : ℕ) (options : ReportingOptions) (partial : Bool) (dwords : ℕ) → 16 ≤ dwords
+    → length (report geometry zones address options partial dwords) ≡ 4 * dwords
+length-report geometry zones address options partial dwords low =
     let first = address / geometry.size in
-    let named = matching geometry choice first (drop first zones) in
+    let named = matching geometry options first (drop first zones) in
     let shown = take (descriptor_room dwords) named in
     let room : length shown ≤ descriptor_room dwords = omega (arith, length-take (descriptor_room dwords) named) in
     length-parts (report_head_bytes (record { zones = if partial then length shown else length named })) (flat_map descriptor_bytes shown) (4 * dwords) (length shown)
     refl (length-descriptors shown) (omega (arith, room, mul-div-le (4 * dwords - 64) 64))
 
-pub length-reported : (old new : DriveState) (address : ℕ) (choice : Choice) (partial : Bool) (dwords : ℕ) (bytes : List ℕ) → 16 ≤ dwords
-    → Reported old new address choice partial dwords bytes → length bytes ≡ 4 * dwords
-length-reported old new address choice partial dwords bytes low r = ap length r.bytes_are ∙ length-report old.geometry r.zones address choice partial dwords low
+pub length-reported : (old new : DriveState) (address : ℕ) (options : ReportingOptions) (partial : Bool) (dwords : ℕ) (bytes : List ℕ) → 16 ≤ dwords
+    → Reported old new address options partial dwords bytes → length bytes ≡ 4 * dwords
+length-reported old new address options partial dwords bytes low r = ap length r.bytes_are ∙ length-report old.geometry r.zones address options partial dwords low
 
 -- ---- a report that isn't refused
 
-pub report-is_taken : {V : Type 0} (old new : DriveState) (address : ℕ) (choice : Choice) (partial : Bool) (dwords : ℕ) (returned : List ℕ) (result : Result V PortFault)
-    → ReportGives old address choice partial dwords result returned new → address < end_of old.geometry → IsTaken result
-report-is_taken old new address choice partial dwords returned (Ok value) gives low = tt
-report-is_taken old new address choice partial dwords returned (Err (Refused status)) gives low =
-    gives.1 (succeeds old.geometry old.zones new.zones (Ok (Receive address dwords choice partial)) [] returned status gives.2 gives.3.effect (lt-leb _ _ low, tt))
-report-is_taken old new address choice partial dwords returned (Err Memory) gives low = tt
-report-is_taken old new address choice partial dwords returned (Err Stopped) gives low = tt
+pub report-is_taken : {V : Type 0} (old new : DriveState) (address : ℕ) (options : ReportingOptions) (partial : Bool) (dwords : ℕ) (returned : List ℕ) (result : Result V PortFault)
+    → ReportGives old address options partial dwords result returned new → address < end_of old.geometry → IsNotRefused result
+report-is_taken old new address options partial dwords returned (Ok value) gives low = tt
+report-is_taken old new address options partial dwords returned (Err (Refused status)) gives low =
+    gives.1 (succeeds old.geometry old.zones new.zones (Ok (Receive address dwords options partial)) [] returned status gives.2 gives.3.effect (lt-leb _ _ low, tt))
+report-is_taken old new address options partial dwords returned (Err Memory) gives low = tt
+report-is_taken old new address options partial dwords returned (Err Stopped) gives low = tt

@@ -16,9 +16,9 @@ use Rattle.drive_port.specs.declared.calls.PortFault.TheVariants.{Refused, Memor
 use Rattle.drive_port.specs.Drive.{DriveState, ClosesOne, IsClosing, IsLawful}
 use Rattle.drive_port.specs.Step.{Performs, blocks_after, is_refusal, send_checks, zone_at}
 use Rattle.drive_port.specs.Contents.{Content, SameContents, active, content_at, content_of, contents, is_usable, usage_of}
-use Rattle.drive_port.specs.Calls.{CanClose, CanReset, CloseGives, ClosedZone, IsTaken, ResetGives, ResetZone, SendGives}
+use Rattle.drive_port.specs.Calls.{CanClose, CanReset, CloseGives, CloseLeaves, ClosedZone, IsNotRefused, ResetGives, ResetLeaves, ResetZone, SendGives}
 use Rattle.drive_port.proofs.ClosingLaws.{IsClosing-set, IsClosing-trans, active-closes, content_at-closing, content_of-closes, contents-closing, zone_at-closing}
-use Rattle.drive_port.proofs.StepLaws.{call-same, counts-success, outcome-passes, succeeded, succeeds}
+use Rattle.drive_port.proofs.StepLaws.{call-same, counts-success, leaves-err, outcome-passes, succeeded, succeeds}
 use Rattle.drive_port.proofs.CheckLaws.{AllPass}
 use Rattle.drive_port.proofs.AppendLaws.{zone-in_range}
 
@@ -63,7 +63,7 @@ resettable-passes Offline u = absurd (cc u)
 -- ---- a Send that succeeded
 
 -- the zones that it leaves, by the state that it gives to the one
-sent-zones : (old new : DriveState) (start : ℕ) (action : Action) (next : ZoneState) (bytes returned : List ℕ) (value : ℕ)
+pub sent-zones : (old new : DriveState) (start : ℕ) (action : Action) (next : ZoneState) (bytes returned : List ℕ) (value : ℕ)
     → (step : Performs old (Ok (Send start action false)) bytes Success value returned new)
     → state_after (zone_at step.effect.middle (start / old.geometry.size)).state action ≡ Ok next
     → IsClosing (slice_set old.zones (start / old.geometry.size) (record { state = next; blocks = blocks_after action (zone_at old.zones (start / old.geometry.size)).blocks })) new.zones
@@ -90,7 +90,6 @@ close-succeeded old new start bytes returned value lawful step =
       counts = counts-success old new (Ok (Send start actions.Close false)) bytes returned value step;
       in_range = zone-in_range old start lawful (leb-false _ _ s.passed.1.0);
       active = sym (active-closes _ _ (zone_at-closing old.zones step.effect.middle index step.effect.before)) ∙ closable;
-      zones = sent-zones old new start actions.Close Closed bytes returned value step (closable-passes _ closable);
     }
 
 reset-succeeded : (old new : DriveState) (start : ℕ) (bytes returned : List ℕ) (value : ℕ) → IsLawful old
@@ -110,8 +109,25 @@ reset-succeeded old new start bytes returned value lawful step =
         usable = rw at usable;
         zones = contents-closing _ _ zones ∙ map-set content_of old.zones index (record { state = Empty; blocks = [] });
       };
-      zones = zones;
     }
+
+pub close-leaves : {V : Type 0} (old new : DriveState) (start : ℕ) (result : Result V PortFault) → CloseGives old start result new → CloseLeaves old start result new
+close-leaves old new start (Ok value) gives =
+    let step = gives.1.1 in
+    let s = succeeded old.geometry old.zones new.zones (Ok (Send start actions.Close false)) [] gives.0 0 step.effect in
+    let state = (zone_at step.effect.middle (start / old.geometry.size)).state in
+    sent-zones old new start actions.Close Closed [] gives.0 0 step (closable-passes state (closable-passed state s.passed.1.1.0))
+close-leaves {V = V} old new start (Err fault) gives =
+    leaves-err V old new start (record { state = Closed; blocks = (zone_at old.zones (start / old.geometry.size)).blocks }) (Send start actions.Close false) [] gives.0 fault gives.1
+
+pub reset-leaves : {V : Type 0} (old new : DriveState) (start : ℕ) (result : Result V PortFault) → ResetGives old start result new → ResetLeaves old start result new
+reset-leaves old new start (Ok value) gives =
+    let step = gives.1.1 in
+    let s = succeeded old.geometry old.zones new.zones (Ok (Send start actions.Reset false)) [] gives.0 0 step.effect in
+    let state = (zone_at step.effect.middle (start / old.geometry.size)).state in
+    sent-zones old new start actions.Reset Empty [] gives.0 0 step (resettable-passes state (resettable-passed state s.passed.1.1.0))
+reset-leaves {V = V} old new start (Err fault) gives =
+    leaves-err V old new start (record { state = Empty; blocks = [] }) (Send start actions.Reset false) [] gives.0 fault gives.1
 
 pub close-if_ok : {V : Type 0} (old new : DriveState) (start : ℕ) (result : Result V PortFault) → IsLawful old
     → CloseGives old start result new → OnOk result (ClosedZone old new start)
@@ -150,7 +166,7 @@ close-kept old new start (Ok value) lawful gives =
     let closed = close-succeeded old new start [] gives.0 0 lawful gives.1.1 in
     record {
       geometry = closed.geometry;
-      contents = contents-closing _ _ closed.zones ∙ contents-closed old.zones (start / old.geometry.size) closed.active;
+      contents = contents-closing _ _ (close-leaves {V = ℕ} old new start (Ok 0) gives) ∙ contents-closed old.zones (start / old.geometry.size) closed.active;
     }
 close-kept {V = V} old new start (Err fault) lawful gives = send-if_err {V = V} old new start actions.Close (Err fault) gives
 
@@ -165,7 +181,7 @@ close-passes old start middle closing can =
     (rw (eq-eqb _ _ can.aligned) refl, (lt-leb _ _ can.in_range, (rw next refl, tt)))
 
 pub close-is_taken : {V : Type 0} (old new : DriveState) (start : ℕ) (result : Result V PortFault)
-    → CloseGives old start result new → CanClose old start → IsTaken result
+    → CloseGives old start result new → CanClose old start → IsNotRefused result
 close-is_taken old new start (Ok value) gives can = tt
 close-is_taken old new start (Err (Refused status)) gives can =
     let step = gives.1.3 in
@@ -184,7 +200,7 @@ reset-passes old start middle closing can =
     (rw (eq-eqb _ _ can.aligned) refl, (lt-leb _ _ can.in_range, (rw next refl, tt)))
 
 pub reset-is_taken : {V : Type 0} (old new : DriveState) (start : ℕ) (result : Result V PortFault)
-    → ResetGives old start result new → CanReset old start → IsTaken result
+    → ResetGives old start result new → CanReset old start → IsNotRefused result
 reset-is_taken old new start (Ok value) gives can = tt
 reset-is_taken old new start (Err (Refused status)) gives can =
     let step = gives.1.3 in

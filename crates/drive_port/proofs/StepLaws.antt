@@ -19,7 +19,7 @@ use Rattle.drive_port.specs.declared.calls.PortFault.TheVariants.{Refused, Memor
 use Rattle.drive_port.specs.Drive.{DriveState, IsClosing}
 use Rattle.drive_port.specs.Step.{Effect, Outcome, Performs, append_checks, bytes_from, decode_status, done, is_append, is_success, one_if, outcome, read_checks, receive_checks, send_checks, sent_zone, unless_refused, write_checks, write_effect, zone_after, zone_at}
 use Rattle.drive_port.specs.Contents.{Counts, SameContents, contents}
-use Rattle.drive_port.specs.Calls.{CallGives}
+use Rattle.drive_port.specs.Calls.{CallGives, Leaves}
 use Rattle.drive_port.proofs.CheckLaws.{AllPass}
 use Rattle.drive_port.proofs.ClosingLaws.{IsClosing-refl, IsClosing-trans, contents-closing}
 
@@ -33,7 +33,7 @@ checks_of geometry zones (Ok (Write slba blocks)) bytes = write_checks geometry 
 checks_of geometry zones (Ok (Append zslba blocks)) bytes = append_checks geometry zones (zone_at zones (zslba / geometry.size)) zslba blocks bytes
 checks_of geometry zones (Ok (Send slba action true)) bytes = []
 checks_of geometry zones (Ok (Send slba action false)) bytes = send_checks geometry zones (zone_at zones (slba / geometry.size)) slba action
-checks_of geometry zones (Ok (Receive slba dwords choice partial)) bytes = receive_checks geometry slba
+checks_of geometry zones (Ok (Receive slba dwords options partial)) bytes = receive_checks geometry slba
 
 -- what a command gives where none of its checks fails
 abbrev pub effect_of : Geometry → List Zone → Result Command DecodeFault → List ℕ → Outcome
@@ -50,7 +50,7 @@ effect_of geometry zones (Ok (Send slba action false)) bytes =
     let index = slba / geometry.size in
     let zone = zone_at zones index in
     done [] (slice_set zones index (zone_after action zone (state_after zone.state action)))
-effect_of geometry zones (Ok (Receive slba dwords choice partial)) bytes = done (report geometry zones slba choice partial dwords) zones
+effect_of geometry zones (Ok (Receive slba dwords options partial)) bytes = done (report geometry zones slba options partial dwords) zones
 
 outcome-is : (geometry : Geometry) (zones : List Zone) (command : Result Command DecodeFault) (bytes : List ℕ)
     → outcome geometry zones command bytes ≡ unless_refused (first_failing (checks_of geometry zones command bytes)) zones (effect_of geometry zones command bytes)
@@ -62,7 +62,7 @@ outcome-is geometry zones (Ok (Write slba blocks)) bytes = refl
 outcome-is geometry zones (Ok (Append zslba blocks)) bytes = refl
 outcome-is geometry zones (Ok (Send slba action true)) bytes = refl
 outcome-is geometry zones (Ok (Send slba action false)) bytes = refl
-outcome-is geometry zones (Ok (Receive slba dwords choice partial)) bytes = refl
+outcome-is geometry zones (Ok (Receive slba dwords options partial)) bytes = refl
 
 effect-succeeds : (geometry : Geometry) (zones : List Zone) (command : Result Command DecodeFault) (bytes : List ℕ) → (effect_of geometry zones command bytes).status ≡ Success
 effect-succeeds geometry zones (Err fault) bytes = refl
@@ -72,7 +72,7 @@ effect-succeeds geometry zones (Ok (Write slba blocks)) bytes = refl
 effect-succeeds geometry zones (Ok (Append zslba blocks)) bytes = refl
 effect-succeeds geometry zones (Ok (Send slba action true)) bytes = refl
 effect-succeeds geometry zones (Ok (Send slba action false)) bytes = refl
-effect-succeeds geometry zones (Ok (Receive slba dwords choice partial)) bytes = refl
+effect-succeeds geometry zones (Ok (Receive slba dwords options partial)) bytes = refl
 
 -- none of the checks has the status Success
 abbrev refuses : List (Bool × Status) → Bool
@@ -93,7 +93,7 @@ checks-refuse geometry zones (Ok (Send slba actions.Close false)) bytes = refl
 checks-refuse geometry zones (Ok (Send slba actions.Finish false)) bytes = refl
 checks-refuse geometry zones (Ok (Send slba actions.Reset false)) bytes = refl
 checks-refuse geometry zones (Ok (Send slba actions.Offline false)) bytes = refl
-checks-refuse geometry zones (Ok (Receive slba dwords choice partial)) bytes = refl
+checks-refuse geometry zones (Ok (Receive slba dwords options partial)) bytes = refl
 
 -- ---- checks
 
@@ -199,6 +199,18 @@ call-same old new command bytes returned (Err (Refused status)) gives =
 call-same old new command bytes returned (Err Memory) gives = (rw gives.1.1 (record { geometry = refl; contents = refl }), gives.0)
 call-same old new command bytes returned (Err Stopped) gives = (rw gives.1.1 (record { geometry = refl; contents = refl }), gives.0)
 
+-- a call that isn't Ok did no more to the zones than the controller may by itself
+pub call-closing : (old new : DriveState) (command : Command) (bytes returned : List ℕ) (fault : PortFault) → CallGives old command bytes (Err fault) returned new → IsClosing old.zones new.zones
+call-closing old new command bytes returned (Refused status) gives = (effect-refused old.geometry old.zones new.zones (Ok command) bytes returned status gives.2 gives.1 gives.3.effect).0
+call-closing old new command bytes returned Memory gives = rw gives.1.1 (IsClosing-refl old.zones)
+call-closing old new command bytes returned Stopped gives = rw gives.1.1 (IsClosing-refl old.zones)
+
+pub leaves-err : (V : Type 0) (old new : DriveState) (start : ℕ) (zone : Zone) (command : Command) (bytes returned : List ℕ) (fault : PortFault)
+    → CallGives old command bytes (Err fault) returned new → Leaves {V = V} old start zone (Err fault) new
+leaves-err V old new start zone command bytes returned (Refused status) gives = call-closing old new command bytes returned (Refused status) gives
+leaves-err V old new start zone command bytes returned Memory gives = gives.1.1
+leaves-err V old new start zone command bytes returned Stopped gives = gives.1.1
+
 -- no command but an Append has a result
 effect-value : (geometry : Geometry) (zones : List Zone) (command : Command) (bytes : List ℕ) → is_append (Ok command) ≡ false → (effect_of geometry zones (Ok command) bytes).value ≡ 0
 effect-value geometry zones Flush bytes e = refl
@@ -207,7 +219,7 @@ effect-value geometry zones (Write slba blocks) bytes e = refl
 effect-value geometry zones (Append zslba blocks) bytes e = absurd (cc e)
 effect-value geometry zones (Send slba action true) bytes e = refl
 effect-value geometry zones (Send slba action false) bytes e = refl
-effect-value geometry zones (Receive slba dwords choice partial) bytes e = refl
+effect-value geometry zones (Receive slba dwords options partial) bytes e = refl
 
 pub call-zero : (old new : DriveState) (command : Command) (bytes returned : List ℕ) (value : ℕ) → is_append (Ok command) ≡ false
     → CallGives old command bytes (Ok value) returned new → CallGives old command bytes (Ok 0) returned new

@@ -16,7 +16,7 @@ blank_zones =
     let zone : Zone = record { state = Empty; blocks = [] } in
     zone ∷ zone ∷ zone ∷ []
 
--- the drive after so many commands, of which so many were refused
+-- the drive after `completed` commands, of which `refused` were refused
 abbrev pub blank : ℕ → ℕ → DriveState
 blank completed refused = record {
   geometry = blank_geometry;

@@ -3,14 +3,14 @@ use Rattle.std.specs.Prelude.{◌≡◌, ◌≢◌, ℕ, ◌+◌, ◌-◌, ◌/�
 use Rattle.std.specs.List.{remove}
 use Rattle.nvme_wire.specs.declared.command.Action.{Action}
 use Rattle.nvme_wire.specs.declared.command.Action.TheVariants.{Close, Finish, Reset}
-use Rattle.nvme_wire.specs.declared.command.Choice.{Choice}
+use Rattle.nvme_wire.specs.declared.command.ReportingOptions.{ReportingOptions}
 use Rattle.nvme_wire.specs.declared.command.Command.{Command}
 use Rattle.nvme_wire.specs.declared.command.Command.TheVariants.{Append, Read, Receive, Send}
 use Rattle.nvme_wire.specs.declared.status.Status.TheVariants.{Success}
-use Rattle.nvme_wire.specs.declared.zone_state.ZoneState.TheVariants.{Closed, Empty, Offline}
+use Rattle.nvme_wire.specs.declared.zone_state.ZoneState.TheVariants.{Closed, Empty, Full, Offline}
 use Rattle.zone_states.specs.declared.geometry.Geometry.{Geometry}
 use Rattle.zone_states.specs.Transition.{is_active}
-use Rattle.zone_states.specs.Zone.{Zone, cut_blocks}
+use Rattle.zone_states.specs.Zone.{Zone, cut_blocks, written_zone}
 use Rattle.zone_report.specs.Report.{is_chosen, report}
 use Rattle.drive_port.specs.declared.calls.PortFault.{PortFault}
 use Rattle.drive_port.specs.declared.calls.PortFault.TheVariants.{Refused, Memory, Stopped}
@@ -49,6 +49,10 @@ pub record IsWholeBlocks (block : ℕ) (bytes : List ℕ) : Type 0 where
 abbrev pub block_count : Geometry → List ℕ → ℕ
 block_count geometry bytes = length bytes / geometry.block
 
+-- the zone that starts there
+abbrev pub zone_from : DriveState → ℕ → Zone
+zone_from drive start = zone_at drive.zones (start / drive.geometry.size)
+
 -- ---- the calls
 
 -- one Append of all these bytes
@@ -77,10 +81,10 @@ abbrev pub ResetGives : {V : Type 0} → DriveState → ℕ → Result V PortFau
 ResetGives old start result new = SendGives old start Reset result new
 
 -- one report
-abbrev pub ReportGives : {V : Type 0} → DriveState → ℕ → Choice → Bool → ℕ → Result V PortFault → List ℕ → DriveState → Type 0
-ReportGives old address choice partial dwords result returned new = CallGives old (Receive address dwords choice partial) [] (with_zero result) returned new
+abbrev pub ReportGives : {V : Type 0} → DriveState → ℕ → ReportingOptions → Bool → ℕ → Result V PortFault → List ℕ → DriveState → Type 0
+ReportGives old address options partial dwords result returned new = CallGives old (Receive address dwords options partial) [] (with_zero result) returned new
 
--- These bytes were appended to the zone that starts there: they lie at an address just behind what was written.
+-- These bytes were appended to the zone that starts there: they lie at an address just after what was written.
 pub record Appended (old new : DriveState) (start : ℕ) (bytes : List ℕ) (address : ℕ) : Type 0 where
   pub geometry : new.geometry ≡ old.geometry
   pub counts : Counts old new 1
@@ -93,57 +97,55 @@ pub record Finished (old new : DriveState) (start : ℕ) : Type 0 where
   pub counts : Counts old new 0
   pub contents : Finishes (contents old.zones) (contents new.zones) (start / old.geometry.size)
 
--- The zone that starts there was opened or Closed, and is Closed.
+-- The zone that starts there was opened or Closed; a Close keeps its content.
 pub record ClosedZone (old new : DriveState) (start : ℕ) : Type 0 where
   pub geometry : new.geometry ≡ old.geometry
   pub counts : Counts old new 0
   pub in_range : start / old.geometry.size < length old.zones
-  pub active : is_active (zone_at old.zones (start / old.geometry.size)).state ≡ true
-  pub zones : IsClosing (slice_set old.zones (start / old.geometry.size) (record { state = Closed; blocks = (zone_at old.zones (start / old.geometry.size)).blocks })) new.zones
+  pub active : is_active (zone_from old start).state ≡ true
 
 -- The zone that starts there is Empty.
 pub record ResetZone (old new : DriveState) (start : ℕ) : Type 0 where
   pub geometry : new.geometry ≡ old.geometry
   pub counts : Counts old new 0
   pub contents : Resets (contents old.zones) (contents new.zones) (start / old.geometry.size)
-  pub zones : IsClosing (slice_set old.zones (start / old.geometry.size) (record { state = Empty; blocks = [] })) new.zones
 
--- These bytes are the report of the zones as they stood at a moment of the call: a closing of those before it, which those after it are a closing of.
-pub record Reported (old new : DriveState) (address : ℕ) (choice : Choice) (partial : Bool) (dwords : ℕ) (bytes : List ℕ) : Type 0 where
+-- These bytes are the report of the zones as they were at a moment of the call: a closing of those before it, which those after it are a closing of.
+pub record Reported (old new : DriveState) (address : ℕ) (options : ReportingOptions) (partial : Bool) (dwords : ℕ) (bytes : List ℕ) : Type 0 where
   pub geometry : new.geometry ≡ old.geometry
   pub counts : Counts old new 0
   pub in_range : address < end_of old.geometry
   pub zones : List Zone
   pub before : IsClosing old.zones zones
-  pub bytes_are : bytes ≡ report old.geometry zones address choice partial dwords
+  pub bytes_are : bytes ≡ report old.geometry zones address options partial dwords
   pub after : IsClosing zones new.zones
 
 -- how many zones a report names
-abbrev pub chosen_count : Choice → List Zone → ℕ
-chosen_count choice zones = count_by (λ zone. is_chosen choice zone.state) zones
+abbrev pub chosen_count : ReportingOptions → List Zone → ℕ
+chosen_count options zones = count_by (λ zone. is_chosen options zone.state) zones
 
--- So many zones were chosen, as the zones stood at a moment of the call.
-pub record Counted (old new : DriveState) (choice : Choice) (number : ℕ) : Type 0 where
+-- This is the number of zones that are chosen, of the zones as they were at a moment of the call.
+pub record Counted (old new : DriveState) (options : ReportingOptions) (number : ℕ) : Type 0 where
   pub geometry : new.geometry ≡ old.geometry
   pub counts : Counts old new 0
   pub zones : List Zone
   pub before : IsClosing old.zones zones
-  pub number_is : number ≡ chosen_count choice zones
+  pub number_is : number ≡ chosen_count options zones
   pub after : IsClosing zones new.zones
 
 -- ---- when a drive has to take a command
 
--- The drive takes an Append of so many blocks there: the address is that of a zone that can be written and has room for them, and among the other zones fewer are active and open than may be.
+-- The drive takes an Append of that many blocks there: the address is that of a zone that can be written and has room for them, and among the other zones fewer are active and open than may be.
 pub record CanAppend (drive : DriveState) (start blocks : ℕ) : Type 0 where
   pub aligned : start % drive.geometry.size ≡ 0
   pub in_range : start < end_of drive.geometry
   pub few : blocks ≤ drive.geometry.transfer
-  pub writable : is_writable (usage_of (zone_at drive.zones (start / drive.geometry.size)).state) ≡ true
-  pub room : length (zone_at drive.zones (start / drive.geometry.size)).blocks + blocks ≤ drive.geometry.capacity
+  pub writable : is_writable (usage_of (zone_from drive start).state) ≡ true
+  pub room : length (zone_from drive start).blocks + blocks ≤ drive.geometry.capacity
   pub active : active_count (remove drive.zones (start / drive.geometry.size)) < drive.geometry.active
   pub open_zones : open_count (remove drive.zones (start / drive.geometry.size)) < drive.geometry.open
 
--- It takes a Read of so many blocks there: they lie in one zone, which isn't Offline, and are no more than one transfer moves.
+-- It takes a Read of that many blocks there: they lie in one zone, which isn't Offline, and are no more than one transfer moves.
 pub record CanRead (drive : DriveState) (address blocks : ℕ) : Type 0 where
   pub few : blocks ≤ drive.geometry.transfer
   pub in_range : address + blocks ≤ end_of drive.geometry
@@ -154,21 +156,47 @@ pub record CanRead (drive : DriveState) (address blocks : ℕ) : Type 0 where
 pub record CanFinish (drive : DriveState) (start : ℕ) : Type 0 where
   pub aligned : start % drive.geometry.size ≡ 0
   pub in_range : start < end_of drive.geometry
-  pub usable : is_usable (usage_of (zone_at drive.zones (start / drive.geometry.size)).state) ≡ true
+  pub usable : is_usable (usage_of (zone_from drive start).state) ≡ true
 
 -- It takes a Close of a zone that is opened or Closed.
 pub record CanClose (drive : DriveState) (start : ℕ) : Type 0 where
   pub aligned : start % drive.geometry.size ≡ 0
   pub in_range : start < end_of drive.geometry
-  pub active : is_active (zone_at drive.zones (start / drive.geometry.size)).state ≡ true
+  pub active : is_active (zone_from drive start).state ≡ true
 
 -- It takes a Reset of a zone that is usable.
 pub record CanReset (drive : DriveState) (start : ℕ) : Type 0 where
   pub aligned : start % drive.geometry.size ≡ 0
   pub in_range : start < end_of drive.geometry
-  pub usable : is_usable (usage_of (zone_at drive.zones (start / drive.geometry.size)).state) ≡ true
+  pub usable : is_usable (usage_of (zone_from drive start).state) ≡ true
 
--- a call that wasn't refused
-abbrev pub IsTaken : {V : Type 0} → Result V PortFault → Type 0
-IsTaken (Err (Refused status)) = ⊥
-IsTaken result = Unit {0}
+-- ---- what a call leaves of the zones
+
+-- A call that changes one zone. Where it succeeded, this zone starts there, and the controller may have closed zones before it and after it; where it was refused, the controller may have closed zones; where the device halted, nothing changed.
+abbrev pub Leaves : {V : Type 0} → DriveState → ℕ → Zone → Result V PortFault → DriveState → Type 0
+Leaves old start zone (Ok value) new = IsClosing (slice_set old.zones (start / old.geometry.size) zone) new.zones
+Leaves old start zone (Err (Refused status)) new = IsClosing old.zones new.zones
+Leaves old start zone (Err Memory) new = new ≡ old
+Leaves old start zone (Err Stopped) new = new ≡ old
+
+-- the zone has these blocks after its own, and is Full where they reach its capacity
+abbrev pub AppendLeaves : DriveState → ℕ → List ℕ → Result ℕ PortFault → DriveState → Type 0
+AppendLeaves old start bytes result new =
+    Leaves old start (written_zone old.geometry.capacity (zone_from old start) (cut_blocks old.geometry.block (block_count old.geometry bytes) bytes)) result new
+
+-- the zone has its blocks, and is Full
+abbrev pub FinishLeaves : {V : Type 0} → DriveState → ℕ → Result V PortFault → DriveState → Type 0
+FinishLeaves old start result new = Leaves old start (record { state = Full; blocks = (zone_from old start).blocks }) result new
+
+-- the zone has its blocks, and is Closed
+abbrev pub CloseLeaves : {V : Type 0} → DriveState → ℕ → Result V PortFault → DriveState → Type 0
+CloseLeaves old start result new = Leaves old start (record { state = Closed; blocks = (zone_from old start).blocks }) result new
+
+-- the zone is Empty
+abbrev pub ResetLeaves : {V : Type 0} → DriveState → ℕ → Result V PortFault → DriveState → Type 0
+ResetLeaves old start result new = Leaves old start (record { state = Empty; blocks = [] }) result new
+
+-- a call that was not refused: it succeeded, or the device halted
+abbrev pub IsNotRefused : {V : Type 0} → Result V PortFault → Type 0
+IsNotRefused (Err (Refused status)) = ⊥
+IsNotRefused result = Unit {0}

@@ -75,7 +75,7 @@ AreEmpty contents = AllByRecursion (λ content. content ≡ emptied) contents
 
 -- ---- what the commands change
 
--- a zone that could be written has these blocks more, and all others are as they were
+-- a zone that could be written has these blocks after its own, and all others are as they were
 pub record Appends (old new : List Content) (capacity index : ℕ) (blocks : List (List ℕ)) : Type 0 where
   pub in_range : index < length old
   pub writable : is_writable (content_at old index).usage ≡ true
@@ -99,7 +99,7 @@ pub record SameContents (old new : DriveState) : Type 0 where
   pub geometry : new.geometry ≡ old.geometry
   pub contents : contents new.zones ≡ contents old.zones
 
--- one command more was completed, with success, and so many Appends more, none or one
+-- one more command was completed, with success, and that many more Appends, none or one
 pub record Counts (old new : DriveState) (appends : ℕ) : Type 0 where
   pub completed : new.completed ≡ old.completed + 1
   pub refused : new.refused ≡ old.refused
@@ -109,6 +109,6 @@ pub record Counts (old new : DriveState) (appends : ℕ) : Type 0 where
 abbrev pub block_at : Geometry → List Content → ℕ → List ℕ
 block_at geometry contents address = block_in geometry.block (content_at contents (address / geometry.size)).blocks (address % geometry.size)
 
--- the bytes of so many blocks from an address on, in one zone
+-- the bytes of that many blocks from an address on, in one zone
 abbrev pub bytes_at : Geometry → List Content → ℕ → ℕ → List ℕ
 bytes_at geometry contents address count = bytes_from geometry.block (content_at contents (address / geometry.size)).blocks (address % geometry.size) count

@@ -54,9 +54,9 @@ end_of geometry = geometry.zones * geometry.size
 
 -- ---- checks, each with its status, in order
 
--- an Empty zone wants an active and an open place, a Closed one an open place
-abbrev pub place_checks : Geometry → List Zone → Zone → List (Bool × Status)
-place_checks geometry zones zone =
+-- an Empty zone needs an active and an open resource, a Closed one an open resource
+abbrev pub resource_checks : Geometry → List Zone → Zone → List (Bool × Status)
+resource_checks geometry zones zone =
     (is_state states.Empty zone.state && nat_le geometry.active (active_count zones), TooManyActiveZones)
     ∷ ((is_state states.Empty zone.state || is_state states.Closed zone.state) && nat_le geometry.open (open_count zones), TooManyOpenZones)
     ∷ []
@@ -76,7 +76,7 @@ write_checks geometry zones zone slba blocks bytes =
     ∷ state_checks zone
     ++ (not (slba % geometry.size == length zone.blocks), ZoneInvalidWrite)
     ∷ (nat_lt geometry.capacity (length zone.blocks + blocks), ZoneBoundaryError)
-    ∷ place_checks geometry zones zone
+    ∷ resource_checks geometry zones zone
 
 abbrev pub append_checks : Geometry → List Zone → Zone → ℕ → ℕ → List ℕ → List (Bool × Status)
 append_checks geometry zones zone zslba blocks bytes =
@@ -85,11 +85,11 @@ append_checks geometry zones zone zslba blocks bytes =
     ∷ (nat_le (end_of geometry) zslba, LbaOutOfRange)
     ∷ state_checks zone
     ++ (nat_lt geometry.capacity (length zone.blocks + blocks), ZoneBoundaryError)
-    ∷ place_checks geometry zones zone
+    ∷ resource_checks geometry zones zone
 
--- an Open wants the places that a write does
+-- an Open needs the resources that a write does
 abbrev pub opening_checks : Action → Geometry → List Zone → Zone → List (Bool × Status)
-opening_checks actions.Open geometry zones zone = place_checks geometry zones zone
+opening_checks actions.Open geometry zones zone = resource_checks geometry zones zone
 opening_checks action geometry zones zone = []
 
 abbrev pub is_refusal : Result ZoneState Status → Bool
@@ -112,12 +112,12 @@ receive_checks geometry slba = (nat_le (end_of geometry) slba, LbaOutOfRange) �
 abbrev pub block_in : ℕ → List (List ℕ) → ℕ → List ℕ
 block_in size blocks offset = slice_index_or blocks offset (replicate size 0)
 
--- the bytes of so many blocks from an offset on
+-- the bytes of that many blocks from an offset on
 abbrev pub bytes_from : ℕ → List (List ℕ) → ℕ → ℕ → List ℕ
 bytes_from size blocks offset zero = []
 bytes_from size blocks offset (suc count) = block_in size blocks offset ++ bytes_from size blocks (offset + 1) count
 
--- the blocks of a Write or an Append stand behind those of the zone
+-- the blocks of a Write or an Append come after those of the zone
 abbrev pub write_effect : Geometry → List Zone → ℕ → ℕ → List ℕ → List Zone
 write_effect geometry zones index blocks bytes =
     slice_set zones index (written_zone geometry.capacity (zone_at zones index) (cut_blocks geometry.block blocks bytes))
@@ -162,8 +162,8 @@ outcome geometry zones (Ok (Send slba action false)) bytes =
     let zone = zone_at zones index in
     unless_refused (first_failing (send_checks geometry zones zone slba action)) zones
     (done [] (slice_set zones index (zone_after action zone (state_after zone.state action))))
-outcome geometry zones (Ok (Receive slba dwords choice partial)) bytes =
-    unless_refused (first_failing (receive_checks geometry slba)) zones (done (report geometry zones slba choice partial dwords) zones)
+outcome geometry zones (Ok (Receive slba dwords options partial)) bytes =
+    unless_refused (first_failing (receive_checks geometry slba)) zones (done (report geometry zones slba options partial dwords) zones)
 
 -- ---- the step
 
@@ -201,7 +201,7 @@ pub record Completes (old : DriveState) (entry bytes completion returned : List 
   pub status : Status
   pub value : ℕ
   pub fits : value < 2 ^ 64
-  pub spelled : completion ≡ completion_bytes (record { result = value; id = id_of entry; status = status })
+  pub encoded : completion ≡ completion_bytes (record { result = value; id = id_of entry; status = status })
   pub performs : Performs old (decode_of entry) bytes status value returned new
 
 -- A drive that completed no command: it was out of memory and had not stopped, or it had stopped before. Nothing changed.

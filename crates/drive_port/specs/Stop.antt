@@ -1,4 +1,4 @@
--- A device that lets so many commands of another complete.
+-- A device that lets a number of commands of another complete, and has then stopped.
 use Rattle.std.specs.Prelude.{ℕ, ◌-◌, ◌||◌, nat_le}
 use Rattle.drive_port.specs.Drive.{DriveState}
 

@@ -1,25 +1,30 @@
 ghost use Rattle.std.specs.Prelude.{◌≡◌, ◌*◌, ◌<◌, ◌≤◌, ◌^◌, true, false, [], length, Err, IfOk, OnOk, OnErr};
 ghost use Rattle.nvme_wire.specs.Entry.{IsAdmitted};
+ghost use Rattle.drive_port.specs.Drive.{IsClosing};
 ghost use Rattle.drive_port.specs.Step.{end_of};
 ghost use Rattle.drive_port.specs.Contents.{AreEmpty, Counts, SameContents, bytes_at, contents};
-ghost use Rattle.drive_port.specs.Calls.{Appended, AppendGives, CallGives, CanAppend, CanClose, CanFinish, CanRead, CanReset, CloseGives, ClosedZone, Counted, Finished, FinishGives, IsTaken, IsWholeBlocks, Obeys, ReadGives, ReportGives, Reported, ResetGives, ResetZone, SendGives, block_count};
+ghost use Rattle.drive_port.specs.Calls.{Appended, AppendGives, AppendLeaves, CallGives, CanAppend, CanClose, CanFinish, CanRead, CanReset, CloseGives, CloseLeaves, ClosedZone, Counted, Finished, FinishGives, FinishLeaves, IsNotRefused, IsWholeBlocks, Obeys, ReadGives, ReportGives, Reported, ResetGives, ResetLeaves, ResetZone, SendGives, block_count};
 
 use crate::device::{Device, Halt};
-use nvme_wire::{Action, Choice, Command, Completion, ReportHead, Status, ZoneState};
+use nvme_wire::{Action, Command, Completion, ReportHead, ReportingOptions, Status, ZoneState};
 use std::alloc::Global;
+use thiserror::Error;
 
 /// Why a typed call has no result.
-#[derive(Clone, Copy, Debug, PartialEq, Eq)]
+#[derive(Clone, Copy, Debug, PartialEq, Eq, Error)]
 pub enum PortFault {
     /// The drive completed the command with this status, which is not `Success`.
+    #[error("the drive refused the command: {0}")]
     Refused(Status),
-    /// A growth was refused; nothing changed.
+    /// An allocation failed. Nothing changed.
+    #[error("out of memory")]
     Memory,
-    /// The device has stopped; nothing changed.
+    /// The device has stopped. Nothing changed.
+    #[error("the device has stopped")]
     Stopped,
 }
 
-/// One submit of this command, with command identifier 0.
+// One submit of this command, with command identifier 0.
 fn call<D: Device>(
     device: &mut D,
     command: &Command,
@@ -32,7 +37,7 @@ fn call<D: Device>(
 {
     let entry = command.encode(0);
     match device.submit(&entry, bytes, into) {
-        Ok(spelled) => match Completion::decode(&spelled) {
+        Ok(bytes) => match Completion::decode(&bytes) {
             Ok(completion) => match completion.status {
                 Status::Success => Ok(completion.result),
                 status => Err(PortFault::Refused(status)),
@@ -44,8 +49,8 @@ fn call<D: Device>(
     }
 }
 
-/// Appends these whole blocks, 1 to 65,536 of them, to the zone that starts there, and answers the
-/// address of the first (Zoned Namespace Command Set 1.1, section 3.4.1).
+/// Appends 1 to 65,536 whole blocks to the zone that starts at `zone_start`, and answers the address of
+/// the first of them (Zoned Namespace Command Set 1.1, section 3.4.1).
 pub fn append<D: Device>(
     alloc: Global,
     device: &mut D,
@@ -56,7 +61,8 @@ pub fn append<D: Device>(
     ensures gives { AppendGives (D.drive device.old) zone_start bytes.now result (D.drive device.new) }
     ensures appended { IfOk result (λ address. Appended (D.drive device.old) (D.drive device.new) zone_start bytes.now address) }
     ensures err { OnErr result (SameContents (D.drive device.old) (D.drive device.new)) }
-    ensures taken { CanAppend (D.drive device.old) zone_start (block_count (D.drive device.old).geometry bytes.now) → IsTaken result }
+    ensures leaves { AppendLeaves (D.drive device.old) zone_start bytes.now result (D.drive device.new) }
+    ensures taken { CanAppend (D.drive device.old) zone_start (block_count (D.drive device.old).geometry bytes.now) → IsNotRefused result }
     ensures obeys { Obeys (D.drive device.old) result (D.drive device.new) }
 {
     let blocks = bytes.len() / device.geometry().block as usize;
@@ -68,8 +74,8 @@ pub fn append<D: Device>(
     call(device, &command, bytes, &mut into)
 }
 
-/// Reads 1 to 65,536 blocks from an address on: `into` holds their bytes, zeros for what is not
-/// written, and nothing after a refusal (NVM Command Set 1.0, section 3.2.4).
+/// Reads 1 to 65,536 blocks from the address `slba` on (NVM Command Set 1.0, section 3.2.4). Afterwards
+/// `into` holds their bytes, zeros for blocks that are not written; after a fault it is empty.
 pub fn read<D: Device>(
     device: &mut D,
     slba: u64,
@@ -84,7 +90,8 @@ pub fn read<D: Device>(
     ensures counts { OnOk result (Counts (D.drive device.old) (D.drive device.new) 0) }
     ensures err { OnErr result (into.new.items ≡ []) }
     ensures kept { SameContents (D.drive device.old) (D.drive device.new) }
-    ensures taken { CanRead (D.drive device.old) slba blocks → IsTaken result }
+    ensures closing { IsClosing (D.drive device.old).zones (D.drive device.new).zones }
+    ensures taken { CanRead (D.drive device.old) slba blocks → IsNotRefused result }
     ensures obeys { Obeys (D.drive device.old) result (D.drive device.new) }
 {
     call(device, &Command::Read { slba, blocks }, &[], into)?;
@@ -112,90 +119,96 @@ fn send<D: Device>(
     Ok(())
 }
 
-/// Makes the zone that starts there full, with the blocks that it has (Zoned Namespace Command Set
-/// 1.1, section 3.4.3).
+/// Makes the zone that starts at `zone_start` Full, with the blocks that it has (Zoned Namespace Command
+/// Set 1.1, section 3.4.3).
 pub fn finish<D: Device>(alloc: Global, device: &mut D, zone_start: u64) -> Result<(), PortFault>
     ensures gives { FinishGives (D.drive device.old) zone_start result (D.drive device.new) }
     ensures finished { OnOk result (Finished (D.drive device.old) (D.drive device.new) zone_start) }
     ensures err { OnErr result (SameContents (D.drive device.old) (D.drive device.new)) }
-    ensures taken { CanFinish (D.drive device.old) zone_start → IsTaken result }
+    ensures leaves { FinishLeaves (D.drive device.old) zone_start result (D.drive device.new) }
+    ensures taken { CanFinish (D.drive device.old) zone_start → IsNotRefused result }
     ensures obeys { Obeys (D.drive device.old) result (D.drive device.new) }
 {
     send(alloc, device, zone_start, Action::Finish)
 }
 
-/// Closes the zone that starts there, which is opened or Closed (Zoned Namespace Command Set 1.1,
-/// section 3.4.3).
+/// Closes the zone that starts at `zone_start`, which is opened or Closed (Zoned Namespace Command Set
+/// 1.1, section 3.4.3).
 pub fn close<D: Device>(alloc: Global, device: &mut D, zone_start: u64) -> Result<(), PortFault>
     ensures gives { CloseGives (D.drive device.old) zone_start result (D.drive device.new) }
     ensures closed { OnOk result (ClosedZone (D.drive device.old) (D.drive device.new) zone_start) }
     ensures kept { SameContents (D.drive device.old) (D.drive device.new) }
-    ensures taken { CanClose (D.drive device.old) zone_start → IsTaken result }
+    ensures leaves { CloseLeaves (D.drive device.old) zone_start result (D.drive device.new) }
+    ensures taken { CanClose (D.drive device.old) zone_start → IsNotRefused result }
     ensures obeys { Obeys (D.drive device.old) result (D.drive device.new) }
 {
     send(alloc, device, zone_start, Action::Close)
 }
 
-/// Makes the zone that starts there Empty (Zoned Namespace Command Set 1.1, section 3.4.3).
+/// Makes the zone that starts at `zone_start` Empty (Zoned Namespace Command Set 1.1, section 3.4.3).
 pub fn reset<D: Device>(alloc: Global, device: &mut D, zone_start: u64) -> Result<(), PortFault>
     ensures gives { ResetGives (D.drive device.old) zone_start result (D.drive device.new) }
     ensures reset { OnOk result (ResetZone (D.drive device.old) (D.drive device.new) zone_start) }
     ensures err { OnErr result (SameContents (D.drive device.old) (D.drive device.new)) }
-    ensures taken { CanReset (D.drive device.old) zone_start → IsTaken result }
+    ensures leaves { ResetLeaves (D.drive device.old) zone_start result (D.drive device.new) }
+    ensures taken { CanReset (D.drive device.old) zone_start → IsNotRefused result }
     ensures obeys { Obeys (D.drive device.old) result (D.drive device.new) }
 {
     send(alloc, device, zone_start, Action::Reset)
 }
 
-/// Reports the chosen zones from the one that holds an address on, in a buffer of `dwords` dwords:
-/// `into` holds its bytes, and nothing after a refusal (Zoned Namespace Command Set 1.1, section
-/// 3.4.2).
+/// Reports the chosen zones from the one that holds the address `slba` on, in a buffer of `dwords`
+/// dwords, 16 to 2^32 (Zoned Namespace Command Set 1.1, section 3.4.2). Afterwards `into` holds the
+/// report; after a fault it is empty.
 pub fn report<D: Device>(
     device: &mut D,
     slba: u64,
-    choice: Choice,
+    options: ReportingOptions,
     partial: bool,
     dwords: u64,
     into: &mut Vec<u8>,
 ) -> Result<(), PortFault>
     requires head { 16 ≤ dwords }
     requires few { dwords ≤ 2 ^ 32 }
-    ensures gives { ReportGives (D.drive device.old) slba choice partial dwords result into.new.items (D.drive device.new) }
-    ensures shown { OnOk result (Reported (D.drive device.old) (D.drive device.new) slba choice partial dwords into.new.items) }
+    ensures gives { ReportGives (D.drive device.old) slba options partial dwords result into.new.items (D.drive device.new) }
+    ensures shown { OnOk result (Reported (D.drive device.old) (D.drive device.new) slba options partial dwords into.new.items) }
     ensures length { OnOk result (length into.new.items ≡ 4 * dwords) }
     ensures err { OnErr result (into.new.items ≡ []) }
     ensures kept { SameContents (D.drive device.old) (D.drive device.new) }
-    ensures taken { slba < end_of (D.drive device.old).geometry → IsTaken result }
+    ensures closing { IsClosing (D.drive device.old).zones (D.drive device.new).zones }
+    ensures taken { slba < end_of (D.drive device.old).geometry → IsNotRefused result }
     ensures obeys { Obeys (D.drive device.old) result (D.drive device.new) }
 {
     let command = Command::Receive {
         slba,
         dwords,
-        choice,
+        options,
         partial,
     };
     call(device, &command, &[], into)?;
     Ok(())
 }
 
-/// How many zones are chosen, by the head of a report of all zones, which `into` holds afterwards.
+/// How many zones are chosen, by a report of all zones with room for its head alone, which `into` holds
+/// afterwards; after a fault it is empty.
 pub fn count_zones<D: Device>(
     device: &mut D,
-    choice: Choice,
+    options: ReportingOptions,
     into: &mut Vec<u8>,
 ) -> Result<u64, PortFault>
-    ensures gives { ReportGives (D.drive device.old) 0 choice false 16 result into.new.items (D.drive device.new) }
-    ensures counted { IfOk result (λ number. Counted (D.drive device.old) (D.drive device.new) choice number) }
-    ensures all_empty { choice ≡ Choice.InState ZoneState.Empty → IfOk result
+    ensures gives { ReportGives (D.drive device.old) 0 options false 16 result into.new.items (D.drive device.new) }
+    ensures counted { IfOk result (λ number. Counted (D.drive device.old) (D.drive device.new) options number) }
+    ensures all_empty { options ≡ ReportingOptions.InState ZoneState.Empty → IfOk result
         (λ number. number ≡ (D.drive device.old).geometry.zones → AreEmpty (contents (D.drive device.old).zones)) }
-    ensures empty_all { choice ≡ Choice.InState ZoneState.Empty → IfOk result
+    ensures empty_all { options ≡ ReportingOptions.InState ZoneState.Empty → IfOk result
         (λ number. AreEmpty (contents (D.drive device.old).zones) → number ≡ (D.drive device.old).geometry.zones) }
     ensures err { OnErr result (into.new.items ≡ []) }
     ensures kept { SameContents (D.drive device.old) (D.drive device.new) }
-    ensures taken { 0 < end_of (D.drive device.old).geometry → IsTaken result }
+    ensures closing { IsClosing (D.drive device.old).zones (D.drive device.new).zones }
+    ensures taken { 0 < end_of (D.drive device.old).geometry → IsNotRefused result }
     ensures obeys { Obeys (D.drive device.old) result (D.drive device.new) }
 {
-    report(device, 0, choice, false, 16, into)?;
+    report(device, 0, options, false, 16, into)?;
     let mut bytes = [0; 64];
     bytes.copy_from_slice(into);
     match ReportHead::decode(&bytes) {

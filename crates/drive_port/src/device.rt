@@ -2,14 +2,17 @@ ghost use Rattle.std.specs.Prelude.{◌≡◌};
 ghost use Rattle.drive_port.specs.Drive.{DriveState, IsLawful};
 ghost use Rattle.drive_port.specs.Step.{SubmitGives};
 
+use thiserror::Error;
 use zone_states::Geometry;
 
-/// Why a device completed no command. The device is then as it was.
-#[derive(Clone, Copy, Debug, PartialEq, Eq)]
+/// Why a device completed no command. The device is as it was.
+#[derive(Clone, Copy, Debug, PartialEq, Eq, Error)]
 pub enum Halt {
-    /// A growth was refused.
+    /// An allocation failed.
+    #[error("out of memory")]
     Memory,
-    /// The device has stopped.
+    /// The device has stopped: it completes no command any more.
+    #[error("the device has stopped")]
     Stopped,
 }
 
@@ -29,13 +32,14 @@ pub trait Device {
         ensures value { result ≡ (drive self.now).completed }
         ensures lawful { IsLawful (drive self.now) };
 
-    /// Whether the device answers each submit by `Stopped`.
+    /// Whether the device has stopped: it then answers each submit by `Stopped`.
     fn stopped(&self) -> bool
         ensures value { result ≡ (drive self.now).stopped }
         ensures lawful { IsLawful (drive self.now) };
 
-    /// Submits one entry, with the data of a Write or an Append beside it, and answers its completion.
-    /// `into` holds what a Read or a Receive that succeeded returned, and nothing after anything else.
+    /// Submits one entry of 64 bytes, with the data of a Write or an Append beside it, and answers its
+    /// completion of 16 bytes (Base Specification 2.0, sections 3.3.3.1 and 3.3.3.2). Afterwards `into`
+    /// holds what a Read or a Receive that succeeded returned, and is empty in every other case.
     fn submit(
         &mut self,
         entry: &[u8; 64],

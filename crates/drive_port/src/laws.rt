@@ -9,14 +9,14 @@ pub fn closing_keeps_contents()
     ensures { (old new : List Zone) → IsClosing old new → contents new ≡ contents old }
 {}
 
-/// To close no zone is a closing, and two closings after one another are one.
+/// Closing no zone is a closing, and two closings one after the other are one.
 pub fn closings_join()
     ensures none { (zones : List Zone) → IsClosing zones zones }
     ensures both { (old middle new : List Zone) → IsClosing old middle → IsClosing middle new → IsClosing old new }
 {}
 
-/// A closing keeps the number of active zones, and makes no more of them open.
-pub fn closing_takes_no_place()
+/// A closing keeps the number of active zones, and opens no zone.
+pub fn closing_takes_no_resource()
     ensures active { (old new : List Zone) → IsClosing old new → active_count new ≡ active_count old }
     ensures open_zones { (old new : List Zone) → IsClosing old new → open_count new ≤ open_count old }
 {}

@@ -1,4 +1,28 @@
-//! The port to a drive: what every device promises, and typed calls that rest on that promise alone.
+//! The port to a zoned drive: what every device promises, and typed calls that rest on that promise
+//! alone. All above it knows a drive by these calls, whatever the drive is.
+//!
+//! # Example
+//!
+//! ```text
+//! // Writes one block to the first zone of any device, reads it back, and makes the zone full.
+//! let address = append(alloc, &mut device, 0, &block)?;
+//! read(&mut device, address, 1, &mut bytes)?;
+//! assert_eq!(bytes, block);
+//! finish(alloc, &mut device, 0)?;
+//! ```
+//!
+//! # What is promised
+//!
+//! * A `Device` answers an entry by its completion, and has then done what the command says
+//!   (`specs/Step.antt`); or it halts, for memory or because it has stopped, and nothing changed
+//!   (`Halts`). Before a command and after it a controller may close implicitly opened zones, as the
+//!   standard allows: such a *closing* changes no content of a zone (`specs/Drive.antt`).
+//! * Each call is one submit of its command. It says what it leaves of the zones, up to closings
+//!   (`Leaves`), and of their contents (`specs/Contents.antt`); when a drive has to take it
+//!   (`CanAppend` and its kin); and what every call keeps (`Obeys`). All of these stand in
+//!   `specs/Calls.antt`.
+//! * `StopAfter` stops a device after a number of commands, and `Recorder` keeps the entries of those
+//!   that were completed. Both are devices again.
 #![tactic(auto)]
 
 mod calls;
@@ -10,7 +34,7 @@ mod stop;
 pub use calls::{PortFault, append, close, count_zones, finish, read, report, reset};
 pub use device::{Device, Halt};
 pub use laws::{
-    closing_keeps_contents, closing_takes_no_place, closings_join, restart_keeps_contents,
+    closing_keeps_contents, closing_takes_no_resource, closings_join, restart_keeps_contents,
 };
 pub use recorder::Recorder;
 pub use stop::StopAfter;

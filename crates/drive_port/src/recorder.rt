@@ -7,8 +7,9 @@ use std::alloc::Global;
 use std::marker::Model;
 use zone_states::Geometry;
 
-/// Keeps the entries of the commands that a device completes. Its count and its stop are those of the
-/// device within.
+/// Keeps the entries of the commands that a device completes. What it has counted, and whether it has
+/// stopped, are those of the device within. It answers `Memory` also where there is no memory for one
+/// more entry.
 #[derive(Drop)]
 pub struct Recorder<D: Device + Drop> {
     device: D,

@@ -7,7 +7,7 @@ use crate::device::{Device, Halt};
 use std::marker::Model;
 use zone_states::Geometry;
 
-/// Lets so many commands of a device complete, and has then stopped. It has stopped also where the
+/// Lets a number of commands of a device complete, and has then stopped. It has stopped also where the
 /// device within has.
 #[derive(Drop)]
 pub struct StopAfter<D: Device + Drop> {
@@ -29,7 +29,7 @@ impl<D: Device + Drop> Model for StopAfter<D> {
 }
 
 impl<D: Device + Drop> StopAfter<D> {
-    /// A device that lets `limit` commands complete, counted from 0.
+    /// A device that lets `limit` more commands of the device within complete, and counts them from 0.
     pub fn new(device: D, limit: u64) -> Self
         ensures { result ≡ record { inner = D.drive device; start = (D.drive device).completed; limit = limit } }
     {
@@ -56,7 +56,7 @@ impl<D: Device + Drop> Device for StopAfter<D> {
         self.device.geometry()
     }
 
-    /// How many commands were completed here.
+    /// How many commands were completed since the device was put here.
     fn completed(&self) -> u64 {
         self.device.completed() - self.start
     }

@@ -7,7 +7,8 @@ use crate::{
     read, report, reset,
 };
 use nvme_wire::{
-    Action, Choice, Command, Completion, DecodeFault, ReportHead, Status, ZoneState, entry_id,
+    Action, Command, Completion, DecodeFault, ReportHead, ReportingOptions, Status, ZoneState,
+    entry_id,
 };
 use std::marker::Model;
 use std::test::Fail;
@@ -71,7 +72,7 @@ fn perform(
             Command::Receive {
                 slba: 0,
                 dwords: 16,
-                choice: Choice::InState(ZoneState::Empty),
+                options: ReportingOptions::InState(ZoneState::Empty),
                 partial: false,
             },
         ) => match into.extend_from_slice(&ReportHead { zones: 3 }.encode()) {
@@ -182,12 +183,15 @@ fn changes_nothing_without_memory(rt: HostRuntime) {
 fn counts_empty_zones(rt: HostRuntime) {
     let mut drive = BlankDrive::new();
     let mut into = Vec::new(rt.alloc());
-    let choice = Choice::InState(ZoneState::Empty);
-    assert_eq!(rt; count_zones(&mut drive, choice, &mut into), Ok(3));
+    let options = ReportingOptions::InState(ZoneState::Empty);
+    assert_eq!(rt; count_zones(&mut drive, options, &mut into), Ok(3));
     let mut head = [0; 64];
     head[0] = 3;
     assert_eq!(rt; into.as_slice(), head.as_slice());
-    assert_eq!(rt; report(&mut drive, 0, choice, false, 16, &mut into), Ok(()));
+    assert_eq!(rt;
+        report(&mut drive, 0, options, false, 16, &mut into),
+        Ok(())
+    );
     assert_eq!(rt; into.as_slice(), head.as_slice());
     assert_eq!(rt; drive.completed(), 2);
 }

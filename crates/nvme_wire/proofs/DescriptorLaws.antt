@@ -1,4 +1,4 @@
--- What stands at the places of a descriptor's fields.
+-- What the fields of a descriptor's bytes hold.
 use Rattle.std.proofs.Common.{◌≡◌, ℕ, ◌/◌, ◌*◌, ◌∙◌, List, [], Option, Some, refl}
 use Rattle.std.specs.Prelude.{slice_index}
 use Rattle.byteorder.specs.Endian.{little_from}
@@ -26,23 +26,23 @@ pub record HasParts (d : Descriptor) (state : ZoneState) (capacity start word : 
   pub word_is : word ≡ pointer_word d.pointer
   pub pointer : IsPointer state start capacity d.pointer
 
--- the fields of bytes that spell a descriptor are its own
+-- the fields of a descriptor's bytes are its own
 pub descriptor_bytes-parts :
     (bytes : List ℕ) (d : Descriptor) (state : ZoneState) (capacity start word : ℕ) →
     IsDescriptor d → bytes ≡ descriptor_bytes d →
     Some state ≡ state_of (slice_index bytes 1 / 16) →
     capacity ≡ little_from 8 8 bytes → start ≡ little_from 16 8 bytes → word ≡ little_from 24 8 bytes →
     HasParts d state capacity start word
-descriptor_bytes-parts bytes d state capacity start word fits spelled found at_8 at_16 at_24 =
-    let code : state_of (slice_index bytes 1 / 16) ≡ Some d.state = rw spelled (state_of-code d.state) in
+descriptor_bytes-parts bytes d state capacity start word fits encoded found at_8 at_16 at_24 =
+    let code : state_of (slice_index bytes 1 / 16) ≡ Some d.state = rw encoded (state_of-code d.state) in
     let state_is : state ≡ d.state = cc in
-    let capacity_is : capacity ≡ d.capacity = at_8 ∙ rw spelled (little_number-reads_back 8 d.capacity [] fits.capacity) in
-    let start_is : start ≡ d.start = at_16 ∙ rw spelled (little_number-reads_back 8 d.start [] fits.start) in
+    let capacity_is : capacity ≡ d.capacity = at_8 ∙ rw encoded (little_number-reads_back 8 d.capacity [] fits.capacity) in
+    let start_is : start ≡ d.start = at_16 ∙ rw encoded (little_number-reads_back 8 d.start [] fits.start) in
     record {
       state_is = state_is;
       capacity_is = capacity_is;
       start_is = start_is;
-      word_is = at_24 ∙ rw spelled (little_number-reads_back 8 (pointer_word d.pointer) [] fits.short);
+      word_is = at_24 ∙ rw encoded (little_number-reads_back 8 (pointer_word d.pointer) [] fits.short);
       pointer = rw (state_is, capacity_is, start_is) fits.pointer;
     }
 

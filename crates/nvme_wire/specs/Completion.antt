@@ -4,11 +4,11 @@ use Rattle.byteorder.specs.Endian.{little_from, little_bytes}
 use Rattle.nvme_wire.specs.declared.completion.Completion.{Completion}
 use Rattle.nvme_wire.specs.Status.{status_code}
 
--- what can be spelled
+-- what can be encoded
 abbrev pub Fits : Completion → Type 0
 Fits c = (c.result < 2 ^ 64) × (c.id < 2 ^ 16)
 
--- the one spelling: the result, four zero bytes, the command's identifier, the status
+-- the encoding: the result, four zero bytes, the command's identifier, the status
 abbrev pub completion_bytes : Completion → List ℕ
 completion_bytes c = little_bytes 8 c.result ++ replicate 4 0 ++ little_bytes 2 c.id ++ little_bytes 2 (status_code c.status)
 

@@ -49,11 +49,11 @@ pub record IsDescriptor (d : Descriptor) : Type 0 where
   pub short : pointer_word d.pointer < 2 ^ 64
   pub pointer : IsPointer d.state d.start d.capacity d.pointer
 
--- the one spelling: type 2h (sequential write required), the state in bits 7:4 of byte 1, no attributes
+-- the encoding: type 2h (sequential write required), the state in bits 7:4 of byte 1, no attributes
 abbrev pub descriptor_bytes : Descriptor → List ℕ
 descriptor_bytes d =
     2 ∷ 16 * state_code d.state ∷ replicate 6 0 ++ little_bytes 8 d.capacity ++ little_bytes 8 d.start ++ little_bytes 8 (pointer_word d.pointer) ++ replicate 32 0
 
--- the one spelling of a report's head: the number of zones
+-- the encoding of a report's head: the number of zones
 abbrev pub report_head_bytes : ReportHead → List ℕ
 report_head_bytes head = little_bytes 8 head.zones ++ replicate 56 0

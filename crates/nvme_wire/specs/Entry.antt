@@ -4,8 +4,8 @@ use Rattle.byteorder.specs.Endian.{little_from, little_bytes}
 use Rattle.nvme_wire.specs.declared.zone_state.ZoneState.TheVariants as states
 use Rattle.nvme_wire.specs.declared.command.Action.{Action}
 use Rattle.nvme_wire.specs.declared.command.Action.TheVariants.{Close, Finish, Open, Reset, Offline}
-use Rattle.nvme_wire.specs.declared.command.Choice.{Choice}
-use Rattle.nvme_wire.specs.declared.command.Choice.TheVariants.{AnyState, InState}
+use Rattle.nvme_wire.specs.declared.command.ReportingOptions.{ReportingOptions}
+use Rattle.nvme_wire.specs.declared.command.ReportingOptions.TheVariants.{AnyState, InState}
 use Rattle.nvme_wire.specs.declared.command.Command.{Command}
 use Rattle.nvme_wire.specs.declared.command.Command.TheVariants.{Flush, Read, Write, Append, Send, Receive}
 use Rattle.nvme_wire.specs.declared.command.DecodeFault.{DecodeFault}
@@ -52,18 +52,18 @@ action_of code =
     else None
 
 -- the Reporting Options of a Zone Management Receive
-abbrev pub choice_code : Choice → ℕ
-choice_code AnyState = 0
-choice_code (InState states.Empty) = 1
-choice_code (InState states.ImplicitlyOpened) = 2
-choice_code (InState states.ExplicitlyOpened) = 3
-choice_code (InState states.Closed) = 4
-choice_code (InState states.Full) = 5
-choice_code (InState states.ReadOnly) = 6
-choice_code (InState states.Offline) = 7
+abbrev pub options_code : ReportingOptions → ℕ
+options_code AnyState = 0
+options_code (InState states.Empty) = 1
+options_code (InState states.ImplicitlyOpened) = 2
+options_code (InState states.ExplicitlyOpened) = 3
+options_code (InState states.Closed) = 4
+options_code (InState states.Full) = 5
+options_code (InState states.ReadOnly) = 6
+options_code (InState states.Offline) = 7
 
-abbrev pub choice_of : ℕ → Option Choice
-choice_of code =
+abbrev pub options_of : ℕ → Option ReportingOptions
+options_of code =
     if code == 0 then Some AnyState
     else if code == 1 then Some (InState states.Empty)
     else if code == 2 then Some (InState states.ImplicitlyOpened)
@@ -78,9 +78,9 @@ abbrev pub bit : Bool → ℕ
 bit true = 1
 bit false = 0
 
--- ---- the spelling
+-- ---- encoding
 
--- An entry from its opcode, its identifier, its address, and dwords 12 and 13 as four bytes each. Byte 1 (fused operation, data pointer kind) is zero, the namespace is 1, and so are zero the bytes that no field of this profile fills.
+-- An entry from its opcode, its identifier, its address, and dwords 12 and 13 as four bytes each. The namespace is 1; byte 1 (fused operation, data pointer kind) and all bytes that no field of this profile fills are zero.
 abbrev pub entry_with : Opcode → ℕ → ℕ → List ℕ → List ℕ → List ℕ
 entry_with opcode id address dword12 dword13 =
     opcode_code opcode ∷ 0 ∷ little_bytes 2 id ++ little_bytes 4 1 ++ replicate 32 0 ++ little_bytes 8 address ++ dword12 ++ dword13 ++ replicate 8 0
@@ -92,16 +92,16 @@ none = replicate 4 0
 abbrev pub block_number : ℕ → List ℕ
 block_number blocks = little_bytes 2 (blocks - 1) ++ replicate 2 0
 
--- the one spelling of a command with an identifier
+-- the encoding of a command with an identifier
 abbrev pub entry_bytes : Command → ℕ → List ℕ
 entry_bytes Flush id = entry_with opcodes.Flush id 0 none none
 entry_bytes (Read slba blocks) id = entry_with opcodes.Read id slba (block_number blocks) none
 entry_bytes (Write slba blocks) id = entry_with opcodes.Write id slba (block_number blocks) none
 entry_bytes (Append zslba blocks) id = entry_with opcodes.Append id zslba (block_number blocks) none
 entry_bytes (Send slba action all) id = entry_with opcodes.Send id slba none (action_code action ∷ bit all ∷ replicate 2 0)
-entry_bytes (Receive slba dwords choice partial) id = entry_with opcodes.Receive id slba (little_bytes 4 (dwords - 1)) (0 ∷ choice_code choice ∷ bit partial ∷ 0 ∷ [])
+entry_bytes (Receive slba dwords options partial) id = entry_with opcodes.Receive id slba (little_bytes 4 (dwords - 1)) (0 ∷ options_code options ∷ bit partial ∷ 0 ∷ [])
 
--- the commands that an entry can spell and that the profile admits
+-- the commands that fit in an entry and that the profile admits
 abbrev pub IsAdmitted : Command → Type 0
 IsAdmitted Flush = Unit {0}
 IsAdmitted (Read slba blocks) = (slba < 2 ^ 64) × (1 ≤ blocks) × (blocks ≤ 65536)
@@ -109,7 +109,7 @@ IsAdmitted (Write slba blocks) = (slba < 2 ^ 64) × (1 ≤ blocks) × (blocks �
 IsAdmitted (Append zslba blocks) = (zslba < 2 ^ 64) × (1 ≤ blocks) × (blocks ≤ 65536)
 IsAdmitted (Send slba Open all) = (slba < 2 ^ 64) × (all ≡ false)
 IsAdmitted (Send slba action all) = slba < 2 ^ 64
-IsAdmitted (Receive slba dwords choice partial) = (slba < 2 ^ 64) × (16 ≤ dwords) × (dwords ≤ 2 ^ 32)
+IsAdmitted (Receive slba dwords options partial) = (slba < 2 ^ 64) × (16 ≤ dwords) × (dwords ≤ 2 ^ 32)
 
 -- ---- the fields, by their bytes
 
@@ -132,8 +132,8 @@ dwords_of entry = little_from 48 4 entry + 1
 abbrev pub action_in : List ℕ → ℕ
 action_in entry = slice_index entry 52
 
-abbrev pub choice_in : List ℕ → ℕ
-choice_in entry = slice_index entry 53
+abbrev pub options_in : List ℕ → ℕ
+options_in entry = slice_index entry 53
 
 abbrev pub selects_all : List ℕ → Bool
 selects_all entry = slice_index entry 53 % 2 == 1
@@ -149,12 +149,12 @@ send_of None slba all = Err Field
 send_of (Some Open) slba true = Err Field
 send_of (Some action) slba all = Ok (Send slba action all)
 
--- a Zone Management Receive: Report Zones, a choice that is listed, and a buffer of at least 64 bytes
-abbrev pub receive_of : Bool → Option Choice → Bool → ℕ → ℕ → Bool → Result Command DecodeFault
-receive_of false choice short slba dwords partial = Err Field
+-- a Zone Management Receive: Report Zones, options that are listed, and a buffer of at least 64 bytes
+abbrev pub receive_of : Bool → Option ReportingOptions → Bool → ℕ → ℕ → Bool → Result Command DecodeFault
+receive_of false options short slba dwords partial = Err Field
 receive_of true None short slba dwords partial = Err Field
-receive_of true (Some choice) true slba dwords partial = Err Field
-receive_of true (Some choice) false slba dwords partial = Ok (Receive slba dwords choice partial)
+receive_of true (Some options) true slba dwords partial = Err Field
+receive_of true (Some options) false slba dwords partial = Ok (Receive slba dwords options partial)
 
 abbrev pub decoded : Option Opcode → Bool → List ℕ → Result Command DecodeFault
 decoded None one entry = Err faults.Opcode
@@ -165,7 +165,7 @@ decoded (Some opcodes.Write) true entry = Ok (Write (address_of entry) (blocks_o
 decoded (Some opcodes.Append) true entry = Ok (Append (address_of entry) (blocks_of entry))
 decoded (Some opcodes.Send) true entry = send_of (action_of (action_in entry)) (address_of entry) (selects_all entry)
 decoded (Some opcodes.Receive) true entry =
-    receive_of (action_in entry == 0) (choice_of (choice_in entry)) (nat_lt (dwords_of entry) 16) (address_of entry) (dwords_of entry) (is_partial entry)
+    receive_of (action_in entry == 0) (options_of (options_in entry)) (nat_lt (dwords_of entry) 16) (address_of entry) (dwords_of entry) (is_partial entry)
 
 -- the command of an entry: its opcode is looked at first, then its namespace, then its fields
 abbrev pub decode_of : List ℕ → Result Command DecodeFault

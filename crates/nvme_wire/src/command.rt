@@ -1,7 +1,8 @@
 ghost use Rattle.std.specs.Prelude.{◌≡◌};
-ghost use Rattle.nvme_wire.specs.Entry.{action_code, action_of, choice_code, choice_of, opcode_code, opcode_of};
+ghost use Rattle.nvme_wire.specs.Entry.{action_code, action_of, options_code, options_of, opcode_code, opcode_of};
 
 use crate::zone_state::ZoneState;
+use thiserror::Error;
 
 /// What a Zone Management Send does to a zone (Zoned Namespace Command Set 1.1, section 3.4.3).
 #[derive(Clone, Copy, Debug, PartialEq, Eq)]
@@ -41,49 +42,50 @@ impl Action {
     }
 }
 
-/// Which zones a report names (Zoned Namespace Command Set 1.1, section 3.4.2).
+/// Which zones a report names: the Reporting Options field of a Zone Management Receive (Zoned
+/// Namespace Command Set 1.1, section 3.4.2).
 #[derive(Clone, Copy, Debug, PartialEq, Eq)]
-pub enum Choice {
+pub enum ReportingOptions {
     AnyState,
     InState(ZoneState),
 }
 
-impl Choice {
-    // The Reporting Options field.
+impl ReportingOptions {
+    // The number in the field.
     pub(crate) fn code(self) -> u8
-        ensures { result ≡ choice_code self }
+        ensures { result ≡ options_code self }
     {
         match self {
-            Choice::AnyState => 0,
-            Choice::InState(ZoneState::Empty) => 1,
-            Choice::InState(ZoneState::ImplicitlyOpened) => 2,
-            Choice::InState(ZoneState::ExplicitlyOpened) => 3,
-            Choice::InState(ZoneState::Closed) => 4,
-            Choice::InState(ZoneState::Full) => 5,
-            Choice::InState(ZoneState::ReadOnly) => 6,
-            Choice::InState(ZoneState::Offline) => 7,
+            ReportingOptions::AnyState => 0,
+            ReportingOptions::InState(ZoneState::Empty) => 1,
+            ReportingOptions::InState(ZoneState::ImplicitlyOpened) => 2,
+            ReportingOptions::InState(ZoneState::ExplicitlyOpened) => 3,
+            ReportingOptions::InState(ZoneState::Closed) => 4,
+            ReportingOptions::InState(ZoneState::Full) => 5,
+            ReportingOptions::InState(ZoneState::ReadOnly) => 6,
+            ReportingOptions::InState(ZoneState::Offline) => 7,
         }
     }
 
-    pub(crate) fn from_code(code: u8) -> Option<Choice>
-        ensures { result ≡ choice_of code }
+    pub(crate) fn from_code(code: u8) -> Option<ReportingOptions>
+        ensures { result ≡ options_of code }
     {
         match code {
-            0 => Some(Choice::AnyState),
-            1 => Some(Choice::InState(ZoneState::Empty)),
-            2 => Some(Choice::InState(ZoneState::ImplicitlyOpened)),
-            3 => Some(Choice::InState(ZoneState::ExplicitlyOpened)),
-            4 => Some(Choice::InState(ZoneState::Closed)),
-            5 => Some(Choice::InState(ZoneState::Full)),
-            6 => Some(Choice::InState(ZoneState::ReadOnly)),
-            7 => Some(Choice::InState(ZoneState::Offline)),
+            0 => Some(ReportingOptions::AnyState),
+            1 => Some(ReportingOptions::InState(ZoneState::Empty)),
+            2 => Some(ReportingOptions::InState(ZoneState::ImplicitlyOpened)),
+            3 => Some(ReportingOptions::InState(ZoneState::ExplicitlyOpened)),
+            4 => Some(ReportingOptions::InState(ZoneState::Closed)),
+            5 => Some(ReportingOptions::InState(ZoneState::Full)),
+            6 => Some(ReportingOptions::InState(ZoneState::ReadOnly)),
+            7 => Some(ReportingOptions::InState(ZoneState::Offline)),
             _ => None,
         }
     }
 }
 
-/// A command for namespace 1. Addresses are in logical blocks, and `blocks` and `dwords` are counted
-/// from one.
+/// A command to namespace 1. Addresses are in logical blocks; `blocks` and `dwords` are counted from
+/// one, though the entry counts them from zero.
 #[derive(Clone, Copy, Debug, PartialEq, Eq)]
 pub enum Command {
     /// Base Specification 2.0, section 7.1.
@@ -112,24 +114,28 @@ pub enum Command {
         all: bool,
     },
     /// Zone Management Receive, action Report Zones (Zoned Namespace Command Set 1.1, section 3.4.2),
-    /// of 16 to 2^32 dwords. With `partial` the report's number counts what was transferred.
+    /// into a buffer of 16 to 2^32 dwords. In a `partial` report the head counts the descriptors that
+    /// follow, and else the zones that match.
     Receive {
         slba: u64,
         dwords: u64,
-        choice: Choice,
+        options: ReportingOptions,
         partial: bool,
     },
 }
 
-/// Why bytes are not an entry, a completion or a part of a report. An entry is refused by the first
+/// Why bytes are not an entry, a completion or a part of a report. The fault of an entry is the first
 /// of these that holds.
-#[derive(Clone, Copy, Debug, PartialEq, Eq)]
+#[derive(Clone, Copy, Debug, PartialEq, Eq, Error)]
 pub enum DecodeFault {
     /// The opcode is none of the six.
+    #[error("the opcode is none of this profile's")]
     Opcode,
     /// The namespace is not 1.
+    #[error("the namespace is not 1")]
     Namespace,
-    /// A field has a value that is not admitted.
+    /// A field has a value that the profile does not admit, or bytes that have to be zero are not.
+    #[error("a field has a value that is not admitted")]
     Field,
 }
 

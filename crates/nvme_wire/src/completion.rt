@@ -35,7 +35,7 @@ fn code_at(bytes: &[u8; 16]) -> u16
 }
 
 impl Completion {
-    /// The 16 bytes of the completion.
+    /// Encodes the completion.
     pub fn encode(&self) -> [u8; 16]
         ensures { result ≡ completion_bytes self.now }
     {
@@ -46,10 +46,10 @@ impl Completion {
         out
     }
 
-    /// The completion that these bytes spell, or `Field` where they spell none.
+    /// Decodes a completion. Bytes that no completion encodes to are the fault `Field`.
     pub fn decode(bytes: &[u8; 16]) -> Result<Completion, DecodeFault>
         ensures ok { IfOk result (λ c. (bytes.now ≡ completion_bytes c) × Fits c) }
-        ensures spelled { (c : _) → Fits c → bytes.now ≡ completion_bytes c → result ≡ Ok c }
+        ensures encoded { (c : _) → Fits c → bytes.now ≡ completion_bytes c → result ≡ Ok c }
         ensures err { IfErr result (λ fault. fault ≡ DecodeFault.Field) }
     {
         let Some(status) = Status::from_code(code_at(bytes)) else {
@@ -92,15 +92,15 @@ mod tests {
     }
 
     #[test]
-    fn bytes_that_spell_no_completion(rt: HostRuntime) {
+    fn bytes_of_no_completion(rt: HostRuntime) {
         // The queue head, the phase tag, Do Not Retry, and a status that the profile lacks.
-        for (place, byte) in [(8, 1), (14, 1), (15, 0x80), (14, 6)] {
+        for (at, byte) in [(8, 1), (14, 1), (15, 0x80), (14, 6)] {
             let mut bytes = [0; 16];
-            bytes[place] = byte;
+            bytes[at] = byte;
             assert_eq!(rt;
                 Completion::decode(&bytes),
                 Err(DecodeFault::Field),
-                "byte {place}"
+                "byte {at}"
             );
         }
     }

@@ -11,7 +11,7 @@ use byteorder::{ByteOrder, LittleEndian};
 #[derive(Clone, Copy, Debug, PartialEq, Eq)]
 pub struct Descriptor {
     pub state: ZoneState,
-    /// The blocks that can be written.
+    /// How many blocks of the zone can be written.
     pub capacity: u64,
     /// The lowest address of the zone.
     pub start: u64,
@@ -28,7 +28,7 @@ fn pointer_of(
 ) -> Result<Option<u64>, DecodeFault>
     ensures ok { IfOk result
         (λ pointer. IsPointer state start capacity pointer × (word ≡ pointer_word pointer)) }
-    ensures spelled { (pointer : _) →
+    ensures encoded { (pointer : _) →
         IsPointer state start capacity pointer → word ≡ pointer_word pointer → result ≡ Ok pointer }
     ensures err { IfErr result (λ fault. fault ≡ DecodeFault.Field) }
 {
@@ -44,7 +44,7 @@ fn pointer_of(
 }
 
 impl Descriptor {
-    /// The 64 bytes of the descriptor. A zone without a write pointer has all ones in its place.
+    /// Encodes the descriptor. The write pointer of a zone that has none is all ones.
     pub fn encode(&self) -> [u8; 64]
         ensures { result ≡ descriptor_bytes self.now }
     {
@@ -57,12 +57,12 @@ impl Descriptor {
         out
     }
 
-    /// The descriptor that these bytes spell, or `Field` where they spell none. The pointer of an Empty
-    /// zone is its start, that of an opened or Closed zone lies within its capacity, and a zone in any
-    /// other state has none.
+    /// Decodes a descriptor. The pointer of an Empty zone is its start, that of an opened or Closed zone
+    /// lies within its capacity, and a zone in any other state has none. Bytes that no such descriptor
+    /// encodes to are the fault `Field`.
     pub fn decode(bytes: &[u8; 64]) -> Result<Descriptor, DecodeFault>
         ensures ok { IfOk result (λ d. (bytes.now ≡ descriptor_bytes d) × IsDescriptor d) }
-        ensures spelled { (d : _) →
+        ensures encoded { (d : _) →
             IsDescriptor d → bytes.now ≡ descriptor_bytes d → result ≡ Ok d }
         ensures err { IfErr result (λ fault. fault ≡ DecodeFault.Field) }
     {

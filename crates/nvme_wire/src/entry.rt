@@ -1,11 +1,12 @@
-ghost use Rattle.std.specs.Prelude.{◌≡◌, ◌≤◌, true, Some, Ok};
+ghost use Rattle.std.specs.Prelude.{◌≡◌, ◌≤◌, ◌^◌, true, Some, Ok, IfOk};
 ghost use Rattle.nvme_wire.specs.Entry.{IsAdmitted, address_of, block_number, blocks_of, decode_of, decoded, dwords_of, entry_bytes, entry_with, id_of, namespace_of, none};
 
-use crate::command::{Action, Choice, Command, DecodeFault, Opcode};
+use crate::command::{Action, Command, DecodeFault, Opcode, ReportingOptions};
 use crate::number::u64_at;
 use byteorder::{ByteOrder, LittleEndian};
 
-/// The command identifier of an entry, whatever else the entry holds: bits 31:16 of dword 0.
+/// The command identifier of an entry, whatever else the entry holds: bits 31:16 of dword 0 (Base
+/// Specification 2.0, section 3.3.3.1).
 pub fn entry_id(entry: &[u8; 64]) -> u16
     ensures { result ≡ id_of entry.now }
 {
@@ -25,18 +26,21 @@ fn address_at(entry: &[u8; 64]) -> u64
 }
 
 fn blocks_at(entry: &[u8; 64]) -> u32
-    ensures { result ≡ blocks_of entry.now }
+    ensures value { result ≡ blocks_of entry.now }
+    ensures some { 1 ≤ result }
+    ensures few { result ≤ 65536 }
 {
     u32::from(LittleEndian::read_u16(&entry[48..50])) + 1
 }
 
 fn dwords_at(entry: &[u8; 64]) -> u64
-    ensures { result ≡ dwords_of entry.now }
+    ensures value { result ≡ dwords_of entry.now }
+    ensures few { result ≤ 2 ^ 32 }
 {
     u64::from(LittleEndian::read_u32(&entry[48..52])) + 1
 }
 
-// An entry for namespace 1 whose dwords 12 and 13 are zero.
+// An entry to namespace 1 whose dwords 12 and 13 are zero.
 fn entry_to(opcode: Opcode, id: u16, address: u64) -> [u8; 64]
     ensures { result ≡ entry_with opcode id address none none }
 {
@@ -59,9 +63,10 @@ fn blocks_entry(opcode: Opcode, id: u16, address: u64, blocks: u32) -> [u8; 64]
     out
 }
 
-// A Zone Management Send, whose opcode and namespace are looked at already.
+// Decodes a Zone Management Send, after its opcode and its namespace.
 fn decode_send(entry: &[u8; 64]) -> Result<Command, DecodeFault>
-    ensures { result ≡ decoded (Some Opcode.Send) true entry.now }
+    ensures value { result ≡ decoded (Some Opcode.Send) true entry.now }
+    ensures admitted { IfOk result IsAdmitted }
 {
     let all = entry[53] % 2 == 1;
     match Action::from_code(entry[52]) {
@@ -75,15 +80,16 @@ fn decode_send(entry: &[u8; 64]) -> Result<Command, DecodeFault>
     }
 }
 
-// A Zone Management Receive, in the same way.
+// Decodes a Zone Management Receive, after its opcode and its namespace.
 fn decode_receive(entry: &[u8; 64]) -> Result<Command, DecodeFault>
-    ensures { result ≡ decoded (Some Opcode.Receive) true entry.now }
+    ensures value { result ≡ decoded (Some Opcode.Receive) true entry.now }
+    ensures admitted { IfOk result IsAdmitted }
 {
     let dwords = dwords_at(entry);
     if entry[52] != 0 {
         return Err(DecodeFault::Field);
     }
-    let Some(choice) = Choice::from_code(entry[53]) else {
+    let Some(options) = ReportingOptions::from_code(entry[53]) else {
         return Err(DecodeFault::Field);
     };
     if dwords < 16 {
@@ -92,17 +98,17 @@ fn decode_receive(entry: &[u8; 64]) -> Result<Command, DecodeFault>
     Ok(Command::Receive {
         slba: address_at(entry),
         dwords,
-        choice,
+        options,
         partial: entry[54] % 2 == 1,
     })
 }
 
 impl Command {
-    /// The 64 bytes of the command with an identifier, for a command that the profile admits. What no
-    /// field of the command fills is zero, the data pointers too.
+    /// Encodes a command that the profile admits, with an identifier. All bytes that no field of the
+    /// command fills are zero, those of the data pointers too.
     pub fn encode(&self, id: u16) -> [u8; 64]
         requires { IsAdmitted self.now }
-        ensures spelled { result ≡ entry_bytes self.now id }
+        ensures encoded { result ≡ entry_bytes self.now id }
         ensures again { decode_of result ≡ Ok self.now }
         ensures id { id_of result ≡ id }
     {
@@ -120,22 +126,23 @@ impl Command {
             Command::Receive {
                 slba,
                 dwords,
-                choice,
+                options,
                 partial,
             } => {
                 let mut out = entry_to(Opcode::Receive, id, slba);
                 LittleEndian::write_u32(&mut out[48..52], (dwords - 1) as u32);
-                out[53] = choice.code();
+                out[53] = options.code();
                 out[54] = partial as u8;
                 out
             }
         }
     }
 
-    /// The command of an entry. Only the opcode, the namespace and the command's own fields are looked
-    /// at; the first of them that is wrong is the fault, in this order.
+    /// Decodes an entry. Only the opcode, the namespace and the command's own fields are looked at, in
+    /// this order, and the first of them that is wrong is the fault. What is decoded can be encoded.
     pub fn decode(entry: &[u8; 64]) -> Result<Command, DecodeFault>
-        ensures { result ≡ decode_of entry.now }
+        ensures value { result ≡ decode_of entry.now }
+        ensures admitted { IfOk result IsAdmitted }
     {
         let Some(opcode) = Opcode::from_code(entry[0]) else {
             return Err(DecodeFault::Opcode);
@@ -191,7 +198,7 @@ mod tests {
         let receive = Command::Receive {
             slba: 0,
             dwords: 40,
-            choice: Choice::AnyState,
+            options: ReportingOptions::AnyState,
             partial: true,
         };
         let want = entry_of(0x7a, [39, 0, 0, 0], [0, 0, 1, 0]);
@@ -213,7 +220,10 @@ mod tests {
     fn fields_that_are_not_admitted(rt: HostRuntime) {
         let refused = [
             (entry_of(0x7a, [14, 0, 0, 0], [0, 0, 0, 0]), "15 dwords"),
-            (entry_of(0x7a, [15, 0, 0, 0], [0, 8, 0, 0]), "choice 8"),
+            (
+                entry_of(0x7a, [15, 0, 0, 0], [0, 8, 0, 0]),
+                "reporting options 8",
+            ),
             (entry_of(0x7a, [15, 0, 0, 0], [1, 0, 0, 0]), "receive 1"),
             (entry_of(0x79, [0; 4], [3, 1, 0, 0]), "Open of all zones"),
             (entry_of(0x79, [0; 4], [6, 0, 0, 0]), "send action 6"),

@@ -8,12 +8,12 @@ use byteorder::{ByteOrder, LittleEndian};
 /// The head of a zone report (Zoned Namespace Command Set 1.1, section 3.4.2).
 #[derive(Clone, Copy, Debug, PartialEq, Eq)]
 pub struct ReportHead {
-    /// How many zones match, or, in a partial report, how many descriptors follow.
+    /// How many zones match or, in a partial report, how many descriptors follow.
     pub zones: u64,
 }
 
 impl ReportHead {
-    /// The 64 bytes of the head.
+    /// Encodes the head.
     pub fn encode(&self) -> [u8; 64]
         ensures { result ≡ report_head_bytes self.now }
     {
@@ -22,11 +22,11 @@ impl ReportHead {
         out
     }
 
-    /// The head that these bytes spell, or `Field` where they spell none.
+    /// Decodes a head. Bytes that no head encodes to are the fault `Field`.
     pub fn decode(bytes: &[u8; 64]) -> Result<ReportHead, DecodeFault>
         ensures ok { IfOk result
             (λ head. (bytes.now ≡ report_head_bytes head) × (head.zones < 2 ^ 64)) }
-        ensures spelled { (head : _) →
+        ensures encoded { (head : _) →
             head.zones < 2 ^ 64 → bytes.now ≡ report_head_bytes head → result ≡ Ok head }
         ensures err { IfErr result (λ fault. fault ≡ DecodeFault.Field) }
     {

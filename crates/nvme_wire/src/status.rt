@@ -1,8 +1,10 @@
 ghost use Rattle.std.specs.Prelude.{◌≡◌};
 ghost use Rattle.nvme_wire.specs.Status.{status_code, status_of};
 
-/// How a command ended (Base Specification 2.0, status field; Zoned Namespace Command Set 1.1, status
-/// values of zoned namespaces).
+use std::fmt;
+
+/// How a command ended (Base Specification 2.0, section 3.3.3.2.1; Zoned Namespace Command Set 1.1,
+/// status values of zoned namespaces). It is displayed by the standard's name.
 #[derive(Clone, Copy, Debug, PartialEq, Eq)]
 pub enum Status {
     Success,
@@ -63,5 +65,25 @@ impl Status {
             0x037e => Some(Status::InvalidZoneStateTransition),
             _ => None,
         }
+    }
+}
+
+impl fmt::Display for Status {
+    fn fmt<W: fmt::Write>(&self, f: &mut fmt::Formatter<W>) -> fmt::Result {
+        f.write_str(match self {
+            Status::Success => "Successful Completion",
+            Status::InvalidCommandOpcode => "Invalid Command Opcode",
+            Status::InvalidField => "Invalid Field in Command",
+            Status::InvalidNamespace => "Invalid Namespace or Format",
+            Status::LbaOutOfRange => "LBA Out of Range",
+            Status::ZoneBoundaryError => "Zone Boundary Error",
+            Status::ZoneIsFull => "Zone Is Full",
+            Status::ZoneIsReadOnly => "Zone Is Read Only",
+            Status::ZoneIsOffline => "Zone Is Offline",
+            Status::ZoneInvalidWrite => "Zone Invalid Write",
+            Status::TooManyActiveZones => "Too Many Active Zones",
+            Status::TooManyOpenZones => "Too Many Open Zones",
+            Status::InvalidZoneStateTransition => "Invalid Zone State Transition",
+        })
     }
 }

@@ -11,7 +11,7 @@ use Rattle.zone_states.specs.Transition.{is_active, is_open}
 use Rattle.zone_states.specs.Zone.{Zone}
 use Rattle.zone_states.proofs.CheckLaws.{first_failing-back, first_failing-front}
 use Rattle.drive_port.specs.Drive.{active_count, open_count}
-use Rattle.drive_port.specs.Step.{Outcome, one_if, place_checks, unless_refused, zone_at}
+use Rattle.drive_port.specs.Step.{Outcome, one_if, resource_checks, unless_refused, zone_at}
 use Rattle.zone_drive.specs.Choice.{IsLowest, PlaceGives, close_lowest, wants_open_place, with_room}
 use Rattle.zone_drive.proofs.CountLaws.{active-set, open-set}
 use Rattle.zone_drive.proofs.PlaceLaws.{apart, zone_at-closing}
@@ -19,7 +19,7 @@ use Rattle.zone_drive.proofs.PlaceLaws.{apart, zone_at-closing}
 -- the command on these zones: its first checks look at one zone alone
 abbrev pub opening : Geometry → (Zone → List (Bool × Status)) → (List Zone → Outcome) → ℕ → List Zone → Outcome
 opening geometry first effect index zones =
-    unless_refused (first_failing (first (zone_at zones index) ++ place_checks geometry zones (zone_at zones index))) zones (effect zones)
+    unless_refused (first_failing (first (zone_at zones index) ++ resource_checks geometry zones (zone_at zones index))) zones (effect zones)
 
 -- the command on the zones that the drive chooses
 abbrev pub by_choice : (List Zone → Outcome) → List Zone → Outcome
@@ -45,7 +45,7 @@ pub opening-refused : (geometry : Geometry) (first : Zone → List (Bool × Stat
     → by_choice (opening geometry first effect index) zones ≡ unless_refused (Some status) zones (effect zones)
 opening-refused geometry first effect index zones status all e =
     let checks = first (zone_at zones index) in
-    let front = first_failing-front checks (place_checks geometry zones (zone_at zones index)) status e in
+    let front = first_failing-front checks (resource_checks geometry zones (zone_at zones index)) status e in
     same_choice (opening geometry first effect index) zones (unless_refused (Some status) zones (effect zones)) (rw (← front) refl) (other checks status all e)
 
 no_closing : (wants : Bool) (closed zones : List Zone) → (wants ≡ true → closed ≡ zones) → cond wants closed zones ≡ zones
@@ -58,7 +58,7 @@ pub opening-no_place : (geometry : Geometry) (first : Zone → List (Bool × Sta
 opening-no_place geometry first effect index zones status passed (place, none) =
     let checks = first (zone_at zones index) in
     let gives = opening geometry first effect index in
-    let back = first_failing-back checks (place_checks geometry zones (zone_at zones index)) (Some status) passed place in
+    let back = first_failing-back checks (resource_checks geometry zones (zone_at zones index)) (Some status) passed place in
     let is : gives zones ≡ unless_refused (Some status) zones (effect zones) = rw (← back) refl in
     let wants : wants_open_place (gives zones).status ≡ wants_open_place status = ap (λ (o : Outcome). wants_open_place o.status) is in
     let choice : cond (wants_open_place (gives zones).status) (close_lowest zones) zones ≡ zones = rw wants (no_closing (wants_open_place status) _ zones none) in
@@ -80,7 +80,7 @@ and-false false b e = refl
 
 -- once the lowest implicitly opened zone is closed, there is an open place
 closing-passes : (geometry : Geometry) (zones : List Zone) (zone : Zone) (low : ℕ) → open_count zones ≤ geometry.open
-    → Some TooManyOpenZones ≡ first_failing (place_checks geometry zones zone) → IsLowest zones low → None ≡ first_failing (place_checks geometry (close_lowest zones) zone)
+    → Some TooManyOpenZones ≡ first_failing (resource_checks geometry zones zone) → IsLowest zones low → None ≡ first_failing (resource_checks geometry (close_lowest zones) zone)
 closing-passes geometry zones zone low most place lowest =
     let after : Zone = record { state = Closed; blocks = (zone_at zones low).blocks } in
     let opened = ap (λ (s : ZoneState). one_if (is_open s)) lowest.opened in
@@ -95,14 +95,14 @@ pub opening-done : (geometry : Geometry) (first : Zone → List (Bool × Status)
     → None ≡ first_failing (first (zone_at zones index)) → PlaceGives geometry zones (zone_at zones index) (Ok closing)
     → by_choice (opening geometry first effect index) zones ≡ effect (with_room zones closing)
 opening-done geometry first effect index zones None succeeds most passed place =
-    let all = first_failing-back (first (zone_at zones index)) (place_checks geometry zones (zone_at zones index)) None passed place in
+    let all = first_failing-back (first (zone_at zones index)) (resource_checks geometry zones (zone_at zones index)) None passed place in
     same_choice (opening geometry first effect index) zones (effect zones) (rw (← all) refl) (succeeds zones)
 opening-done geometry first effect index zones (Some low) succeeds most passed (place, lowest) =
     let gives = opening geometry first effect index in
-    let wanting = first_failing-back (first (zone_at zones index)) (place_checks geometry zones (zone_at zones index)) (Some TooManyOpenZones) passed place in
+    let wanting = first_failing-back (first (zone_at zones index)) (resource_checks geometry zones (zone_at zones index)) (Some TooManyOpenZones) passed place in
     let is : gives zones ≡ unless_refused (Some TooManyOpenZones) zones (effect zones) = rw (← wanting) refl in
     let wants : wants_open_place (gives zones).status ≡ true = ap (λ (o : Outcome). wants_open_place o.status) is in
     let zone : zone_at (close_lowest zones) index ≡ zone_at zones index = zone_at-closing zones index low (apart geometry zones index low place lowest) lowest in
     let closed = closing-passes geometry zones (zone_at zones index) low most place lowest in
-    let all = first_failing-back (first (zone_at zones index)) (place_checks geometry (close_lowest zones) (zone_at zones index)) None passed closed in
+    let all = first_failing-back (first (zone_at zones index)) (resource_checks geometry (close_lowest zones) (zone_at zones index)) None passed closed in
     rw (wants, zone, ← all) refl

@@ -14,7 +14,7 @@ use Rattle.zone_states.specs.Zone.{Zone, cut_blocks, written_zone}
 use Rattle.zone_states.specs.Stored.{StoredZone, zone_of}
 use Rattle.zone_states.specs.Checks.{first_failing}
 use Rattle.zone_states.specs.Sending.{zone_after}
-use Rattle.drive_port.specs.Step.{nowhere, place_checks, write_effect, zone_at}
+use Rattle.drive_port.specs.Step.{nowhere, resource_checks, write_effect, zone_at}
 use Rattle.zone_drive.specs.Choice.{IsLowest, PlaceGives, close_lowest, closed}
 use Rattle.zone_drive.specs.Sending.{sent_to}
 use Rattle.zone_drive.specs.Stored.{zones_of}
@@ -72,7 +72,7 @@ lowest-None block zones e =
 -- ---- a write that gets the place of the zone that is closed
 
 -- a zone for which another one is closed is not open itself
-pub apart : (geometry : Geometry) (zones : List Zone) (index low : ℕ) → Some TooManyOpenZones ≡ first_failing (place_checks geometry zones (zone_at zones index)) → IsLowest zones low → index ≢ low
+pub apart : (geometry : Geometry) (zones : List Zone) (index low : ℕ) → Some TooManyOpenZones ≡ first_failing (resource_checks geometry zones (zone_at zones index)) → IsLowest zones low → index ≢ low
 apart geometry zones index low wants lowest = λ same.
     let opened : (zone_at zones index).state ≡ ImplicitlyOpened = rw same lowest.opened in
     cc (rw opened at wants)

@@ -1,15 +1,9 @@
--- What a report is told of the zones, and which commands an entry spells.
-use Rattle.std.proofs.Common.{◌≡◌, ℕ, ◌/◌, ◌^◌, ◌<◌, ◌≤◌, Bool, true, false, ltb, List, [], length, get_or, Option, Some, None, Ok, refl, sym, ap, ◌∙◌, arith}
-use Rattle.std.specs.Prelude.{IfOk, ◌==◌}
-use Rattle.std.proofs.lemmas.Bool.{le-leb, lt-leb, ltb-false}
+-- What a report shows of the zones.
+use Rattle.std.proofs.Common.{◌≡◌, ℕ, ◌/◌, ◌^◌, ◌<◌, ◌≤◌, Bool, List, [], length, get_or, Option, Some, None, Ok, refl, sym, ap, ◌∙◌, arith}
+use Rattle.std.proofs.lemmas.Bool.{le-leb, lt-leb}
 use Rattle.std.proofs.lemmas.List.{get_or-map}
-use Rattle.nvme_wire.specs.Entry.{decode_of, decoded, dwords_of, namespace_of, opcode_of, receive_of, send_of, action_in, action_of, address_of, choice_in, choice_of, is_partial, selects_all}
-use Rattle.nvme_wire.specs.declared.command.Action.{Action}
-use Rattle.nvme_wire.specs.declared.command.Action.TheVariants.{Close, Finish, Open, Reset, Offline}
-use Rattle.nvme_wire.specs.declared.command.Choice.{Choice}
+use Rattle.nvme_wire.specs.declared.command.ReportingOptions.{ReportingOptions}
 use Rattle.nvme_wire.specs.declared.command.Command.TheVariants.{Receive}
-use Rattle.nvme_wire.specs.declared.command.Opcode.{Opcode}
-use Rattle.nvme_wire.specs.declared.command.Opcode.TheVariants as opcodes
 use Rattle.nvme_wire.specs.declared.status.Status.{Status}
 use Rattle.nvme_wire.specs.declared.status.Status.TheVariants.{LbaOutOfRange, Success}
 use Rattle.zone_states.specs.declared.geometry.Geometry.{Geometry}
@@ -21,7 +15,6 @@ use Rattle.zone_report.specs.Report.{report, status_of}
 use Rattle.drive_port.specs.Drive.{DriveState}
 use Rattle.drive_port.specs.Step.{done, end_of, outcome, receive_checks, unless_refused}
 use Rattle.zone_drive.specs.Choice.{Gives}
-use Rattle.zone_drive.specs.Spelled.{IsSpelled}
 use Rattle.zone_drive.specs.Stored.{IsCounted, zones_of}
 use Rattle.zone_drive.proofs.OutcomeLaws.{gives-same, performed-plain}
 use Rattle.zone_drive.proofs.WriteLaws.{lawful-at, may_hold-le, zone_at-stored}
@@ -43,58 +36,27 @@ written-fits geometry zones active open_zones index zone counted lt read =
     let here = ap (λ (z : Zone). length z.blocks) (zone_at-stored b zones index zone lt ∙ ap (zone_of b) (sym read)) in
     omega (arith, few, here, length-cut b (length zone.bytes / b) zone.bytes, counted.in_range.capacity.1, counted.in_range.size.1)
 
--- ---- entries
-
-send-spelled : (action : Option Action) (slba : ℕ) (all : Bool) → IfOk (send_of action slba all) IsSpelled
-send-spelled None slba all = tt
-send-spelled (Some Open) slba true = tt
-send-spelled (Some Open) slba false = tt
-send-spelled (Some Close) slba all = tt
-send-spelled (Some Finish) slba all = tt
-send-spelled (Some Reset) slba all = tt
-send-spelled (Some Offline) slba all = tt
-
-receive-spelled : (report : Bool) (choice : Option Choice) (short : Bool) (slba dwords : ℕ) (partial : Bool) → ltb dwords 16 ≡ short → IfOk (receive_of report choice short slba dwords partial) IsSpelled
-receive-spelled false choice short slba dwords partial e = tt
-receive-spelled true None short slba dwords partial e = tt
-receive-spelled true (Some choice) true slba dwords partial e = tt
-receive-spelled true (Some choice) false slba dwords partial e = ltb-false _ _ e
-
-decoded-spelled : (opcode : Option Opcode) (namespace : Bool) (entry : List ℕ) → IfOk (decoded opcode namespace entry) IsSpelled
-decoded-spelled None namespace entry = tt
-decoded-spelled (Some opcode) false entry = tt
-decoded-spelled (Some opcodes.Flush) true entry = tt
-decoded-spelled (Some opcodes.Read) true entry = tt
-decoded-spelled (Some opcodes.Write) true entry = omega arith
-decoded-spelled (Some opcodes.Append) true entry = tt
-decoded-spelled (Some opcodes.Send) true entry = send-spelled (action_of (action_in entry)) (address_of entry) (selects_all entry)
-decoded-spelled (Some opcodes.Receive) true entry =
-    receive-spelled (action_in entry == 0) (choice_of (choice_in entry)) (ltb (dwords_of entry) 16) (address_of entry) (dwords_of entry) (is_partial entry) refl
-
-pub decode-spelled : (entry : List ℕ) → IfOk (decode_of entry) IsSpelled
-decode-spelled entry = decoded-spelled (opcode_of (get_or entry 0 0)) (namespace_of entry == 1) entry
-
 -- ---- the command
 
-outcome-Receive : (geometry : Geometry) (zones : List Zone) (slba dwords : ℕ) (choice : Choice) (partial : Bool) (bytes : List ℕ) (refusal : Option Status)
+outcome-Receive : (geometry : Geometry) (zones : List Zone) (slba dwords : ℕ) (options : ReportingOptions) (partial : Bool) (bytes : List ℕ) (refusal : Option Status)
     → refusal ≡ first_failing (receive_checks geometry slba)
-    → outcome geometry zones (Ok (Receive slba dwords choice partial)) bytes ≡ unless_refused refusal zones (done (report geometry zones slba choice partial dwords) zones)
+    → outcome geometry zones (Ok (Receive slba dwords options partial)) bytes ≡ unless_refused refusal zones (done (report geometry zones slba options partial dwords) zones)
 unfolding outcome
-outcome-Receive geometry zones slba dwords choice partial bytes refusal e = rw e refl
+outcome-Receive geometry zones slba dwords options partial bytes refusal e = rw e refl
 
-pub receive-refused : (old : DriveState) (slba dwords : ℕ) (choice : Choice) (partial : Bool) (bytes : List ℕ) → end_of old.geometry ≤ slba
-    → Gives old (Ok (Receive slba dwords choice partial)) bytes (record { status = LbaOutOfRange; value = 0 }) [] old
-receive-refused old slba dwords choice partial bytes past =
+pub receive-refused : (old : DriveState) (slba dwords : ℕ) (options : ReportingOptions) (partial : Bool) (bytes : List ℕ) → end_of old.geometry ≤ slba
+    → Gives old (Ok (Receive slba dwords options partial)) bytes (record { status = LbaOutOfRange; value = 0 }) [] old
+receive-refused old slba dwords options partial bytes past =
     let e : Some LbaOutOfRange ≡ first_failing (receive_checks old.geometry slba) = rw (le-leb _ _ past) refl in
-    gives-same old (Ok (Receive slba dwords choice partial)) bytes LbaOutOfRange
-    (performed-plain old.geometry old.zones (Ok (Receive slba dwords choice partial)) bytes _ (outcome-Receive old.geometry old.zones slba dwords choice partial bytes (Some LbaOutOfRange) e) refl)
+    gives-same old (Ok (Receive slba dwords options partial)) bytes LbaOutOfRange
+    (performed-plain old.geometry old.zones (Ok (Receive slba dwords options partial)) bytes _ (outcome-Receive old.geometry old.zones slba dwords options partial bytes (Some LbaOutOfRange) e) refl)
 
-pub receive-reported : (old : DriveState) (slba dwords : ℕ) (choice : Choice) (partial : Bool) (bytes returned : List ℕ) → slba < end_of old.geometry
-    → returned ≡ report old.geometry old.zones slba choice partial dwords
-    → Gives old (Ok (Receive slba dwords choice partial)) bytes (record { status = Success; value = 0 }) returned old
-receive-reported old slba dwords choice partial bytes returned below is =
+pub receive-reported : (old : DriveState) (slba dwords : ℕ) (options : ReportingOptions) (partial : Bool) (bytes returned : List ℕ) → slba < end_of old.geometry
+    → returned ≡ report old.geometry old.zones slba options partial dwords
+    → Gives old (Ok (Receive slba dwords options partial)) bytes (record { status = Success; value = 0 }) returned old
+receive-reported old slba dwords options partial bytes returned below is =
     let e : None ≡ first_failing (receive_checks old.geometry slba) = rw (lt-leb _ _ below) refl in
     rw is (record {
-      outcome = performed-plain old.geometry old.zones (Ok (Receive slba dwords choice partial)) bytes _ (outcome-Receive old.geometry old.zones slba dwords choice partial bytes None e) refl;
+      outcome = performed-plain old.geometry old.zones (Ok (Receive slba dwords options partial)) bytes _ (outcome-Receive old.geometry old.zones slba dwords options partial bytes None e) refl;
       others = refl;
     })

@@ -47,14 +47,14 @@ closes-chosen false zones = same_zones zones
 pub completes : (old middle new : DriveState) (entry bytes returned completion : List ℕ) (reply : Reply) → Gives old (decode_of entry) bytes reply returned middle
     → new ≡ counted middle (decode_of entry) reply.status → completion ≡ completion_bytes (record { result = reply.value; id = id_of entry; status = reply.status })
     → reply.value < 2 ^ 64 → Completes old entry bytes completion returned new
-completes old middle new entry bytes returned completion reply gives counts spelled fits =
+completes old middle new entry bytes returned completion reply gives counts encoded fits =
     let command = decode_of entry in
     let others = gives.others in
     record {
       status = reply.status;
       value = reply.value;
       fits = fits;
-      spelled = spelled;
+      encoded = encoded;
       performs = record {
         effect = record {
           middle = chosen old.geometry old.zones command bytes;

@@ -13,7 +13,7 @@ use Rattle.zone_states.specs.Transition.{is_state}
 use Rattle.zone_states.specs.Zone.{Zone}
 use Rattle.drive_port.specs.Drive.{DriveState}
 use Rattle.zone_drive.specs.declared.reply.Reply.{Reply}
-use Rattle.drive_port.specs.Step.{Outcome, outcome, place_checks, zone_at}
+use Rattle.drive_port.specs.Step.{Outcome, outcome, resource_checks, zone_at}
 
 -- a zone after the controller closed it
 abbrev pub closed : Zone → Zone
@@ -55,9 +55,9 @@ pub record AnswersByChoice (old : DriveState) (entry bytes completion returned :
 
 -- The places that a zone needs: they are there, or they are once the zone with this number is closed, or there are none.
 abbrev pub PlaceGives : Geometry → List Zone → Zone → Result (Option ℕ) Status → Type 0
-PlaceGives geometry zones zone (Ok None) = None ≡ first_failing (place_checks geometry zones zone)
-PlaceGives geometry zones zone (Ok (Some low)) = (Some TooManyOpenZones ≡ first_failing (place_checks geometry zones zone)) × IsLowest zones low
-PlaceGives geometry zones zone (Err status) = (Some status ≡ first_failing (place_checks geometry zones zone)) × (wants_open_place status ≡ true → close_lowest zones ≡ zones)
+PlaceGives geometry zones zone (Ok None) = None ≡ first_failing (resource_checks geometry zones zone)
+PlaceGives geometry zones zone (Ok (Some low)) = (Some TooManyOpenZones ≡ first_failing (resource_checks geometry zones zone)) × IsLowest zones low
+PlaceGives geometry zones zone (Err status) = (Some status ≡ first_failing (resource_checks geometry zones zone)) × (wants_open_place status ≡ true → close_lowest zones ≡ zones)
 
 -- the zones once there is room for that zone: the lowest implicitly opened one is closed where it has to be
 abbrev pub with_room : List Zone → Option ℕ → List Zone

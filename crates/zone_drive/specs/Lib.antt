@@ -4,4 +4,3 @@ pub mod Faults
 pub mod Writing
 pub mod Sending
 pub mod Counts
-pub mod Spelled

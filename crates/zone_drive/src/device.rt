@@ -1,9 +1,9 @@
 ghost use Rattle.std.specs.Prelude.{◌≡◌, ◌<◌, ◌^◌, [], IfOk, IfErr, OnErr, Ok, nat_le};
+ghost use Rattle.nvme_wire.specs.Entry.{IsAdmitted};
 ghost use Rattle.drive_port.specs.Drive.{IsLawful};
 ghost use Rattle.drive_port.specs.Step.{SubmitGives, decode_status};
 ghost use Rattle.zone_drive.specs.Choice.{AnswersByChoice, Gives};
 ghost use Rattle.zone_drive.specs.Counts.{counted};
-ghost use Rattle.zone_drive.specs.Spelled.{IsSpelled};
 
 use crate::drive::Drive;
 use crate::reply::Reply;
@@ -24,7 +24,7 @@ impl Drive {
     // Does a command.
     fn execute(&mut self, command: Command, bytes: &[u8], into: &mut Vec<u8>) -> Result<Reply, Halt>
         requires nothing { into.old.items ≡ [] }
-        requires spelled { IsSpelled command }
+        requires admitted { IsAdmitted command }
         ensures ok { IfOk result (λ reply.
             Gives self.old (Ok command) bytes.now reply into.new.items self.new) }
         ensures err { IfErr result (λ halt. halt ≡ Halt.Memory) }
@@ -40,9 +40,9 @@ impl Drive {
             Command::Receive {
                 slba,
                 dwords,
-                choice,
+                options,
                 partial,
-            } => self.receive(slba, dwords, choice, partial, into),
+            } => self.receive(slba, dwords, options, partial, into),
         }
     }
 
@@ -54,7 +54,7 @@ impl Drive {
         into: &mut Vec<u8>,
     ) -> Result<Reply, Halt>
         requires nothing { into.old.items ≡ [] }
-        requires spelled { IfOk command IsSpelled }
+        requires admitted { IfOk command IsAdmitted }
         ensures ok { IfOk result (λ reply.
             Gives self.old command bytes.now reply into.new.items self.new) }
         ensures err { IfErr result (λ halt. halt ≡ Halt.Memory) }

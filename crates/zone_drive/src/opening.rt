@@ -1,7 +1,7 @@
 ghost use Rattle.std.specs.Prelude.{◌≡◌, position};
 ghost use Rattle.zone_states.specs.Checks.{first_failing};
 ghost use Rattle.zone_states.specs.Transition.{is_state};
-ghost use Rattle.drive_port.specs.Step.{place_checks, zone_at};
+ghost use Rattle.drive_port.specs.Step.{resource_checks, zone_at};
 ghost use Rattle.zone_drive.specs.Choice.{PlaceGives};
 
 use crate::drive::Drive;
@@ -21,7 +21,7 @@ impl Drive {
     // Whether the zone with a number has the places that it needs to be opened.
     fn place_refusal(&self, index: u64) -> Option<Status>
         ensures { result ≡ first_failing
-            (place_checks self.now.geometry self.now.zones (zone_at self.now.zones index)) }
+            (resource_checks self.now.geometry self.now.zones (zone_at self.now.zones index)) }
     {
         let state = self.state_at(index);
         if state == ZoneState::Empty && self.places.active_zones >= self.geometry.active {

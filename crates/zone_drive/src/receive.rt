@@ -4,7 +4,7 @@ ghost use Rattle.zone_drive.specs.Choice.{Gives};
 use crate::drive::Drive;
 use crate::reply::Reply;
 use drive_port::Halt;
-use nvme_wire::{Choice, Command, Status};
+use nvme_wire::{Command, ReportingOptions, Status};
 use zone_report::{ReportFault, ReportedZones, ZoneStatus, report_bytes};
 
 impl ReportedZones for Drive {
@@ -25,20 +25,20 @@ impl Drive {
         &self,
         slba: u64,
         dwords: u64,
-        choice: Choice,
+        options: ReportingOptions,
         partial: bool,
         into: &mut Vec<u8>,
     ) -> Result<Reply, Halt>
         requires nothing { into.old.items ≡ [] }
         requires room { 16 ≤ dwords }
         ensures ok { (bytes : List ℕ) → IfOk result (λ reply.
-            Gives self.now (Ok (Command.Receive slba dwords choice partial)) bytes
+            Gives self.now (Ok (Command.Receive slba dwords options partial)) bytes
             reply into.new.items self.now) }
         ensures err { IfErr result (λ halt. halt ≡ Halt.Memory) }
         ensures returned { OnErr result (into.new.items ≡ []) }
     {
         let geometry = self.geometry;
-        match report_bytes(self.alloc, self, geometry, slba, choice, partial, dwords) {
+        match report_bytes(self.alloc, self, geometry, slba, options, partial, dwords) {
             Ok(bytes) => {
                 *into = bytes;
                 Ok(Reply::done(0))

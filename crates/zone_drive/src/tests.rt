@@ -3,7 +3,7 @@ ghost use Rattle.nvme_wire.specs.Entry.{IsAdmitted};
 
 use crate::{Drive, DriveFault};
 use drive_port::{Device, Geometry};
-use nvme_wire::{Action, Choice, Command, Completion, Status, ZoneState};
+use nvme_wire::{Action, Command, Completion, ReportingOptions, Status, ZoneState};
 use std::alloc::Global;
 use std::process::Abort;
 use zone_states::{GeometryFault, Zone};
@@ -67,7 +67,7 @@ fn send(slba: u64, action: Action) -> Command
 }
 
 // A completion with no result, with these last four bytes.
-fn spelled(dword3: [u8; 4]) -> [u8; 16] {
+fn encoded(dword3: [u8; 4]) -> [u8; 16] {
     let mut bytes = [0; 16];
     bytes[12..16].copy_from_slice(&dword3);
     bytes
@@ -112,7 +112,7 @@ fn refuses_writes_by_the_first_check(rt: HostRuntime) {
     }
     let entry = append(0, 1).encode(1);
     let completion = drive.submit(&entry, &block, &mut into);
-    assert_eq!(rt; completion, Ok(spelled([0x01, 0x00, 0x72, 0x03])));
+    assert_eq!(rt; completion, Ok(encoded([0x01, 0x00, 0x72, 0x03])));
 }
 
 #[test]
@@ -151,7 +151,7 @@ fn keeps_the_limit_on_active_zones(rt: HostRuntime) {
     ] {
         let entry = send(slba, Action::Open).encode(dword3[0] as u16);
         let completion = drive.submit(&entry, &[], &mut into);
-        assert_eq!(rt; completion, Ok(spelled(dword3)), "zone at {slba}");
+        assert_eq!(rt; completion, Ok(encoded(dword3)), "zone at {slba}");
     }
 }
 
@@ -284,17 +284,23 @@ fn reads_what_was_written_and_zeros(rt: HostRuntime) {
 fn reports_zones(rt: HostRuntime) {
     let mut into = Vec::new(rt.alloc());
     let mut drive = written(&rt, rt.alloc(), &mut into);
-    for (slba, choice, dwords, partial, number) in [
-        (0, Choice::InState(ZoneState::Full), 80, false, 1),
-        (9, Choice::AnyState, 80, false, 3),
-        (20, Choice::InState(ZoneState::Empty), 80, false, 2),
-        (0, Choice::AnyState, 40, false, 4),
-        (0, Choice::AnyState, 40, true, 1),
+    for (slba, options, dwords, partial, number) in [
+        (0, ReportingOptions::InState(ZoneState::Full), 80, false, 1),
+        (9, ReportingOptions::AnyState, 80, false, 3),
+        (
+            20,
+            ReportingOptions::InState(ZoneState::Empty),
+            80,
+            false,
+            2,
+        ),
+        (0, ReportingOptions::AnyState, 40, false, 4),
+        (0, ReportingOptions::AnyState, 40, true, 1),
     ] {
         let report = Command::Receive {
             slba,
             dwords,
-            choice,
+            options,
             partial,
         };
         assert_eq!(rt;
@@ -302,7 +308,11 @@ fn reports_zones(rt: HostRuntime) {
             Some((Status::Success, 0))
         );
         let shown = (into.len() as u64, into.first().copied());
-        assert_eq!(rt; shown, (4 * dwords, Some(number)), "{choice:?} from {slba}");
+        assert_eq!(rt;
+            shown,
+            (4 * dwords, Some(number)),
+            "{options:?} from {slba}"
+        );
     }
 }
 

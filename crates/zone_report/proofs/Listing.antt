@@ -7,7 +7,7 @@ use Rattle.nvme_wire.specs.Descriptor.{descriptor_bytes}
 -- behind the front, the descriptors written so far and those of the rest are those of the whole
 pub record Continues (front : List ℕ) (room : ℕ) (whole : List Descriptor) (named : ℕ) (bytes : List ℕ) (rest : List Descriptor) : Type 0 where
   pub count : named + length rest ≡ length whole
-  pub spelled : bytes ++ flat_map descriptor_bytes (take (room - named) rest) ≡ front ++ flat_map descriptor_bytes (take room whole)
+  pub encoded : bytes ++ flat_map descriptor_bytes (take (room - named) rest) ≡ front ++ flat_map descriptor_bytes (take room whole)
 
 -- a further one is written where there is room for it
 pub Continues-written :
@@ -18,7 +18,7 @@ Continues-written front room whole named bytes d rest lt so_far =
     let more : room - named ≡ suc (room - (named + 1)) = omega arith in
     record {
       count = omega (arith, so_far.count);
-      spelled = append_assoc bytes (descriptor_bytes d) (flat_map descriptor_bytes (take (room - (named + 1)) rest)) ∙ rw more at so_far.spelled;
+      encoded = append_assoc bytes (descriptor_bytes d) (flat_map descriptor_bytes (take (room - (named + 1)) rest)) ∙ rw more at so_far.encoded;
     }
 
 -- and counted where there is none
@@ -31,5 +31,5 @@ Continues-counted front room whole named bytes d rest le so_far =
     let still : room - (named + 1) ≡ 0 = omega arith in
     record {
       count = omega (arith, so_far.count);
-      spelled = rw still (rw none at so_far.spelled);
+      encoded = rw still (rw none at so_far.encoded);
     }

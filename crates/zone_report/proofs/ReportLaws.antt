@@ -2,7 +2,7 @@
 use Rattle.std.proofs.Common.{◌≡◌, ℕ, ◌+◌, ◌-◌, ◌*◌, ◌/◌, ◌≤◌, ◌∙◌, Bool, true, false, if◌then◌else◌, min, List, [], ◌∷◌, ◌++◌, length, take, drop, replicate, refl, sym, ap, arith, append_assoc, length-append, length-drop, length-take}
 use Rattle.std.proofs.lemmas.List.{length-replicate, take_all, drop_all, drop-append-le, append-nil}
 use Rattle.std.specs.List.{flat_map}
-use Rattle.nvme_wire.specs.declared.command.Choice.{Choice}
+use Rattle.nvme_wire.specs.declared.command.ReportingOptions.{ReportingOptions}
 use Rattle.nvme_wire.specs.declared.descriptor.Descriptor.{Descriptor}
 use Rattle.nvme_wire.specs.Descriptor.{descriptor_bytes, report_head_bytes}
 use Rattle.zone_states.specs.declared.geometry.Geometry.{Geometry}
@@ -47,15 +47,15 @@ joined head head' middle middle' n n' e f h = rw (e, f, h) refl
 
 -- it is the report
 pub report-written :
-    (geometry : Geometry) (zones : List Zone) (address : ℕ) (choice : Choice) (partial : Bool) (dwords size room named counted : ℕ) (listed bytes : List ℕ) →
+    (geometry : Geometry) (zones : List Zone) (address : ℕ) (options : ReportingOptions) (partial : Bool) (dwords size room named counted : ℕ) (listed bytes : List ℕ) →
     size ≡ 4 * dwords → room ≡ descriptor_room dwords →
-    named ≡ length (matching geometry choice (address / geometry.size) (drop (address / geometry.size) zones)) →
-    listed ≡ replicate 64 0 ++ flat_map descriptor_bytes (take room (matching geometry choice (address / geometry.size) (drop (address / geometry.size) zones))) →
+    named ≡ length (matching geometry options (address / geometry.size) (drop (address / geometry.size) zones)) →
+    listed ≡ replicate 64 0 ++ flat_map descriptor_bytes (take room (matching geometry options (address / geometry.size) (drop (address / geometry.size) zones))) →
     counted ≡ (if partial then min room named else named) →
     bytes ≡ report_head_bytes (record { zones = counted }) ++ drop 64 listed ++ replicate (size - length listed) 0 →
-    bytes ≡ report geometry zones address choice partial dwords
-report-written geometry zones address choice partial dwords size room named counted listed bytes size_is room_is named_is listed_is counted_is bytes_is =
-    let whole = matching geometry choice (address / geometry.size) (drop (address / geometry.size) zones) in
+    bytes ≡ report geometry zones address options partial dwords
+report-written geometry zones address options partial dwords size room named counted listed bytes size_is room_is named_is listed_is counted_is bytes_is =
+    let whole = matching geometry options (address / geometry.size) (drop (address / geometry.size) zones) in
     let long : length listed ≡ 64 + 64 * length (take room whole) = ap length listed_is ∙ length-listed room whole ∙ omega (arith, length-take room whole) in
     let head = ap (λ n. report_head_bytes (record { zones = n })) (number_is partial room named counted whole named_is counted_is) in
     let zeros : size - length listed ≡ 4 * dwords - 64 - 64 * length (take room whole) = omega arith in

@@ -24,7 +24,7 @@ pub IsListing-more :
 IsListing-more bytes d ds fits front lists = record {
   each = (fits, lists.each);
   rest = lists.rest;
-  spelled = sym (take-append-drop 64 bytes) ∙ rw (front, lists.spelled) refl;
+  encoded = sym (take-append-drop 64 bytes) ∙ rw (front, lists.encoded) refl;
 }
 
 -- zeros are no descriptor
@@ -37,20 +37,20 @@ pub IsListing-left :
     (bytes : List ℕ) (d : Descriptor) (ds : List Descriptor) →
     take 64 bytes ≡ descriptor_bytes d → ((e : Descriptor) → IsDescriptor e → take 64 bytes ≡ descriptor_bytes e → d ≡ e) →
     IsListing bytes ds → Left bytes d ds
-IsListing-left bytes d [] front only lists = elim (zeros-otherwise lists.rest d (ap (take 64) (sym lists.spelled) ∙ front)) [ ]
+IsListing-left bytes d [] front only lists = elim (zeros-otherwise lists.rest d (ap (take 64) (sym lists.encoded) ∙ front)) [ ]
 IsListing-left bytes d (e ∷ ds) front only lists =
-    let same : d ≡ e = only e lists.each.0 (ap (take 64) lists.spelled) in
+    let same : d ≡ e = only e lists.each.0 (ap (take 64) lists.encoded) in
     record {
       others = ds;
       is = rw same refl;
-      lists = record { each = lists.each.1; rest = lists.rest; spelled = ap (drop 64) lists.spelled };
+      lists = record { each = lists.each.1; rest = lists.rest; encoded = ap (drop 64) lists.encoded };
     }
 
 -- where no descriptor stands at the front, a listing is zeros alone
 pub IsListing-ends :
     (bytes : List ℕ) (ds : List Descriptor) → BeginsOtherwise bytes → IsListing bytes ds → (ds ≡ []) × (bytes ≡ replicate (length bytes) 0)
-IsListing-ends bytes [] other lists = (refl, lists.spelled ∙ ap (λ n. replicate n 0) (sym (ap length lists.spelled ∙ length-replicate {A = ℕ} lists.rest 0)))
-IsListing-ends bytes (e ∷ ds) other lists = elim (other e lists.each.0 (ap (take 64) lists.spelled)) [ ]
+IsListing-ends bytes [] other lists = (refl, lists.encoded ∙ ap (λ n. replicate n 0) (sym (ap length lists.encoded ∙ length-replicate {A = ℕ} lists.rest 0)))
+IsListing-ends bytes (e ∷ ds) other lists = elim (other e lists.each.0 (ap (take 64) lists.encoded)) [ ]
 
 -- too few bytes for a descriptor
 pub short-otherwise : (bytes : List ℕ) → length bytes < 64 → BeginsOtherwise bytes
@@ -60,7 +60,7 @@ short-otherwise bytes short d fits front =
 
 -- zeros alone
 pub IsListing-zeros : (bytes : List ℕ) → bytes ≡ replicate (length bytes) 0 → IsListing bytes []
-IsListing-zeros bytes zeros = record { each = tt; rest = length bytes; spelled = zeros }
+IsListing-zeros bytes zeros = record { each = tt; rest = length bytes; encoded = zeros }
 
 -- ---- the lines written so far
 

@@ -3,8 +3,8 @@ use Rattle.std.specs.Prelude.{ℕ, ◌+◌, ◌-◌, ◌*◌, ◌/◌, ◌<◌, 
 use Rattle.std.specs.List.{flat_map}
 use Rattle.nvme_wire.specs.declared.zone_state.ZoneState.{ZoneState}
 use Rattle.nvme_wire.specs.declared.zone_state.ZoneState.TheVariants.{ReadOnly, Full, Offline}
-use Rattle.nvme_wire.specs.declared.command.Choice.{Choice}
-use Rattle.nvme_wire.specs.declared.command.Choice.TheVariants.{AnyState, InState}
+use Rattle.nvme_wire.specs.declared.command.ReportingOptions.{ReportingOptions}
+use Rattle.nvme_wire.specs.declared.command.ReportingOptions.TheVariants.{AnyState, InState}
 use Rattle.nvme_wire.specs.declared.descriptor.Descriptor.{Descriptor}
 use Rattle.nvme_wire.specs.Descriptor.{state_code, descriptor_bytes, report_head_bytes}
 use Rattle.zone_states.specs.declared.geometry.Geometry.{Geometry}
@@ -13,12 +13,12 @@ use Rattle.zone_report.specs.declared.status.ZoneStatus.{ZoneStatus}
 use Rattle.zone_report.specs.declared.fault.ReportFault.{ReportFault}
 use Rattle.zone_report.specs.declared.fault.ReportFault.TheVariants.{Field, Range, OutOfMemory}
 
--- what a report tells of a zone
+-- what a report says of a zone
 abbrev pub status_of : Zone → ZoneStatus
 status_of zone = record { state = zone.state; written = length zone.blocks }
 
 -- whether a zone in this state is named
-abbrev pub is_chosen : Choice → ZoneState → Bool
+abbrev pub is_chosen : ReportingOptions → ZoneState → Bool
 is_chosen AnyState state = true
 is_chosen (InState chosen) state = state_code chosen == state_code state
 
@@ -39,21 +39,21 @@ descriptor_of geometry number zone = record {
 }
 
 -- the descriptors of the zones that are named, the first zone of the list with a number
-abbrev pub matching : Geometry → Choice → ℕ → List Zone → List Descriptor
-matching geometry choice number [] = []
-matching geometry choice number (zone ∷ zones) =
-    if is_chosen choice zone.state then descriptor_of geometry number (status_of zone) ∷ matching geometry choice (number + 1) zones
-    else matching geometry choice (number + 1) zones
+abbrev pub matching : Geometry → ReportingOptions → ℕ → List Zone → List Descriptor
+matching geometry options number [] = []
+matching geometry options number (zone ∷ zones) =
+    if is_chosen options zone.state then descriptor_of geometry number (status_of zone) ∷ matching geometry options (number + 1) zones
+    else matching geometry options (number + 1) zones
 
--- how many descriptors go into a buffer behind the head
+-- how many descriptors have room in a buffer after the head
 abbrev pub descriptor_room : ℕ → ℕ
 descriptor_room dwords = (4 * dwords - 64) / 64
 
--- the report of the zones from the one that holds an address on, in a buffer of so many dwords; a partial report counts the descriptors that it shows
-abbrev pub report : Geometry → List Zone → ℕ → Choice → Bool → ℕ → List ℕ
-report geometry zones address choice partial dwords =
+-- the report of the zones from the one that holds an address on, in a buffer of that many dwords; a partial report counts the descriptors that it shows
+abbrev pub report : Geometry → List Zone → ℕ → ReportingOptions → Bool → ℕ → List ℕ
+report geometry zones address options partial dwords =
     let first = address / geometry.size in
-    let named = matching geometry choice first (drop first zones) in
+    let named = matching geometry options first (drop first zones) in
     let shown = take (descriptor_room dwords) named in
     report_head_bytes (record { zones = if partial then length shown else length named })
     ++ flat_map descriptor_bytes shown
@@ -63,7 +63,7 @@ report geometry zones address choice partial dwords =
 abbrev pub CanReport : Geometry → ℕ → ℕ → Type 0
 CanReport geometry address dwords = (16 ≤ dwords) × (address < geometry.zones * geometry.size)
 
--- why there is no report: the first that holds, or want of memory where none does
+-- why there is no report: the first that holds, or an allocation failed where none does
 abbrev pub CannotReport : Geometry → ℕ → ℕ → ReportFault → Type 0
 CannotReport geometry address dwords Field = dwords < 16
 CannotReport geometry address dwords Range = (16 ≤ dwords) × (geometry.zones * geometry.size ≤ address)

@@ -9,13 +9,13 @@ use Rattle.nvme_wire.specs.Descriptor.{IsDescriptor, descriptor_bytes, report_he
 
 -- ---- which bytes are a report
 
--- descriptors one after the other, and zeros behind them
+-- descriptors one after the other, and zeros after them
 pub record IsListing (bytes : List ℕ) (descriptors : List Descriptor) : Type 0 where
   pub each : AllByRecursion IsDescriptor descriptors
   pub rest : ℕ
-  pub spelled : bytes ≡ flat_map descriptor_bytes descriptors ++ replicate rest 0
+  pub encoded : bytes ≡ flat_map descriptor_bytes descriptors ++ replicate rest 0
 
--- a head, and a listing behind it
+-- a head, and a listing after it
 pub record IsReport (bytes : List ℕ) (head : ReportHead) (descriptors : List Descriptor) : Type 0 where
   pub fits : head.zones < 2 ^ 64
   pub begins : take 64 bytes ≡ report_head_bytes head
@@ -47,7 +47,7 @@ descriptor_line d =
     ++ codes " capacity " ++ decimal d.capacity
     ++ codes "\n"
 
--- the lines of the descriptors in a listing, behind a text
+-- a text, and after it the lines of the descriptors in a listing
 pub record ListsText (bytes before after : List ℕ) : Type 0 where
   pub descriptors : List Descriptor
   pub lists : IsListing bytes descriptors

@@ -3,14 +3,19 @@ ghost use Rattle.zone_report.specs.declared.fault.ReportFault.TheVariants.{Field
 
 use nvme_wire::DecodeFault;
 use std::alloc::AllocError;
+use thiserror::Error;
 
 /// Why there is no report, or no text of one.
-#[derive(Clone, Copy, Debug, PartialEq, Eq)]
+#[derive(Clone, Copy, Debug, PartialEq, Eq, Error)]
 pub enum ReportFault {
     /// The buffer is too short for a report's head, or the bytes are not a report.
+    #[error("the buffer has less than 64 bytes, or the bytes are no report")]
     Field,
     /// The address is in no zone.
+    #[error("no zone has this address")]
     Range,
+    /// An allocation failed.
+    #[error("out of memory")]
     OutOfMemory,
 }
 

@@ -1,5 +1,23 @@
-//! Zone reports: what a Report Zones command answers, in bytes, and such bytes as text (Zoned
-//! Namespace Command Set 1.1, section 3.4.2).
+//! Zone reports: what a Report Zones command returns, in bytes, and such bytes as text (Zoned Namespace
+//! Command Set 1.1, section 3.4.2).
+//!
+//! # Example
+//!
+//! ```text
+//! // 40 dwords have room for the head and one descriptor.
+//! let options = ReportingOptions::InState(ZoneState::Empty);
+//! let bytes = report_bytes(alloc, &drive, geometry, 0, options, false, 40)?;
+//! let text = report_text(alloc, &bytes)?;
+//! // zones 3
+//! // start 8 state Empty pointer 8 capacity 6
+//! ```
+//!
+//! # What is promised
+//!
+//! * `report_bytes` gives the one report of the zones that a drive shows (`specs/Report.antt`), or says
+//!   what was wrong with the request.
+//! * `report_text` accepts reports and nothing else; its lines are those of the report's head and
+//!   descriptors (`specs/ReportText.antt`).
 #![tactic(auto)]
 
 mod fault;

@@ -2,7 +2,7 @@ ghost use Rattle.std.specs.Prelude.{map};
 ghost use Rattle.zone_report.specs.Blank.{blank_zone};
 
 use crate::{ReportedZones, ZoneStatus, report_bytes, report_text};
-use nvme_wire::{Choice, ZoneState};
+use nvme_wire::{ReportingOptions, ZoneState};
 use std::alloc::{AllocError, Global};
 use std::test::Fail;
 use zone_states::Geometry;
@@ -82,8 +82,8 @@ fn one_zone_in_a_state(rt: HostRuntime) -> Result<(), Fail> {
         (WRITTEN, ZoneState::Full, descriptor(0xe0, 0, [0xff; 8])),
     ];
     for (zones, state, want) in rows {
-        let choice = Choice::InState(state);
-        let bytes = report_bytes(alloc, &zones, SHAPE, 0, choice, false, 32)?;
+        let options = ReportingOptions::InState(state);
+        let bytes = report_bytes(alloc, &zones, SHAPE, 0, options, false, 32)?;
         assert_eq!(rt; bytes, joined(alloc, &[head(1), want], 128)?);
     }
     Ok(())
@@ -95,11 +95,19 @@ fn zones_from_an_address_on(rt: HostRuntime) -> Result<(), Fail> {
     let second = descriptor(0x20, 8, [10, 0, 0, 0, 0, 0, 0, 0]);
     let third = descriptor(0x10, 16, [16, 0, 0, 0, 0, 0, 0, 0]);
     let fourth = descriptor(0x10, 24, [24, 0, 0, 0, 0, 0, 0, 0]);
-    let bytes = report_bytes(alloc, &WRITTEN, SHAPE, 9, Choice::AnyState, false, 80)?;
+    let bytes = report_bytes(
+        alloc,
+        &WRITTEN,
+        SHAPE,
+        9,
+        ReportingOptions::AnyState,
+        false,
+        80,
+    )?;
     let want = joined(alloc, &[head(3), second, third, fourth], 320)?;
     assert_eq!(rt; bytes, want);
-    let choice = Choice::InState(ZoneState::Empty);
-    let bytes = report_bytes(alloc, &WRITTEN, SHAPE, 20, choice, false, 80)?;
+    let options = ReportingOptions::InState(ZoneState::Empty);
+    let bytes = report_bytes(alloc, &WRITTEN, SHAPE, 20, options, false, 80)?;
     assert_eq!(rt; bytes, joined(alloc, &[head(2), third, fourth], 320)?);
     Ok(())
 }
@@ -109,7 +117,15 @@ fn partial_and_whole_number(rt: HostRuntime) -> Result<(), Fail> {
     let alloc = rt.alloc();
     let first = descriptor(0x10, 0, [0; 8]);
     for (partial, number) in [(true, 1), (false, 4)] {
-        let bytes = report_bytes(alloc, &[EMPTY; 4], SHAPE, 0, Choice::AnyState, partial, 40)?;
+        let bytes = report_bytes(
+            alloc,
+            &[EMPTY; 4],
+            SHAPE,
+            0,
+            ReportingOptions::AnyState,
+            partial,
+            40,
+        )?;
         assert_eq!(rt; bytes, joined(alloc, &[head(number), first], 160)?);
     }
     Ok(())
@@ -118,7 +134,15 @@ fn partial_and_whole_number(rt: HostRuntime) -> Result<(), Fail> {
 #[test]
 fn text_of_all_zones(rt: HostRuntime) -> Result<(), Fail> {
     let alloc = rt.alloc();
-    let bytes = report_bytes(alloc, &WRITTEN, SHAPE, 0, Choice::AnyState, false, 80)?;
+    let bytes = report_bytes(
+        alloc,
+        &WRITTEN,
+        SHAPE,
+        0,
+        ReportingOptions::AnyState,
+        false,
+        80,
+    )?;
     let want = "zones 4\n\
         start 0 state Full pointer - capacity 6\n\
         start 8 state ImplicitlyOpened pointer 10 capacity 6\n\

@@ -20,7 +20,7 @@ fn state_text(state: ZoneState) -> &'static str
     }
 }
 
-// Writes the line of a descriptor behind the text.
+// Adds the line of a descriptor to the text.
 fn write_line(text: &mut String, descriptor: &Descriptor) -> Result<(), ReportFault>
     ensures ok { OnOk result
         (string_bytes text.new ≡ string_bytes text.old ++ descriptor_line descriptor.now) }
@@ -53,7 +53,7 @@ fn is_zeros(bytes: &[u8]) -> bool
     bytes.iter().all(|byte| *byte == 0)
 }
 
-// Writes the lines of the descriptors behind the text.
+// Adds the lines of the descriptors to the text.
 fn write_lines(text: &mut String, bytes: &[u8]) -> Result<(), ReportFault>
     ensures ok { OnOk result (ListsText bytes.now (string_bytes text.old) (string_bytes text.new)) }
     ensures reads { (descriptors : _) → IsListing bytes.now descriptors →
@@ -63,12 +63,12 @@ fn write_lines(text: &mut String, bytes: &[u8]) -> Result<(), ReportFault>
     ensures err { IfErr result (λ fault. fault ≢ ReportFault.Range) }
 {
     let mut rest = bytes;
-    while let Some((front, behind)) = rest.split_first_chunk::<64>() {
+    while let Some((front, after)) = rest.split_first_chunk::<64>() {
         let Ok(descriptor) = Descriptor::decode(front) else {
             break;
         };
         write_line(text, &descriptor)?;
-        rest = behind;
+        rest = after;
     }
     if is_zeros(rest) {
         Ok(())
@@ -77,10 +77,9 @@ fn write_lines(text: &mut String, bytes: &[u8]) -> Result<(), ReportFault>
     }
 }
 
-/// The text of a report: a line `zones M` with its number, then a line
-/// `start A state NAME pointer P capacity C` for each descriptor that it shows, with decimal numbers and
-/// `-` where there is no pointer. Refused by `Field` if the bytes are not a report: a head, descriptors,
-/// and zeros behind them.
+/// The text of a report: a line `zones M` with the head's number, then a line
+/// `start A state NAME pointer P capacity C` for each descriptor, with decimal numbers and `-` where
+/// there is no pointer. The fault is `Field` if the bytes are not a head, descriptors and zeros.
 pub fn report_text(alloc: Global, bytes: &[u8]) -> Result<String, ReportFault>
     ensures ok { IfOk result (λ text. IsTextOf bytes.now (string_bytes text)) }
     ensures reads { (head : _) (descriptors : _) → IsReport bytes.now head descriptors →

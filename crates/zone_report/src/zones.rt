@@ -4,11 +4,12 @@ ghost use Rattle.zone_report.specs.Report.{status_of};
 
 use crate::status::ZoneStatus;
 
-/// The zones of a drive, as a report tells of them.
+/// The zones of a drive, as a report shows them.
 pub trait ReportedZones {
+    /// The zones, in order of their numbers.
     ghost zones: { Self → List Zone };
 
-    /// What a report tells of the zone with this number.
+    /// What a report says of the zone with this number.
     fn status(&self, number: u32) -> ZoneStatus
         requires { number < length (zones self.now) }
         ensures { (none : Zone) → result ≡ status_of (slice_index_or (zones self.now) number none) };

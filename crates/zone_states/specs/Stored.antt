@@ -1,4 +1,4 @@
--- A zone as it is stored: its state, and the bytes of its written blocks, one block behind the other.
+-- A zone as it is stored: its state, and the bytes of its written blocks, one block after the other.
 use Rattle.std.specs.Prelude.{◌≡◌, ℕ, ◌*◌, ◌/◌, ◌==◌, if◌then◌else◌, List, [], ◌++◌, length, Option, Some, None, Result, Ok, Err}
 use Rattle.nvme_wire.specs.declared.zone_state.ZoneState.{ZoneState}
 use Rattle.nvme_wire.specs.declared.zone_state.ZoneState.TheVariants.{Full}
@@ -22,13 +22,13 @@ IsWhole block bytes = length bytes ≡ length bytes / block * block
 abbrev pub zone_of : ℕ → StoredZone → Zone
 zone_of block zone = record { state = zone.state; blocks = cut_blocks block (length zone.bytes / block) zone.bytes }
 
--- a zone with these bytes written behind its own: it is Full where its blocks reach the capacity
+-- a zone with these bytes written after its own: it is Full where its blocks reach the capacity
 abbrev pub stored_write : Geometry → StoredZone → List ℕ → StoredZone
 stored_write geometry zone bytes =
     let all = zone.bytes ++ bytes in
     record { state = if length all / geometry.block == geometry.capacity then Full else opened_by_write zone.state; bytes = all }
 
--- In blocks: those of these bytes stand behind those of the zone, and its bytes are whole blocks again.
+-- In blocks: those of these bytes are after those of the zone, and its bytes are whole blocks again.
 pub record WrittenBehind (geometry : Geometry) (old : StoredZone) (bytes : List ℕ) (new : StoredZone) : Type 0 where
   pub zone : zone_of geometry.block new ≡ written_zone geometry.capacity (zone_of geometry.block old) (cut_blocks geometry.block (length bytes / geometry.block) bytes)
   pub whole : IsWhole geometry.block new.bytes

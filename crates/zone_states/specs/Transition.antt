@@ -1,4 +1,4 @@
--- Which zone states hold a place, and which action of a Zone Management Send leads from which state to which (Zoned Namespace Command Set 1.1, section 2.1.1, and section 3.4.3).
+-- Which zone states hold active and open resources, and which action of a Zone Management Send leads from which state to which (Zoned Namespace Command Set 1.1, section 2.1.1, and section 3.4.3).
 use Rattle.std.specs.Prelude.{Bool, true, false, Result, Ok, Err}
 use Rattle.nvme_wire.specs.declared.zone_state.ZoneState.{ZoneState}
 use Rattle.nvme_wire.specs.declared.zone_state.ZoneState.TheVariants.{Empty, ImplicitlyOpened, ExplicitlyOpened, Closed, ReadOnly, Full, Offline}
@@ -17,7 +17,7 @@ is_state ImplicitlyOpened ImplicitlyOpened = true
 is_state ExplicitlyOpened ExplicitlyOpened = true
 is_state state other = false
 
--- states that hold one of the drive's active places, and of its open places
+-- states that hold one of the drive's active resources, and of its open resources
 abbrev pub is_active : ZoneState → Bool
 is_active ImplicitlyOpened = true
 is_active ExplicitlyOpened = true

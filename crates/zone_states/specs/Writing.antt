@@ -1,4 +1,4 @@
--- What a Write or an Append to one zone meets, in order; the limits on active and open zones, which come behind, are the drive's matter.
+-- The checks of a Write or an Append to one zone, in order. Those of the limits on active and open zones come after them, and are the drive's.
 use Rattle.std.specs.Prelude.{ℕ, ◌+◌, ◌*◌, ◌/◌, ◌==◌, nat_lt, not, Bool, List, [], ◌∷◌, ◌++◌, length}
 use Rattle.nvme_wire.specs.declared.zone_state.ZoneState.TheVariants as states
 use Rattle.nvme_wire.specs.declared.status.Status.{Status}
@@ -22,7 +22,7 @@ state_checks zone =
     ∷ (is_state states.Offline zone.state, ZoneIsOffline)
     ∷ []
 
--- room for so many blocks below the capacity
+-- room for that many blocks below the capacity
 abbrev pub room_checks : Geometry → Zone → ℕ → List (Bool × Status)
 room_checks geometry zone blocks = (nat_lt geometry.capacity (length zone.blocks + blocks), ZoneBoundaryError) ∷ []
 
@@ -30,11 +30,11 @@ room_checks geometry zone blocks = (nat_lt geometry.capacity (length zone.blocks
 abbrev pub pointer_checks : Zone → ℕ → List (Bool × Status)
 pointer_checks zone offset = (not (offset == length zone.blocks), ZoneInvalidWrite) ∷ []
 
--- an Append of so many blocks to a zone
+-- an Append of that many blocks to a zone
 abbrev pub zone_append_checks : Geometry → Zone → ℕ → List (Bool × Status)
 zone_append_checks geometry zone blocks = state_checks zone ++ room_checks geometry zone blocks
 
--- a Write of so many blocks to a zone, from an offset in blocks on
+-- a Write of that many blocks to a zone, from an offset in blocks on
 abbrev pub zone_write_checks : Geometry → Zone → ℕ → ℕ → List (Bool × Status)
 zone_write_checks geometry zone offset blocks = state_checks zone ++ pointer_checks zone offset ++ room_checks geometry zone blocks
 

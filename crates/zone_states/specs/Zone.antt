@@ -27,13 +27,13 @@ opened_by_write Empty = ImplicitlyOpened
 opened_by_write Closed = ImplicitlyOpened
 opened_by_write state = state
 
--- a zone with these blocks written behind its own: it is Full where they reach the capacity
+-- a zone with these blocks written after its own: it is Full where they reach the capacity
 abbrev pub written_zone : ℕ → Zone → List (List ℕ) → Zone
 written_zone capacity zone blocks =
     let all = zone.blocks ++ blocks in
     record { state = if length all == capacity then Full else opened_by_write zone.state; blocks = all }
 
--- a list of bytes as blocks of a size, so many of them
+-- a list of bytes cut into blocks of a size, that many of them
 abbrev pub cut_blocks : ℕ → ℕ → List ℕ → List (List ℕ)
 cut_blocks size zero bytes = []
 cut_blocks size (suc count) bytes = take size bytes ∷ cut_blocks size count (drop size bytes)

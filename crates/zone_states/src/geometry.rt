@@ -1,14 +1,16 @@
-ghost use Rattle.std.specs.Prelude.{◌≡◌, IfErr, OnOk, Some};
+ghost use Rattle.std.specs.Prelude.{◌≡◌, ◌*◌, ◌/◌, ◌<◌, IfErr, OnOk, Some};
 ghost use Rattle.zone_states.specs.Geometry.{IsInRange, geometry_checks};
 ghost use Rattle.zone_states.specs.Checks.{first_failing};
 
-/// The shape of a drive whose zones are all alike. Zone `z` holds the addresses from `z * size` on,
-/// `size` of them, and its first `capacity` can be written.
+use thiserror::Error;
+
+/// The shape of a drive whose zones are all alike. Zone `z` has `size` addresses, from `z * size` on,
+/// and the blocks at its first `capacity` addresses can be written.
 #[derive(Clone, Copy, Debug, PartialEq, Eq)]
 pub struct Geometry {
-    /// Bytes a block: 512 or 4,096.
+    /// Bytes of a block: 512 or 4,096.
     pub block: u32,
-    /// Zones: 3 to 65,536.
+    /// How many zones there are: 3 to 65,536.
     pub zones: u32,
     /// Blocks from the start of a zone to that of the next: 1 to 2^20.
     pub size: u32,
@@ -23,18 +25,48 @@ pub struct Geometry {
 }
 
 /// The part of a geometry that is out of range.
-#[derive(Clone, Copy, Debug, PartialEq, Eq)]
+#[derive(Clone, Copy, Debug, PartialEq, Eq, Error)]
 pub enum GeometryFault {
+    #[error("a block has neither 512 nor 4096 bytes")]
     Block,
+    #[error("there are not 3 to 65536 zones")]
     Zones,
+    #[error("a zone has not 1 to 1048576 addresses")]
     Size,
+    #[error("the capacity of a zone is not 4 blocks up to its size")]
     Capacity,
+    #[error("a command moves not 2 to 256 blocks at most")]
     Transfer,
+    #[error("not 2 to 65536 zones may be active")]
     Active,
+    #[error("not 1 zone up to the limit on active zones may be open")]
     Open,
 }
 
 impl Geometry {
+    /// The lowest address of the zone with this number.
+    pub fn start_of(self, zone: u32) -> u64
+        ensures { result ≡ zone * self.size }
+    {
+        u64::from(zone) * u64::from(self.size)
+    }
+
+    /// The number of the zone that holds an address of the drive.
+    pub fn zone_of(self, address: u64) -> u32
+        requires { address < self.zones * self.size }
+        ensures value { result ≡ address / self.size }
+        ensures in_range { result < self.zones }
+    {
+        (address / u64::from(self.size)) as u32
+    }
+
+    /// The first address after those of the drive.
+    pub fn end(self) -> u64
+        ensures { result ≡ self.zones * self.size }
+    {
+        u64::from(self.zones) * u64::from(self.size)
+    }
+
     /// Refuses a geometry by the first part that is out of range, in the order of `GeometryFault`.
     pub fn check(&self) -> Result<(), GeometryFault>
         ensures ok { OnOk result (IsInRange self.now) }

@@ -11,17 +11,20 @@ use crate::transition::next_state;
 use nvme_wire::{Action, Status, ZoneState};
 use std::alloc::Global;
 use std::marker::Model;
+use thiserror::Error;
 
-/// Why a zone did not do what it was to do. It is then as it was.
-#[derive(Clone, Copy, Debug, PartialEq, Eq)]
+/// Why a zone was not changed.
+#[derive(Clone, Copy, Debug, PartialEq, Eq, Error)]
 pub enum ZoneFault {
-    /// The first check that failed.
+    /// The status of the first check that failed.
+    #[error("{0}")]
     Refused(Status),
-    /// A growth was refused.
+    /// An allocation failed.
+    #[error("out of memory")]
     OutOfMemory,
 }
 
-/// One zone: its state and its written blocks. The write pointer stands behind the last of them.
+/// One zone: its state and its written blocks. The write pointer is after the last of them.
 #[derive(Drop)]
 pub struct Zone {
     state: ZoneState,
@@ -36,7 +39,7 @@ impl Model for Zone {
     ghost view = { λ z. record { state = z.state; bytes = z.written.items } };
 }
 
-// How many whole blocks so many bytes hold.
+// How many whole blocks there are in that many bytes.
 fn blocks_in(geometry: &Geometry, bytes: usize) -> usize
     ensures { result ≡ bytes / geometry.now.block }
 {
@@ -60,7 +63,7 @@ fn block_count(geometry: &Geometry, bytes: &[u8]) -> Option<usize>
     Some(blocks)
 }
 
-// What a Write or an Append leaves of a state that takes it, where the capacity is not reached.
+// The state after a Write or an Append that does not reach the capacity, from a state that takes it.
 fn opened(state: ZoneState) -> ZoneState
     ensures { result ≡ opened_by_write state }
 {
@@ -81,27 +84,36 @@ impl Zone {
         }
     }
 
-    /// A zone in this state with these written blocks, whatever they are.
+    /// A zone in this state with these written blocks. Neither is checked.
     pub fn from_parts(state: ZoneState, written: Vec<u8>) -> Zone
         ensures { result ≡ record { state = state; bytes = written.items } }
     {
         Zone { state, written }
     }
 
+    /// The state of the zone.
     pub fn state(&self) -> ZoneState
         ensures { result ≡ self.now.state }
     {
         self.state
     }
 
-    /// The bytes of the written blocks.
+    /// The bytes of the written blocks, in order.
     pub fn written(&self) -> &[u8]
         ensures { result.now ≡ self.now.bytes }
     {
         self.written.as_slice()
     }
 
-    // Why the state takes no Write and no Append.
+    /// How many whole blocks are written.
+    pub fn blocks(&self, geometry: &Geometry) -> usize
+        ensures value { result ≡ length (zone_of geometry.now.block self.now).blocks }
+        ensures by_bytes { result ≡ length self.now.bytes / geometry.now.block }
+    {
+        blocks_in(geometry, self.written.len())
+    }
+
+    // The status with which the state refuses every Write and Append.
     fn state_refusal(&self) -> Option<Status>
         ensures { (block : _) → result ≡ first_failing (state_checks (zone_of block self.now)) }
     {
@@ -113,20 +125,20 @@ impl Zone {
         }
     }
 
-    // Why there is no room for so many blocks more.
+    // The status of a Write or an Append of that many blocks for which there is no room.
     fn room_refusal(&self, geometry: &Geometry, blocks: u64) -> Option<Status>
         ensures { result ≡ first_failing
             (room_checks geometry.now (zone_of geometry.now.block self.now) blocks) }
     {
-        let written = blocks_in(geometry, self.written.len()) as u64;
+        let written = self.blocks(geometry) as u64;
         if written.saturating_add(blocks) > u64::from(geometry.capacity) {
             return Some(Status::ZoneBoundaryError);
         }
         None
     }
 
-    /// The first check on this zone that an Append of so many blocks fails. The limits on active and
-    /// open zones are not looked at.
+    /// The status of the first check on this zone that an Append of that many blocks fails. The limits
+    /// on active and open zones are not looked at.
     pub fn append_refusal(&self, geometry: &Geometry, blocks: u64) -> Option<Status>
         ensures { result ≡ first_failing
             (zone_append_checks geometry.now (zone_of geometry.now.block self.now) blocks) }
@@ -137,8 +149,8 @@ impl Zone {
         self.room_refusal(geometry, blocks)
     }
 
-    /// The first check on this zone that a Write of so many blocks fails, from an offset in blocks on.
-    /// The limits on active and open zones are not looked at.
+    /// The status of the first check on this zone that a Write of that many blocks fails, from an
+    /// offset in blocks on. The limits on active and open zones are not looked at.
     pub fn write_refusal(&self, geometry: &Geometry, offset: u64, blocks: u64) -> Option<Status>
         ensures { result ≡ first_failing
             (zone_write_checks geometry.now (zone_of geometry.now.block self.now) offset blocks) }
@@ -146,13 +158,13 @@ impl Zone {
         if let Some(status) = self.state_refusal() {
             return Some(status);
         }
-        if offset != blocks_in(geometry, self.written.len()) as u64 {
+        if offset != self.blocks(geometry) as u64 {
             return Some(Status::ZoneInvalidWrite);
         }
         self.room_refusal(geometry, blocks)
     }
 
-    // Writes these bytes behind the others.
+    // Adds these bytes after the others.
     fn extend(&mut self, geometry: &Geometry, bytes: &[u8]) -> Result<(), ZoneFault>
         ensures ok { OnOk result (self.new ≡ stored_write geometry.now self.old bytes.now) }
         ensures err { IfErr result (λ fault. fault ≡ ZoneFault.OutOfMemory) }
@@ -161,7 +173,7 @@ impl Zone {
         if self.written.extend_from_slice(bytes).is_err() {
             return Err(ZoneFault::OutOfMemory);
         }
-        if blocks_in(geometry, self.written.len()) == geometry.capacity as usize {
+        if self.blocks(geometry) == geometry.capacity as usize {
             self.state = ZoneState::Full;
         } else {
             self.state = opened(self.state);
@@ -169,7 +181,7 @@ impl Zone {
         Ok(())
     }
 
-    /// Appends these bytes: whole blocks, no more than one transfer moves. This is one growth.
+    /// Appends these bytes: whole blocks, no more than one transfer moves. The zone's bytes grow once.
     pub fn append(&mut self, geometry: &Geometry, bytes: &[u8]) -> Result<(), ZoneFault>
         ensures checks { refusal_of result ≡ first_failing
             (append_bytes_checks geometry.now (zone_of geometry.now.block self.old) bytes.now) }
@@ -187,8 +199,8 @@ impl Zone {
         self.extend(geometry, bytes)
     }
 
-    /// Writes these bytes from an offset in blocks on, which is that of the write pointer: whole blocks,
-    /// no more than one transfer moves. This is one growth.
+    /// Writes these bytes from an offset in blocks on, which has to be that of the write pointer: whole
+    /// blocks, no more than one transfer moves. The zone's bytes grow once.
     pub fn write_at(
         &mut self,
         geometry: &Geometry,
@@ -211,8 +223,8 @@ impl Zone {
         self.extend(geometry, bytes)
     }
 
-    /// Does what a Zone Management Send does to one zone. This takes no memory, and the limits on active
-    /// and open zones, which an Open may meet, are the drive's matter.
+    /// Does the action of a Zone Management Send to the zone (Zoned Namespace Command Set 1.1, section
+    /// 3.4.3). It allocates nothing. The limits on active and open zones are not looked at.
     pub fn apply(&mut self, action: Action) -> Result<(), ZoneFault>
         ensures checks { result ≡ apply_result (state_after self.old.state action) }
         ensures stored { self.new ≡ stored_after action self.old (state_after self.old.state action) }

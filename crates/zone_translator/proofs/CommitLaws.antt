@@ -7,7 +7,7 @@ use Rattle.nvme_wire.specs.declared.command.Command.TheVariants.{Append}
 use Rattle.zone_states.specs.declared.geometry.Geometry.{Geometry}
 use Rattle.zone_states.specs.Geometry.{IsInRange}
 use Rattle.zone_states.specs.Zone.{cut_blocks}
-use Rattle.drive_port.specs.Calls.{Appended, AppendGives, CanAppend, IsTaken, IsWholeBlocks, block_count}
+use Rattle.drive_port.specs.Calls.{Appended, AppendGives, CanAppend, IsNotRefused, IsWholeBlocks, block_count}
 use Rattle.drive_port.specs.Contents.{content_at, contents}
 use Rattle.drive_port.specs.Drive.{DriveState, IsLawful}
 use Rattle.drive_port.specs.declared.calls.PortFault.{PortFault}
@@ -93,7 +93,7 @@ commit_can drive tables host first count start bytes can start-is =
     (omega (arith, s.count_is)) (omega (arith, s.count_is, (few-entries drive.geometry count can.few).1, can.agrees.geometry.transfer)) (omega (arith, s.count_is, can.room))
 
 pub commit_halts : (old new : DriveState) (tables : Tables) (host : Filling) (first count start : ℕ) (bytes : List ℕ) (fault : PortFault) → CanCommit old tables host first count bytes → start ≡ host.zone * old.geometry.size
-    → AppendGives old start bytes (Err fault) new → (CanAppend old start (block_count old.geometry bytes) → IsTaken {V = ℕ} (Err fault)) → Halts old new tables.next fault
+    → AppendGives old start bytes (Err fault) new → (CanAppend old start (block_count old.geometry bytes) → IsNotRefused {V = ℕ} (Err fault)) → Halts old new tables.next fault
 commit_halts old new tables host first count start bytes fault can start-is gives passed =
     halts ℕ old new (Append start (block_count old.geometry bytes)) bytes gives.0 fault tables.next gives.1 (passed (commit_can old tables host first count start bytes can start-is))
 

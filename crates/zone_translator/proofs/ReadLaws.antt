@@ -1,7 +1,7 @@
 -- One block is read.
 use Rattle.std.proofs.Common.{◌≡◌, ℕ, ◌<◌, List, [], get_or, replicate, Err, refl, sym, ◌∙◌, arith, append-nil}
 use Rattle.nvme_wire.specs.declared.command.Command.TheVariants.{Read}
-use Rattle.drive_port.specs.Calls.{CanRead, IsTaken, ReadGives}
+use Rattle.drive_port.specs.Calls.{CanRead, IsNotRefused, ReadGives}
 use Rattle.drive_port.specs.Contents.{Counts, SameContents, block_at, bytes_at, contents}
 use Rattle.drive_port.specs.Drive.{DriveState, IsLawful}
 use Rattle.drive_port.specs.declared.calls.PortFault.{PortFault}
@@ -37,7 +37,7 @@ no-place drive array block places.None h other = h
 no-place drive array block (places.Trimmed address) h other = h
 no-place drive array block (places.At address) h other = absurd (other address refl)
 
-pub read_halts : (old new : DriveState) (tables : Tables) (address : ℕ) (returned : List ℕ) (fault : PortFault) → CanRead old address 1 → ReadGives {V = Unit {0}} old address 1 (Err fault) returned new → (CanRead old address 1 → IsTaken {V = Unit {0}} (Err fault)) → Halts old new tables.next fault
+pub read_halts : (old new : DriveState) (tables : Tables) (address : ℕ) (returned : List ℕ) (fault : PortFault) → CanRead old address 1 → ReadGives {V = Unit {0}} old address 1 (Err fault) returned new → (CanRead old address 1 → IsNotRefused {V = Unit {0}} (Err fault)) → Halts old new tables.next fault
 read_halts old new tables address returned fault can gives passed = halts (Unit {0}) old new (Read address 1) [] returned fault tables.next gives (passed can)
 
 pub read-fault : (drive : DriveState) (next : ℕ) (fault : PortFault) → IsHalt fault → IsCause drive next (disk_fault fault) → IsReadFault drive (disk_fault fault)
@@ -55,7 +55,7 @@ pub record ReadHalts (old new : DriveState) (fault : PortFault) : Type 0 where
   pub cause : IsReadFault new (disk_fault fault)
 
 pub place_halts : (old new : DriveState) (tables : Tables) (block address : ℕ) (returned : List ℕ) (fault : PortFault) → AgreesWith old tables → block < size_of tables → places.At address ≡ get_or tables.map.places block places.None
-    → ReadGives {V = Unit {0}} old address 1 (Err fault) returned new → (CanRead old address 1 → IsTaken {V = Unit {0}} (Err fault)) → ReadHalts old new fault
+    → ReadGives {V = Unit {0}} old address 1 (Err fault) returned new → (CanRead old address 1 → IsNotRefused {V = Unit {0}} (Err fault)) → ReadHalts old new fault
 place_halts old new tables block address returned fault agrees lt at gives passed =
     let h = read_halts old new tables address returned fault (holds old tables block (places.At address) agrees lt at).can gives passed in
     record { halt = h.halt; same = h.same; cause = read-fault new tables.next fault h.halt h.cause }

@@ -5,7 +5,7 @@ use Rattle.std.proofs.lemmas.List.Sums.{sum_by-cons}
 use Rattle.nvme_wire.specs.declared.command.Action.TheVariants.{Finish}
 use Rattle.nvme_wire.specs.declared.command.Command.{Command}
 use Rattle.nvme_wire.specs.declared.command.Command.TheVariants.{Send}
-use Rattle.drive_port.specs.Calls.{CallGives, CanFinish, Finished, FinishGives, IsTaken}
+use Rattle.drive_port.specs.Calls.{CallGives, CanFinish, Finished, FinishGives, IsNotRefused}
 use Rattle.drive_port.specs.Contents.{Content, full, content_at, contents, nothing}
 use Rattle.drive_port.specs.Drive.{DriveState, IsLawful}
 use Rattle.drive_port.specs.declared.calls.PortFault.{PortFault}
@@ -42,7 +42,7 @@ pub record Halts (old new : DriveState) (next : ℕ) (fault : PortFault) : Type 
   pub same : new ≡ old
   pub cause : IsCause new next (disk_fault fault)
 
-pub halts : (V : Type 0) (old new : DriveState) (command : Command) (bytes returned : List ℕ) (fault : PortFault) (next : ℕ) → CallGives old command bytes (Err fault) returned new → IsTaken {V = V} (Err fault) → Halts old new next fault
+pub halts : (V : Type 0) (old new : DriveState) (command : Command) (bytes returned : List ℕ) (fault : PortFault) (next : ℕ) → CallGives old command bytes (Err fault) returned new → IsNotRefused {V = V} (Err fault) → Halts old new next fault
 halts V old new command bytes returned (port.Refused status) next gives passed = absurd passed
 halts V old new command bytes returned port.Memory next gives passed = record { halt = tt; same = gives.1.1; cause = tt }
 halts V old new command bytes returned port.Stopped next gives passed = record { halt = tt; same = gives.1.1; cause = rw gives.1.1 gives.1.0 }
@@ -54,7 +54,7 @@ with-host drive tables host n e agrees =
 
 -- a Finish of the host zone that didn't succeed
 pub finish_halts : (V : Type 0) (old new : DriveState) (tables : Tables) (host : Filling) (start : ℕ) (fault : PortFault) → AgreesWith old tables → tables.roles.host ≡ Some host → start ≡ host.zone * old.geometry.size
-    → FinishGives {V = V} old start (Err fault) new → (CanFinish old start → IsTaken {V = V} (Err fault)) → Halts old new tables.next fault
+    → FinishGives {V = V} old start (Err fault) new → (CanFinish old start → IsNotRefused {V = V} (Err fault)) → Halts old new tables.next fault
 finish_halts V old new tables host start fault agrees is start-is gives passed =
     halts V old new (Send start Finish false) [] gives.0 fault tables.next gives.1
     (passed (can_finish old tables.map tables.roles.empty host tables.next (size_of tables) start (with-host old tables (Some host) (size_of tables) is agrees) start-is))

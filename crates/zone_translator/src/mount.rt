@@ -4,7 +4,7 @@ ghost use Rattle.zone_translator.specs.Mount.{IsFreshDisk, KeepsDrive, MountRefu
 
 use drive_port::{Device, PortFault, count_zones};
 use logical_map::Map;
-use nvme_wire::{Choice, ZoneState};
+use nvme_wire::{ReportingOptions, ZoneState};
 use std::alloc::Global;
 use thiserror::Error;
 use zone_choice::{Roles, Tables, fits_reserve};
@@ -61,7 +61,7 @@ pub(crate) fn fresh_tables<D: Device>(
         return Err(MountFault::Reserve);
     }
     let mut head = Vec::new(alloc);
-    let empty = match count_zones(device, Choice::InState(ZoneState::Empty), &mut head) {
+    let empty = match count_zones(device, ReportingOptions::InState(ZoneState::Empty), &mut head) {
         Ok(empty) => empty,
         Err(fault) => return Err(fault_of(fault)),
     };

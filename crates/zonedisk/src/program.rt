@@ -4,7 +4,7 @@ use crate::raw::run_raw;
 use crate::trace::run_trace;
 use disk_files::write_out;
 use drive_port::Device;
-use nvme_wire::Choice;
+use nvme_wire::ReportingOptions;
 use std::alloc::Global;
 use std::io::{Read, Write};
 use zone_drive::{Drive, DriveFault};
@@ -23,7 +23,7 @@ fn fresh_drive(alloc: Global, geometry: Geometry) -> Result<Drive, RunFault> {
 fn show_zones<W: Write>(alloc: Global, drive: &Drive, output: &mut W) -> Result<(), RunFault> {
     let geometry = drive.geometry();
     let dwords = 16 * (geometry.zones as u64 + 1);
-    let Ok(report) = report_bytes(alloc, drive, geometry, 0, Choice::AnyState, false, dwords) else {
+    let Ok(report) = report_bytes(alloc, drive, geometry, 0, ReportingOptions::AnyState, false, dwords) else {
         return Err(RunFault::Memory);
     };
     let Ok(text) = report_text(alloc, &report) else {

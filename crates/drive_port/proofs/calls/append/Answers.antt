@@ -1,4 +1,4 @@
-use Rattle.drive_port.proofs.AppendLaws.{append-if_ok, append-if_err, append-is_taken}
+use Rattle.drive_port.proofs.AppendLaws.{append-leaves, append-if_ok, append-if_err, append-is_taken}
 use Rattle.drive_port.proofs.calls.append.Goals as goal
 
 pub returns-clause-appended : goal.returns-clause-appended
@@ -9,3 +9,6 @@ returns-clause-err g c = append-if_err _ _ c.args.zone_start c.args.bytes.now c.
 
 pub returns-clause-taken : goal.returns-clause-taken
 returns-clause-taken g c = append-is_taken _ _ _ _ c.call.result c.call.ensures.obeys.was_lawful c.requires.whole (c.call.new.into.items, rw c.geometry.ensures.value at c.call.ensures.gives)
+
+pub returns-clause-leaves : goal.returns-clause-leaves
+returns-clause-leaves g c = append-leaves _ _ c.args.zone_start c.args.bytes.now c.call.result (c.call.new.into.items, rw c.geometry.ensures.value at c.call.ensures.gives)

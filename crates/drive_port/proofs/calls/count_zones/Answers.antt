@@ -7,21 +7,21 @@ use Rattle.drive_port.proofs.calls.count_zones.Goals as goal
 pub unreachable-requires : goal.unreachable-requires
 unreachable-requires g c =
     let shown = c.in_ok-report.ensures.shown in
-    let spelled = c.copy_from_slice.ensures.after ∙ c.deref.ensures.value ∙ reported-head _ _ c.args.choice _ shown in
-    let e = c.in-Err.ensures.spelled _ (chosen-fits _ c.args.choice shown.zones c.report.ensures.obeys.was_lawful shown.before) spelled in
+    let encoded = c.copy_from_slice.ensures.after ∙ c.deref.ensures.value ∙ reported-head _ _ c.args.options _ shown in
+    let e = c.in-Err.ensures.encoded _ (chosen-fits _ c.args.options shown.zones c.report.ensures.obeys.was_lawful shown.before) encoded in
     cc
 
 pub returns-clause-counted : goal.returns-clause-counted
 returns-clause-counted g c =
     let shown = c.in_ok-report.ensures.shown in
-    let made : ReportHead = record { zones = chosen_count c.args.choice shown.zones } in
-    let spelled = c.copy_from_slice.ensures.after ∙ c.deref.ensures.value ∙ reported-head _ _ c.args.choice _ shown in
-    let e = c.in-Ok.ensures.spelled made (chosen-fits _ c.args.choice shown.zones c.report.ensures.obeys.was_lawful shown.before) spelled in
+    let made : ReportHead = record { zones = chosen_count c.args.options shown.zones } in
+    let encoded = c.copy_from_slice.ensures.after ∙ c.deref.ensures.value ∙ reported-head _ _ c.args.options _ shown in
+    let e = c.in-Ok.ensures.encoded made (chosen-fits _ c.args.options shown.zones c.report.ensures.obeys.was_lawful shown.before) encoded in
     let same : c.in-Ok.head ≡ made = cc in
-    reported-counts _ _ c.args.choice _ _ shown (ap (λ (h : ReportHead). h.zones) same)
+    reported-counts _ _ c.args.options _ _ shown (ap (λ (h : ReportHead). h.zones) same)
 
 pub returns-clause-all_empty : goal.returns-clause-all_empty
-returns-clause-all_empty g c = counted-all_empty _ _ c.args.choice _ c.report.ensures.obeys.was_lawful (returns-clause-counted g c)
+returns-clause-all_empty g c = counted-all_empty _ _ c.args.options _ c.report.ensures.obeys.was_lawful (returns-clause-counted g c)
 
 pub returns-clause-empty_all : goal.returns-clause-empty_all
-returns-clause-empty_all g c = counted-empty_all _ _ c.args.choice _ c.report.ensures.obeys.was_lawful (returns-clause-counted g c)
+returns-clause-empty_all g c = counted-empty_all _ _ c.args.options _ c.report.ensures.obeys.was_lawful (returns-clause-counted g c)

@@ -1,5 +1,5 @@
 use Rattle.nvme_wire.specs.declared.command.Action.TheVariants.{Finish}
-use Rattle.drive_port.proofs.FinishLaws.{finish-if_ok, finish-is_taken}
+use Rattle.drive_port.proofs.FinishLaws.{finish-leaves, finish-if_ok, finish-is_taken}
 use Rattle.drive_port.proofs.SendLaws.{send-if_err}
 use Rattle.drive_port.proofs.calls.finish.Goals as goal
 
@@ -11,3 +11,6 @@ returns-clause-err g c = send-if_err _ _ c.args.zone_start Finish c.send.result 
 
 pub returns-clause-taken : goal.returns-clause-taken
 returns-clause-taken g c = finish-is_taken _ _ c.args.zone_start c.send.result c.send.ensures.gives
+
+pub returns-clause-leaves : goal.returns-clause-leaves
+returns-clause-leaves g c = finish-leaves _ _ c.args.zone_start c.send.result c.send.ensures.gives

@@ -1,7 +1,7 @@
-use Rattle.std.proofs.Common.{Err, refl, rules}
+use Rattle.std.proofs.Common.{ℕ, Ok, Err, refl, rules}
 use Rattle.nvme_wire.specs.declared.command.Command.TheVariants.{Read}
-use Rattle.drive_port.proofs.StepLaws.{call-same, call-zero, on_err}
-use Rattle.drive_port.proofs.ReadLaws.{read-succeeded, read-is_taken, length-bytes_at}
+use Rattle.drive_port.proofs.StepLaws.{call-closing, call-same, call-zero, on_err}
+use Rattle.drive_port.proofs.ReadLaws.{read-closing, read-succeeded, read-is_taken, length-bytes_at}
 use Rattle.drive_port.proofs.calls.read.Goals as goal
 
 pub returns-in_err-call-clause-err : goal.returns-in_err-call-clause-err
@@ -24,3 +24,9 @@ returns-clause-length g c = rw (read-succeeded _ _ c.args.slba c.args.blocks _ _
 
 pub returns-clause-kept : goal.returns-clause-kept
 returns-clause-kept g c = (read-succeeded _ _ c.args.slba c.args.blocks _ _ _ c.in_ok-call.ensures.gives.1).kept
+
+pub returns-in_err-call-clause-closing : goal.returns-in_err-call-clause-closing
+returns-in_err-call-clause-closing g c = call-closing _ _ _ _ _ c.in_err-call.field-0.0 c.in_err-call.ensures.gives
+
+pub returns-clause-closing : goal.returns-clause-closing
+returns-clause-closing g c = read-closing {V = ℕ} _ _ c.args.slba c.args.blocks _ (Ok 0) (returns-clause-gives g c)

@@ -1,7 +1,7 @@
-use Rattle.std.proofs.Common.{Err, refl, rules}
+use Rattle.std.proofs.Common.{ℕ, Ok, Err, refl, rules}
 use Rattle.nvme_wire.specs.declared.command.Command.TheVariants.{Receive}
-use Rattle.drive_port.proofs.StepLaws.{call-same, call-zero, on_err}
-use Rattle.drive_port.proofs.ReportLaws.{length-reported, report-is_taken, report-succeeded, reported-kept}
+use Rattle.drive_port.proofs.StepLaws.{call-closing, call-same, call-zero, on_err}
+use Rattle.drive_port.proofs.ReportLaws.{report-closing, length-reported, report-is_taken, report-succeeded, reported-kept}
 use Rattle.drive_port.proofs.calls.report.Goals as goal
 
 pub returns-in_err-call-clause-err : goal.returns-in_err-call-clause-err
@@ -11,16 +11,22 @@ pub returns-in_err-call-clause-kept : goal.returns-in_err-call-clause-kept
 returns-in_err-call-clause-kept g c = (call-same _ _ _ _ _ (Err c.in_err-call.field-0.0) c.in_err-call.ensures.gives).0
 
 pub returns-in_err-call-clause-taken : goal.returns-in_err-call-clause-taken
-returns-in_err-call-clause-taken g c = report-is_taken (g.D.Device.drive c.args.device.now) (g.D.Device.drive c.call.new.device) c.args.slba c.args.choice c.args.partial c.args.dwords c.call.new.into.items c.from_residual.result (search rules)
+returns-in_err-call-clause-taken g c = report-is_taken (g.D.Device.drive c.args.device.now) (g.D.Device.drive c.call.new.device) c.args.slba c.args.options c.args.partial c.args.dwords c.call.new.into.items c.from_residual.result (search rules)
 
 pub returns-clause-gives : goal.returns-clause-gives
-returns-clause-gives g c = call-zero _ _ (Receive c.args.slba c.args.dwords c.args.choice c.args.partial) _ _ _ refl c.in_ok-call.ensures.gives
+returns-clause-gives g c = call-zero _ _ (Receive c.args.slba c.args.dwords c.args.options c.args.partial) _ _ _ refl c.in_ok-call.ensures.gives
 
 pub returns-clause-shown : goal.returns-clause-shown
-returns-clause-shown g c = report-succeeded _ _ c.args.slba c.args.choice c.args.partial c.args.dwords _ _ _ c.in_ok-call.ensures.gives.1
+returns-clause-shown g c = report-succeeded _ _ c.args.slba c.args.options c.args.partial c.args.dwords _ _ _ c.in_ok-call.ensures.gives.1
 
 pub returns-clause-length : goal.returns-clause-length
-returns-clause-length g c = length-reported _ _ c.args.slba c.args.choice c.args.partial c.args.dwords _ c.requires.head (report-succeeded _ _ c.args.slba c.args.choice c.args.partial c.args.dwords _ _ _ c.in_ok-call.ensures.gives.1)
+returns-clause-length g c = length-reported _ _ c.args.slba c.args.options c.args.partial c.args.dwords _ c.requires.head (report-succeeded _ _ c.args.slba c.args.options c.args.partial c.args.dwords _ _ _ c.in_ok-call.ensures.gives.1)
 
 pub returns-clause-kept : goal.returns-clause-kept
-returns-clause-kept g c = reported-kept _ _ c.args.slba c.args.choice c.args.partial c.args.dwords _ (report-succeeded _ _ c.args.slba c.args.choice c.args.partial c.args.dwords _ _ _ c.in_ok-call.ensures.gives.1)
+returns-clause-kept g c = reported-kept _ _ c.args.slba c.args.options c.args.partial c.args.dwords _ (report-succeeded _ _ c.args.slba c.args.options c.args.partial c.args.dwords _ _ _ c.in_ok-call.ensures.gives.1)
+
+pub returns-in_err-call-clause-closing : goal.returns-in_err-call-clause-closing
+returns-in_err-call-clause-closing g c = call-closing _ _ _ _ _ c.in_err-call.field-0.0 c.in_err-call.ensures.gives
+
+pub returns-clause-closing : goal.returns-clause-closing
+returns-clause-closing g c = report-closing {V = ℕ} _ _ c.args.slba c.args.options c.args.partial c.args.dwords _ (Ok 0) (returns-clause-gives g c)

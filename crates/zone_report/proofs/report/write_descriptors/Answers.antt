@@ -11,15 +11,15 @@ use Rattle.zone_report.proofs.report.write_descriptors.Goals.{then-named-room+in
 pub loop-number-preserved-then-not-is_chosen : goal.loop-number-preserved-then-not-is_chosen
 loop-number-preserved-then-not-is_chosen g c =
     let lt : c.loop-number.number < length (g.Z.ReportedZones.zones c.args.zones.now) = omega arith in
-    let chosen : is_chosen c.args.choice c.status-zone.result.state ≡ false = search rules in
-    let same = matching-skips c.args.geometry c.args.choice _ _ c.status-zone.result lt c.status-zone.ensures chosen in
+    let chosen : is_chosen c.args.options c.status-zone.result.state ≡ false = search rules in
+    let same = matching-skips c.args.geometry c.args.options _ _ c.status-zone.result lt c.status-zone.ensures chosen in
     (omega arith, rw same at c.loop-number.invariant.1)
 
 pub loop-number-preserved : goal.loop-number-preserved
 loop-number-preserved g c =
     let lt : c.loop-number.number < length (g.Z.ReportedZones.zones c.args.zones.now) = omega arith in
-    let chosen : is_chosen c.args.choice c.status-zone.result.state ≡ true = search rules in
-    let takes = matching-takes c.args.geometry c.args.choice _ _ c.status-zone.result lt c.status-zone.ensures chosen in
+    let chosen : is_chosen c.args.options c.status-zone.result.state ≡ true = search rules in
+    let takes = matching-takes c.args.geometry c.args.options _ _ c.status-zone.result lt c.status-zone.ensures chosen in
     let so_far = rw takes at c.loop-number.invariant.1 in (
       omega arith,
       elim c.if-named-room.branch [

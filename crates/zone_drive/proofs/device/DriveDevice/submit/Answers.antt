@@ -1,17 +1,13 @@
 use Rattle.std.proofs.Common.{rules, ◌≡◌, ◌<◌, ◌^◌, ℕ, false, ap, ◌∙◌}
 use Rattle.nvme_wire.specs.Completion.{completion_bytes}
-use Rattle.zone_drive.proofs.ReceiveLaws.{decode-spelled}
 use Rattle.zone_drive.proofs.SubmitLaws.{completes}
 use Rattle.zone_drive.proofs.device.DriveDevice.submit.Goals as goal
 
 pub returns-clause-gives : goal.returns-clause-gives
 returns-clause-gives c =
-    let gives = rw c.decode-command.ensures at c.in_ok-reply.ensures.ok in
-    let counts = rw c.decode-command.ensures at c.count.ensures.counted in
+    let gives = rw c.decode-command.ensures.value at c.in_ok-reply.ensures.ok in
+    let counts = rw c.decode-command.ensures.value at c.count.ensures.counted in
     let fits : c.in_ok-reply.reply.value < 2 ^ 64 = search rules in
     let going : c.args.self.now.stopped ≡ false = search rules in
-    let spelled = c.encode.ensures ∙ ap (λ (n : ℕ). completion_bytes (record { result = c.in_ok-reply.reply.value; id = n; status = c.in_ok-reply.reply.status })) c.entry_id.ensures in
-    (going, completes c.args.self.now c.perform.new.self c.count.new.self c.args.entry.now c.args.bytes.now c.perform.new.into.items c.encode.result c.in_ok-reply.reply gives counts spelled fits)
-
-pub perform-requires-clause-spelled : goal.perform-requires-clause-spelled
-perform-requires-clause-spelled c = rw c.decode-command.ensures (decode-spelled c.args.entry.now)
+    let encoded = c.encode.ensures ∙ ap (λ (n : ℕ). completion_bytes (record { result = c.in_ok-reply.reply.value; id = n; status = c.in_ok-reply.reply.status })) c.entry_id.ensures in
+    (going, completes c.args.self.now c.perform.new.self c.count.new.self c.args.entry.now c.args.bytes.now c.perform.new.into.items c.encode.result c.in_ok-reply.reply gives counts encoded fits)

@@ -1,5 +1,5 @@
 use Rattle.drive_port.proofs.ClosingLaws.{active_count-closing, open_count-closing}
-use Rattle.drive_port.proofs.laws.closing_takes_no_place.Goals as goal
+use Rattle.drive_port.proofs.laws.closing_takes_no_resource.Goals as goal
 
 pub returns-clause-active : goal.returns-clause-active
 returns-clause-active c = active_count-closing
