@@ -9,10 +9,12 @@ mod fill;
 mod mount;
 mod read;
 mod room;
+mod status;
 
 pub use disk::Disk;
 pub use fault::DiskFault;
 pub use mount::MountFault;
+pub use status::DiskStatus;
 
 #[cfg(test)]
 mod tests;
