@@ -1,4 +1,3 @@
+pub mod CallLaws
 pub mod RunLaws
-pub mod LineLaws
 pub mod TraceLaws
-pub mod RawRunLaws

@@ -1,14 +1,18 @@
 -- A run goes on by one line, ends, and stops.
-use Rattle.std.proofs.Common.{◌≡◌, ◌≢◌, ℕ, ◌+◌, ◌<◌, true, false, List, [], ◌∷◌, ◌++◌, length, take, Option, Some, None, Ok, Err, refl, sym, ap, ◌∙◌, arith, append_assoc}
+use Rattle.std.proofs.Common.{◌≡◌, ◌≢◌, ℕ, ◌+◌, ◌<◌, ◌≤◌, true, false, List, [], ◌∷◌, ◌++◌, length, take, Option, Some, None, Ok, Err, inl, inr, refl, sym, ap, subst, ◌∙◌, arith, append_assoc}
+use Rattle.std.specs.Prelude.{Bool, IfErr, IsErrAnd, IsErrOf, Result, ◌↔◌}
+use Rattle.std.proofs.lemmas.Bool.{cases_lt}
 use Rattle.std.specs.Io.KnownBytes.{Appends}
 use Rattle.std.proofs.lemmas.List.{append-nil, length-append}
 use Rattle.disk_files.specs.Line.{ReadsLine, TakesLine, behind_line, first_line}
 use Rattle.disk_files.specs.Output.{AppendsFront}
 use Rattle.disk_files.specs.declared.line_reader.TheConstants.{LONGEST_LINE}
+use Rattle.disk_files.specs.declared.line_reader.LineFault.{LineFault}
 use Rattle.disk_files.specs.declared.line_reader.LineFault.TheVariants as lines
-use Rattle.disk_runs.specs.Run.{AnswersAll, IsLine, Language, Ran, SoFar, Stopped, StopsAt, TakesLines, WhereKnown}
+use Rattle.disk_runs.specs.Run.{AnswersAll, IsAnswered, IsLine, Language, LineStops, Ran, SoFar, Stopped, StopsAt, TakesLines, WhereKnown, line_fault}
 use Rattle.disk_runs.specs.declared.fault.RunFault.{RunFault}
-use Rattle.disk_runs.specs.declared.fault.RunFault.TheVariants.{Output}
+use Rattle.disk_runs.specs.declared.fault.RunFault.TheVariants as runs
+use Rattle.disk_runs.specs.declared.fault.RunFault.TheVariants.{Line, Long, Disk, Mount, Input, Output, Memory}
 
 -- ---- one line more
 
@@ -188,3 +192,55 @@ pub stops_writing : {S : Type 0} (language : Language S) (a b : Option (List ℕ
 stops_writing language a b old number left left' contents contents' line reply new new' r is_line answers w h =
     known a b (λ input written. SoFar language input written old number left contents new) (λ input written. Stopped language input written old Output contents' new')
     (λ input written s. stops_writing_at language input written old number left left' contents contents' line reply new new' s r is_line answers w) h
+
+-- ---- why a run stops
+
+-- where no line was read
+pub not_read : {S : Type 0} (language : Language S) (state : S) (left left' : Option (List ℕ)) (line : List ℕ) (number : ℕ) (fault : LineFault) (ends : RunFault)
+    → ReadsLine left left' line (Err fault) → ends ≡ line_fault number fault → (rest : List ℕ) → left ≡ Some rest → StopsAt language ends rest number state [] state
+not_read language state left left' line number lines.Long ends r is rest e = rw is (refl, too_long rest line left left' e r, refl, refl)
+not_read language state left left' line number lines.Input ends r is rest e = rw is (refl, refl)
+not_read language state left left' line number lines.Memory ends r is rest e = rw is (refl, refl)
+
+-- where the line was refused
+refused_at : {S : Type 0} (language : Language S) (old new : S) (line rest : List ℕ) (Refused : List ℕ → Type 0) → rest ≢ [] → line ≡ first_line rest → length line ≤ LONGEST_LINE → (language.is_legal line ≡ true) × Refused line
+    → (rest ≢ []) × IsLine language (first_line rest) × (◌≡◌ {A = List ℕ} [] []) × Refused (first_line rest)
+refused_at language old new line rest Refused some is short why = (some, record { short = rw is at short; legal = rw is at why.0 }, refl, rw is at why.1)
+
+-- where the line was read, and has no reply
+pub not_answered : {S : Type 0} (language : Language S) (old new : S) (left left' : Option (List ℕ)) (line : List ℕ) (number : ℕ) (ends : RunFault)
+    → ReadsLine left left' line (Ok true) → length line ≤ LONGEST_LINE → LineStops language number old line ends new
+    → (rest : List ℕ) → left ≡ Some rest → StopsAt language ends rest number old [] new
+not_answered language old new left left' line number (Line m) r short why rest e =
+    let t = taken_line rest line left left' e r in
+    (why.0, t.some, rw t.line_is at short, rw t.line_is at why.1, refl, why.2)
+not_answered language old new left left' line number Memory r short why rest e = (refl, why)
+not_answered language old new left left' line number (Disk fault) r short why rest e =
+    let t = taken_line rest line left left' e r in
+    refused_at language old new line rest (λ l. language.Refuses old l (Disk fault) new) t.some t.line_is short why
+not_answered language old new left left' line number (Mount fault) r short why rest e =
+    let t = taken_line rest line left left' e r in
+    refused_at language old new line rest (λ l. language.Refuses old l (Mount fault) new) t.some t.line_is short why
+not_answered language old new left left' line number (runs.Geometry fault) r short why rest e =
+    let t = taken_line rest line left left' e r in
+    refused_at language old new line rest (λ l. language.Refuses old l (runs.Geometry fault) new) t.some t.line_is short why
+not_answered language old new left left' line number (Long m) r short why rest e = absurd why
+not_answered language old new left left' line number Input r short why rest e = absurd why
+not_answered language old new left left' line number Output r short why rest e = absurd why
+
+-- a line that was read is not too long
+pub short_line : (line : List ℕ) (read : Bool) (result : Result Bool LineFault) → result ≡ Ok read → (IsErrOf result lines.Long ↔ (LONGEST_LINE < length line)) → length line ≤ LONGEST_LINE
+short_line line read result is long = elim (cases_lt LONGEST_LINE (length line)) [
+  | inl more ↦
+      let bad : Ok read ≡ Err lines.Long = rw is at long.1 more in
+      absurd (cc)
+  | inr le ↦ le
+]
+
+pub line_of : {S : Type 0} (language : Language S) (old new : S) (line reply : List ℕ) → length line ≤ LONGEST_LINE → IsAnswered language old line reply new → IsLine language line
+line_of language old new line reply short answered = record { short = short; legal = answered.legal }
+
+-- a fault that is handed on
+pub if-fault : {T : Type 0} (r : Result T RunFault) (fault : RunFault) (P : RunFault → Type 0) → IsErrAnd r (λ e. e ≡ fault) → P fault → IfErr r P
+if-fault (Ok x) fault P is p = tt
+if-fault (Err e) fault P is p = subst P (sym is) p

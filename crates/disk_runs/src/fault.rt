@@ -1,5 +1,5 @@
 ghost use Rattle.std.specs.Prelude.{◌≡◌};
-ghost use Rattle.disk_runs.specs.Trace.{line_fault};
+ghost use Rattle.disk_runs.specs.Run.{line_fault};
 ghost use Rattle.disk_runs.specs.declared.fault.RunFault.TheVariants.{Memory, Output};
 
 use disk_files::{LineFault, WriteFault};

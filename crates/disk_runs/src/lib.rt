@@ -3,6 +3,7 @@
 
 mod fault;
 mod fault_line;
+mod lines;
 mod raw;
 mod trace;
 

@@ -1,55 +1,83 @@
-ghost use Rattle.std.specs.Prelude.{◌≡◌, ◌++◌, [], IfErr, OnOk, Some, true};
-ghost use Rattle.disk_files.specs.declared.trace_line.TraceLine.TheVariants.{Read, Fill};
-ghost use Rattle.disk_files.specs.Reply.{out_of_range_text};
-ghost use Rattle.zone_translator.specs.declared.fault.DiskFault.TheVariants.{OutOfRange};
-ghost use Rattle.zone_translator.specs.View.{KeepsDisk, array_of};
-ghost use Rattle.disk_runs.specs.FlatLines.{RepliesTo, call_of, flat, is_legal};
-ghost use Rattle.disk_runs.specs.Run.{Ran, Stopped, WhereKnown};
-ghost use Rattle.disk_runs.specs.Trace.{CallStops, GoesOn, LineStops, Refuses, RunCause, RunGives, RunLeaves};
+ghost use Rattle.std.specs.Prelude.{◌≡◌, ◌+◌, ◌^◌, ◌<◌, ◌≤◌, ◌++◌, ◌&&◌, [], IfErr, OnOk, nat_lt, vec_capacity};
+ghost use Rattle.disk_files.specs.Reply.{block_lines};
+ghost use Rattle.zone_translator.specs.Flat.{FlatDisk, blocks_from, read, write};
+ghost use Rattle.zone_translator.specs.View.{array_of, disk_size, flat_of};
+ghost use Rattle.zone_translator.specs.declared.status.DiskStatus.TheVariants.{Serving};
+ghost use Rattle.disk_files.specs.declared.trace_line.TraceLine.TheVariants.{Fill};
+ghost use Rattle.disk_runs.specs.FlatLines.{CallStops, RepliesTo, asked, flat};
+ghost use Rattle.disk_runs.specs.Run.{HasCause};
+ghost use Rattle.disk_runs.specs.Trace.{EndCause, KeepsServed, RunGives, RunLeaves};
+ghost use Rattle.disk_runs.specs.KeepingLaws.{keeps_again, keeps_same};
 
 use crate::fault::RunFault;
+use crate::lines::{Answerer, answer_lines};
 use disk_files::{
-    LineReader, TraceLine, is_skipped, ok_reply, out_of_range_reply, read_reply, write_out,
+    LineReader, TraceLine, WriteFault, block_line, is_skipped, ok_reply, out_of_range_reply,
+    write_out,
 };
 use drive_port::Device;
 use std::alloc::Global;
 use std::io::{Read, Write};
 use zone_translator::{Disk, DiskFault};
 
-/// Tells of a refusal of the disk: a range past the end has a reply, and every other ends the run.
-fn refused(fault: DiskFault, reply: &mut Vec<u8>) -> Result<(), RunFault>
-    ensures ok { OnOk result ((fault ≡ OutOfRange) × (reply.new.items ≡ reply.old.items ++ out_of_range_text)) }
-    ensures err { IfErr result (Refuses fault) }
+/// The bytes of the longest reply but those of reads: `refused 1 OutOfRange`, and a line feed.
+const SHORT_REPLY: usize = 21;
+
+/// Whether a call of these blocks goes past the end of a disk. One of no block does not.
+fn is_past_end(size: u64, first: u64, blocks: u64) -> bool
+    ensures { result ≡ (nat_lt 0 blocks && nat_lt size (first + blocks)) }
 {
-    match fault {
-        DiskFault::OutOfRange => Ok(out_of_range_reply(reply)?),
-        fault => Err(RunFault::Disk(fault)),
-    }
+    blocks > 0 && (blocks > size || first > size - blocks)
 }
 
-/// Reads blocks, and puts them and `ok` into `reply`.
+/// Puts the lines of blocks after what `reply` holds. Each block is read when its line is made, so that no
+/// more than one is held.
+fn show_blocks<D: Device + Drop>(
+    disk: &mut Disk<D>,
+    first: u64,
+    blocks: u64,
+    block: &mut Vec<u8>,
+    reply: &mut Vec<u8>,
+) -> Result<(), RunFault>
+    requires in_range { 0 < blocks → first + blocks ≤ disk_size disk.old }
+    requires small { first + blocks ≤ 2 ^ 64 }
+    ensures ok { OnOk result ((flat_of disk.new ≡ flat_of disk.old) × (0 < blocks → disk.old.status ≡ Serving)
+        × (reply.new.items ≡ reply.old.items ++ block_lines first (blocks_from (array_of disk.old) first blocks))) }
+    ensures err { IfErr result (λ fault. CallStops (flat_of disk.old) (read first blocks) fault (flat_of disk.new)) }
+    ensures cause { IfErr result (HasCause (EndCause disk.new)) }
+    ensures keeps { KeepsServed disk.old disk.new }
+{
+    for i in 0..blocks {
+        if let Err(fault) = disk.read(first + i, 1, block) {
+            return Err(RunFault::Disk(fault));
+        }
+        block_line(first + i, block, reply)?;
+    }
+    Ok(())
+}
+
+/// Reads blocks, and puts the reply into `reply`, which is empty.
 fn read_blocks<D: Device + Drop>(
     disk: &mut Disk<D>,
     first: u64,
     blocks: u64,
-    bytes: &mut Vec<u8>,
+    block: &mut Vec<u8>,
     reply: &mut Vec<u8>,
 ) -> Result<(), RunFault>
-    requires disk { GoesOn disk.old }
-    requires reply { reply.old.items ≡ [] }
-    ensures ok { OnOk result (GoesOn disk.new
-        × RepliesTo disk.old.drive.geometry.block (array_of disk.old) (Some (Read first blocks)) reply.new.items (array_of disk.new)) }
-    ensures err { IfErr result (λ fault. CallStops (array_of disk.old) (Some (Read first blocks)) fault disk.new) }
-    ensures kept { KeepsDisk disk.old disk.new }
+    requires { reply.old.items ≡ [] }
+    ensures ok { OnOk result (RepliesTo (flat_of disk.old) (read first blocks) reply.new.items (flat_of disk.new)) }
+    ensures err { IfErr result (λ fault. CallStops (flat_of disk.old) (read first blocks) fault (flat_of disk.new)) }
+    ensures cause { IfErr result (HasCause (EndCause disk.new)) }
+    ensures keeps { KeepsServed disk.old disk.new }
 {
-    let block_bytes = disk.device().geometry().block as usize;
-    if let Err(fault) = disk.read(first, blocks, bytes) {
-        return refused(fault, reply);
+    if is_past_end(disk.blocks(), first, blocks) {
+        return Ok(out_of_range_reply(reply)?);
     }
-    Ok(read_reply(first, block_bytes, bytes, reply)?)
+    show_blocks(disk, first, blocks, block, reply)?;
+    Ok(ok_reply(reply)?)
 }
 
-/// Fills blocks, and puts `ok` into `reply`.
+/// Fills blocks, and puts the reply into `reply`, which is empty and has room for it.
 fn fill_blocks<D: Device + Drop>(
     disk: &mut Disk<D>,
     first: u64,
@@ -57,79 +85,80 @@ fn fill_blocks<D: Device + Drop>(
     byte: u8,
     reply: &mut Vec<u8>,
 ) -> Result<(), RunFault>
-    requires disk { GoesOn disk.old }
-    requires reply { reply.old.items ≡ [] }
-    ensures ok { OnOk result (GoesOn disk.new
-        × RepliesTo disk.old.drive.geometry.block (array_of disk.old) (Some (Fill first blocks byte)) reply.new.items (array_of disk.new)) }
-    ensures err { IfErr result (λ fault. CallStops (array_of disk.old) (Some (Fill first blocks byte)) fault disk.new) }
-    ensures kept { KeepsDisk disk.old disk.new }
+    requires empty { reply.old.items ≡ [] }
+    requires room { SHORT_REPLY ≤ vec_capacity reply.old }
+    ensures ok { OnOk result (RepliesTo (flat_of disk.old) (asked disk.old.drive.geometry.block (Fill first blocks byte)) reply.new.items (flat_of disk.new)) }
+    ensures err { IfErr result (λ fault. CallStops (flat_of disk.old) (asked disk.old.drive.geometry.block (Fill first blocks byte)) fault (flat_of disk.new)) }
+    ensures cause { IfErr result (HasCause (EndCause disk.new)) }
+    ensures keeps { KeepsServed disk.old disk.new }
 {
-    if let Err(fault) = disk.fill(first, blocks, byte) {
-        return refused(fault, reply);
+    match disk.fill(first, blocks, byte) {
+        Ok(()) => ok_reply(reply).unwrap(),
+        Err(DiskFault::OutOfRange) => out_of_range_reply(reply).unwrap(),
+        Err(fault) => return Err(RunFault::Disk(fault)),
     }
-    Ok(ok_reply(reply)?)
+    Ok(())
 }
 
-/// Answers a line of this number: its call is done, and `reply` is its reply, an empty one where it is
-/// skipped. `bytes` holds what a read shows.
-fn answer<D: Device + Drop>(
-    disk: &mut Disk<D>,
-    line: &[u8],
-    number: u64,
-    bytes: &mut Vec<u8>,
-    reply: &mut Vec<u8>,
-) -> Result<(), RunFault>
-    requires disk { GoesOn disk.old }
-    ensures ok { OnOk result (GoesOn disk.new × (is_legal line.now ≡ true)
-        × RepliesTo disk.old.drive.geometry.block (array_of disk.old) (call_of line.now) reply.new.items (array_of disk.new)) }
-    ensures err { IfErr result (λ fault. LineStops number disk.old line.now fault disk.new) }
-    ensures kept { KeepsDisk disk.old disk.new }
-{
-    reply.clear();
-    if is_skipped(line) {
-        return Ok(());
-    }
-    let Some(call) = TraceLine::parse(line) else {
-        return Err(RunFault::Line(number));
-    };
-    match call {
-        TraceLine::Read { first, blocks } => read_blocks(disk, first, blocks, bytes, reply),
-        TraceLine::Fill {
-            first,
-            blocks,
-            byte,
-        } => fill_blocks(disk, first, blocks, byte, reply),
-    }
+/// Answers the lines of a trace by the calls of a disk.
+#[derive(Drop)]
+struct TraceAnswerer<D: Device + Drop> {
+    disk: Disk<D>,
+    /// The block that a read showed last.
+    block: Vec<u8>,
+    reply: Vec<u8>,
 }
 
-/// Answers each line of the reader, in order, until one has no reply.
-fn answer_lines<R: Read + Drop, W: Write, D: Device + Drop>(
-    alloc: Global,
-    reader: &mut LineReader<R>,
-    writer: &mut W,
-    disk: &mut Disk<D>,
-) -> Result<(), RunFault>
-    requires disk { GoesOn disk.old }
-    ensures ok { OnOk result (WhereKnown reader.old (W.contents writer.old) (λ input written.
-        Ran (flat disk.old.drive.geometry.block) input written (array_of disk.old) (W.contents writer.new) (array_of disk.new))) }
-    ensures err { IfErr result (λ fault. WhereKnown reader.old (W.contents writer.old) (λ input written.
-        Stopped (flat disk.old.drive.geometry.block) input written (array_of disk.old) fault (W.contents writer.new) (array_of disk.new))) }
-    ensures cause { IfErr result (RunCause disk.new) }
-    ensures kept { KeepsDisk disk.old disk.new }
-{
-    let mut line = Vec::new(alloc);
-    let mut bytes = Vec::new(alloc);
-    let mut reply = Vec::new(alloc);
-    for number in 1..u64::MAX {
-        match reader.next_line(&mut line) {
-            Ok(true) => {}
-            Ok(false) => return Ok(()),
-            Err(fault) => return Err(RunFault::of_line(fault, number)),
+impl<D: Device + Drop> Answerer for TraceAnswerer<D> {
+    ghost State = { FlatDisk };
+
+    ghost state = { λ t. flat_of t.disk };
+
+    ghost geometry = { λ t. t.disk.drive.geometry };
+
+    ghost language = { λ geometry. flat geometry.block };
+
+    ghost reply = { λ t. t.reply.items };
+
+    ghost Keeps = { λ old new. KeepsServed old.disk new.disk };
+
+    ghost Cause = { λ t fault. EndCause t.disk fault };
+
+    ghost keeps_none = { λ t. keeps_same t.disk };
+
+    ghost keeps_on = { λ a b c. keeps_again a.disk b.disk c.disk };
+
+    fn answer(&mut self, line: &[u8], number: u64) -> Result<(), RunFault> {
+        self.reply.clear();
+        if is_skipped(line) {
+            return Ok(());
         }
-        answer(disk, &line, number, &mut bytes, &mut reply)?;
-        write_out(writer, &reply)?;
+        let Some(call) = TraceLine::parse(line) else {
+            return Err(RunFault::Line(number));
+        };
+        // With this room the reply to a fill that is done can always be held.
+        self.reply.reserve(SHORT_REPLY)?;
+        match call {
+            TraceLine::Read { first, blocks } => {
+                read_blocks(
+                    &mut self.disk,
+                    first,
+                    blocks,
+                    &mut self.block,
+                    &mut self.reply,
+                )
+            }
+            TraceLine::Fill {
+                first,
+                blocks,
+                byte,
+            } => fill_blocks(&mut self.disk, first, blocks, byte, &mut self.reply),
+        }
     }
-    Err(RunFault::Input)
+
+    fn write_reply<W: Write>(&self, writer: &mut W) -> Result<(), WriteFault> {
+        write_out(writer, &self.reply)
+    }
 }
 
 /// Mounts the drive as a disk of `blocks` logical blocks, and writes the reply to each line of the reader,
@@ -147,11 +176,16 @@ pub fn run_trace<R: Read + Drop, W: Write, D: Device + Drop>(
     ensures gives { RunGives blocks (D.drive device) (R.remaining reader) (W.contents writer.old) result.1 (W.contents writer.new) (D.drive result.0) }
     ensures leaves { RunLeaves blocks (D.drive device) result.1 (D.drive result.0) }
 {
-    let mut disk = match Disk::mount(alloc, device, blocks) {
+    let disk = match Disk::mount(alloc, device, blocks) {
         Ok(disk) => disk,
         Err((fault, device)) => return (device, Err(RunFault::Mount(fault))),
     };
     let mut reader = LineReader::new(reader);
-    let result = answer_lines(alloc, &mut reader, writer, &mut disk);
-    (disk.into_device(), result)
+    let mut answerer = TraceAnswerer {
+        disk,
+        block: Vec::new(alloc),
+        reply: Vec::new(alloc),
+    };
+    let result = answer_lines(alloc, &mut reader, writer, &mut answerer);
+    (answerer.disk.into_device(), result)
 }

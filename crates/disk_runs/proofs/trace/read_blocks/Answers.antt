@@ -1,18 +1,16 @@
-use Rattle.std.proofs.Common.{rules, arith}
-use Rattle.disk_runs.proofs.LineLaws.{ok-so, read_replies, read_told, reads}
+use Rattle.std.proofs.Common.{sym, ◌∙◌}
+use Rattle.zone_choice.proofs.AgreementLaws.{length-spelled}
+use Rattle.zone_translator.specs.View.{disk_size, flat_of}
+use Rattle.disk_runs.proofs.CallLaws.{replies_past, replies_shown}
 use Rattle.disk_runs.proofs.trace.read_blocks.Goals as goal
 
-pub returns-in-Err-clause-ok : goal.returns-in-Err-clause-ok
-returns-in-Err-clause-ok g c =
-    ok-so c.refused.result _ _ (read_told c.args.disk.now c.read.new.self c.args.first c.args.blocks _ c.in-Err.fault _ _ c.requires.disk c.in-Err.ensures.answers c.requires.reply) c.refused.ensures.ok
-
-pub read_reply-requires-clause-whole : goal.read_reply-requires-clause-whole
-read_reply-requires-clause-whole g c =
-    let shows = reads c.args.disk.now c.read.new.self c.geometry.result.block c.args.first c.args.blocks c.read.new.into.items c.requires.disk c.read.ensures.kept c.in_default.ensures.stopped (search rules) (omega (arith, c.ranges.first.fits)) c.in_default.ensures.answers in
-    rw c.deref.ensures.value shows.whole
+pub returns-then-is_past_end-clause-ok : goal.returns-then-is_past_end-clause-ok
+returns-then-is_past_end-clause-ok g c =
+    replies_past (flat_of c.args.disk.now) c.blocks-2.result c.args.first c.args.blocks c.args.reply.now.items c.out_of_range_reply.new.out.items
+    (c.blocks-2.ensures ∙ sym (length-spelled c.args.disk.now.drive (disk_size c.args.disk.now))) c.if-is_past_end.ensures c.requires c.in_ok-out_of_range_reply.ensures.ok
 
 pub returns-clause-ok : goal.returns-clause-ok
 returns-clause-ok g c =
-    let shows = reads c.args.disk.now c.read.new.self c.geometry.result.block c.args.first c.args.blocks c.read.new.into.items c.requires.disk c.read.ensures.kept c.in_default.ensures.stopped (search rules) (omega (arith, c.ranges.first.fits)) c.in_default.ensures.answers in
-    let reply = rw c.deref.ensures.value at c.in_ok-read_reply.ensures in
-    read_replies c.args.disk.now c.read.new.self c.geometry.result.block c.args.first c.args.blocks c.read.new.into.items _ _ shows c.requires.reply reply
+    let shown = c.in_ok-show_blocks.ensures.ok in
+    replies_shown (flat_of c.args.disk.now) (flat_of c.show_blocks.new.disk) c.blocks-2.result c.args.first c.args.blocks c.args.reply.now.items c.show_blocks.new.reply.items c.ok_reply.new.out.items
+    (c.blocks-2.ensures ∙ sym (length-spelled c.args.disk.now.drive (disk_size c.args.disk.now))) c.if-is_past_end.ensures shown.0 shown.1 c.requires shown.2 c.in_ok-ok_reply.ensures.ok
