@@ -1,6 +1,7 @@
 pub mod AheadLaws
 pub mod GrammarLaws
 pub mod LineLaws
+pub mod OutputLaws
 pub mod PlaceLaws
 pub mod RawLaws
 pub mod RawTextLaws

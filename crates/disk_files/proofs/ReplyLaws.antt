@@ -1,22 +1,27 @@
--- The reply to a read, block by block.
-use Rattle.std.proofs.Common.{◌≡◌, ℕ, zero, suc, ◌+◌, ◌*◌, List, [], ◌∷◌, ◌++◌, length, take, drop, refl, sym, arith, append_assoc}
-use Rattle.std.proofs.lemmas.List.{append-nil, drop-drop, drop_at, length-append, take_at}
-use Rattle.std.specs.List.{AllByRecursion, concat}
-use Rattle.disk_files.specs.Reply.{block_line, block_lines, blocks_in}
+-- The replies to a read.
+use Rattle.std.proofs.Common.{◌≡◌, ℕ, ◌*◌, ◌==◌, Bool, true, false, ◌&&◌, if◌then◌else◌, List, [], ◌∷◌, length, take, Some, None, refl, ap, ◌∙◌, arith}
+use Rattle.std.specs.Cmp.Lexicographic.{pointwise}
+use Rattle.std.specs.Prelude.{eqb}
+use Rattle.std.proofs.lemmas.Bool.Decides.{nat_tests}
+use Rattle.std.proofs.lemmas.List.{drop_at, length-append, take_at}
+use Rattle.std.specs.List.{AllByRecursion, concat, list_all}
+use Rattle.disk_files.specs.Reply.{blocks_in, same_byte}
 
--- one more block
-pub block_lines-more : (i first size number place : ℕ) (bytes : List ℕ) → number ≡ first + i → place ≡ i * size
-    → block_lines first (blocks_in size (suc i) bytes) ≡ block_lines first (blocks_in size i bytes) ++ block_line number (take size (drop place bytes))
-block_lines-more zero first size number place bytes n p =
-    let number_is : number ≡ first = omega arith in
-    let place_is : place ≡ 0 = omega arith in
-    rw (number_is, place_is) (append-nil (block_line first (take size bytes)))
-block_lines-more (suc i) first size number place bytes n p =
-    let place_is : place ≡ size + i * size = omega arith in
-    let rest = drop size bytes in
-    let between = block_lines (first + 1) (blocks_in size i rest) in
-    let more = block_lines-more i (first + 1) size number (i * size) rest (omega arith) refl in
-    rw (more, place_is, ← drop-drop (i * size) size bytes) (sym (append_assoc (block_line first (take size bytes)) between (block_line number (take size (drop (i * size) rest)))))
+-- ---- a block whose bytes are all the same
+
+where_true : (t p q : Bool) → (t ≡ true → p ≡ q) → (t && p) ≡ (t && q)
+where_true true p q f = f refl
+where_true false p q f = refl
+
+-- each byte is the one before it where all are the first
+same-shifted : (b : ℕ) (bs : List ℕ) → pointwise eqb bs (take (length bs) (b ∷ bs)) ≡ list_all (λ x. x == b) bs
+same-shifted b [] = refl
+same-shifted b (c ∷ cs) =
+    ap (λ (t : Bool). (c == b) && t) (same-shifted c cs)
+    ∙ where_true (c == b) (list_all (λ x. x == c) cs) (list_all (λ x. x == b) cs) (λ e. let same : c ≡ b = grind (arith, nat_tests) in rw same refl)
+
+pub same_byte-shifted : (block : List ℕ) (b : ℕ) (bs : List ℕ) (same : Bool) → block ≡ b ∷ bs → same ≡ pointwise eqb bs (take (length bs) block) → (if same then Some b else None) ≡ same_byte block
+same_byte-shifted block b bs same e p = rw (e, p ∙ ap (λ (xs : List ℕ). pointwise eqb bs (take (length bs) xs)) e ∙ same-shifted b bs) refl
 
 -- ---- blocks that are joined
 

@@ -7,6 +7,7 @@ pub mod laws;
 mod line_reader;
 mod output;
 mod raw_line;
+mod raw_reply;
 mod reply;
 mod trace_line;
 mod words;
@@ -14,7 +15,8 @@ mod words;
 pub use line_reader::{LONGEST_LINE, LineFault, LineReader};
 pub use output::{WriteFault, write_out};
 pub use raw_line::{RawFault, parse_raw_line};
-pub use reply::{ok_reply, out_of_range_reply, raw_reply, read_reply};
+pub use raw_reply::write_raw_reply;
+pub use reply::{block_line, ok_reply, out_of_range_reply};
 pub use trace_line::{TraceLine, is_skipped};
 
 #[cfg(test)]

@@ -1,4 +1,5 @@
-use crate::{LineReader, RawFault, parse_raw_line, raw_reply};
+use crate::fakes::FailingWriter;
+use crate::{LineReader, RawFault, WriteFault, parse_raw_line, write_raw_reply};
 use std::alloc::{AllocError, Global};
 use std::io;
 use std::io::Read;
@@ -136,16 +137,37 @@ fn the_longest_raw_line(rt: HostRuntime) -> Result<(), Fail> {
     Ok(())
 }
 
+// What is written of a reply, at most 5 bytes at a time, by a writer that fails after `left` of them.
+fn reply(
+    alloc: Global,
+    completion: &[u8; 16],
+    bytes: &[u8],
+    left: usize,
+) -> (Vec<u8>, Result<(), WriteFault>) {
+    let mut writer = FailingWriter {
+        bytes: Vec::new(alloc),
+        step: 5,
+        left,
+    };
+    let result = write_raw_reply(&mut writer, completion, bytes);
+    (writer.bytes, result)
+}
+
 #[test]
 fn raw_replies(rt: HostRuntime) -> Result<(), Fail> {
-    let mut out = Vec::new(rt.alloc());
     let unknown = [0, 0, 0, 0, 0, 0, 0, 0, 0, 0, 0, 0, 7, 0, 2, 0];
-    raw_reply(&unknown, b"", &mut out)?;
-    let want = b"00000000000000000000000007000200\n";
-    assert_eq!(rt; out.as_slice(), want.as_slice());
+    let (text, result) = reply(rt.alloc(), &unknown, b"", 1000);
+    assert_eq!(rt; result, Ok(()));
+    assert_eq!(rt;
+        text.as_slice(),
+        b"00000000000000000000000007000200\n".as_slice()
+    );
     let full = [0, 0, 0, 0, 0, 0, 0, 0, 0, 0, 0, 0, 1, 0, 0x72, 3];
-    raw_reply(&full, b"\x00\xAB\xcd\x0f", &mut out)?;
-    let want = b"00000000000000000000000007000200\n00000000000000000000000001007203 00abcd0f\n";
-    assert_eq!(rt; out.as_slice(), want.as_slice());
+    let want = b"00000000000000000000000001007203 00abcd0f\n";
+    for left in 0..want.len() + 1 {
+        let (text, result) = reply(rt.alloc(), &full, b"\x00\xAB\xcd\x0f", left);
+        assert_eq!(rt; text.as_slice(), &want[..left]);
+        assert_eq!(rt; result.is_ok(), left == want.len());
+    }
     Ok(())
 }

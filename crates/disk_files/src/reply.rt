@@ -1,25 +1,25 @@
-ghost use Rattle.std.specs.Prelude.{◌≡◌, ◌+◌, ◌*◌, ◌/◌, ◌%◌, ◌^◌, ◌<◌, ◌≤◌, ◌++◌, OnErr, OnOk, length, vec_capacity, vec_len};
+ghost use Rattle.std.specs.Prelude.{◌≡◌, ◌+◌, ◌*◌, ◌<◌, ◌≤◌, ◌++◌, OnErr, OnOk, decimal, length, vec_capacity, vec_len};
 ghost use Rattle.hex.specs.Hex.{encode_lower};
-ghost use Rattle.disk_files.specs.RawLine.{raw_reply_text};
-ghost use Rattle.disk_files.specs.Reply.{block_line, blocks_in, ok_text, out_of_range_text, read_text, same_byte};
+ghost use Rattle.disk_files.specs.Reply.{block_line, ok_text, out_of_range_text, same_byte};
 
-use crate::bytes::are_all;
 use std::alloc::AllocError;
-use std::io::Write;
 
-/// Puts the reply `ok` behind what `out` holds. Refused for memory, `out` stays as it was.
+/// Puts the reply `ok` after what `out` holds. Refused for memory, which is wanted only where `out` has
+/// too little room, `out` stays as it was.
 pub fn ok_reply(out: &mut Vec<u8>) -> Result<(), AllocError>
     ensures ok { OnOk result (out.new.items ≡ out.old.items ++ ok_text) }
     ensures err { OnErr result (out.new.items ≡ out.old.items) }
+    ensures full { OnErr result (vec_capacity out.old < vec_len out.old + 3) }
 {
     out.extend_from_slice(b"ok\n")
 }
 
-/// Puts the reply to a call past the end behind what `out` holds. Refused for memory, `out` stays as it
-/// was.
+/// Puts the reply to a call past the end after what `out` holds. Refused for memory, which is wanted only
+/// where `out` has too little room, `out` stays as it was.
 pub fn out_of_range_reply(out: &mut Vec<u8>) -> Result<(), AllocError>
     ensures ok { OnOk result (out.new.items ≡ out.old.items ++ out_of_range_text) }
     ensures err { OnErr result (out.new.items ≡ out.old.items) }
+    ensures full { OnErr result (vec_capacity out.old < vec_len out.old + 21) }
 {
     out.extend_from_slice(b"refused 1 OutOfRange\n")
 }
@@ -29,53 +29,27 @@ fn same_byte(block: &[u8]) -> Option<u8>
     ensures { result ≡ same_byte block.now }
 {
     let (first, rest) = block.split_first()?;
-    if are_all(rest, *first) {
+    // All bytes are the same where each is the one before it: one comparison of two slices.
+    if rest == &block[..rest.len()] {
         Some(*first)
     } else {
         None
     }
 }
 
-/// Writes the line of a block.
-fn write_block(number: u64, block: &[u8], out: &mut Vec<u8>) -> Result<(), AllocError>
-    ensures { OnOk result (out.new.items ≡ out.old.items ++ block_line number block.now) }
+/// Puts a number's decimal digits after what `out` holds, which has the room for 20 of them.
+fn put_number(number: u64, out: &mut Vec<u8>)
+    requires { vec_len out.old + 20 ≤ vec_capacity out.old }
+    ensures items { out.new.items ≡ out.old.items ++ decimal number }
+    ensures len { vec_len out.new ≤ vec_len out.old + 20 }
+    ensures capacity { vec_capacity out.old ≤ vec_capacity out.new }
 {
-    let alloc = *out.allocator();
-    let written = match same_byte(block) {
-        Some(byte) => {
-            let digits = hex::encode(alloc, [byte])?;
-            writeln!(out, "{number} {digits}*{}", block.len())
-        }
-        None => {
-            let digits = hex::encode(alloc, block)?;
-            writeln!(out, "{number} {digits}")
-        }
-    };
-    written.map_err(|_| AllocError)
+    let mut digits = itoa::Buffer::new();
+    out.extend_from_slice(digits.format(number).as_bytes())
+        .unwrap();
 }
 
-/// Puts the reply to a read behind what `out` holds: the line of each block, from the number `first` on,
-/// and `ok`. Refused for memory, what stands in `out` is not said.
-pub fn read_reply(
-    first: u64,
-    block_bytes: usize,
-    bytes: &[u8],
-    out: &mut Vec<u8>,
-) -> Result<(), AllocError>
-    requires some { 1 ≤ block_bytes }
-    requires whole { length bytes.now % block_bytes ≡ 0 }
-    requires in_range { first + length bytes.now / block_bytes ≤ 2 ^ 64 }
-    ensures { let blocks = blocks_in block_bytes (length bytes.now / block_bytes) bytes.now in
-        OnOk result (out.new.items ≡ out.old.items ++ read_text first blocks) }
-{
-    for i in 0..bytes.len() / block_bytes {
-        let block = &bytes[i * block_bytes..(i + 1) * block_bytes];
-        write_block(first + i as u64, block, out)?;
-    }
-    ok_reply(out)
-}
-
-/// Puts the digits of bytes, in lower case, behind what `out` holds, which has the room for them.
+/// Puts the digits of bytes, in lower case, after what `out` holds, which has the room for them.
 fn put_digits(bytes: &[u8], out: &mut Vec<u8>)
     requires { vec_len out.old + 2 * length bytes.now ≤ vec_capacity out.old }
     ensures items { out.new.items ≡ out.old.items ++ encode_lower bytes.now }
@@ -87,22 +61,24 @@ fn put_digits(bytes: &[u8], out: &mut Vec<u8>)
     hex::encode_to_slice(bytes, &mut out[start..]).unwrap();
 }
 
-/// Puts the reply to a raw line behind what `out` holds: the completion and, where data came back, that
-/// data. Refused for memory, which is wanted only where `out` has too little room, `out` stays as it was.
-pub fn raw_reply(completion: &[u8; 16], bytes: &[u8], out: &mut Vec<u8>) -> Result<(), AllocError>
-    ensures ok { let text = raw_reply_text completion.now bytes.now in
-        OnOk result (out.new.items ≡ out.old.items ++ text) }
+/// Puts the line of a block after what `out` holds: its number, and its data. Refused for memory, `out`
+/// stays as it was.
+pub fn block_line(number: u64, block: &[u8], out: &mut Vec<u8>) -> Result<(), AllocError>
+    ensures ok { OnOk result (out.new.items ≡ out.old.items ++ block_line number block.now) }
     ensures err { OnErr result (out.new.items ≡ out.old.items) }
-    ensures full { OnErr result
-        (vec_capacity out.old < vec_len out.old + 34 + 2 * length bytes.now) }
 {
-    // The digits of the completion, a space, the digits of the data, and a line feed.
-    let room = bytes.len().saturating_mul(2).saturating_add(34);
+    // A number, a space, the digits of the data, or of a byte, a star and a number, and a line feed.
+    let room = block.len().saturating_mul(2).saturating_add(45);
     out.reserve(room)?;
-    put_digits(completion, out);
-    if !bytes.is_empty() {
-        out.push(b' ').unwrap();
-        put_digits(bytes, out);
+    put_number(number, out);
+    out.push(b' ').unwrap();
+    match same_byte(block) {
+        Some(byte) => {
+            put_digits(&[byte], out);
+            out.push(b'*').unwrap();
+            put_number(block.len() as u64, out);
+        }
+        None => put_digits(block, out),
     }
     out.push(b'\n').unwrap();
     Ok(())

@@ -1,7 +1,7 @@
 use crate::fakes::{FailingReader, FailingWriter};
 use crate::{
-    LONGEST_LINE, LineFault, LineReader, TraceLine, WriteFault, is_skipped, ok_reply,
-    out_of_range_reply, read_reply, write_out,
+    LONGEST_LINE, LineFault, LineReader, TraceLine, WriteFault, block_line, is_skipped, ok_reply,
+    out_of_range_reply, write_out,
 };
 use std::alloc::{AllocError, Global};
 use std::io;
@@ -215,28 +215,23 @@ fn a_million_comments(rt: HostRuntime) -> Result<(), Fail> {
 #[test]
 fn replies(rt: HostRuntime) -> Result<(), Fail> {
     let mut out = Vec::new(rt.alloc());
-    read_reply(8, 512, &[0; 512], &mut out)?;
+    block_line(8, &[0; 512], &mut out)?;
+    ok_reply(&mut out)?;
     out_of_range_reply(&mut out)?;
     ok_reply(&mut out)?;
-    read_reply(LARGEST, 512, &[], &mut out)?;
-    let want = b"8 00*512\nok\nrefused 1 OutOfRange\nok\nok\n";
+    let want = b"8 00*512\nok\nrefused 1 OutOfRange\nok\n";
     assert_eq!(rt; out.as_slice(), want.as_slice());
     Ok(())
 }
 
 #[test]
 fn blocks_of_a_read(rt: HostRuntime) -> Result<(), Fail> {
-    let mut blocks = Vec::new(rt.alloc());
-    blocks.resize(512, 0xa5)?;
-    blocks.resize(1024, 0xa6)?;
     let mut out = Vec::new(rt.alloc());
-    read_reply(0, 512, &blocks, &mut out)?;
-    assert_eq!(rt; out.as_slice(), b"0 a5*512\n1 a6*512\nok\n".as_slice());
-    out.clear();
-    read_reply(LARGEST, 4, &[0x5a, 0x4c, 0x4f, 0x07], &mut out)?;
+    block_line(0, &[0xa5; 512], &mut out)?;
+    block_line(LARGEST, &[0x5a, 0x4c, 0x4f, 0x07], &mut out)?;
     assert_eq!(rt;
         out.as_slice(),
-        b"18446744073709551615 5a4c4f07\nok\n".as_slice()
+        b"0 a5*512\n18446744073709551615 5a4c4f07\n".as_slice()
     );
     Ok(())
 }

@@ -1,0 +1,62 @@
+-- A run from a drive to a drive.
+use Rattle.std.proofs.Common.{◌≡◌, ℕ, List, Option, Ok, Err, ap, subst, ◌∙◌}
+use Rattle.std.specs.Prelude.{IfErr, OnOk, Result}
+use Rattle.zone_states.specs.declared.geometry.Geometry.{Geometry}
+use Rattle.drive_port.specs.Drive.{DriveState}
+use Rattle.zone_choice.specs.Agreement.{spelled}
+use Rattle.zone_choice.proofs.AgreementLaws.{spelled_same}
+use Rattle.zone_translator.specs.Flat.{FlatDisk, serving}
+use Rattle.zone_translator.specs.Mount.{KeepsDrive}
+use Rattle.zone_translator.specs.View.{DiskView, array_of, disk_size, flat_of}
+use Rattle.zone_translator.specs.declared.status.DiskStatus.{DiskStatus}
+use Rattle.zone_translator.specs.declared.status.DiskStatus.TheVariants.{Serving}
+use Rattle.disk_runs.specs.FlatLines.{flat}
+use Rattle.disk_runs.specs.Run.{HasCause, Ran, Stopped, WhereKnown}
+use Rattle.disk_runs.specs.Trace.{EndCause, RunGives, disk_on}
+use Rattle.disk_runs.specs.declared.fault.RunFault.{RunFault}
+use Rattle.disk_runs.specs.declared.fault.RunFault.TheVariants as runs
+use Rattle.disk_runs.specs.declared.fault.RunFault.TheVariants.{Line, Long, Disk, Mount, Input, Output, Memory}
+
+carried : {X Y Z : Type 0} (P : X → Y → Z → Type 0) (a a' : X) (b b' : Y) (c c' : Z) → a ≡ a' → b ≡ b' → c ≡ c' → P a b c → P a' b' c'
+carried P a a' b b' c c' e f g p = subst (λ z. P a' b' z) g (subst (λ y. P a' y c) f (subst (λ x. P x b c) e p))
+
+-- the block's size, the disk at first, and the disk at last, as the run saw them and by the drives
+pub record Seen (n : ℕ) (old : DriveState) (first last : DiskView) : Type 0 where
+  pub block : first.drive.geometry.block ≡ old.geometry.block
+  pub begins : flat_of first ≡ serving (spelled old n)
+  pub ends : flat_of last ≡ disk_on n last.drive last.status
+
+pub seen : (n : ℕ) (old : DriveState) (first last : DiskView) → KeepsDrive old first.drive → disk_size first ≡ n → first.status ≡ Serving → disk_size last ≡ disk_size first → Seen n old first last
+seen n old first last kept size serves keeps = record {
+  block = ap (λ (g : Geometry). g.block) kept.same.geometry;
+  begins =
+      ap (λ (s : DiskStatus). record { array = array_of first; status = s }) serves
+      ∙ ap serving (ap (λ (k : ℕ). spelled first.drive k) size ∙ spelled_same old first.drive n kept.same);
+  ends = ap (λ (k : ℕ). disk_on k last.drive last.status) (keeps ∙ size);
+}
+
+abbrev pub RanAs : Option (List ℕ) → Option (List ℕ) → Option (List ℕ) → ℕ → FlatDisk → FlatDisk → Type 0
+RanAs input written contents size old new = WhereKnown input written (λ bytes before. Ran (flat size) bytes before old contents new)
+
+abbrev pub StoppedAs : Option (List ℕ) → Option (List ℕ) → RunFault → Option (List ℕ) → ℕ → FlatDisk → FlatDisk → Type 0
+StoppedAs input written fault contents size old new = WhereKnown input written (λ bytes before. Stopped (flat size) bytes before old fault contents new)
+
+pub run_gives : (n : ℕ) (old : DriveState) (first last : DiskView) (input written contents : Option (List ℕ)) (result : Result (Unit {0}) RunFault)
+    → Seen n old first last → IfErr result (HasCause (EndCause last))
+    → OnOk result (RanAs input written contents first.drive.geometry.block (flat_of first) (flat_of last))
+    → IfErr result (λ fault. StoppedAs input written fault contents first.drive.geometry.block (flat_of first) (flat_of last))
+    → RunGives n old input written result contents last.drive
+run_gives n old first last input written contents (Ok done) s cause ran stopped =
+    (last.status, carried (RanAs input written contents) _ _ _ _ _ _ s.block s.begins s.ends ran)
+run_gives n old first last input written contents (Err fault) s cause ran stopped =
+    of fault cause (last.status, carried (StoppedAs input written fault contents) _ _ _ _ _ _ s.block s.begins s.ends stopped)
+  where
+    of : (fault : RunFault) → HasCause (EndCause last) fault → (status : DiskStatus) × StoppedAs input written fault contents old.geometry.block (serving (spelled old n)) (disk_on n last.drive status) → RunGives n old input written (Err fault) contents last.drive
+    of (Line m) cause h = h
+    of (Long m) cause h = h
+    of (Disk f) cause h = h
+    of (Mount f) cause h = absurd cause
+    of (runs.Geometry f) cause h = absurd cause
+    of Input cause h = h
+    of Output cause h = h
+    of Memory cause h = h

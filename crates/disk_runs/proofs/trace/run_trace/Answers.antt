@@ -1,0 +1,14 @@
+use Rattle.disk_runs.proofs.TraceLaws.{run_gives, seen}
+use Rattle.disk_runs.proofs.trace.run_trace.Goals as goal
+
+pub returns-clause-gives : goal.returns-clause-gives
+returns-clause-gives g c =
+    let first = c.in-Ok.disk in
+    let last = c.answer_lines-result.new.answerer.disk in
+    let kept = c.answer_lines-result.ensures.keeps.mounted c.in-Ok.ensures.mountable in
+    let a = c.answer_lines-result.ensures in
+    let s = seen c.args.blocks (g.D.Device.drive c.args.device) first last c.in-Ok.ensures.drive c.in-Ok.ensures.size.0 c.in-Ok.ensures.size.1 kept.size in
+    let ok = rw c.new-reader.ensures at a.ok in
+    let err = rw c.new-reader.ensures at a.err in
+    rw c.into_device.ensures
+    (run_gives c.args.blocks (g.D.Device.drive c.args.device) first last (g.R.Read.remaining c.args.reader) (g.W.Write.contents c.args.writer.now) _ c.answer_lines-result.result s a.cause ok err)

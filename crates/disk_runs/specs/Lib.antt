@@ -1,0 +1,6 @@
+pub mod Run
+pub mod FlatLines
+pub mod Trace
+pub mod KeepingLaws
+pub mod RawLines
+pub mod FaultText

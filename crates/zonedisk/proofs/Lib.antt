@@ -1,4 +1,0 @@
-pub mod RunLaws
-pub mod LineLaws
-pub mod TraceLaws
-pub mod RawRunLaws

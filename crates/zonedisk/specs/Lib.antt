@@ -1,5 +1,0 @@
-pub mod Run
-pub mod FlatLines
-pub mod Trace
-pub mod RawLines
-pub mod FaultText
