@@ -16,7 +16,7 @@ use Rattle.drive_port.specs.Step.{Performs, append_checks, end_of, zone_at}
 use Rattle.drive_port.specs.Contents.{Content, SameContents, content_at, content_of, contents, filled, full, active, is_writable, usage_of}
 use Rattle.drive_port.specs.Calls.{Appended, AppendGives, CanAppend, IsTaken, IsWholeBlocks, block_count}
 use Rattle.drive_port.proofs.ClosingLaws.{content_at-closing, content_of-closes, zone_at-closing}
-use Rattle.drive_port.proofs.StepLaws.{call-same, succeeded, succeeds}
+use Rattle.drive_port.proofs.StepLaws.{call-same, counts-success, succeeded, succeeds}
 use Rattle.drive_port.proofs.CheckLaws.{AllPass, data-pass, place-pass, state-pass, state-passed}
 
 -- ---- one zone
@@ -51,24 +51,24 @@ zone-in_range drive start lawful lt =
 pub append-succeeded : (old new : DriveState) (start : ℕ) (bytes returned : List ℕ) (value : ℕ) → IsLawful old
     → Performs old (Ok (Append start (block_count old.geometry bytes))) bytes Success value returned new → Appended old new start bytes value
 append-succeeded old new start bytes returned value lawful step =
-    let s = succeeded old new (Ok (Append start (block_count old.geometry bytes))) bytes returned value step in
+    let s = succeeded old.geometry old.zones new.zones (Ok (Append start (block_count old.geometry bytes))) bytes returned value step.effect in
     let index = start / old.geometry.size in
-    let zone = zone_at step.middle index in
+    let zone = zone_at step.effect.middle index in
     let blocks = cut_blocks old.geometry.block (block_count old.geometry bytes) bytes in
     let p = s.passed in
-    let at : content_at (contents old.zones) index ≡ content_of zone = content_at-closing old.zones step.middle index step.before in
+    let at : content_at (contents old.zones) index ≡ content_of zone = content_at-closing old.zones step.effect.middle index step.effect.before in
     let index_low = zone-in_range old start lawful (leb-false _ _ p.1.1.1.0) in
     let writable = state-passed zone (p.1.1.1.1.0, (p.1.1.1.1.1.0, (p.1.1.1.1.1.1.0, tt))) in
     let room = ltb-false _ _ p.1.1.1.1.1.1.1.0 in
     record {
-      geometry = s.geometry;
-      counts = s.counts;
+      geometry = step.geometry;
+      counts = counts-success old new (Ok (Append start (block_count old.geometry bytes))) bytes returned value step;
       address_is = s.value_is ∙ rw at refl;
       contents = record {
         in_range = omega (arith, index_low, length-map old.zones content_of);
         writable = rw at writable;
         room = rw (at, length-cut old.geometry.block (block_count old.geometry bytes) bytes) room;
-        zones = s.after ∙ map-set content_of step.middle index (written_zone old.geometry.capacity zone blocks)
+        zones = s.after ∙ map-set content_of step.effect.middle index (written_zone old.geometry.capacity zone blocks)
             ∙ rw (s.before, content_of-written old.geometry.capacity zone blocks writable, at) refl;
       };
     }
@@ -94,15 +94,15 @@ append-passes old start bytes middle lawful closing whole can =
 
 pub append-if_ok : (old new : DriveState) (start : ℕ) (bytes : List ℕ) (result : Result ℕ PortFault) → IsLawful old
     → AppendGives old start bytes result new → IfOk result (λ address. Appended old new start bytes address)
-append-if_ok old new start bytes (Ok value) lawful gives = append-succeeded old new start bytes gives.0 value lawful gives.1
+append-if_ok old new start bytes (Ok value) lawful gives = append-succeeded old new start bytes gives.0 value lawful gives.1.1
 append-if_ok old new start bytes (Err fault) lawful gives = tt
 
 pub append-is_taken : (old new : DriveState) (start : ℕ) (bytes : List ℕ) (result : Result ℕ PortFault) → IsLawful old
     → IsWholeBlocks old.geometry.block bytes → AppendGives old start bytes result new → CanAppend old start (block_count old.geometry bytes) → IsTaken result
 append-is_taken old new start bytes (Ok value) lawful whole gives can = tt
 append-is_taken old new start bytes (Err (Refused status)) lawful whole gives can =
-    let step = gives.1.2 in
-    gives.1.0 (succeeds old new (Ok (Append start (block_count old.geometry bytes))) bytes gives.0 status gives.1.1 step (append-passes old start bytes step.middle lawful step.before whole can))
+    let step = gives.1.3 in
+    gives.1.1 (succeeds old.geometry old.zones new.zones (Ok (Append start (block_count old.geometry bytes))) bytes gives.0 status gives.1.2 step.effect (append-passes old start bytes step.effect.middle lawful step.effect.before whole can))
 append-is_taken old new start bytes (Err Memory) lawful whole gives can = tt
 append-is_taken old new start bytes (Err Stopped) lawful whole gives can = tt
 

@@ -17,7 +17,7 @@ use Rattle.drive_port.specs.Step.{Performs, is_refusal, send_checks, zone_after,
 use Rattle.drive_port.specs.Contents.{Content, content_at, content_of, contents, finished, is_usable, usage_of}
 use Rattle.drive_port.specs.Calls.{CanFinish, Finished, FinishGives, IsTaken}
 use Rattle.drive_port.proofs.ClosingLaws.{content_at-closing, content_of-closes, zone_at-closing}
-use Rattle.drive_port.proofs.StepLaws.{succeeded, succeeds}
+use Rattle.drive_port.proofs.StepLaws.{counts-success, succeeded, succeeds}
 use Rattle.drive_port.proofs.CheckLaws.{AllPass}
 use Rattle.drive_port.proofs.AppendLaws.{zone-in_range}
 
@@ -49,26 +49,26 @@ content_of-finished zone u = rw (usable-passes zone.state u) refl
 pub finish-succeeded : (old new : DriveState) (start : ℕ) (bytes returned : List ℕ) (value : ℕ) → IsLawful old
     → Performs old (Ok (Send start actions.Finish false)) bytes Success value returned new → Finished old new start
 finish-succeeded old new start bytes returned value lawful step =
-    let s = succeeded old new (Ok (Send start actions.Finish false)) bytes returned value step in
+    let s = succeeded old.geometry old.zones new.zones (Ok (Send start actions.Finish false)) bytes returned value step.effect in
     let index = start / old.geometry.size in
-    let zone = zone_at step.middle index in
-    let at : content_at (contents old.zones) index ≡ content_of zone = content_at-closing old.zones step.middle index step.before in
+    let zone = zone_at step.effect.middle index in
+    let at : content_at (contents old.zones) index ≡ content_of zone = content_at-closing old.zones step.effect.middle index step.effect.before in
     let index_low = zone-in_range old start lawful (leb-false _ _ s.passed.1.0) in
     let usable = usable-passed zone.state s.passed.1.1.0 in
     record {
-      geometry = s.geometry;
-      counts = s.counts;
+      geometry = step.geometry;
+      counts = counts-success old new (Ok (Send start actions.Finish false)) bytes returned value step;
       contents = record {
         in_range = omega (arith, index_low, length-map old.zones content_of);
         usable = rw at usable;
-        zones = s.after ∙ map-set content_of step.middle index (zone_after actions.Finish zone (state_after zone.state actions.Finish))
+        zones = s.after ∙ map-set content_of step.effect.middle index (zone_after actions.Finish zone (state_after zone.state actions.Finish))
             ∙ rw (s.before, content_of-finished zone usable, at) refl;
       };
     }
 
 pub finish-if_ok : {V : Type 0} (old new : DriveState) (start : ℕ) (result : Result V PortFault) → IsLawful old
     → FinishGives old start result new → OnOk result (Finished old new start)
-finish-if_ok old new start (Ok value) lawful gives = finish-succeeded old new start [] gives.0 0 lawful gives.1
+finish-if_ok old new start (Ok value) lawful gives = finish-succeeded old new start [] gives.0 0 lawful gives.1.1
 finish-if_ok old new start (Err fault) lawful gives = tt
 
 -- ---- a Finish that isn't refused
@@ -87,7 +87,7 @@ pub finish-is_taken : {V : Type 0} (old new : DriveState) (start : ℕ) (result 
     → FinishGives old start result new → CanFinish old start → IsTaken result
 finish-is_taken old new start (Ok value) gives can = tt
 finish-is_taken old new start (Err (Refused status)) gives can =
-    let step = gives.1.2 in
-    gives.1.0 (succeeds old new (Ok (Send start actions.Finish false)) [] gives.0 status gives.1.1 step (finish-passes old start step.middle step.before can))
+    let step = gives.1.3 in
+    gives.1.1 (succeeds old.geometry old.zones new.zones (Ok (Send start actions.Finish false)) [] gives.0 status gives.1.2 step.effect (finish-passes old start step.effect.middle step.effect.before can))
 finish-is_taken old new start (Err Memory) gives can = tt
 finish-is_taken old new start (Err Stopped) gives can = tt

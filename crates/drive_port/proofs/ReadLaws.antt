@@ -15,7 +15,7 @@ use Rattle.drive_port.specs.Step.{Performs, block_in, bytes_from, is_state, read
 use Rattle.drive_port.specs.Contents.{Counts, SameContents, bytes_at, contents}
 use Rattle.drive_port.specs.Calls.{CanRead, IsTaken, ReadGives}
 use Rattle.drive_port.proofs.ClosingLaws.{content_at-closing, content_at-contents, zone_at-closing}
-use Rattle.drive_port.proofs.StepLaws.{succeeded, succeeds}
+use Rattle.drive_port.proofs.StepLaws.{counts-success, succeeded, succeeds}
 use Rattle.drive_port.proofs.CheckLaws.{AllPass}
 
 -- ---- lengths
@@ -54,11 +54,11 @@ pub record Showed (old new : DriveState) (address blocks : ℕ) (returned : List
 pub read-succeeded : (old new : DriveState) (address blocks : ℕ) (bytes returned : List ℕ) (value : ℕ)
     → Performs old (Ok (Read address blocks)) bytes Success value returned new → Showed old new address blocks returned
 read-succeeded old new address blocks bytes returned value step =
-    let s = succeeded old new (Ok (Read address blocks)) bytes returned value step in
+    let s = succeeded old.geometry old.zones new.zones (Ok (Read address blocks)) bytes returned value step.effect in
     record {
-      bytes = s.returned_is ∙ rw (content_at-closing old.zones step.middle (address / old.geometry.size) step.before) refl;
-      counts = s.counts;
-      kept = record { geometry = s.geometry; contents = s.after ∙ s.before };
+      bytes = s.returned_is ∙ rw (content_at-closing old.zones step.effect.middle (address / old.geometry.size) step.effect.before) refl;
+      counts = counts-success old new (Ok (Read address blocks)) bytes returned value step;
+      kept = record { geometry = step.geometry; contents = s.after ∙ s.before };
     }
 
 -- ---- a Read that isn't refused
@@ -81,7 +81,7 @@ pub read-is_taken : {V : Type 0} (old new : DriveState) (address blocks : ℕ) (
     → ReadGives old address blocks result returned new → CanRead old address blocks → IsTaken result
 read-is_taken old new address blocks returned (Ok value) gives can = tt
 read-is_taken old new address blocks returned (Err (Refused status)) gives can =
-    let step = gives.2 in
-    gives.0 (succeeds old new (Ok (Read address blocks)) [] returned status gives.1 step (read-passes old address blocks step.middle step.before can))
+    let step = gives.3 in
+    gives.1 (succeeds old.geometry old.zones new.zones (Ok (Read address blocks)) [] returned status gives.2 step.effect (read-passes old address blocks step.effect.middle step.effect.before can))
 read-is_taken old new address blocks returned (Err Memory) gives can = tt
 read-is_taken old new address blocks returned (Err Stopped) gives can = tt

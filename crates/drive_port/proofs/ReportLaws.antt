@@ -19,23 +19,23 @@ use Rattle.drive_port.specs.Step.{Performs, end_of}
 use Rattle.drive_port.specs.Contents.{SameContents}
 use Rattle.drive_port.specs.Calls.{IsTaken, ReportGives, Reported}
 use Rattle.drive_port.proofs.ClosingLaws.{contents-closing}
-use Rattle.drive_port.proofs.StepLaws.{outcome-passes, succeeded, succeeds}
+use Rattle.drive_port.proofs.StepLaws.{counts-success, outcome-passes, succeeded, succeeds}
 
 -- ---- a report that succeeded
 
 pub report-succeeded : (old new : DriveState) (address : ℕ) (choice : Choice) (partial : Bool) (dwords : ℕ) (bytes returned : List ℕ) (value : ℕ)
     → Performs old (Ok (Receive address dwords choice partial)) bytes Success value returned new → Reported old new address choice partial dwords returned
 report-succeeded old new address choice partial dwords bytes returned value step =
-    let s = succeeded old new (Ok (Receive address dwords choice partial)) bytes returned value step in
-    let gives = outcome-passes old.geometry step.middle (Ok (Receive address dwords choice partial)) bytes s.passed in
+    let s = succeeded old.geometry old.zones new.zones (Ok (Receive address dwords choice partial)) bytes returned value step.effect in
+    let gives = outcome-passes old.geometry step.effect.middle (Ok (Receive address dwords choice partial)) bytes s.passed in
     record {
-      geometry = s.geometry;
-      counts = s.counts;
+      geometry = step.geometry;
+      counts = counts-success old new (Ok (Receive address dwords choice partial)) bytes returned value step;
       in_range = leb-false _ _ s.passed.0;
-      zones = step.middle;
-      before = step.before;
+      zones = step.effect.middle;
+      before = step.effect.before;
       bytes_are = s.returned_is;
-      after = rw gives at step.after;
+      after = rw gives at step.effect.after;
     }
 
 -- it left the contents
@@ -74,6 +74,6 @@ pub report-is_taken : {V : Type 0} (old new : DriveState) (address : ℕ) (choic
     → ReportGives old address choice partial dwords result returned new → address < end_of old.geometry → IsTaken result
 report-is_taken old new address choice partial dwords returned (Ok value) gives low = tt
 report-is_taken old new address choice partial dwords returned (Err (Refused status)) gives low =
-    gives.0 (succeeds old new (Ok (Receive address dwords choice partial)) [] returned status gives.1 gives.2 (lt-leb _ _ low, tt))
+    gives.1 (succeeds old.geometry old.zones new.zones (Ok (Receive address dwords choice partial)) [] returned status gives.2 gives.3.effect (lt-leb _ _ low, tt))
 report-is_taken old new address choice partial dwords returned (Err Memory) gives low = tt
 report-is_taken old new address choice partial dwords returned (Err Stopped) gives low = tt

@@ -18,7 +18,7 @@ use Rattle.drive_port.specs.Step.{Performs, blocks_after, is_refusal, send_check
 use Rattle.drive_port.specs.Contents.{Content, SameContents, active, content_at, content_of, contents, is_usable, usage_of}
 use Rattle.drive_port.specs.Calls.{CanClose, CanReset, CloseGives, ClosedZone, IsTaken, ResetGives, ResetZone, SendGives}
 use Rattle.drive_port.proofs.ClosingLaws.{IsClosing-set, IsClosing-trans, active-closes, content_at-closing, content_of-closes, contents-closing, zone_at-closing}
-use Rattle.drive_port.proofs.StepLaws.{call-same, outcome-passes, succeeded, succeeds}
+use Rattle.drive_port.proofs.StepLaws.{call-same, counts-success, outcome-passes, succeeded, succeeds}
 use Rattle.drive_port.proofs.CheckLaws.{AllPass}
 use Rattle.drive_port.proofs.AppendLaws.{zone-in_range}
 
@@ -65,46 +65,46 @@ resettable-passes Offline u = absurd (cc u)
 -- the zones that it leaves, by the state that it gives to the one
 sent-zones : (old new : DriveState) (start : ℕ) (action : Action) (next : ZoneState) (bytes returned : List ℕ) (value : ℕ)
     → (step : Performs old (Ok (Send start action false)) bytes Success value returned new)
-    → state_after (zone_at step.middle (start / old.geometry.size)).state action ≡ Ok next
+    → state_after (zone_at step.effect.middle (start / old.geometry.size)).state action ≡ Ok next
     → IsClosing (slice_set old.zones (start / old.geometry.size) (record { state = next; blocks = blocks_after action (zone_at old.zones (start / old.geometry.size)).blocks })) new.zones
 sent-zones old new start action next bytes returned value step is =
-    let s = succeeded old new (Ok (Send start action false)) bytes returned value step in
-    let gives = outcome-passes old.geometry step.middle (Ok (Send start action false)) bytes s.passed in
+    let s = succeeded old.geometry old.zones new.zones (Ok (Send start action false)) bytes returned value step.effect in
+    let gives = outcome-passes old.geometry step.effect.middle (Ok (Send start action false)) bytes s.passed in
     let index = start / old.geometry.size in
-    let one = zone_at-closing old.zones step.middle index step.before in
+    let one = zone_at-closing old.zones step.effect.middle index step.effect.before in
     let was : Zone = record { state = next; blocks = blocks_after action (zone_at old.zones index).blocks } in
-    let now : Zone = record { state = next; blocks = blocks_after action (zone_at step.middle index).blocks } in
+    let now : Zone = record { state = next; blocks = blocks_after action (zone_at step.effect.middle index).blocks } in
     let closes : ClosesOne was now = record { blocks = ap (blocks_after action) one.blocks; state = inl refl } in
-    let after : IsClosing (slice_set step.middle index now) new.zones = rw (gives, is) at step.after in
-    IsClosing-trans (slice_set old.zones index was) (slice_set step.middle index now) new.zones
-    (IsClosing-set old.zones step.middle index was now step.before closes) after
+    let after : IsClosing (slice_set step.effect.middle index now) new.zones = rw (gives, is) at step.effect.after in
+    IsClosing-trans (slice_set old.zones index was) (slice_set step.effect.middle index now) new.zones
+    (IsClosing-set old.zones step.effect.middle index was now step.effect.before closes) after
 
 close-succeeded : (old new : DriveState) (start : ℕ) (bytes returned : List ℕ) (value : ℕ) → IsLawful old
     → Performs old (Ok (Send start actions.Close false)) bytes Success value returned new → ClosedZone old new start
 close-succeeded old new start bytes returned value lawful step =
-    let s = succeeded old new (Ok (Send start actions.Close false)) bytes returned value step in
+    let s = succeeded old.geometry old.zones new.zones (Ok (Send start actions.Close false)) bytes returned value step.effect in
     let index = start / old.geometry.size in
-    let closable = closable-passed (zone_at step.middle index).state s.passed.1.1.0 in
+    let closable = closable-passed (zone_at step.effect.middle index).state s.passed.1.1.0 in
     record {
-      geometry = s.geometry;
-      counts = s.counts;
+      geometry = step.geometry;
+      counts = counts-success old new (Ok (Send start actions.Close false)) bytes returned value step;
       in_range = zone-in_range old start lawful (leb-false _ _ s.passed.1.0);
-      active = sym (active-closes _ _ (zone_at-closing old.zones step.middle index step.before)) ∙ closable;
+      active = sym (active-closes _ _ (zone_at-closing old.zones step.effect.middle index step.effect.before)) ∙ closable;
       zones = sent-zones old new start actions.Close Closed bytes returned value step (closable-passes _ closable);
     }
 
 reset-succeeded : (old new : DriveState) (start : ℕ) (bytes returned : List ℕ) (value : ℕ) → IsLawful old
     → Performs old (Ok (Send start actions.Reset false)) bytes Success value returned new → ResetZone old new start
 reset-succeeded old new start bytes returned value lawful step =
-    let s = succeeded old new (Ok (Send start actions.Reset false)) bytes returned value step in
+    let s = succeeded old.geometry old.zones new.zones (Ok (Send start actions.Reset false)) bytes returned value step.effect in
     let index = start / old.geometry.size in
-    let at : content_at (contents old.zones) index ≡ content_of (zone_at step.middle index) = content_at-closing old.zones step.middle index step.before in
+    let at : content_at (contents old.zones) index ≡ content_of (zone_at step.effect.middle index) = content_at-closing old.zones step.effect.middle index step.effect.before in
     let index_low = zone-in_range old start lawful (leb-false _ _ s.passed.1.0) in
-    let usable = resettable-passed (zone_at step.middle index).state s.passed.1.1.0 in
+    let usable = resettable-passed (zone_at step.effect.middle index).state s.passed.1.1.0 in
     let zones = sent-zones old new start actions.Reset Empty bytes returned value step (resettable-passes _ usable) in
     record {
-      geometry = s.geometry;
-      counts = s.counts;
+      geometry = step.geometry;
+      counts = counts-success old new (Ok (Send start actions.Reset false)) bytes returned value step;
       contents = record {
         in_range = omega (arith, index_low, length-map old.zones content_of);
         usable = rw at usable;
@@ -115,12 +115,12 @@ reset-succeeded old new start bytes returned value lawful step =
 
 pub close-if_ok : {V : Type 0} (old new : DriveState) (start : ℕ) (result : Result V PortFault) → IsLawful old
     → CloseGives old start result new → OnOk result (ClosedZone old new start)
-close-if_ok old new start (Ok value) lawful gives = close-succeeded old new start [] gives.0 0 lawful gives.1
+close-if_ok old new start (Ok value) lawful gives = close-succeeded old new start [] gives.0 0 lawful gives.1.1
 close-if_ok old new start (Err fault) lawful gives = tt
 
 pub reset-if_ok : {V : Type 0} (old new : DriveState) (start : ℕ) (result : Result V PortFault) → IsLawful old
     → ResetGives old start result new → OnOk result (ResetZone old new start)
-reset-if_ok old new start (Ok value) lawful gives = reset-succeeded old new start [] gives.0 0 lawful gives.1
+reset-if_ok old new start (Ok value) lawful gives = reset-succeeded old new start [] gives.0 0 lawful gives.1.1
 reset-if_ok old new start (Err fault) lawful gives = tt
 
 -- ---- contents
@@ -147,7 +147,7 @@ contents-closed (z ∷ zs) (suc i) a = ap (λ (rest : List Content). content_of 
 
 pub close-kept : {V : Type 0} (old new : DriveState) (start : ℕ) (result : Result V PortFault) → IsLawful old → CloseGives old start result new → SameContents old new
 close-kept old new start (Ok value) lawful gives =
-    let closed = close-succeeded old new start [] gives.0 0 lawful gives.1 in
+    let closed = close-succeeded old new start [] gives.0 0 lawful gives.1.1 in
     record {
       geometry = closed.geometry;
       contents = contents-closing _ _ closed.zones ∙ contents-closed old.zones (start / old.geometry.size) closed.active;
@@ -168,8 +168,8 @@ pub close-is_taken : {V : Type 0} (old new : DriveState) (start : ℕ) (result :
     → CloseGives old start result new → CanClose old start → IsTaken result
 close-is_taken old new start (Ok value) gives can = tt
 close-is_taken old new start (Err (Refused status)) gives can =
-    let step = gives.1.2 in
-    gives.1.0 (succeeds old new (Ok (Send start actions.Close false)) [] gives.0 status gives.1.1 step (close-passes old start step.middle step.before can))
+    let step = gives.1.3 in
+    gives.1.1 (succeeds old.geometry old.zones new.zones (Ok (Send start actions.Close false)) [] gives.0 status gives.1.2 step.effect (close-passes old start step.effect.middle step.effect.before can))
 close-is_taken old new start (Err Memory) gives can = tt
 close-is_taken old new start (Err Stopped) gives can = tt
 
@@ -187,7 +187,7 @@ pub reset-is_taken : {V : Type 0} (old new : DriveState) (start : ℕ) (result :
     → ResetGives old start result new → CanReset old start → IsTaken result
 reset-is_taken old new start (Ok value) gives can = tt
 reset-is_taken old new start (Err (Refused status)) gives can =
-    let step = gives.1.2 in
-    gives.1.0 (succeeds old new (Ok (Send start actions.Reset false)) [] gives.0 status gives.1.1 step (reset-passes old start step.middle step.before can))
+    let step = gives.1.3 in
+    gives.1.1 (succeeds old.geometry old.zones new.zones (Ok (Send start actions.Reset false)) [] gives.0 status gives.1.2 step.effect (reset-passes old start step.effect.middle step.effect.before can))
 reset-is_taken old new start (Err Memory) gives can = tt
 reset-is_taken old new start (Err Stopped) gives can = tt

@@ -16,12 +16,12 @@ use Rattle.zone_states.specs.Zone.{Zone}
 use Rattle.zone_report.specs.Report.{report}
 use Rattle.drive_port.specs.declared.calls.PortFault.{PortFault}
 use Rattle.drive_port.specs.declared.calls.PortFault.TheVariants.{Refused, Memory, Stopped}
-use Rattle.drive_port.specs.Drive.{DriveState}
-use Rattle.drive_port.specs.Step.{Outcome, Performs, append_checks, bytes_from, decode_status, done, is_append, is_success, one_if, outcome, read_checks, receive_checks, send_checks, sent_zone, unless_refused, write_checks, write_effect, zone_after, zone_at}
+use Rattle.drive_port.specs.Drive.{DriveState, IsClosing}
+use Rattle.drive_port.specs.Step.{Effect, Outcome, Performs, append_checks, bytes_from, decode_status, done, is_append, is_success, one_if, outcome, read_checks, receive_checks, send_checks, sent_zone, unless_refused, write_checks, write_effect, zone_after, zone_at}
 use Rattle.drive_port.specs.Contents.{Counts, SameContents, contents}
 use Rattle.drive_port.specs.Calls.{CallGives}
 use Rattle.drive_port.proofs.CheckLaws.{AllPass}
-use Rattle.drive_port.proofs.ClosingLaws.{IsClosing-refl, contents-closing}
+use Rattle.drive_port.proofs.ClosingLaws.{IsClosing-refl, IsClosing-trans, contents-closing}
 
 -- ---- a command is its checks and its effect
 
@@ -118,47 +118,47 @@ outcome-passes geometry zones command bytes all =
 
 -- ---- a success
 
--- what a command that succeeded found and left
-pub record Succeeded (old : DriveState) (middle : List Zone) (command : Result Command DecodeFault) (bytes : List ℕ) (value : ℕ) (returned : List ℕ) (new : DriveState) : Type 0 where
-  pub passed : AllPass (checks_of old.geometry middle command bytes)
-  pub value_is : value ≡ (effect_of old.geometry middle command bytes).value
-  pub returned_is : returned ≡ (effect_of old.geometry middle command bytes).returned
-  pub before : contents middle ≡ contents old.zones
-  pub after : contents new.zones ≡ contents (effect_of old.geometry middle command bytes).zones
-  pub geometry : new.geometry ≡ old.geometry
-  pub counts : Counts old new (one_if (is_append command))
+-- what a command that succeeded found and left, where the controller's choice before it was `middle`
+pub record Succeeded (geometry : Geometry) (old middle : List Zone) (command : Result Command DecodeFault) (bytes : List ℕ) (value : ℕ) (returned : List ℕ) (new : List Zone) : Type 0 where
+  pub passed : AllPass (checks_of geometry middle command bytes)
+  pub value_is : value ≡ (effect_of geometry middle command bytes).value
+  pub returned_is : returned ≡ (effect_of geometry middle command bytes).returned
+  pub before : contents middle ≡ contents old
+  pub after : contents new ≡ contents (effect_of geometry middle command bytes).zones
+
+pub succeeded : (geometry : Geometry) (old new : List Zone) (command : Result Command DecodeFault) (bytes returned : List ℕ) (value : ℕ)
+    → (effect : Effect geometry old command bytes Success value returned new) → Succeeded geometry old effect.middle command bytes value returned new
+succeeded geometry old new command bytes returned value effect =
+    let checks = checks_of geometry effect.middle command bytes in
+    let done = effect_of geometry effect.middle command bytes in
+    let is = outcome-is geometry effect.middle command bytes in
+    let all = passed checks effect.middle done (checks-refuse geometry effect.middle command bytes) (effect.status_is ∙ ap (λ (o : Outcome). o.status) is) in
+    let gives = outcome-passes geometry effect.middle command bytes all in
+    record {
+      passed = all;
+      value_is = effect.value_is ∙ ap (λ (o : Outcome). o.value) gives;
+      returned_is = effect.returned_is ∙ ap (λ (o : Outcome). o.returned) gives;
+      before = contents-closing old effect.middle effect.before;
+      after = contents-closing done.zones new (rw gives at effect.after);
+    }
 
 one_if-true : (b : Bool) → one_if (b && true) ≡ one_if b
 one_if-true true = refl
 one_if-true false = refl
 
-pub succeeded : (old new : DriveState) (command : Result Command DecodeFault) (bytes returned : List ℕ) (value : ℕ)
-    → (step : Performs old command bytes Success value returned new) → Succeeded old step.middle command bytes value returned new
-succeeded old new command bytes returned value step =
-    let checks = checks_of old.geometry step.middle command bytes in
-    let effect = effect_of old.geometry step.middle command bytes in
-    let is = outcome-is old.geometry step.middle command bytes in
-    let all = passed checks step.middle effect (checks-refuse old.geometry step.middle command bytes) (step.status_is ∙ ap (λ (o : Outcome). o.status) is) in
-    let gives = outcome-passes old.geometry step.middle command bytes all in
-    record {
-      passed = all;
-      value_is = step.value_is ∙ ap (λ (o : Outcome). o.value) gives;
-      returned_is = step.returned_is ∙ ap (λ (o : Outcome). o.returned) gives;
-      before = contents-closing old.zones step.middle step.before;
-      after = contents-closing effect.zones new.zones (rw gives at step.after);
-      geometry = step.geometry;
-      counts = record {
-        completed = step.completed;
-        refused = omega (arith, step.refused);
-        appended = step.appended ∙ ap (λ (n : ℕ). old.appended + n) (one_if-true (is_append command));
-      };
-    }
+pub counts-success : (old new : DriveState) (command : Result Command DecodeFault) (bytes returned : List ℕ) (value : ℕ)
+    → Performs old command bytes Success value returned new → Counts old new (one_if (is_append command))
+counts-success old new command bytes returned value step = record {
+  completed = step.completed;
+  refused = omega (arith, step.refused);
+  appended = step.appended ∙ ap (λ (n : ℕ). old.appended + n) (one_if-true (is_append command));
+}
 
 -- a command that passes its checks succeeds
-pub succeeds : (old new : DriveState) (command : Result Command DecodeFault) (bytes returned : List ℕ) (status : Status) (value : ℕ)
-    → (step : Performs old command bytes status value returned new) → AllPass (checks_of old.geometry step.middle command bytes) → status ≡ Success
-succeeds old new command bytes returned status value step all =
-    step.status_is ∙ ap (λ (o : Outcome). o.status) (outcome-passes old.geometry step.middle command bytes all) ∙ effect-succeeds old.geometry step.middle command bytes
+pub succeeds : (geometry : Geometry) (old new : List Zone) (command : Result Command DecodeFault) (bytes returned : List ℕ) (status : Status) (value : ℕ)
+    → (effect : Effect geometry old command bytes status value returned new) → AllPass (checks_of geometry effect.middle command bytes) → status ≡ Success
+succeeds geometry old new command bytes returned status value effect all =
+    effect.status_is ∙ ap (λ (o : Outcome). o.status) (outcome-passes geometry effect.middle command bytes all) ∙ effect-succeeds geometry effect.middle command bytes
 
 -- ---- a refusal
 
@@ -171,18 +171,20 @@ refused_nothing : (refusal : Option Status) (zones : List Zone) (effect : Outcom
 refused_nothing None zones effect e bad = absurd (bad e)
 refused_nothing (Some status) zones effect e bad = (refl, refl)
 
--- a refused command returns no bytes, and leaves the contents
-pub same_contents-refused : (old new : DriveState) (command : Result Command DecodeFault) (bytes returned : List ℕ) (status : Status) (value : ℕ)
-    → status ≢ Success → Performs old command bytes status value returned new → SameContents old new × (returned ≡ [])
-same_contents-refused old new command bytes returned status value bad step =
-    let is = outcome-is old.geometry step.middle command bytes in
-    let refusal = first_failing (checks_of old.geometry step.middle command bytes) in
-    let effect = effect_of old.geometry step.middle command bytes in
-    let refused = λ (e : (unless_refused refusal step.middle effect).status ≡ Success). bad (step.status_is ∙ ap (λ (o : Outcome). o.status) is ∙ e) in
-    let nothing = refused_nothing refusal step.middle effect (effect-succeeds old.geometry step.middle command bytes) refused in
-    let after = contents-closing step.middle new.zones (rw (is, nothing.1) at step.after) in
-    let before = contents-closing old.zones step.middle step.before in
-    (record { geometry = step.geometry; contents = after ∙ before }, step.returned_is ∙ ap (λ (o : Outcome). o.returned) is ∙ nothing.0)
+-- a refused command returns no bytes, and does no more to the zones than the controller may by itself
+pub effect-refused : (geometry : Geometry) (old new : List Zone) (command : Result Command DecodeFault) (bytes returned : List ℕ) (status : Status) (value : ℕ)
+    → status ≢ Success → Effect geometry old command bytes status value returned new → IsClosing old new × (returned ≡ [])
+effect-refused geometry old new command bytes returned status value bad effect =
+    let is = outcome-is geometry effect.middle command bytes in
+    let refusal = first_failing (checks_of geometry effect.middle command bytes) in
+    let done = effect_of geometry effect.middle command bytes in
+    let refused = λ (e : (unless_refused refusal effect.middle done).status ≡ Success). bad (effect.status_is ∙ ap (λ (o : Outcome). o.status) is ∙ e) in
+    let nothing = refused_nothing refusal effect.middle done (effect-succeeds geometry effect.middle command bytes) refused in
+    let after : IsClosing effect.middle new = rw (is, nothing.1) at effect.after in
+    (IsClosing-trans old effect.middle new effect.before after, effect.returned_is ∙ ap (λ (o : Outcome). o.returned) is ∙ nothing.0)
+
+pub same_contents-closing : (old new : DriveState) → new.geometry ≡ old.geometry → IsClosing old.zones new.zones → SameContents old new
+same_contents-closing old new geometry closing = record { geometry = geometry; contents = contents-closing old.zones new.zones closing }
 
 -- ---- calls
 
@@ -190,9 +192,12 @@ same_contents-refused old new command bytes returned status value bad step =
 pub call-same : (old new : DriveState) (command : Command) (bytes returned : List ℕ) (result : Result ℕ PortFault)
     → CallGives old command bytes result returned new → OnErr result (SameContents old new × (returned ≡ []))
 call-same old new command bytes returned (Ok value) gives = tt
-call-same old new command bytes returned (Err (Refused status)) gives = same_contents-refused old new (Ok command) bytes returned status gives.1 gives.0 gives.2
-call-same old new command bytes returned (Err Memory) gives = (rw gives.1 (record { geometry = refl; contents = refl }), gives.0)
-call-same old new command bytes returned (Err Stopped) gives = (rw gives.2 (record { geometry = refl; contents = refl }), gives.1)
+call-same old new command bytes returned (Err (Refused status)) gives =
+    let step = gives.3 in
+    let refused = effect-refused old.geometry old.zones new.zones (Ok command) bytes returned status gives.2 gives.1 step.effect in
+    (same_contents-closing old new step.geometry refused.0, refused.1)
+call-same old new command bytes returned (Err Memory) gives = (rw gives.1.1 (record { geometry = refl; contents = refl }), gives.0)
+call-same old new command bytes returned (Err Stopped) gives = (rw gives.1.1 (record { geometry = refl; contents = refl }), gives.0)
 
 -- no command but an Append has a result
 effect-value : (geometry : Geometry) (zones : List Zone) (command : Command) (bytes : List ℕ) → is_append (Ok command) ≡ false → (effect_of geometry zones (Ok command) bytes).value ≡ 0
@@ -207,7 +212,8 @@ effect-value geometry zones (Receive slba dwords choice partial) bytes e = refl
 pub call-zero : (old new : DriveState) (command : Command) (bytes returned : List ℕ) (value : ℕ) → is_append (Ok command) ≡ false
     → CallGives old command bytes (Ok value) returned new → CallGives old command bytes (Ok 0) returned new
 call-zero old new command bytes returned value other gives =
-    let zero = (succeeded old new (Ok command) bytes returned value gives).value_is ∙ effect-value old.geometry gives.middle command bytes other in
+    let effect = gives.1.effect in
+    let zero = (succeeded old.geometry old.zones new.zones (Ok command) bytes returned value effect).value_is ∙ effect-value old.geometry effect.middle command bytes other in
     rw zero at gives
 
 pub on_err : {T E : Type 0} (result : Result T E) (P : Type 0) → P → OnErr result P
@@ -224,12 +230,14 @@ pub performs-plain : (old new : DriveState) (command : Result Command DecodeFaul
     → new.appended ≡ old.appended + one_if (is_append command && is_success status)
     → Performs old command bytes status value returned new
 performs-plain old new command bytes returned status value gives geometry completed refused appended = record {
-  middle = old.zones;
-  before = IsClosing-refl old.zones;
-  status_is = sym (ap (λ (o : Outcome). o.status) gives);
-  value_is = sym (ap (λ (o : Outcome). o.value) gives);
-  returned_is = sym (ap (λ (o : Outcome). o.returned) gives);
-  after = rw gives (IsClosing-refl new.zones);
+  effect = record {
+    middle = old.zones;
+    before = IsClosing-refl old.zones;
+    status_is = sym (ap (λ (o : Outcome). o.status) gives);
+    value_is = sym (ap (λ (o : Outcome). o.value) gives);
+    returned_is = sym (ap (λ (o : Outcome). o.returned) gives);
+    after = rw gives (IsClosing-refl new.zones);
+  };
   geometry = geometry;
   completed = completed;
   refused = refused;

@@ -14,16 +14,25 @@ use Rattle.zone_states.specs.Zone.{Zone, cut_blocks}
 use Rattle.zone_report.specs.Report.{is_chosen, report}
 use Rattle.drive_port.specs.declared.calls.PortFault.{PortFault}
 use Rattle.drive_port.specs.declared.calls.PortFault.TheVariants.{Refused, Memory, Stopped}
-use Rattle.drive_port.specs.Drive.{DriveState, IsClosing, active_count, open_count}
-use Rattle.drive_port.specs.Step.{Performs, end_of, is_state, zone_at}
+use Rattle.drive_port.specs.declared.device.Halt.TheVariants as halts
+use Rattle.drive_port.specs.Drive.{DriveState, IsClosing, IsLawful, active_count, open_count}
+use Rattle.drive_port.specs.Step.{Halts, Performs, end_of, is_state, zone_at}
 use Rattle.drive_port.specs.Contents.{Appends, Counts, Finishes, Resets, content_at, contents, is_usable, is_writable, usage_of}
 
--- One submit of this command: it succeeded, or its status, or memory, or the stop. Nothing changes where no command was completed.
+-- One submit of this command: it succeeded, or was refused with a status, or the device halted and returned no bytes.
 abbrev pub CallGives : DriveState → Command → List ℕ → Result ℕ PortFault → List ℕ → DriveState → Type 0
-CallGives old command bytes (Ok value) returned new = Performs old (Ok command) bytes Success value returned new
-CallGives old command bytes (Err (Refused status)) returned new = (status ≢ Success) × (value : ℕ) × Performs old (Ok command) bytes status value returned new
-CallGives old command bytes (Err Memory) returned new = (returned ≡ []) × (new ≡ old)
-CallGives old command bytes (Err Stopped) returned new = (old.stopped ≡ true) × (returned ≡ []) × (new ≡ old)
+CallGives old command bytes (Ok value) returned new = (old.stopped ≡ false) × Performs old (Ok command) bytes Success value returned new
+CallGives old command bytes (Err (Refused status)) returned new = (old.stopped ≡ false) × (status ≢ Success) × (value : ℕ) × Performs old (Ok command) bytes status value returned new
+CallGives old command bytes (Err Memory) returned new = (returned ≡ []) × Halts old halts.Memory new
+CallGives old command bytes (Err Stopped) returned new = (returned ≡ []) × Halts old halts.Stopped new
+
+-- What each call keeps, whatever it answers: the drive stays lawful and has its geometry; a drive that had stopped answers just that and does not change; and `Stopped` is answered by a drive that has stopped alone.
+pub record Obeys {V : Type 0} (old : DriveState) (result : Result V PortFault) (new : DriveState) : Type 0 where
+  pub was_lawful : IsLawful old
+  pub lawful : IsLawful new
+  pub geometry : new.geometry ≡ old.geometry
+  pub already : old.stopped ≡ true → (result ≡ Err Stopped) × (new ≡ old)
+  pub stops : result ≡ Err Stopped → new.stopped ≡ true
 
 -- the answer of a call whose command has no result: that is 0
 abbrev pub with_zero : {V : Type 0} → Result V PortFault → Result ℕ PortFault

@@ -179,14 +179,18 @@ abbrev pub is_append : Result Command DecodeFault → Bool
 is_append (Ok (Append zslba blocks)) = true
 is_append command = false
 
--- The command, done on the drive as old, gives this status, this result and these bytes, and leaves the drive as new. The controller may close implicitly opened zones before the command and after it: by the first closing it makes room where the open limit is met, or doesn't.
-pub record Performs (old : DriveState) (command : Result Command DecodeFault) (bytes : List ℕ) (status : Status) (value : ℕ) (returned : List ℕ) (new : DriveState) : Type 0 where
+-- What a command does to the zones: with this status, this result and these bytes it leaves the old zones as the new ones. The controller may close implicitly opened zones before the command and after it: by the first closing it makes room where the open limit is met, or doesn't.
+pub record Effect (geometry : Geometry) (old : List Zone) (command : Result Command DecodeFault) (bytes : List ℕ) (status : Status) (value : ℕ) (returned : List ℕ) (new : List Zone) : Type 0 where
   pub middle : List Zone
-  pub before : IsClosing old.zones middle
-  pub status_is : status ≡ (outcome old.geometry middle command bytes).status
-  pub value_is : value ≡ (outcome old.geometry middle command bytes).value
-  pub returned_is : returned ≡ (outcome old.geometry middle command bytes).returned
-  pub after : IsClosing (outcome old.geometry middle command bytes).zones new.zones
+  pub before : IsClosing old middle
+  pub status_is : status ≡ (outcome geometry middle command bytes).status
+  pub value_is : value ≡ (outcome geometry middle command bytes).value
+  pub returned_is : returned ≡ (outcome geometry middle command bytes).returned
+  pub after : IsClosing (outcome geometry middle command bytes).zones new
+
+-- A command that was completed: its effect on the zones, and one more in the counts.
+pub record Performs (old : DriveState) (command : Result Command DecodeFault) (bytes : List ℕ) (status : Status) (value : ℕ) (returned : List ℕ) (new : DriveState) : Type 0 where
+  pub effect : Effect old.geometry old.zones command bytes status value returned new.zones
   pub geometry : new.geometry ≡ old.geometry
   pub completed : new.completed ≡ old.completed + 1
   pub refused : new.refused ≡ old.refused + one_if (not (is_success status))
@@ -200,8 +204,12 @@ pub record Completes (old : DriveState) (entry bytes completion returned : List 
   pub spelled : completion ≡ completion_bytes (record { result = value; id = id_of entry; status = status })
   pub performs : Performs old (decode_of entry) bytes status value returned new
 
--- What a device answers to a submit: it has stopped exactly where it says so, nothing changes where it completes no command, and a completion is that of a step.
+-- A drive that completed no command: it was out of memory and had not stopped, or it had stopped before. Nothing changed.
+abbrev pub Halts : DriveState → Halt → DriveState → Type 0
+Halts old Memory new = (old.stopped ≡ false) × (new ≡ old)
+Halts old Stopped new = (old.stopped ≡ true) × (new ≡ old)
+
+-- What a device answers to a submit: the completion of a step where it had not stopped, and else a halt, with no bytes.
 abbrev pub SubmitGives : DriveState → List ℕ → List ℕ → Result (List ℕ) Halt → List ℕ → DriveState → Type 0
 SubmitGives old entry bytes (Ok completion) returned new = (old.stopped ≡ false) × Completes old entry bytes completion returned new
-SubmitGives old entry bytes (Err Memory) returned new = (old.stopped ≡ false) × (returned ≡ []) × (new ≡ old)
-SubmitGives old entry bytes (Err Stopped) returned new = (old.stopped ≡ true) × (returned ≡ []) × (new ≡ old)
+SubmitGives old entry bytes (Err halt) returned new = (returned ≡ []) × Halts old halt new

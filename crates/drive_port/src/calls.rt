@@ -1,9 +1,8 @@
 ghost use Rattle.std.specs.Prelude.{◌≡◌, ◌*◌, ◌<◌, ◌≤◌, ◌^◌, true, false, [], length, Err, IfOk, OnOk, OnErr};
 ghost use Rattle.nvme_wire.specs.Entry.{IsAdmitted};
-ghost use Rattle.drive_port.specs.Drive.{IsLawful};
 ghost use Rattle.drive_port.specs.Step.{end_of};
 ghost use Rattle.drive_port.specs.Contents.{AreEmpty, Counts, SameContents, bytes_at, contents};
-ghost use Rattle.drive_port.specs.Calls.{Appended, AppendGives, CallGives, CanAppend, CanClose, CanFinish, CanRead, CanReset, CloseGives, ClosedZone, Counted, Finished, FinishGives, IsTaken, IsWholeBlocks, ReadGives, ReportGives, Reported, ResetGives, ResetZone, SendGives, block_count};
+ghost use Rattle.drive_port.specs.Calls.{Appended, AppendGives, CallGives, CanAppend, CanClose, CanFinish, CanRead, CanReset, CloseGives, ClosedZone, Counted, Finished, FinishGives, IsTaken, IsWholeBlocks, Obeys, ReadGives, ReportGives, Reported, ResetGives, ResetZone, SendGives, block_count};
 
 use crate::device::{Device, Halt};
 use nvme_wire::{Action, Choice, Command, Completion, ReportHead, Status, ZoneState};
@@ -29,9 +28,7 @@ fn call<D: Device>(
 ) -> Result<u64, PortFault>
     requires { IsAdmitted command.now }
     ensures gives { CallGives (D.drive device.old) command.now bytes.now result into.new.items (D.drive device.new) }
-    ensures stopped { (D.drive device.old).stopped ≡ true → result ≡ Err PortFault.Stopped }
-    ensures was_lawful { IsLawful (D.drive device.old) }
-    ensures lawful { IsLawful (D.drive device.new) }
+    ensures obeys { Obeys (D.drive device.old) result (D.drive device.new) }
 {
     let entry = command.encode(0);
     match device.submit(&entry, bytes, into) {
@@ -60,9 +57,7 @@ pub fn append<D: Device>(
     ensures appended { IfOk result (λ address. Appended (D.drive device.old) (D.drive device.new) zone_start bytes.now address) }
     ensures err { OnErr result (SameContents (D.drive device.old) (D.drive device.new)) }
     ensures taken { CanAppend (D.drive device.old) zone_start (block_count (D.drive device.old).geometry bytes.now) → IsTaken result }
-    ensures stopped { (D.drive device.old).stopped ≡ true → result ≡ Err PortFault.Stopped }
-    ensures was_lawful { IsLawful (D.drive device.old) }
-    ensures lawful { IsLawful (D.drive device.new) }
+    ensures obeys { Obeys (D.drive device.old) result (D.drive device.new) }
 {
     let blocks = bytes.len() / device.geometry().block as usize;
     let command = Command::Append {
@@ -90,9 +85,7 @@ pub fn read<D: Device>(
     ensures err { OnErr result (into.new.items ≡ []) }
     ensures kept { SameContents (D.drive device.old) (D.drive device.new) }
     ensures taken { CanRead (D.drive device.old) slba blocks → IsTaken result }
-    ensures stopped { (D.drive device.old).stopped ≡ true → result ≡ Err PortFault.Stopped }
-    ensures was_lawful { IsLawful (D.drive device.old) }
-    ensures lawful { IsLawful (D.drive device.new) }
+    ensures obeys { Obeys (D.drive device.old) result (D.drive device.new) }
 {
     call(device, &Command::Read { slba, blocks }, &[], into)?;
     Ok(())
@@ -107,9 +100,7 @@ fn send<D: Device>(
 ) -> Result<(), PortFault>
     requires { IsAdmitted (Command.Send zone_start action false) }
     ensures gives { SendGives (D.drive device.old) zone_start action result (D.drive device.new) }
-    ensures stopped { (D.drive device.old).stopped ≡ true → result ≡ Err PortFault.Stopped }
-    ensures was_lawful { IsLawful (D.drive device.old) }
-    ensures lawful { IsLawful (D.drive device.new) }
+    ensures obeys { Obeys (D.drive device.old) result (D.drive device.new) }
 {
     let command = Command::Send {
         slba: zone_start,
@@ -128,9 +119,7 @@ pub fn finish<D: Device>(alloc: Global, device: &mut D, zone_start: u64) -> Resu
     ensures finished { OnOk result (Finished (D.drive device.old) (D.drive device.new) zone_start) }
     ensures err { OnErr result (SameContents (D.drive device.old) (D.drive device.new)) }
     ensures taken { CanFinish (D.drive device.old) zone_start → IsTaken result }
-    ensures stopped { (D.drive device.old).stopped ≡ true → result ≡ Err PortFault.Stopped }
-    ensures was_lawful { IsLawful (D.drive device.old) }
-    ensures lawful { IsLawful (D.drive device.new) }
+    ensures obeys { Obeys (D.drive device.old) result (D.drive device.new) }
 {
     send(alloc, device, zone_start, Action::Finish)
 }
@@ -142,9 +131,7 @@ pub fn close<D: Device>(alloc: Global, device: &mut D, zone_start: u64) -> Resul
     ensures closed { OnOk result (ClosedZone (D.drive device.old) (D.drive device.new) zone_start) }
     ensures kept { SameContents (D.drive device.old) (D.drive device.new) }
     ensures taken { CanClose (D.drive device.old) zone_start → IsTaken result }
-    ensures stopped { (D.drive device.old).stopped ≡ true → result ≡ Err PortFault.Stopped }
-    ensures was_lawful { IsLawful (D.drive device.old) }
-    ensures lawful { IsLawful (D.drive device.new) }
+    ensures obeys { Obeys (D.drive device.old) result (D.drive device.new) }
 {
     send(alloc, device, zone_start, Action::Close)
 }
@@ -155,9 +142,7 @@ pub fn reset<D: Device>(alloc: Global, device: &mut D, zone_start: u64) -> Resul
     ensures reset { OnOk result (ResetZone (D.drive device.old) (D.drive device.new) zone_start) }
     ensures err { OnErr result (SameContents (D.drive device.old) (D.drive device.new)) }
     ensures taken { CanReset (D.drive device.old) zone_start → IsTaken result }
-    ensures stopped { (D.drive device.old).stopped ≡ true → result ≡ Err PortFault.Stopped }
-    ensures was_lawful { IsLawful (D.drive device.old) }
-    ensures lawful { IsLawful (D.drive device.new) }
+    ensures obeys { Obeys (D.drive device.old) result (D.drive device.new) }
 {
     send(alloc, device, zone_start, Action::Reset)
 }
@@ -181,9 +166,7 @@ pub fn report<D: Device>(
     ensures err { OnErr result (into.new.items ≡ []) }
     ensures kept { SameContents (D.drive device.old) (D.drive device.new) }
     ensures taken { slba < end_of (D.drive device.old).geometry → IsTaken result }
-    ensures stopped { (D.drive device.old).stopped ≡ true → result ≡ Err PortFault.Stopped }
-    ensures was_lawful { IsLawful (D.drive device.old) }
-    ensures lawful { IsLawful (D.drive device.new) }
+    ensures obeys { Obeys (D.drive device.old) result (D.drive device.new) }
 {
     let command = Command::Receive {
         slba,
@@ -210,9 +193,7 @@ pub fn count_zones<D: Device>(
     ensures err { OnErr result (into.new.items ≡ []) }
     ensures kept { SameContents (D.drive device.old) (D.drive device.new) }
     ensures taken { 0 < end_of (D.drive device.old).geometry → IsTaken result }
-    ensures stopped { (D.drive device.old).stopped ≡ true → result ≡ Err PortFault.Stopped }
-    ensures was_lawful { IsLawful (D.drive device.old) }
-    ensures lawful { IsLawful (D.drive device.new) }
+    ensures obeys { Obeys (D.drive device.old) result (D.drive device.new) }
 {
     report(device, 0, choice, false, 16, into)?;
     let mut bytes = [0; 64];

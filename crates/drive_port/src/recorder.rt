@@ -74,7 +74,7 @@ impl<D: Device + Drop> Device for Recorder<D> {
         ensures was_lawful { IsLawful self.old.inner }
         ensures lawful { IsLawful self.new.inner }
         ensures kept { OnOk result (self.new.entries ≡ self.old.entries ++ entry.now ∷ []) }
-        ensures halted { OnErr result (self.new ≡ self.old) }
+        ensures halted { OnErr result (self.new.entries ≡ self.old.entries) }
     {
         into.clear();
         if self.device.stopped() {

@@ -1,7 +1,7 @@
-ghost use Rattle.std.specs.Prelude.{◌≡◌, IfOk, OnErr};
+ghost use Rattle.std.specs.Prelude.{◌≡◌, ◌≤◌, ◌<◌, Err};
 ghost use Rattle.drive_port.specs.Drive.{IsLawful};
-ghost use Rattle.drive_port.specs.Step.{Completes, SubmitGives};
-ghost use Rattle.drive_port.specs.Stop.{drive_of};
+ghost use Rattle.drive_port.specs.Step.{SubmitGives};
+ghost use Rattle.drive_port.specs.Stop.{count_of, drive_of};
 
 use crate::device::{Device, Halt};
 use std::marker::Model;
@@ -75,8 +75,8 @@ impl<D: Device + Drop> Device for StopAfter<D> {
         ensures was_lawful { IsLawful (drive_of self.old) }
         ensures lawful { IsLawful (drive_of self.new) }
         ensures limit { (self.new.start ≡ self.old.start) × (self.new.limit ≡ self.old.limit) }
-        ensures done { IfOk result (λ completion. Completes self.old.inner entry.now bytes.now completion into.new.items self.new.inner) }
-        ensures halted { OnErr result (self.new.inner ≡ self.old.inner) }
+        ensures over { self.old.limit ≤ count_of self.old → (result ≡ Err Halt.Stopped) × (self.new ≡ self.old) }
+        ensures before { count_of self.old < self.old.limit → SubmitGives self.old.inner entry.now bytes.now result into.new.items self.new.inner }
     {
         if self.completed() >= self.limit {
             into.clear();

@@ -56,12 +56,14 @@ completes old middle new entry bytes returned completion reply gives counts spel
       fits = fits;
       spelled = spelled;
       performs = record {
-        middle = chosen old.geometry old.zones command bytes;
-        before = closes-chosen (wants_open_place (outcome old.geometry old.zones command bytes).status) old.zones;
-        status_is = sym (ap (λ (o : Outcome). o.status) gives.outcome);
-        value_is = sym (ap (λ (o : Outcome). o.value) gives.outcome);
-        returned_is = sym (ap (λ (o : Outcome). o.returned) gives.outcome);
-        after = rw (gives.outcome, counts) (same_zones middle.zones);
+        effect = record {
+          middle = chosen old.geometry old.zones command bytes;
+          before = closes-chosen (wants_open_place (outcome old.geometry old.zones command bytes).status) old.zones;
+          status_is = sym (ap (λ (o : Outcome). o.status) gives.outcome);
+          value_is = sym (ap (λ (o : Outcome). o.value) gives.outcome);
+          returned_is = sym (ap (λ (o : Outcome). o.returned) gives.outcome);
+          after = rw (gives.outcome, counts) (same_zones middle.zones);
+        };
         geometry = ap (λ (d : DriveState). d.geometry) counts ∙ ap (λ (d : DriveState). d.geometry) others;
         completed = ap (λ (d : DriveState). d.completed) counts ∙ ap (λ (d : DriveState). d.completed + 1) others;
         refused = ap (λ (d : DriveState). d.refused) counts ∙ ap (λ (d : DriveState). d.refused + one_if (not (is_success reply.status))) others;

@@ -44,8 +44,8 @@ pub record Halts (old new : DriveState) (next : ℕ) (fault : PortFault) : Type 
 
 pub halts : (V : Type 0) (old new : DriveState) (command : Command) (bytes returned : List ℕ) (fault : PortFault) (next : ℕ) → CallGives old command bytes (Err fault) returned new → IsTaken {V = V} (Err fault) → Halts old new next fault
 halts V old new command bytes returned (port.Refused status) next gives passed = absurd passed
-halts V old new command bytes returned port.Memory next gives passed = record { halt = tt; same = gives.1; cause = tt }
-halts V old new command bytes returned port.Stopped next gives passed = record { halt = tt; same = gives.2; cause = rw gives.2 gives.0 }
+halts V old new command bytes returned port.Memory next gives passed = record { halt = tt; same = gives.1.1; cause = tt }
+halts V old new command bytes returned port.Stopped next gives passed = record { halt = tt; same = gives.1.1; cause = rw gives.1.1 gives.1.0 }
 
 -- tables with a known host zone
 pub with-host : (drive : DriveState) (tables : Tables) (host : Option Filling) (n : ℕ) → tables.roles.host ≡ host → Agrees drive tables n → Agrees drive (tables_with tables.map (roles_with tables.roles.empty host) tables.next) n

@@ -18,4 +18,4 @@ returns-in_default-clause-gives g c =
     let e = c.in-Ok-decode.ensures.spelled made (done.fits, id) done.spelled in
     let same : c.in-Ok-decode.completion ≡ made = cc in
     let status = ap (λ (k : Completion). k.status) same in
-    (c.in_default.not-Success, done.value, rw (status, ← c.encode-entry.ensures.again) done.performs)
+    (c.in-Ok.ensures.gives.0, c.in_default.not-Success, done.value, rw (status, ← c.encode-entry.ensures.again) done.performs)

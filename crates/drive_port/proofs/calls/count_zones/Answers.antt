@@ -8,7 +8,7 @@ pub unreachable-requires : goal.unreachable-requires
 unreachable-requires g c =
     let shown = c.in_ok-report.ensures.shown in
     let spelled = c.copy_from_slice.ensures.after ∙ c.deref.ensures.value ∙ reported-head _ _ c.args.choice _ shown in
-    let e = c.in-Err.ensures.spelled _ (chosen-fits _ c.args.choice shown.zones c.report.ensures.was_lawful shown.before) spelled in
+    let e = c.in-Err.ensures.spelled _ (chosen-fits _ c.args.choice shown.zones c.report.ensures.obeys.was_lawful shown.before) spelled in
     cc
 
 pub returns-clause-counted : goal.returns-clause-counted
@@ -16,12 +16,12 @@ returns-clause-counted g c =
     let shown = c.in_ok-report.ensures.shown in
     let made : ReportHead = record { zones = chosen_count c.args.choice shown.zones } in
     let spelled = c.copy_from_slice.ensures.after ∙ c.deref.ensures.value ∙ reported-head _ _ c.args.choice _ shown in
-    let e = c.in-Ok.ensures.spelled made (chosen-fits _ c.args.choice shown.zones c.report.ensures.was_lawful shown.before) spelled in
+    let e = c.in-Ok.ensures.spelled made (chosen-fits _ c.args.choice shown.zones c.report.ensures.obeys.was_lawful shown.before) spelled in
     let same : c.in-Ok.head ≡ made = cc in
     reported-counts _ _ c.args.choice _ _ shown (ap (λ (h : ReportHead). h.zones) same)
 
 pub returns-clause-all_empty : goal.returns-clause-all_empty
-returns-clause-all_empty g c = counted-all_empty _ _ c.args.choice _ c.report.ensures.was_lawful (returns-clause-counted g c)
+returns-clause-all_empty g c = counted-all_empty _ _ c.args.choice _ c.report.ensures.obeys.was_lawful (returns-clause-counted g c)
 
 pub returns-clause-empty_all : goal.returns-clause-empty_all
-returns-clause-empty_all g c = counted-empty_all _ _ c.args.choice _ c.report.ensures.was_lawful (returns-clause-counted g c)
+returns-clause-empty_all g c = counted-empty_all _ _ c.args.choice _ c.report.ensures.obeys.was_lawful (returns-clause-counted g c)

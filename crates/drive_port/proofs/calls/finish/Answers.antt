@@ -4,7 +4,7 @@ use Rattle.drive_port.proofs.SendLaws.{send-if_err}
 use Rattle.drive_port.proofs.calls.finish.Goals as goal
 
 pub returns-clause-finished : goal.returns-clause-finished
-returns-clause-finished g c = finish-if_ok _ _ c.args.zone_start c.send.result c.send.ensures.was_lawful c.send.ensures.gives
+returns-clause-finished g c = finish-if_ok _ _ c.args.zone_start c.send.result c.send.ensures.obeys.was_lawful c.send.ensures.gives
 
 pub returns-clause-err : goal.returns-clause-err
 returns-clause-err g c = send-if_err _ _ c.args.zone_start Finish c.send.result c.send.ensures.gives

@@ -17,10 +17,10 @@ pub returns-clause-gives : goal.returns-clause-gives
 returns-clause-gives g c = call-zero _ _ (Read c.args.slba c.args.blocks) _ _ _ refl c.in_ok-call.ensures.gives
 
 pub returns-clause-shown : goal.returns-clause-shown
-returns-clause-shown g c = (read-succeeded _ _ c.args.slba c.args.blocks _ _ _ c.in_ok-call.ensures.gives).bytes
+returns-clause-shown g c = (read-succeeded _ _ c.args.slba c.args.blocks _ _ _ c.in_ok-call.ensures.gives.1).bytes
 
 pub returns-clause-length : goal.returns-clause-length
-returns-clause-length g c = rw (read-succeeded _ _ c.args.slba c.args.blocks _ _ _ c.in_ok-call.ensures.gives).bytes (length-bytes_at _ _ _ c.call.ensures.was_lawful)
+returns-clause-length g c = rw (read-succeeded _ _ c.args.slba c.args.blocks _ _ _ c.in_ok-call.ensures.gives.1).bytes (length-bytes_at _ _ _ c.call.ensures.obeys.was_lawful)
 
 pub returns-clause-kept : goal.returns-clause-kept
-returns-clause-kept g c = (read-succeeded _ _ c.args.slba c.args.blocks _ _ _ c.in_ok-call.ensures.gives).kept
+returns-clause-kept g c = (read-succeeded _ _ c.args.slba c.args.blocks _ _ _ c.in_ok-call.ensures.gives.1).kept

@@ -17,10 +17,10 @@ pub returns-clause-gives : goal.returns-clause-gives
 returns-clause-gives g c = call-zero _ _ (Receive c.args.slba c.args.dwords c.args.choice c.args.partial) _ _ _ refl c.in_ok-call.ensures.gives
 
 pub returns-clause-shown : goal.returns-clause-shown
-returns-clause-shown g c = report-succeeded _ _ c.args.slba c.args.choice c.args.partial c.args.dwords _ _ _ c.in_ok-call.ensures.gives
+returns-clause-shown g c = report-succeeded _ _ c.args.slba c.args.choice c.args.partial c.args.dwords _ _ _ c.in_ok-call.ensures.gives.1
 
 pub returns-clause-length : goal.returns-clause-length
-returns-clause-length g c = length-reported _ _ c.args.slba c.args.choice c.args.partial c.args.dwords _ c.requires.head (report-succeeded _ _ c.args.slba c.args.choice c.args.partial c.args.dwords _ _ _ c.in_ok-call.ensures.gives)
+returns-clause-length g c = length-reported _ _ c.args.slba c.args.choice c.args.partial c.args.dwords _ c.requires.head (report-succeeded _ _ c.args.slba c.args.choice c.args.partial c.args.dwords _ _ _ c.in_ok-call.ensures.gives.1)
 
 pub returns-clause-kept : goal.returns-clause-kept
-returns-clause-kept g c = reported-kept _ _ c.args.slba c.args.choice c.args.partial c.args.dwords _ (report-succeeded _ _ c.args.slba c.args.choice c.args.partial c.args.dwords _ _ _ c.in_ok-call.ensures.gives)
+returns-clause-kept g c = reported-kept _ _ c.args.slba c.args.choice c.args.partial c.args.dwords _ (report-succeeded _ _ c.args.slba c.args.choice c.args.partial c.args.dwords _ _ _ c.in_ok-call.ensures.gives.1)

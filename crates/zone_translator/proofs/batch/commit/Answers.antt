@@ -9,7 +9,7 @@ fault_of-requires g c =
 
 pub returns-in-Ok-clause-ok : goal.returns-in-Ok-clause-ok
 returns-in-Ok-clause-ok g c =
-    commit_writes _ _ c.args.tables.now _ _ c.args.host c.args.first c.args.count _ c.in-Ok.address c.args.buffer.now c.requires (rw c.geometry.ensures.value refl) c.in-Ok.ensures.appended c.append.ensures.lawful c.place_blocks.ensures c.wrote.ensures
+    commit_writes _ _ c.args.tables.now _ _ c.args.host c.args.first c.args.count _ c.in-Ok.address c.args.buffer.now c.requires (rw c.geometry.ensures.value refl) c.in-Ok.ensures.appended c.append.ensures.obeys.lawful c.place_blocks.ensures c.wrote.ensures
 
 pub returns-in-Err-clause-err : goal.returns-in-Err-clause-err
 returns-in-Err-clause-err g c =

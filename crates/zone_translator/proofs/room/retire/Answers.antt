@@ -30,4 +30,4 @@ returns-clause-kept g c =
     let few = host-few _ t.map t.roles.empty c.args.host t.next (size_of t) with in
     keeps-finish _ _ t _ c.args.host _ c.requires.agrees c.requires.host (rw c.geometry-geometry.ensures.value refl)
     (let other = rw c.geometry-geometry.ensures.value at c.if-host-geometry.false in omega (arith, few, other))
-    c.in_default.ensures.finished c.finish.ensures.lawful c.seal-2.ensures
+    c.in_default.ensures.finished c.finish.ensures.obeys.lawful c.seal-2.ensures
