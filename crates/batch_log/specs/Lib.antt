@@ -1,4 +1,3 @@
 pub mod Header
 pub mod Log
 pub mod LogLaws
-pub mod Reference

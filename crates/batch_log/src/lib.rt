@@ -6,10 +6,7 @@
 
 mod header;
 pub mod laws;
-pub mod reference;
 mod spelling;
-#[cfg(test)]
-mod tests;
 
 pub use header::{Entry, Header, Kind};
 pub use spelling::{entry_room, header_bytes};

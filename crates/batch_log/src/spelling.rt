@@ -6,9 +6,9 @@ use crate::header::{Entry, Header, Kind};
 use byteorder::{ByteOrder, LittleEndian};
 
 /// Where the entries of a header begin.
-pub(crate) const HEAD_SIZE: usize = 32;
+const HEAD_SIZE: usize = 32;
 /// The bit of an entry that marks a trim.
-pub(crate) const TRIM_BIT: u64 = 1 << 63;
+const TRIM_BIT: u64 = 1 << 63;
 
 const MAGIC: [u8; 8] = *b"ZLOGBAT1";
 

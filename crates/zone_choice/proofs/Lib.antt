@@ -10,6 +10,3 @@ pub mod CommandLaws
 pub mod ReadLaws
 pub mod WholeLaws
 pub mod FreshLaws
-pub mod HeardLaws
-pub mod ImageLaws
-pub mod MountableLaws

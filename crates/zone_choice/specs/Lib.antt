@@ -5,4 +5,3 @@ pub mod Mountable
 pub mod Roles
 pub mod Agreement
 pub mod Laws
-pub mod Reference

@@ -3,7 +3,6 @@
 #![tactic(auto)]
 
 mod laws;
-pub mod reference;
 mod reserve;
 mod roles;
 mod tables;

@@ -1,34 +1,39 @@
 -- The calls of a disk, by what its parts change.
-use Rattle.std.proofs.Common.{◌≡◌, ℕ, zero, suc, ◌+◌, ◌<◌, ◌≤◌, Bool, true, false, ◌||◌, List, [], ◌∷◌, ◌++◌, length, take, drop, get_or, replicate, Some, None, Ok, Err, refl, sym, ap, ◌∙◌, arith, append_assoc, append-nil}
+use Rattle.std.proofs.Common.{◌≡◌, ◌==◌, ℕ, nat_lt, zero, suc, ◌+◌, ◌<◌, ◌≤◌, Bool, true, false, List, [], ◌∷◌, ◌++◌, length, take, drop, get_or, replicate, Some, None, Ok, Err, refl, sym, ap, ◌∙◌, arith, append_assoc, append-nil}
 use Rattle.std.specs.Prelude.{Result}
 use Rattle.std.specs.List.{AllByRecursion, concat}
+use Rattle.std.proofs.lemmas.Bool.Decides.{nat_tests}
 use Rattle.std.proofs.lemmas.List.{get_or-drop, length-drop, length-replicate, take_more}
 use Rattle.drive_port.specs.Drive.{DriveState}
 use Rattle.zone_choice.specs.declared.tables.Tables.{Tables}
 use Rattle.zone_choice.proofs.AgreementLaws.{agrees_mountable, length-spelled}
 use Rattle.zone_choice.proofs.WholeLaws.{whole-spelled}
 use Rattle.zone_choice.specs.Mountable.{IsMountable}
+use Rattle.zone_translator.specs.declared.buffer.BatchBuffer.{BatchBuffer}
 use Rattle.zone_translator.specs.declared.fault.DiskFault.{DiskFault}
 use Rattle.zone_translator.specs.declared.fault.DiskFault.TheVariants.{OutOfRange, OutOfMemory, Stopped, Spent, NoRoom}
-use Rattle.zone_translator.specs.Calls.{ReadAnswers, ReadGives, WriteAnswers, WriteGives, answer_before, is_stopped, known_answer}
-use Rattle.zone_translator.specs.Changes.{IsCause, KeepsArray, WritesBlocks, size_of}
-use Rattle.zone_translator.specs.Flat.{IsFront, blocks_from, replaced}
+use Rattle.zone_translator.specs.declared.status.DiskStatus.{DiskStatus}
+use Rattle.zone_translator.specs.declared.status.DiskStatus.TheVariants as statuses
+use Rattle.zone_translator.specs.Buffer.{IsHostBatch}
+use Rattle.zone_translator.specs.Calls.{Holds, Reads, answer_before, is_known, status_of}
+use Rattle.zone_translator.specs.Changes.{AgreesWith, IsCause, KeepsArray, WritesBlocks, size_of}
+use Rattle.zone_translator.specs.Flat.{Begun, FlatCall, IsFront, blocks_from, known_answer, read, replaced, status_after, with_nothing, write}
 use Rattle.zone_translator.specs.Read.{IsReadFault}
 use Rattle.zone_translator.proofs.FlatLaws.{replaced-append}
-use Rattle.zone_translator.specs.View.{DiskView, KeepsDisk, array_of}
+use Rattle.zone_translator.specs.View.{DiskCause, DiskView, KeepsDisk, array_of, disk_size, flat_of, next_sequence}
 
 -- what a disk of these parts is seen as
-abbrev pub view_of : DriveState → Tables → Bool → DiskView
-view_of drive tables stopped = record { drive = drive; size = size_of tables; next = tables.next; stopped = stopped }
+abbrev pub view_of : DriveState → Tables → DiskStatus → DiskView
+view_of drive tables status = record { drive = drive; tables = tables; status = status }
 
 -- the array has the disk's number of blocks, and on a drive that can be mounted each is a whole block
-pub length-array : (disk : DiskView) → length (array_of disk) ≡ disk.size
-length-array disk = length-spelled disk.drive disk.size
+pub length-array : (disk : DiskView) → length (array_of disk) ≡ disk_size disk
+length-array disk = length-spelled disk.drive (disk_size disk)
 
-pub whole-array : (disk : DiskView) → IsMountable disk.drive disk.size → AllByRecursion (λ block. length block ≡ disk.drive.geometry.block) (array_of disk)
-whole-array disk mountable = whole-spelled disk.drive disk.size mountable
+pub whole-array : (disk : DiskView) → IsMountable disk.drive (disk_size disk) → AllByRecursion (λ block. length block ≡ disk.drive.geometry.block) (array_of disk)
+whole-array disk mountable = whole-spelled disk.drive (disk_size disk) mountable
 
-pub kept-disk : (old new : DriveState) (tables tables' : Tables) (was is : Bool) → KeepsArray old new tables tables' → KeepsDisk (view_of old tables was) (view_of new tables' is)
+pub kept-disk : (old new : DriveState) (tables tables' : Tables) (was is : DiskStatus) → KeepsArray old new tables tables' → KeepsDisk (view_of old tables was) (view_of new tables' is)
 kept-disk old new tables tables' was is kept = record {
   size = ap length kept.places;
   geometry = kept.geometry;
@@ -37,7 +42,7 @@ kept-disk old new tables tables' was is kept = record {
   next = omega (arith, kept.next, kept.appended);
 }
 
-pub written-disk : (old new : DriveState) (tables tables' : Tables) (first : ℕ) (blocks : List (List ℕ)) (was is : Bool) → WritesBlocks old new tables tables' first blocks → KeepsDisk (view_of old tables was) (view_of new tables' is)
+pub written-disk : (old new : DriveState) (tables tables' : Tables) (first : ℕ) (blocks : List (List ℕ)) (was is : DiskStatus) → WritesBlocks old new tables tables' first blocks → KeepsDisk (view_of old tables was) (view_of new tables' is)
 written-disk old new tables tables' first blocks was is written = record {
   size = written.size;
   geometry = written.geometry;
@@ -55,27 +60,47 @@ kept-join a b c p q = record {
   next = omega (arith, p.next, q.next);
 }
 
-pub kept-refl : (a : DiskView) → IsMountable a.drive a.size → KeepsDisk a a
+pub kept-refl : (a : DiskView) → IsMountable a.drive (disk_size a) → KeepsDisk a a
 kept-refl a mountable = record { size = refl; geometry = refl; mountable = mountable; refused = refl; next = refl }
 
--- a fault other than `Stopped`
-pub goes-on : (fault : DiskFault) → (fault ≡ Stopped → ⊥) → false ≡ is_stopped {V = ℕ} (Err fault)
-goes-on OutOfRange other = refl
-goes-on OutOfMemory other = refl
-goes-on Stopped other = absurd (other refl)
-goes-on Spent other = refl
-goes-on NoRoom other = refl
+-- ---- the parts of a disk
 
-same-stop : (V W : Type 0) (fault : DiskFault) → is_stopped {V = V} (Err fault) ≡ is_stopped {V = W} (Err fault)
-same-stop V W OutOfRange = refl
-same-stop V W OutOfMemory = refl
-same-stop V W Stopped = refl
-same-stop V W Spent = refl
-same-stop V W NoRoom = refl
+-- a disk that serves, by the agreement of its tables and its drive
+pub holds-serving : (drive : DriveState) (tables : Tables) (batch : BatchBuffer) → AgreesWith drive tables → IsHostBatch batch → Holds drive tables statuses.Serving batch
+holds-serving drive tables batch agrees batch_is = record {
+  mountable = agrees_mountable drive tables (size_of tables) agrees;
+  short = agrees.reserve.1;
+  agrees = agrees;
+  stopped = λ e. absurd (cc);
+  batch_is = batch_is;
+}
 
-pub stop-is : (b was is : Bool) → was ≡ false → is ≡ b → is ≡ (was || b)
-stop-is b false is e h = h
-stop-is b true is e h = absurd (cc)
+-- a disk after a refusal
+pub holds-refused : (drive : DriveState) (tables : Tables) (batch : BatchBuffer) (fault : DiskFault) → AgreesWith drive tables → IsHostBatch batch → IsCause drive tables.next fault → Holds drive tables (status_of fault) batch
+holds-refused drive tables batch OutOfRange agrees batch_is cause = absurd cause
+holds-refused drive tables batch OutOfMemory agrees batch_is cause = holds-serving drive tables batch agrees batch_is
+holds-refused drive tables batch Stopped agrees batch_is cause = record {
+  mountable = agrees_mountable drive tables (size_of tables) agrees;
+  short = agrees.reserve.1;
+  agrees = tt;
+  stopped = λ e. cause;
+  batch_is = batch_is;
+}
+holds-refused drive tables batch Spent agrees batch_is cause = holds-serving drive tables batch agrees batch_is
+holds-refused drive tables batch NoRoom agrees batch_is cause = holds-serving drive tables batch agrees batch_is
+
+-- a read is refused for a cause of any call
+pub read-fault-cause : (drive : DriveState) (next : ℕ) (fault : DiskFault) → IsReadFault drive fault → IsCause drive next fault
+read-fault-cause drive next OutOfRange cause = cause
+read-fault-cause drive next OutOfMemory cause = tt
+read-fault-cause drive next Stopped cause = cause
+read-fault-cause drive next Spent cause = absurd cause
+read-fault-cause drive next NoRoom cause = absurd cause
+
+-- while it serves, its tables agree with its drive
+pub holds-agrees : (drive : DriveState) (tables : Tables) (status : DiskStatus) (batch : BatchBuffer) → status ≡ statuses.Serving → Holds drive tables status batch → AgreesWith drive tables
+holds-agrees drive tables statuses.Serving batch e holds = holds.agrees
+holds-agrees drive tables statuses.Stopped batch e holds = absurd (cc)
 
 -- ---- fronts of a fill
 
@@ -105,31 +130,83 @@ fill-front array now first done n block le is = record {
   written = is ∙ ap (λ (xs : List (List ℕ)). replaced array first xs) (sym (take-less done n block le));
 }
 
+-- ---- what is known beforehand
+
+pub known-past : (disk : DiskView) (first n : ℕ) → 0 < n → disk_size disk < first + n → known_answer (flat_of disk) first n ≡ Some (Err OutOfRange)
+known-past disk first n some past =
+    let long = length-array disk in
+    let none : (n == 0) ≡ false = grind (arith, nat_tests, some) in
+    let lt : nat_lt (length (array_of disk)) (first + n) ≡ true = grind (arith, nat_tests, long, past) in
+    rw (none, lt) refl
+
+pub known-stopped : (disk : DiskView) (first n : ℕ) → 0 < n → first + n ≤ disk_size disk → disk.status ≡ statuses.Stopped → known_answer (flat_of disk) first n ≡ Some (Err Stopped)
+known-stopped disk first n some within stopped =
+    let long = length-array disk in
+    let none : (n == 0) ≡ false = grind (arith, nat_tests, some) in
+    let lt : nat_lt (length (array_of disk)) (first + n) ≡ false = grind (arith, nat_tests, long, within) in
+    rw (none, lt, stopped) refl
+
+pub known-none : (disk : DiskView) (first n : ℕ) → 0 < n → first + n ≤ disk_size disk → disk.status ≡ statuses.Serving → known_answer (flat_of disk) first n ≡ None
+known-none disk first n some within serves =
+    let long = length-array disk in
+    let none : (n == 0) ≡ false = grind (arith, nat_tests, some) in
+    let lt : nat_lt (length (array_of disk)) (first + n) ≡ false = grind (arith, nat_tests, long, within) in
+    rw (none, lt, serves) refl
+
 -- ---- the answers of a write and of a read
 
--- where nothing was known beforehand
-pub write-begun : (old new : DiskView) (first n : ℕ) (blocks : List (List ℕ)) (result : Result (Unit {0}) DiskFault) → length blocks ≡ n → known_answer old first n ≡ None → WriteGives old first blocks result new → WriteAnswers old first blocks result new
-write-begun old new first n blocks result long known gives = rw (long, known) gives
+pub cause-of : (disk : DiskView) (fault : DiskFault) → IsCause disk.drive (next_sequence disk) fault → DiskCause disk fault
+cause-of disk OutOfRange cause = tt
+cause-of disk OutOfMemory cause = cause
+cause-of disk Stopped cause = cause
+cause-of disk Spent cause = cause
+cause-of disk NoRoom cause = cause
 
-pub write-known : (old : DiskView) (first n : ℕ) (blocks : List (List ℕ)) (result : Result (Unit {0}) DiskFault) → length blocks ≡ n → known_answer old first n ≡ Some result → WriteAnswers old first blocks result old
+pub read-cause : (disk : DiskView) (fault : DiskFault) → IsReadFault disk.drive fault → DiskCause disk fault
+read-cause disk OutOfRange cause = tt
+read-cause disk OutOfMemory cause = tt
+read-cause disk Stopped cause = cause
+read-cause disk Spent cause = absurd cause
+read-cause disk NoRoom cause = absurd cause
+
+-- where nothing was known beforehand
+pub write-begun : (old new : DiskView) (first n : ℕ) (blocks : List (List ℕ)) (result : Result (Unit {0}) DiskFault) → length blocks ≡ n → known_answer (flat_of old) first n ≡ None
+    → Begun (flat_of old) (write first blocks) result [] (flat_of new) → new.status ≡ status_after result → FlatCall (flat_of old) (write first blocks) (with_nothing result) (flat_of new)
+write-begun old new first n blocks result long known begun status = rw (long, known) (begun, status)
+
+pub write-known : (old : DiskView) (first n : ℕ) (blocks : List (List ℕ)) (result : Result (Unit {0}) DiskFault) → length blocks ≡ n → known_answer (flat_of old) first n ≡ Some result
+    → FlatCall (flat_of old) (write first blocks) (with_nothing result) (flat_of old)
 write-known old first n blocks result long known = rw (long, known) (refl, refl)
 
-pub read-begun : (old new : DiskView) (first n : ℕ) (result : Result (Unit {0}) DiskFault) (shown : List ℕ) → known_answer old first n ≡ None → ReadGives old first n result shown new → ReadAnswers old first n result shown new
-read-begun old new first n result shown known gives = rw known gives
+pub read-begun : (old new : DiskView) (first n : ℕ) (result : Result (Unit {0}) DiskFault) (shown : List (List ℕ)) (bytes : List ℕ) → known_answer (flat_of old) first n ≡ None
+    → Begun (flat_of old) (read first n) result shown (flat_of new) → new.status ≡ status_after result → bytes ≡ concat shown → Reads (flat_of old) first n result bytes (flat_of new)
+read-begun old new first n result shown bytes known begun status bytes-are = record { shown = shown; flat = rw known (begun, status); bytes_are = bytes-are }
 
-pub write-refused : (old new : DiskView) (first : ℕ) (blocks : List (List ℕ)) (fault : DiskFault) → IsFront (array_of old) first blocks (array_of new) → IsCause new.drive new.next fault → WriteGives old first blocks (Err fault) new
-write-refused old new first blocks OutOfRange front cause = cause
-write-refused old new first blocks OutOfMemory front cause = (front, cause)
-write-refused old new first blocks Stopped front cause = (front, cause)
-write-refused old new first blocks Spent front cause = (front, cause)
-write-refused old new first blocks NoRoom front cause = (front, cause)
+pub read-known : (old : DiskView) (first n : ℕ) (result : Result (Unit {0}) DiskFault) (bytes : List ℕ) → known_answer (flat_of old) first n ≡ Some result → bytes ≡ []
+    → Reads (flat_of old) first n result bytes (flat_of old)
+read-known old first n result bytes known none = record { shown = []; flat = rw known (refl, refl); bytes_are = none }
 
-pub read-refused : (old new : DiskView) (first n : ℕ) (shown : List ℕ) (fault : DiskFault) → shown ≡ [] → array_of new ≡ array_of old → IsReadFault new.drive fault → ReadGives old first n (Err fault) shown new
-read-refused old new first n shown OutOfMemory none same cause = (none, same)
-read-refused old new first n shown Stopped none same cause = (none, same, cause)
-read-refused old new first n shown OutOfRange none same cause = cause
-read-refused old new first n shown Spent none same cause = cause
-read-refused old new first n shown NoRoom none same cause = cause
+pub write-refused : (old new : DiskView) (first : ℕ) (blocks : List (List ℕ)) (fault : DiskFault) → IsFront (array_of old) first blocks (array_of new) → IsCause new.drive (next_sequence new) fault
+    → Begun (flat_of old) (write first blocks) (Err fault) [] (flat_of new)
+write-refused old new first blocks OutOfRange front cause = absurd cause
+write-refused old new first blocks OutOfMemory front cause = (refl, refl, front)
+write-refused old new first blocks Stopped front cause = (refl, refl, front)
+write-refused old new first blocks Spent front cause = (refl, refl, front)
+write-refused old new first blocks NoRoom front cause = (refl, refl, front)
+
+pub read-refused : (old new : DiskView) (first n : ℕ) (fault : DiskFault) → array_of new ≡ array_of old → IsReadFault new.drive fault → Begun (flat_of old) (read first n) (Err fault) [] (flat_of new)
+read-refused old new first n OutOfMemory same cause = (refl, refl, same)
+read-refused old new first n Stopped same cause = (refl, refl, same)
+read-refused old new first n OutOfRange same cause = absurd cause
+read-refused old new first n Spent same cause = absurd cause
+read-refused old new first n NoRoom same cause = absurd cause
+
+pub status-refused : (fault : DiskFault) → status_of fault ≡ status_after (Err fault)
+status-refused OutOfRange = refl
+status-refused OutOfMemory = refl
+status-refused Stopped = refl
+status-refused Spent = refl
+status-refused NoRoom = refl
 
 -- ---- one block more is shown
 
@@ -145,6 +222,10 @@ shown-more array first count block shown more block-is lt is more-is =
     more-is ∙ rw (is, ← at) (sym (concat-append (blocks_from array first count) (get_or (drop first array) count [])) ∙ ap concat (sym (take_more (drop first array) count [] long)))
 
 -- a call that isn't done before it begins
-pub goes-begun : (old : DiskView) (first n : ℕ) (done : Bool) → known_answer old first n ≡ answer_before (Ok done) → done ≡ false → known_answer old first n ≡ None
+pub goes-begun : (old : DiskView) (first n : ℕ) (done : Bool) → known_answer (flat_of old) first n ≡ answer_before (Ok done) → done ≡ false → known_answer (flat_of old) first n ≡ None
 goes-begun old first n true known e = absurd (cc)
 goes-begun old first n false known e = known
+
+-- where an answer was known, the call was answered by it
+pub begun-unknown : (old new : DiskView) (first n : ℕ) → known_answer (flat_of old) first n ≡ None → is_known (flat_of old) (read first n) ≡ true → new ≡ old
+begun-unknown old new first n none known = let e : false ≡ true = rw none at known in absurd (cc)

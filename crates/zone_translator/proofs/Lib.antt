@@ -6,3 +6,4 @@ pub mod FillLaws
 pub mod ReadLaws
 pub mod DiskLaws
 pub mod MountLaws
+mod WriteLaws

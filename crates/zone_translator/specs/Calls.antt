@@ -1,19 +1,35 @@
--- What the calls of a disk answer: those of a flat array.
-use Rattle.std.specs.Prelude.{◌≡◌, ℕ, ◌+◌, ◌==◌, nat_lt, if◌then◌else◌, Bool, true, false, List, [], length, MatchOption, Option, Some, None, Result, Ok, Err}
+-- What holds of the parts of a disk, and what a read gives.
+use Rattle.std.specs.Prelude.{◌≡◌, ℕ, ◌≤◌, ◌^◌, Bool, true, false, List, Option, Some, None, Result, Ok, Err, is_some}
 use Rattle.std.specs.List.{concat}
+use Rattle.drive_port.specs.Drive.{DriveState}
+use Rattle.zone_choice.specs.declared.tables.Tables.{Tables}
+use Rattle.zone_choice.specs.Mountable.{IsMountable}
+use Rattle.zone_translator.specs.declared.buffer.BatchBuffer.{BatchBuffer}
 use Rattle.zone_translator.specs.declared.fault.DiskFault.{DiskFault}
-use Rattle.zone_translator.specs.declared.fault.DiskFault.TheVariants.{OutOfRange, OutOfMemory, Stopped}
-use Rattle.zone_translator.specs.Changes.{IsCause}
-use Rattle.zone_translator.specs.Flat.{IsFront, blocks_from, replaced}
-use Rattle.zone_translator.specs.View.{DiskView, array_of}
+use Rattle.zone_translator.specs.declared.fault.DiskFault.TheVariants as faults
+use Rattle.zone_translator.specs.declared.status.DiskStatus.{DiskStatus}
+use Rattle.zone_translator.specs.declared.status.DiskStatus.TheVariants.{Serving, Stopped}
+use Rattle.zone_translator.specs.Buffer.{IsHostBatch}
+use Rattle.zone_translator.specs.Changes.{AgreesWith, size_of}
+use Rattle.zone_translator.specs.Flat.{Call, FlatCall, FlatDisk, count_of, first_of, known_answer, read}
 
--- The answer of a read or a write of n blocks that is known before anything is done, in this order: of no block it is done, past the end it is out of range, and a disk that answered `Stopped` does so again.
-abbrev pub known_answer : DiskView → ℕ → ℕ → Option (Result (Unit {0}) DiskFault)
-known_answer disk first n =
-    if n == 0 then Some (Ok tt)
-    else if nat_lt disk.size (first + n) then Some (Err OutOfRange)
-    else if disk.stopped then Some (Err Stopped)
-    else None
+-- a fact that is kept while a disk serves
+abbrev pub WhileServing : DiskStatus → Type 0 → Type 0
+WhileServing Serving Fact = Fact
+WhileServing Stopped Fact = Unit {0}
+
+-- The drive of a disk can be mounted. While the disk serves, the tables agree with the drive; and it has answered `Stopped` only where the drive has stopped.
+pub record Holds (drive : DriveState) (tables : Tables) (status : DiskStatus) (batch : BatchBuffer) : Type 0 where
+  pub mountable : IsMountable drive (size_of tables)
+  pub short : size_of tables ≤ 2 ^ 31
+  pub agrees : WhileServing status (AgreesWith drive tables)
+  pub stopped : status ≡ Stopped → drive.stopped ≡ true
+  pub batch_is : IsHostBatch batch
+
+-- what a refusal on its way leaves a disk in
+abbrev pub status_of : DiskFault → DiskStatus
+status_of faults.Stopped = Stopped
+status_of fault = Serving
 
 -- the answer that a test made beforehand stands for: that the call is done, that it goes on, or a refusal
 abbrev pub answer_before : Result Bool DiskFault → Option (Result (Unit {0}) DiskFault)
@@ -21,28 +37,12 @@ answer_before (Ok true) = Some (Ok tt)
 answer_before (Ok false) = None
 answer_before (Err fault) = Some (Err fault)
 
--- a write that was begun: done, its blocks stand in the array; refused, a front of them does
-abbrev pub WriteGives : DiskView → ℕ → List (List ℕ) → Result (Unit {0}) DiskFault → DiskView → Type 0
-WriteGives old first blocks (Ok done) new = array_of new ≡ replaced (array_of old) first blocks
-WriteGives old first blocks (Err OutOfRange) new = ⊥
-WriteGives old first blocks (Err fault) new = IsFront (array_of old) first blocks (array_of new) × IsCause new.drive new.next fault
+-- a read of n blocks: what stands in the buffer are the bytes of the blocks that it shows
+pub record Reads (old : FlatDisk) (first n : ℕ) (result : Result (Unit {0}) DiskFault) (bytes : List ℕ) (new : FlatDisk) : Type 0 where
+  pub shown : List (List ℕ)
+  pub flat : FlatCall old (read first n) (record { result = result; shown = shown }) new
+  pub bytes_are : bytes ≡ concat shown
 
-abbrev pub WriteAnswers : DiskView → ℕ → List (List ℕ) → Result (Unit {0}) DiskFault → DiskView → Type 0
-WriteAnswers old first blocks result new =
-    MatchOption (known_answer old first (length blocks)) (WriteGives old first blocks result new) (λ answer. (result ≡ answer) × (new ≡ old))
-
--- a read that was begun: done, it shows the blocks; refused, nothing. The array stays.
-abbrev pub ReadGives : DiskView → ℕ → ℕ → Result (Unit {0}) DiskFault → List ℕ → DiskView → Type 0
-ReadGives old first n (Ok done) shown new = (shown ≡ concat (blocks_from (array_of old) first n)) × (array_of new ≡ array_of old)
-ReadGives old first n (Err OutOfMemory) shown new = (shown ≡ []) × (array_of new ≡ array_of old)
-ReadGives old first n (Err Stopped) shown new = (shown ≡ []) × (array_of new ≡ array_of old) × (new.drive.stopped ≡ true)
-ReadGives old first n (Err fault) shown new = ⊥
-
-abbrev pub ReadAnswers : DiskView → ℕ → ℕ → Result (Unit {0}) DiskFault → List ℕ → DiskView → Type 0
-ReadAnswers old first n result shown new =
-    MatchOption (known_answer old first n) (ReadGives old first n result shown new) (λ answer. (result ≡ answer) × (shown ≡ []) × (new ≡ old))
-
--- whether `Stopped` is the answer
-abbrev pub is_stopped : {V : Type 0} → Result V DiskFault → Bool
-is_stopped (Err Stopped) = true
-is_stopped result = false
+-- whether the answer to a call is known before anything is done
+abbrev pub is_known : FlatDisk → Call → Bool
+is_known disk call = is_some (known_answer disk (first_of call) (count_of call))

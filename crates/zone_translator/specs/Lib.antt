@@ -1,8 +1,9 @@
 pub mod Flat
-pub mod View
 pub mod Batches
 pub mod Changes
+pub mod View
 pub mod Buffer
+pub mod Calls
 pub mod Read
 pub mod Mount
-pub mod Calls
+pub mod Laws

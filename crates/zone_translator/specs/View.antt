@@ -1,24 +1,45 @@
--- What a disk is seen as.
-use Rattle.std.specs.Prelude.{◌≡◌, ℕ, ◌+◌, Bool, List}
+-- What a disk is seen as, and what its calls keep.
+use Rattle.std.specs.Prelude.{◌≡◌, ℕ, ◌+◌, List}
 use Rattle.drive_port.specs.Drive.{DriveState}
+use Rattle.zone_choice.specs.declared.tables.Tables.{Tables}
 use Rattle.zone_choice.specs.Agreement.{spelled}
 use Rattle.zone_choice.specs.Mountable.{IsMountable}
+use Rattle.zone_translator.specs.declared.fault.DiskFault.{DiskFault}
+use Rattle.zone_translator.specs.declared.fault.DiskFault.TheVariants.{OutOfRange}
+use Rattle.zone_translator.specs.declared.status.DiskStatus.{DiskStatus}
+use Rattle.zone_translator.specs.Changes.{IsCause, size_of}
+use Rattle.zone_translator.specs.Flat.{FlatDisk}
 
--- the drive below, the number of logical blocks, the sequence of the next batch, and whether `Stopped` was answered
+-- the drive below, what is known of it in memory, and whether `Stopped` was answered
 pub record DiskView : Type 0 where
   pub drive : DriveState
-  pub size : ℕ
-  pub next : ℕ
-  pub stopped : Bool
+  pub tables : Tables
+  pub status : DiskStatus
+
+-- how many logical blocks there are
+abbrev pub disk_size : DiskView → ℕ
+disk_size disk = size_of disk.tables
+
+-- the sequence of the next batch
+abbrev pub next_sequence : DiskView → ℕ
+next_sequence disk = disk.tables.next
 
 -- the flat array that the disk keeps: the one that its drive spells
 abbrev pub array_of : DiskView → List (List ℕ)
-array_of disk = spelled disk.drive disk.size
+array_of disk = spelled disk.drive (disk_size disk)
+
+abbrev pub flat_of : DiskView → FlatDisk
+flat_of disk = record { array = array_of disk; status = disk.status }
 
 -- What every call of a disk keeps, whatever it answers: its size, and a drive that can be mounted again. No command is refused, and the next sequence rises by one with each batch that is appended.
 pub record KeepsDisk (old new : DiskView) : Type 0 where
-  pub size : new.size ≡ old.size
+  pub size : disk_size new ≡ disk_size old
   pub geometry : new.drive.geometry ≡ old.drive.geometry
-  pub mountable : IsMountable new.drive new.size
+  pub mountable : IsMountable new.drive (disk_size new)
   pub refused : new.drive.refused ≡ old.drive.refused
-  pub next : new.next + old.drive.appended ≡ old.next + new.drive.appended
+  pub next : next_sequence new + old.drive.appended ≡ next_sequence old + new.drive.appended
+
+-- why a call was refused; of a range the call itself tells
+abbrev pub DiskCause : DiskView → DiskFault → Type 0
+DiskCause disk OutOfRange = Unit {0}
+DiskCause disk fault = IsCause disk.drive (next_sequence disk) fault

@@ -1,20 +1,22 @@
-ghost use Rattle.std.specs.Prelude.{◌≡◌, ◌+◌, ◌<◌, ◌≤◌, ◌++◌, ◌||◌, ◌^◌, [], IfErr, IfOk, OnOk, OnErr, false, length, replicate, slice_index_or};
+ghost use Rattle.std.specs.Prelude.{◌≡◌, ◌+◌, ◌<◌, ◌≤◌, ◌++◌, ◌^◌, [], IfErr, IfOk, OnOk, OnErr, false, true, length, replicate, slice_index_or};
 ghost use Rattle.zone_choice.specs.Mountable.{IsMountable};
 ghost use Rattle.zone_choice.specs.Reserve.{FitsReserve};
 ghost use Rattle.zone_states.specs.Geometry.{IsInRange};
-ghost use Rattle.zone_translator.specs.Calls.{ReadAnswers, WriteAnswers, answer_before, is_stopped, known_answer};
-ghost use Rattle.zone_translator.specs.Changes.{IsCause};
-ghost use Rattle.zone_translator.specs.Flat.{replaced};
+ghost use Rattle.zone_translator.specs.Calls.{Reads, answer_before, is_known, status_of};
+ghost use Rattle.zone_translator.specs.Changes.{IsCause, size_of};
+ghost use Rattle.zone_translator.specs.Flat.{FlatCall, known_answer, read, replaced, status_after, with_nothing, write};
+ghost use Rattle.zone_translator.specs.declared.status.DiskStatus.TheVariants.{Serving};
 ghost use Rattle.batch_log.specs.Log.{zero_block};
 ghost use Rattle.zone_translator.specs.Mount.{IsFresh, KeepsDrive, MountRefuses};
 ghost use Rattle.zone_translator.specs.Read.{IsReadFault};
-ghost use Rattle.zone_translator.specs.View.{DiskView, KeepsDisk, array_of};
+ghost use Rattle.zone_translator.specs.View.{DiskCause, DiskView, KeepsDisk, array_of, disk_size, flat_of, next_sequence};
 
 use crate::buffer::BatchBuffer;
 use crate::fault::DiskFault;
 use crate::fill::fill_batch;
 use crate::mount::{MountFault, fresh_tables};
 use crate::read::read_block;
+use crate::status::DiskStatus;
 use drive_port::Device;
 use std::alloc::Global;
 use std::marker::Model;
@@ -25,35 +27,44 @@ use zone_choice::Tables;
 pub struct Disk<D: Device + Drop> {
     device: D,
     tables: Tables,
-    stopped: bool,
+    status: DiskStatus,
     batch: BatchBuffer,
     block: Vec<u8>,
     alloc: Global,
 }
 
 impl<D: Device + Drop> Model for Disk<D> {
-    ghost use Rattle.std.specs.Prelude.{length};
     ghost use Rattle.zone_translator.specs.View.{DiskView};
-    ghost use Rattle.zone_translator.specs.Buffer.{IsDisk};
+    ghost use Rattle.zone_translator.specs.Calls.{Holds};
 
     ghost Value = { DiskView };
 
-    ghost view = { λ d. record { drive = D.drive d.device; size = length d.tables.map.places; next = d.tables.next; stopped = d.stopped } };
+    ghost view = { λ d. record { drive = D.drive d.device; tables = d.tables; status = d.status } };
 
-    ghost invariant = { λ d. IsDisk (D.drive d.device) d.tables d.batch };
+    ghost invariant = { λ d. Holds (D.drive d.device) d.tables d.status d.batch };
+}
+
+/// What a refusal leaves a disk in.
+fn status_of(fault: DiskFault) -> DiskStatus
+    ensures { result ≡ status_of fault }
+{
+    match fault {
+        DiskFault::Stopped => DiskStatus::Stopped,
+        _ => DiskStatus::Serving,
+    }
 }
 
 impl<D: Device + Drop> Disk<D> {
     /// A disk of `blocks` logical blocks of zeros over a drive on which nothing is written. With the
     /// fault the drive is given back, and holds what it held.
     pub fn mount(alloc: Global, mut device: D, blocks: u64) -> Result<Disk<D>, (MountFault, D)>
-        ensures size { IfOk result (λ disk. (disk.size ≡ blocks) × (disk.stopped ≡ false)) }
-        ensures next { IfOk result (λ disk. disk.next ≡ 1) }
-        ensures fits { IfOk result (λ disk. IsInRange disk.drive.geometry × FitsReserve disk.drive.geometry disk.size) }
+        ensures size { IfOk result (λ disk. (disk_size disk ≡ blocks) × (disk.status ≡ Serving)) }
+        ensures next { IfOk result (λ disk. next_sequence disk ≡ 1) }
+        ensures fits { IfOk result (λ disk. IsInRange disk.drive.geometry × FitsReserve disk.drive.geometry (disk_size disk)) }
         ensures fresh { OnOk result (IsFresh (D.drive device)) }
         ensures array { IfOk result (λ disk. array_of disk ≡ replicate blocks (zero_block (D.drive device).geometry.block)) }
         ensures drive { IfOk result (λ disk. KeepsDrive (D.drive device) disk.drive) }
-        ensures mountable { IfOk result (λ disk. IsMountable disk.drive disk.size) }
+        ensures mountable { IfOk result (λ disk. IsMountable disk.drive (disk_size disk)) }
         ensures err { IfErr result (λ refusal. MountRefuses (D.drive device) blocks refusal.0) }
         ensures given_back { IfErr result (λ refusal. KeepsDrive (D.drive device) (D.drive refusal.1)) }
     {
@@ -61,7 +72,7 @@ impl<D: Device + Drop> Disk<D> {
             Ok(tables) => Ok(Disk {
                 device,
                 tables,
-                stopped: false,
+                status: DiskStatus::Serving,
                 batch: BatchBuffer::new(alloc),
                 block: Vec::new(alloc),
                 alloc,
@@ -86,22 +97,30 @@ impl<D: Device + Drop> Disk<D> {
 
     /// How many logical blocks there are.
     pub fn blocks(&self) -> u64
-        ensures { result ≡ self.now.size }
+        ensures { result ≡ disk_size self.now }
     {
         self.tables.map.len() as u64
+    }
+
+    /// Whether the disk serves calls, or has answered `Stopped`.
+    pub fn status(&self) -> DiskStatus
+        ensures { result ≡ self.now.status }
+    {
+        self.status
     }
 
     /// One batch of a fill.
     fn fill_some(&mut self, first: u32, left: u32, byte: u8) -> Result<u32, DiskFault>
         requires some { 1 ≤ left }
-        requires in_range { first + left ≤ self.old.size }
-        requires goes_on { self.old.stopped ≡ false }
+        requires in_range { first + left ≤ disk_size self.old }
+        requires serving { self.old.status ≡ Serving }
         ensures kept { KeepsDisk self.old self.new }
         ensures count { IfOk result (λ count. (1 ≤ count) × (count ≤ left)) }
         ensures ok { IfOk result (λ count. array_of self.new ≡ replaced (array_of self.old) first (replicate count (replicate self.old.drive.geometry.block byte))) }
-        ensures stopped { self.new.stopped ≡ is_stopped result }
+        ensures serving { OnOk result (self.new.status ≡ Serving) }
+        ensures status { IfErr result (λ fault. self.new.status ≡ status_of fault) }
         ensures err { OnErr result (array_of self.new ≡ array_of self.old) }
-        ensures cause { IfErr result (λ fault. IsCause self.new.drive self.new.next fault) }
+        ensures cause { IfErr result (λ fault. IsCause self.new.drive (next_sequence self.new) fault) }
     {
         let written = fill_batch(
             self.alloc,
@@ -114,41 +133,41 @@ impl<D: Device + Drop> Disk<D> {
         );
         match written {
             Ok(count) => Ok(count),
-            Err(DiskFault::Stopped) => {
-                self.stopped = true;
-                Err(DiskFault::Stopped)
+            Err(fault) => {
+                self.status = status_of(fault);
+                Err(fault)
             }
-            Err(fault) => Err(fault),
         }
     }
 
-    /// One block of a read, shown behind what `into` holds.
+    /// One block of a read, shown after what `into` holds.
     fn read_one(&mut self, block: u32, into: &mut Vec<u8>) -> Result<(), DiskFault>
-        requires in_range { block < self.old.size }
-        requires goes_on { self.old.stopped ≡ false }
+        requires in_range { block < disk_size self.old }
+        requires serving { self.old.status ≡ Serving }
         ensures kept { KeepsDisk self.old self.new }
         ensures array { array_of self.new ≡ array_of self.old }
         ensures ok { OnOk result (into.new.items ≡ into.old.items ++ slice_index_or (array_of self.old) block []) }
-        ensures stopped { self.new.stopped ≡ is_stopped result }
+        ensures serving { OnOk result (self.new.status ≡ Serving) }
+        ensures status { IfErr result (λ fault. self.new.status ≡ status_of fault) }
         ensures err { IfErr result (IsReadFault self.new.drive) }
     {
         match read_block(&self.tables, &mut self.device, &mut self.block, block, into) {
             Ok(()) => Ok(()),
-            Err(DiskFault::Stopped) => {
-                self.stopped = true;
-                Err(DiskFault::Stopped)
+            Err(fault) => {
+                self.status = status_of(fault);
+                Err(fault)
             }
-            Err(fault) => Err(fault),
         }
     }
 
-    /// Whether a read or a write of so many blocks is done before it begins, as one of no block is. One
-    /// past the end is refused, and so is each once the disk has answered `Stopped`.
+    /// Whether a read or a write of n blocks is done before it begins: it is where n is 0. One past the
+    /// end is refused, and so is each once the disk has answered `Stopped`.
     fn is_done(&self, first: u64, blocks: u64) -> Result<bool, DiskFault>
-        ensures known { known_answer self.now first blocks ≡ answer_before result }
-        ensures in_range { IfOk result (λ done. done ≡ false → (1 ≤ blocks) × (first + blocks ≤ self.now.size) × (self.now.stopped ≡ false)) }
-        ensures mountable { IsMountable self.now.drive self.now.size }
-        ensures short { self.now.size ≤ 2 ^ 31 }
+        ensures known { known_answer (flat_of self.now) first blocks ≡ answer_before result }
+        ensures in_range { IfOk result (λ done. done ≡ false → (1 ≤ blocks) × (first + blocks ≤ disk_size self.now) × (self.now.status ≡ Serving)) }
+        ensures cause { IfErr result (DiskCause self.now) }
+        ensures mountable { IsMountable self.now.drive (disk_size self.now) }
+        ensures short { disk_size self.now ≤ 2 ^ 31 }
     {
         let size = self.tables.map.len() as u64;
         if blocks == 0 {
@@ -157,19 +176,20 @@ impl<D: Device + Drop> Disk<D> {
         if blocks > size || first > size - blocks {
             return Err(DiskFault::OutOfRange);
         }
-        if self.stopped {
-            return Err(DiskFault::Stopped);
+        match self.status {
+            DiskStatus::Serving => Ok(false),
+            DiskStatus::Stopped => Err(DiskFault::Stopped),
         }
-        Ok(false)
     }
 
     /// Writes `blocks` blocks of one byte from `first` on.
     ///
-    /// Refused for memory, room or sequences, it has written a front of them, and the disk goes on.
+    /// After `OutOfMemory`, `Spent` or `NoRoom` a front of them is written, and the disk goes on.
     pub fn fill(&mut self, first: u64, blocks: u64, byte: u8) -> Result<(), DiskFault>
-        ensures answers { WriteAnswers self.old first (replicate blocks (replicate self.old.drive.geometry.block byte)) result self.new }
+        ensures flat { FlatCall (flat_of self.old) (write first (replicate blocks (replicate self.old.drive.geometry.block byte))) (with_nothing result) (flat_of self.new) }
+        ensures untouched { is_known (flat_of self.old) (write first (replicate blocks (replicate self.old.drive.geometry.block byte))) ≡ true → self.new ≡ self.old }
         ensures kept { KeepsDisk self.old self.new }
-        ensures stopped { self.new.stopped ≡ (self.old.stopped || is_stopped result) }
+        ensures cause { IfErr result (DiskCause self.new) }
     {
         if self.is_done(first, blocks)? {
             return Ok(());
@@ -186,9 +206,10 @@ impl<D: Device + Drop> Disk<D> {
 
     /// Shows `blocks` blocks from `first` on. `into` is empty after a refusal.
     pub fn read(&mut self, first: u64, blocks: u64, into: &mut Vec<u8>) -> Result<(), DiskFault>
-        ensures answers { ReadAnswers self.old first blocks result into.new.items self.new }
+        ensures flat { Reads (flat_of self.old) first blocks result into.new.items (flat_of self.new) }
+        ensures untouched { is_known (flat_of self.old) (read first blocks) ≡ true → self.new ≡ self.old }
         ensures kept { KeepsDisk self.old self.new }
-        ensures stopped { self.new.stopped ≡ (self.old.stopped || is_stopped result) }
+        ensures cause { IfErr result (DiskCause self.new) }
     {
         into.clear();
         if self.is_done(first, blocks)? {

@@ -1,16 +1,23 @@
+use thiserror::Error;
+
 /// Why a call of a disk was refused.
-#[derive(Clone, Copy, Debug, PartialEq, Eq)]
+#[derive(Clone, Copy, Debug, PartialEq, Eq, Error)]
 pub enum DiskFault {
     /// A block at or past the end of the disk was named. Nothing was sent, and nothing changed.
+    #[error("a block at or past the end of the disk was named")]
     OutOfRange,
-    /// A growth was refused. A write has put a front of its blocks in place, and the disk goes on.
+    /// An allocation failed. A front of a write's blocks is in place, and the disk goes on.
+    #[error("out of memory")]
     OutOfMemory,
-    /// The drive has stopped. A write has put a front of its blocks in place.
+    /// The drive has stopped. A front of a write's blocks is in place.
+    #[error("the drive has stopped")]
     Stopped,
-    /// The drive holds a batch with the last sequence number. A write has put a front of its blocks in
-    /// place, and reads go on.
+    /// The drive holds a batch with the last sequence number. A front of a write's blocks is in place,
+    /// and reads go on.
+    #[error("the sequence numbers of batches are used up")]
     Spent,
     /// No zone is left for the host's batches: none is opened or Closed, and the last Empty one is
-    /// kept. A write has put a front of its blocks in place, and reads go on.
+    /// kept. A front of a write's blocks is in place, and reads go on.
+    #[error("no zone is left to write to")]
     NoRoom,
 }

@@ -1,4 +1,22 @@
 //! The disk: an array of logical blocks above one zoned drive.
+//!
+//! A zoned drive takes writes at the write pointers of its zones alone. A `Disk` owns such a drive, any
+//! `drive_port::Device`, and shows it as an array of blocks that can be read and written in any order.
+//!
+//! ```text
+//! let mut disk = match Disk::mount(alloc, drive, 9) {
+//!     Ok(disk) => disk,
+//!     Err((fault, drive)) => return give_back(drive, fault),
+//! };
+//! disk.fill(2, 3, 0xaa)?;          // blocks 2 to 4
+//! disk.read(2, 3, &mut shown)?;    // 3 blocks of 0xaa
+//! let drive = disk.into_device();
+//! ```
+//!
+//! What is promised, whatever the drive does that obeys its rules: each call answers as a flat array of
+//! blocks would (`FlatCall` in specs/Flat); the drive can be mounted again and its newest records hold
+//! that array, at the exit of every call; no command that the disk sends is refused by the drive
+//! (`KeepsDisk` in specs/View). A refused write has written a front of its blocks, and nothing else.
 #![tactic(auto)]
 
 mod batch;
@@ -6,13 +24,17 @@ mod buffer;
 mod disk;
 mod fault;
 mod fill;
+mod laws;
 mod mount;
 mod read;
 mod room;
+mod status;
 
 pub use disk::Disk;
 pub use fault::DiskFault;
+pub use laws::{write_keeps_others, written_reads_back};
 pub use mount::MountFault;
+pub use status::DiskStatus;
 
 #[cfg(test)]
 mod tests;

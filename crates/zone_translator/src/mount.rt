@@ -6,21 +6,27 @@ use drive_port::{Device, PortFault, count_zones};
 use logical_map::Map;
 use nvme_wire::{Choice, ZoneState};
 use std::alloc::Global;
+use thiserror::Error;
 use zone_choice::{Roles, Tables, fits_reserve};
 
 /// Why a drive is not mounted. `Limits`, `Reserve` and `NotFresh` come exactly where they hold, the
-/// first of them that does; a stop or a want of memory may come before `NotFresh`.
-#[derive(Clone, Copy, Debug, PartialEq, Eq)]
+/// first of them that does; a stop or a failed allocation may come before `NotFresh`.
+#[derive(Clone, Copy, Debug, PartialEq, Eq, Error)]
 pub enum MountFault {
     /// The number of logical blocks is outside the drive's reserve.
+    #[error("the drive's reserve does not allow this number of logical blocks")]
     Reserve,
     /// The drive's geometry is out of range.
+    #[error("the geometry of the drive is out of range")]
     Limits,
     /// The drive has stopped.
+    #[error("the drive has stopped")]
     Halted,
-    /// A growth was refused.
+    /// An allocation failed.
+    #[error("out of memory")]
     OutOfMemory,
     /// A zone of the drive is not Empty.
+    #[error("a zone of the drive is not Empty")]
     NotFresh,
 }
 

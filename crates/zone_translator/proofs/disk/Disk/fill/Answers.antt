@@ -2,7 +2,7 @@ use Rattle.std.proofs.Common.{◌∙◌, Err, ap, sym, refl, replicate, arith}
 use Rattle.std.proofs.lemmas.List.{length-replicate}
 use Rattle.zone_states.specs.declared.geometry.Geometry.{Geometry}
 use Rattle.zone_translator.specs.View.{array_of}
-use Rattle.zone_translator.proofs.DiskLaws.{fill-front, filled-more, goes-begun, kept-join, kept-refl, write-begun, write-refused}
+use Rattle.zone_translator.proofs.DiskLaws.{fill-front, filled-more, goes-begun, kept-join, kept-refl, status-refused, write-begun, write-refused}
 use Rattle.zone_translator.proofs.FlatLaws.{replaced-none}
 use Rattle.zone_translator.proofs.disk.Disk.fill.Goals as goal
 
@@ -15,14 +15,15 @@ pub loop-done-preserved : goal.loop-done-preserved
 loop-done-preserved g c =
     let so_far = c.loop-done.invariant in (
       kept-join _ _ _ so_far.0 c.fill_some.ensures.kept,
-      c.in-Ok.ensures.stopped,
+      c.in-Ok.ensures.serving,
       omega (arith, c.in-Ok.ensures.count),
       filled-more (array_of c.args.self.now) (array_of c.loop-done.self) (array_of c.fill_some.new.self) c.args.first c.loop-done.done c.in-Ok.count _ _ _ _
           (ap (λ (x : Geometry). replicate x.block c.args.byte) so_far.0.geometry) so_far.3 refl refl c.in-Ok.ensures.ok,
     )
 
-pub returns-in-Err-clause-answers : goal.returns-in-Err-clause-answers
-returns-in-Err-clause-answers g c =
+pub returns-in-Err-clause-flat : goal.returns-in-Err-clause-flat
+returns-in-Err-clause-flat g c =
     let so_far = c.loop-done.invariant in
     write-begun c.args.self.now c.fill_some.new.self c.args.first c.args.blocks _ (Err c.in-Err.fault) (length-replicate _ _) (goes-begun c.args.self.now c.args.first c.args.blocks c.in_ok-is_done.field-0 c.in_ok-is_done.ensures.known c.if-branch.false)
     (write-refused c.args.self.now c.fill_some.new.self c.args.first _ c.in-Err.fault (fill-front (array_of c.args.self.now) (array_of c.fill_some.new.self) c.args.first c.loop-done.done c.args.blocks _ so_far.2 (c.in-Err.ensures.err ∙ so_far.3)) c.in-Err.ensures.cause)
+    (c.in-Err.ensures.status ∙ status-refused c.in-Err.fault)

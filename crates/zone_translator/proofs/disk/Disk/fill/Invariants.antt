@@ -1,11 +1,12 @@
-use Rattle.std.proofs.Common.{◌≡◌, ◌-◌, ◌≤◌, false, replicate}
+use Rattle.std.proofs.Common.{◌≡◌, ◌-◌, ◌≤◌, replicate}
+use Rattle.zone_translator.specs.declared.status.DiskStatus.TheVariants.{Serving}
 use Rattle.zone_translator.specs.Flat.{replaced}
 use Rattle.zone_translator.specs.View.{KeepsDisk, array_of}
 use Rattle.zone_translator.proofs.disk.Disk.fill.Given as goal
 
 abbrev pub invariant-loop-done : goal.invariant-loop-done
 invariant-loop-done g l =
-    KeepsDisk l.fn.self l.self × (l.self.stopped ≡ false) × (l.done ≤ l.blocks)
+    KeepsDisk l.fn.self l.self × (l.self.status ≡ Serving) × (l.done ≤ l.blocks)
     × (array_of l.self ≡ replaced (array_of l.fn.self) l.first (replicate l.done (replicate l.fn.self.drive.geometry.block l.byte)))
 
 abbrev pub decreases-loop-done : goal.decreases-loop-done

@@ -1,15 +1,24 @@
-use Rattle.zone_choice.proofs.AgreementLaws.{agrees_mountable}
-use Rattle.zone_translator.specs.Changes.{size_of}
+use Rattle.std.proofs.Common.{◌≡◌, ◌<◌, ◌+◌, sym, arith}
+use Rattle.zone_translator.specs.View.{disk_size}
+use Rattle.zone_translator.proofs.DiskLaws.{known-none, known-past, known-stopped}
+use Rattle.zone_translator.proofs.disk.Disk.is_done.Goals.{then-blocks-size-via-then-blocks-size, then-blocks-size-via-else-blocks-size+then-first-size}
 use Rattle.zone_translator.proofs.disk.Disk.is_done.Goals as goal
 
-pub returns-then-blocks-eq0-clause-mountable : goal.returns-then-blocks-eq0-clause-mountable
-returns-then-blocks-eq0-clause-mountable g c = rw (← c.self.view_is) (agrees_mountable _ c.self.inside.tables (size_of c.self.inside.tables) c.self.invariant.agrees)
+pub returns-then-blocks-size-clause-known : goal.returns-then-blocks-size-clause-known
+returns-then-blocks-size-clause-known g c =
+    let size : disk_size c.args.self.now ≡ c.len-size.result = rw (← c.self.view_is) (sym c.len-size.ensures) in
+    known-past c.args.self.now c.args.first c.args.blocks (omega arith)
+    (elim c.then-blocks-size.branch as (λ _. disk_size c.args.self.now < c.args.first + c.args.blocks) [
+      | then-blocks-size-via-then-blocks-size w ↦ omega (arith, size)
+      | then-blocks-size-via-else-blocks-size+then-first-size w ↦ omega (arith, size)
+    ])
 
-pub returns-then-blocks-size-clause-mountable : goal.returns-then-blocks-size-clause-mountable
-returns-then-blocks-size-clause-mountable g c = rw (← c.self.view_is) (agrees_mountable _ c.self.inside.tables (size_of c.self.inside.tables) c.self.invariant.agrees)
+pub returns-in-Stopped-clause-known : goal.returns-in-Stopped-clause-known
+returns-in-Stopped-clause-known g c =
+    let size : disk_size c.args.self.now ≡ c.len-size.result = rw (← c.self.view_is) (sym c.len-size.ensures) in
+    known-stopped c.args.self.now c.args.first c.args.blocks (omega arith) (omega (arith, size)) (rw (← c.self.view_is) c.in-Stopped.is)
 
-pub returns-then-self-clause-mountable : goal.returns-then-self-clause-mountable
-returns-then-self-clause-mountable g c = rw (← c.self.view_is) (agrees_mountable _ c.self.inside.tables (size_of c.self.inside.tables) c.self.invariant.agrees)
-
-pub returns-clause-mountable : goal.returns-clause-mountable
-returns-clause-mountable g c = rw (← c.self.view_is) (agrees_mountable _ c.self.inside.tables (size_of c.self.inside.tables) c.self.invariant.agrees)
+pub returns-in-Serving-clause-known : goal.returns-in-Serving-clause-known
+returns-in-Serving-clause-known g c =
+    let size : disk_size c.args.self.now ≡ c.len-size.result = rw (← c.self.view_is) (sym c.len-size.ensures) in
+    known-none c.args.self.now c.args.first c.args.blocks (omega arith) (omega (arith, size)) (rw (← c.self.view_is) c.in-Serving.is)

@@ -1,6 +1,0 @@
-use Rattle.std.proofs.Common.{◌↔◌, map, drop, eqb}
-use Rattle.std.specs.List.{IsDistinct}
-use Rattle.batch_log.proofs.reference.are_distinct.Given as goal
-
-abbrev pub invariant-loop-i : goal.invariant-loop-i
-invariant-loop-i l = IsDistinct eqb (map (λ e. e.block) l.entries) ↔ IsDistinct eqb (map (λ e. e.block) (drop l.i l.entries))

@@ -1,6 +1,0 @@
-use Rattle.std.proofs.Common.{◌≡◌, take}
-use Rattle.batch_log.specs.Reference.{blocks_of}
-use Rattle.batch_log.proofs.reference.copied.Given as goal
-
-abbrev pub invariant-loop-block : goal.invariant-loop-block
-invariant-loop-block l = blocks_of l.copy.items ≡ blocks_of (take l.block-index l.blocks)

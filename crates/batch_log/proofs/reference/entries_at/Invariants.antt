@@ -1,6 +1,0 @@
-use Rattle.std.proofs.Common.{◌≡◌, ◌-◌, ◌*◌, ◌++◌, drop}
-use Rattle.batch_log.specs.Log.{entries_in}
-use Rattle.batch_log.proofs.reference.entries_at.Given as goal
-
-abbrev pub invariant-loop-i : goal.invariant-loop-i
-invariant-loop-i l = l.entries.items ++ entries_in (l.count - l.i) (drop (8 * l.i) l.bytes) ≡ entries_in l.count l.bytes

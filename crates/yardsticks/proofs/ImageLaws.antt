@@ -1,0 +1,89 @@
+-- The logs of zones as they stand on a drive.
+use Rattle.std.proofs.Common.{◌≡◌, ℕ, zero, suc, ◌+◌, ◌-◌, ◌<◌, ◌≤◌, ◌^◌, Bool, true, false, List, [], ◌∷◌, ◌++◌, length, get_or, replicate, Option, Some, None, Result, Ok, Err, Vec, vec_len, refl, sym, ap, ◌∙◌, arith, append_assoc}
+use Rattle.std.specs.declared.alloc.Global.{Global}
+use Rattle.std.specs.Prelude.{IfOk, IfSome, IfNone}
+use Rattle.std.specs.List.{AllByRecursion}
+use Rattle.std.proofs.lemmas.List.{length-replicate, map_push, replicate-append-replicate}
+use Rattle.zone_states.specs.declared.geometry.Geometry.{Geometry}
+use Rattle.drive_port.specs.Contents.{Content, is_full}
+use Rattle.batch_log.specs.Log.{Batch, HaveNoLog, IsLog, zero_block}
+use Rattle.yardsticks.specs.Batches.{blocks_of}
+use Rattle.batch_log.proofs.LogLaws.{one_log}
+use Rattle.yardsticks.specs.declared.logs.ZoneImage.{ZoneImage}
+use Rattle.zone_choice.specs.ZoneLogs.{HasLog, padding, readable, zone_log}
+use Rattle.yardsticks.specs.Zones.{HasWholeBlocks, IsZoneLog, image_content, image_contents}
+use Rattle.zone_choice.proofs.AllLaws.{all-append}
+use Rattle.zone_choice.proofs.ZoneLogLaws.{zone_log-read}
+
+-- ---- each readable block has its number of bytes
+
+HasLength : ℕ → List ℕ → Type 0
+HasLength size block = length block ≡ size
+
+items-sized : (size : ℕ) (blocks : List (Vec ℕ Global)) → AllByRecursion (λ (block : Vec ℕ Global). vec_len block ≡ size) blocks → AllByRecursion (HasLength size) (blocks_of blocks)
+unfolding HasLength
+items-sized size [] all = tt
+items-sized size (b ∷ bs) all = (sym b.ok.0 ∙ all.0, items-sized size bs all.1)
+
+zeros-sized : (size count : ℕ) → AllByRecursion (HasLength size) (replicate count (zero_block size))
+unfolding HasLength
+zeros-sized size zero = tt
+zeros-sized size (suc count) = (length-replicate size 0, zeros-sized size count)
+
+readable-sized : (geometry : Geometry) (image : ZoneImage) → HasWholeBlocks geometry.block image → AllByRecursion (HasLength geometry.block) (readable geometry (image_content image))
+readable-sized geometry image whole =
+    all-append (HasLength geometry.block) (blocks_of image.blocks.items) (padding geometry (is_full (image_content image).usage) (length (blocks_of image.blocks.items)))
+    (items-sized geometry.block image.blocks.items whole) (behind (is_full (image_content image).usage))
+  where
+    behind : (full : Bool) → AllByRecursion (HasLength geometry.block) (padding geometry full (length (blocks_of image.blocks.items)))
+    behind true = zeros-sized geometry.block (geometry.capacity - length (blocks_of image.blocks.items))
+    behind false = tt
+
+vecs-sized : (size : ℕ) (blocks : List (Vec ℕ Global)) → AllByRecursion (HasLength size) (blocks_of blocks) → AllByRecursion (λ (block : Vec ℕ Global). vec_len block ≡ size) blocks
+unfolding HasLength
+vecs-sized size [] all = tt
+vecs-sized size (b ∷ bs) all = (b.ok.0 ∙ all.0, vecs-sized size bs all.1)
+
+pub read-sized : (geometry : Geometry) (image : ZoneImage) (blocks : List (Vec ℕ Global)) → HasWholeBlocks geometry.block image → blocks_of blocks ≡ readable geometry (image_content image)
+    → AllByRecursion (λ (block : Vec ℕ Global). vec_len block ≡ geometry.block) blocks
+read-sized geometry image blocks whole read = vecs-sized geometry.block blocks (rw read (readable-sized geometry image whole))
+
+-- one zero block more
+pub padded-step : (size i first : ℕ) (was blocks now : List (Vec ℕ Global)) (zeros : Vec ℕ Global) → first ≤ i → blocks_of blocks ≡ blocks_of was ++ replicate (i - first) (zero_block size)
+    → now ≡ blocks ++ zeros ∷ [] → zeros.items ≡ zero_block size → blocks_of now ≡ blocks_of was ++ replicate (i + 1 - first) (zero_block size)
+padded-step size i first was blocks now zeros le so_far more is =
+    let count : i - first + 1 ≡ i + 1 - first = omega arith in
+    ap blocks_of more ∙ map_push (λ (b : Vec ℕ Global). b.items) blocks zeros
+    ∙ rw (so_far, is) (append_assoc (blocks_of was) (replicate (i - first) (zero_block size)) (zero_block size ∷ [])
+    ∙ ap (λ (bs : List (List ℕ)). blocks_of was ++ bs) (replicate-append-replicate (i - first) 1 (zero_block size) ∙ ap (λ (n : ℕ). replicate n (zero_block size)) count))
+
+-- ---- the log of a zone
+
+pub if_some-weaker : {T E : Type 0} (r : Result (Option T) E) (P Q : T → Type 0) → ((x : T) → P x → Q x) → IfOk r (λ o. IfSome o P) → IfOk r (λ o. IfSome o Q)
+if_some-weaker (Ok (Some x)) P Q f h = f x h
+if_some-weaker (Ok None) P Q f h = tt
+if_some-weaker (Err e) P Q f h = tt
+
+pub if_none-weaker : {T E P Q : Type 0} (r : Result (Option T) E) → (P → Q) → IfOk r (λ o. IfNone o P) → IfOk r (λ o. IfNone o Q)
+if_none-weaker (Ok (Some x)) f h = tt
+if_none-weaker (Ok None) f h = f h
+if_none-weaker (Err e) f h = tt
+
+same_log : (size : ℕ) (full full' : Bool) (blocks blocks' : List (List ℕ)) (log log' : List Batch) → full' ≡ full → blocks' ≡ blocks → log' ≡ log → IsLog size full blocks log → IsLog size full' blocks' log'
+same_log size full full' blocks blocks' log log' e1 e2 e3 is = rw (e1, e2, e3) is
+
+pub zone_log-found : (geometry : Geometry) (content : Content) (full : Bool) (blocks : List (List ℕ)) (log : List Batch) → geometry.block < 2 ^ 32
+    → full ≡ is_full content.usage → blocks ≡ readable geometry content → IsLog geometry.block full blocks log → IsZoneLog geometry content log
+zone_log-found geometry content full blocks log small full-is read is =
+    let same : zone_log geometry content ≡ log = zone_log-read geometry content blocks (sym read) ∙ one_log geometry.block full blocks log small is in
+    record { has = same_log geometry.block full (is_full content.usage) blocks (readable geometry content) log (zone_log geometry content) (sym full-is) (sym read) same is; log_is = sym same }
+
+pub zone_log-none : (geometry : Geometry) (content : Content) (full : Bool) (blocks : List (List ℕ))
+    → full ≡ is_full content.usage → blocks ≡ readable geometry content → HaveNoLog geometry.block full blocks → HasLog geometry content → ⊥
+zone_log-none geometry content full blocks full-is read none has = none (zone_log geometry content) (same_log geometry.block (is_full content.usage) full (readable geometry content) blocks (zone_log geometry content) (zone_log geometry content) full-is read refl has)
+
+pub lacks-log : (geometry : Geometry) (images : List ZoneImage) (i : ℕ) (image : ZoneImage) → i < length images → image ≡ get_or images i image
+    → (HasLog geometry (image_content image) → ⊥) → AllByRecursion (HasLog geometry) (image_contents images) → ⊥
+lacks-log geometry [] i image lt is none all = absurd (omega arith)
+lacks-log geometry (z ∷ zs) zero image lt is none all = none (rw is all.0)
+lacks-log geometry (z ∷ zs) (suc i) image lt is none all = lacks-log geometry zs i image (omega arith) is none all.1

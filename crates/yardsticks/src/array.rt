@@ -1,0 +1,193 @@
+//! The array that logs spell.
+
+ghost use Rattle.std.specs.Prelude.{◌≡◌, ◌↔◌, ◌≤◌, ◌<◌, ◌∷◌, ℕ, [], length, slice_index_or, IfOk, IfSome, IsSome};
+ghost use Rattle.std.specs.List.{AllByRecursion};
+ghost use Rattle.std.specs.Option.{option_map};
+ghost use Rattle.zone_states.specs.Geometry.{IsInRange};
+ghost use Rattle.batch_log.specs.Log.{one_unless};
+ghost use Rattle.yardsticks.specs.Batches.{batch_of, blocks_of};
+ghost use Rattle.zone_choice.specs.Records.{array_of, batch_records, entry_content, log_records, newest, record_of, records};
+ghost use Rattle.zone_choice.specs.ZoneLogs.{HasLog, log_at, spelled_array};
+ghost use Rattle.yardsticks.specs.Zones.{HasWholeBlocks, heard, image_contents, later, log_of, logs_but, logs_of, saying, saying_of, shown_by};
+
+use crate::batches::Batch;
+use crate::logs::{ZoneImage, zone_logs};
+use batch_log::Entry;
+use std::alloc::{AllocError, Global};
+use zone_states::Geometry;
+
+// What a record says of its block: its sequence, and its data, or none of a trim.
+#[derive(Clone, Copy)]
+struct Said<'a> {
+    sequence: u64,
+    content: Option<&'a [u8]>,
+}
+
+// The later of two; of two with one sequence the first.
+fn later<'a>(found: Option<Said<'a>>, said: Said<'a>) -> Option<Said<'a>>
+    ensures { option_map saying_of result
+        ≡ later (option_map saying_of found.entry) (saying_of said.entry) }
+{
+    if let Some(first) = found {
+        if said.sequence <= first.sequence {
+            return found;
+        }
+    }
+    Some(said)
+}
+
+// The block of a body with this number.
+fn body_block(body: &[Vec<u8>], number: usize) -> &[u8]
+    ensures { result.now ≡ slice_index_or (blocks_of body.now) number [] }
+{
+    match body.get(number) {
+        Some(block) => block,
+        None => &[],
+    }
+}
+
+// What an entry of a batch says, with the number of its data block in the body.
+fn said_by<'a>(batch: &'a Batch, entry: &Entry, number: usize) -> Said<'a>
+    ensures { saying_of result ≡ record {
+      sequence = batch.now.header.sequence;
+      content = entry_content entry.now.trim (blocks_of batch.now.body.items) number;
+    } }
+{
+    let sequence = batch.header.sequence;
+    if entry.trim {
+        return Said {
+            sequence,
+            content: None,
+        };
+    }
+    let content = Some(body_block(&batch.body, number));
+    Said { sequence, content }
+}
+
+fn data_blocks(entry: &Entry) -> usize
+    ensures count { result ≡ one_unless entry.now.trim }
+    ensures few { result ≤ 1 }
+{
+    if entry.trim { 0 } else { 1 }
+}
+
+// The latest that is said of a block, by what was found or by an entry.
+fn heard_in_entry<'a>(
+    found: Option<Said<'a>>,
+    block: u64,
+    batch: &'a Batch,
+    entry: &Entry,
+    number: usize,
+) -> Option<Said<'a>>
+    ensures { let sequence = batch.now.header.sequence in
+        let body = blocks_of batch.now.body.items in
+        (zone header : ℕ) → option_map saying_of result ≡ heard block (option_map saying_of found.entry)
+        (record_of sequence body zone header number entry.now ∷ []) }
+{
+    if entry.block != block {
+        return found;
+    }
+    later(found, said_by(batch, entry, number))
+}
+
+// The latest that is said of a block, by what was found or by a batch.
+fn heard_in_batch<'a>(found: Option<Said<'a>>, block: u64, batch: &'a Batch) -> Option<Said<'a>>
+    ensures { (zone header : ℕ) → option_map saying_of result
+        ≡ heard block (option_map saying_of found.entry) (batch_records zone header (batch_of batch.now)) }
+{
+    let mut latest = found;
+    let mut number = 0;
+    for entry in &batch.header.entries {
+        latest = heard_in_entry(latest, block, batch, entry, number);
+        number += data_blocks(entry);
+    }
+    latest
+}
+
+// The latest that is said of a block, by what was found or by a log.
+fn heard_in_log<'a>(found: Option<Said<'a>>, block: u64, log: &'a [Batch]) -> Option<Said<'a>>
+    ensures { (zone offset : ℕ) → option_map saying_of result
+        ≡ heard block (option_map saying_of found.entry) (log_records zone offset (log_of log.now)) }
+{
+    let mut latest = found;
+    for batch in log {
+        latest = heard_in_batch(latest, block, batch);
+    }
+    latest
+}
+
+// The log of a zone, or none if it is the one that is left out.
+fn log_but<'a>(logs: &'a [Vec<Batch>], left_out: Option<usize>, zone: usize) -> &'a [Batch]
+    requires { zone < length logs.now }
+    ensures { log_of result.now ≡ log_at (logs_but left_out (logs_of logs.now)) zone }
+{
+    if left_out == Some(zone) {
+        return &[];
+    }
+    &logs[zone]
+}
+
+// What the newest record of a block says, where the records of one zone may be left out.
+fn newest<'a>(logs: &'a [Vec<Batch>], left_out: Option<usize>, block: u64) -> Option<Said<'a>>
+    ensures { let found = newest block (records 0 (logs_but left_out (logs_of logs.now))) in
+        option_map saying_of result ≡ option_map saying found }
+{
+    let mut latest = None;
+    for zone in 0..logs.len() {
+        latest = heard_in_log(latest, block, log_but(logs, left_out, zone));
+    }
+    latest
+}
+
+// The data of a block of which this is said.
+fn shown(alloc: Global, said: Option<Said>, block_bytes: usize) -> Result<Vec<u8>, AllocError>
+    ensures { let says = option_map saying_of said.entry in
+        IfOk result (λ bytes. bytes.items ≡ shown_by block_bytes says) }
+{
+    if let Some(said) = said {
+        if let Some(content) = said.content {
+            return Vec::from_slice(alloc, content);
+        }
+    }
+    vec![in alloc; 0; block_bytes]
+}
+
+// The array of n blocks that the logs spell, where the records of one zone may be left out.
+pub(crate) fn array(
+    alloc: Global,
+    block_bytes: usize,
+    n: u32,
+    logs: &[Vec<Batch>],
+    left_out: Option<usize>,
+) -> Result<Vec<Vec<u8>>, AllocError>
+    ensures { let kept = logs_but left_out (logs_of logs.now) in
+        IfOk result (λ blocks. blocks_of blocks.items ≡ array_of block_bytes n kept) }
+{
+    let mut blocks = Vec::new(alloc);
+    for block in 0..n {
+        let said = newest(logs, left_out, block as u64);
+        blocks.push(shown(alloc, said, block_bytes)?)?;
+    }
+    Ok(blocks)
+}
+
+/// The array of `n` blocks that the zones spell, or none if some zone has no log. The geometry is one
+/// that `check` admits, and each block has its number of bytes.
+pub fn spelled_array(
+    alloc: Global,
+    geometry: &Geometry,
+    zones: &[ZoneImage],
+    n: u32,
+) -> Result<Option<Vec<Vec<u8>>>, AllocError>
+    requires geometry { IsInRange geometry.now }
+    requires whole { AllByRecursion (HasWholeBlocks geometry.now.block) zones.now }
+    ensures some { let array = spelled_array geometry.now (image_contents zones.now) n in
+        IfOk result (λ found. IfSome found (λ blocks. blocks_of blocks.items ≡ array)) }
+    ensures logs { let contents = image_contents zones.now in
+        IfOk result (λ found. IsSome found ↔ AllByRecursion (HasLog geometry.now) contents) }
+{
+    let Some(logs) = zone_logs(alloc, geometry, zones)? else {
+        return Ok(None);
+    };
+    Ok(Some(array(alloc, geometry.block as usize, n, &logs, None)?))
+}

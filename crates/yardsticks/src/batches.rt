@@ -1,0 +1,278 @@
+//! The log that the written blocks of a zone spell, computed as it is defined.
+
+ghost use Rattle.std.specs.Prelude.{◌≡◌, ◌⊎◌, ◌≤◌, ◌<◌, ◌*◌, ◌^◌, ◌↔◌, [], length, map, nat_eq, vec_len, IsTrue, IfOk, IfSome, IfNone};
+ghost use Rattle.batch_log.specs.declared.header.Kind.TheVariants.{Host};
+ghost use Rattle.std.specs.List.{AllByRecursion, IsDistinct, list_any};
+ghost use Rattle.byteorder.specs.Endian.{little_from};
+ghost use Rattle.batch_log.specs.Header.{IsHeading, IsHeaderBlock, heading_of, header_block, head_size, entry_room};
+ghost use Rattle.batch_log.specs.Log.{BeginsWithNoBatch, HaveNoLog, IsLog, entry_of, entries_in, kind_of, heading_in, data_count, zero_block};
+ghost use Rattle.yardsticks.specs.Batches.{blocks_of, batch_of, BeginsWithBatch, IsNoHeader};
+
+use batch_log::{Entry, Header, Kind, header_bytes};
+use byteorder::{ByteOrder, LittleEndian};
+use std::alloc::{AllocError, Global};
+
+// Where the entries of a header begin.
+const HEAD_SIZE: usize = 32;
+// The bit of an entry that marks a trim.
+const TRIM_BIT: u64 = 1 << 63;
+
+/// A batch of a log.
+#[derive(Debug, Drop)]
+pub struct Batch {
+    pub header: Header,
+    /// A block for each entry that is not a trim.
+    pub body: Vec<Vec<u8>>,
+}
+
+fn entry_at(bytes: &[u8]) -> Entry
+    requires { 8 ≤ length bytes.now }
+    ensures { result ≡ entry_of (little_from 0 8 bytes.now) }
+{
+    let word = LittleEndian::read_u64(bytes);
+    if word < TRIM_BIT {
+        Entry {
+            block: word,
+            trim: false,
+        }
+    } else {
+        Entry {
+            block: word - TRIM_BIT,
+            trim: true,
+        }
+    }
+}
+
+fn entries_at(alloc: Global, count: usize, bytes: &[u8]) -> Result<Vec<Entry>, AllocError>
+    requires { 8 * count ≤ length bytes.now }
+    ensures { IfOk result (λ entries. entries.items ≡ entries_in count bytes.now) }
+{
+    let mut entries = Vec::new(alloc);
+    for i in 0..count {
+        entries.push(entry_at(&bytes[8 * i..]))?;
+    }
+    Ok(entries)
+}
+
+fn kind_at(bytes: &[u8]) -> Kind
+    requires { 2 ≤ length bytes.now }
+    ensures { result ≡ kind_of (little_from 0 2 bytes.now) }
+{
+    if LittleEndian::read_u16(bytes) == 2 {
+        Kind::Move
+    } else {
+        Kind::Host
+    }
+}
+
+// The only header that the block can encode, unless its entries do not fit the block.
+fn claimed_header(alloc: Global, block: &[u8]) -> Result<Option<Header>, AllocError>
+    requires { head_size ≤ length block.now }
+    ensures some { IfOk result (λ found. IfSome found (λ header. heading_of header ≡ heading_in block.now)) }
+    ensures none { let room = entry_room (length block.now) in
+        IfOk result (λ found. IfNone found (room < length (heading_in block.now).entries)) }
+{
+    let count = LittleEndian::read_u32(&block[12..]) as usize;
+    if count > (block.len() - HEAD_SIZE) / 8 {
+        return Ok(None);
+    }
+    Ok(Some(Header {
+        kind: kind_at(&block[10..]),
+        sequence: LittleEndian::read_u64(&block[16..]),
+        source: LittleEndian::read_u32(&block[24..]),
+        entries: entries_at(alloc, count, &block[HEAD_SIZE..])?,
+    }))
+}
+
+fn is_named(block: u64, entries: &[Entry]) -> bool
+    ensures { result ≡ list_any (λ e. nat_eq block e.block) entries.now }
+{
+    entries.iter().any(|entry| block == entry.block)
+}
+
+fn are_distinct(entries: &[Entry]) -> bool
+    ensures { IsTrue result ↔ IsDistinct nat_eq (map (λ e. e.block) entries.now) }
+{
+    for (i, entry) in entries.iter().enumerate() {
+        if is_named(entry.block, &entries[i + 1..]) {
+            return false;
+        }
+    }
+    true
+}
+
+fn are_small(entries: &[Entry]) -> bool
+    ensures { IsTrue result ↔ AllByRecursion (λ e. e.block < 2 ^ 63) entries.now }
+{
+    entries.iter().all(|entry| entry.block < TRIM_BIT)
+}
+
+fn is_source(kind: Kind, source: u32) -> bool
+    ensures { IsTrue result ↔ (kind ≡ Host → source ≡ 0) }
+{
+    match kind {
+        Kind::Host => source == 0,
+        Kind::Move => true,
+    }
+}
+
+/// Whether a block of that many bytes, 32 at least, can encode the header.
+pub fn is_heading(header: &Header, block_bytes: usize) -> bool
+    requires size { head_size ≤ block_bytes }
+    requires sequence { header.now.sequence < 2 ^ 64 }
+    ensures { IsTrue result ↔ IsHeading block_bytes (heading_of header.now) }
+{
+    if header.entries.len() > (block_bytes - HEAD_SIZE) / 8 {
+        return false;
+    }
+    if !is_source(header.kind, header.source) {
+        return false;
+    }
+    if !are_small(&header.entries) {
+        return false;
+    }
+    are_distinct(&header.entries)
+}
+
+fn spelling(alloc: Global, header: &Header, block_bytes: usize) -> Result<Vec<u8>, AllocError>
+    requires heading { IsHeading block_bytes (heading_of header.now) }
+    requires size { (block_bytes ≡ 512) ⊎ (block_bytes ≡ 4096) }
+    ensures { IfOk result (λ block. block.items ≡ header_block block_bytes (heading_of header.now)) }
+{
+    let mut block = vec![in alloc; 0; block_bytes]?;
+    header_bytes(header, &mut block);
+    Ok(block)
+}
+
+fn is_spelling(alloc: Global, header: &Header, block: &[u8]) -> Result<bool, AllocError>
+    requires heading { IsHeading (length block.now) (heading_of header.now) }
+    requires size { (length block.now ≡ 512) ⊎ (length block.now ≡ 4096) }
+    ensures { let spelled = header_block (length block.now) (heading_of header.now) in
+        IfOk result (λ same. IsTrue same ↔ (block.now ≡ spelled)) }
+{
+    let spelled = spelling(alloc, header, block.len())?;
+    Ok(spelled.as_slice() == block)
+}
+
+// The header that the block encodes, if there is one.
+fn read_header(alloc: Global, block: &[u8]) -> Result<Option<Header>, AllocError>
+    requires { (length block.now ≡ 512) ⊎ (length block.now ≡ 4096) }
+    ensures some { let size = length block.now in
+        IfOk result (λ found. IfSome found (λ header. IsHeaderBlock size block.now (heading_of header))) }
+    ensures none { IfOk result (λ found. IfNone found (IsNoHeader block.now)) }
+{
+    let Some(header) = claimed_header(alloc, block)? else {
+        return Ok(None);
+    };
+    if !is_heading(&header, block.len()) {
+        return Ok(None);
+    }
+    let is_same = is_spelling(alloc, &header, block)?;
+    if !is_same {
+        return Ok(None);
+    }
+    Ok(Some(header))
+}
+
+fn data_blocks(entries: &[Entry]) -> usize
+    ensures { result ≡ data_count entries.now }
+{
+    let mut count = 0;
+    for entry in entries {
+        if !entry.trim {
+            count += 1;
+        }
+    }
+    count
+}
+
+pub(crate) fn copied(alloc: Global, blocks: &[Vec<u8>]) -> Result<Vec<Vec<u8>>, AllocError>
+    ensures { IfOk result (λ copy. blocks_of copy.items ≡ blocks_of blocks.now) }
+{
+    let mut copy = Vec::new(alloc);
+    for block in blocks {
+        copy.push(Vec::from_slice(alloc, block)?)?;
+    }
+    Ok(copy)
+}
+
+// The batch that the blocks begin with, if they begin with one.
+fn first_batch(
+    alloc: Global,
+    blocks: &[Vec<u8>],
+    block_bytes: usize,
+) -> Result<Option<Batch>, AllocError>
+    requires size { (block_bytes ≡ 512) ⊎ (block_bytes ≡ 4096) }
+    requires sizes { AllByRecursion (λ block. vec_len block ≡ block_bytes) blocks.now }
+    ensures some { let all = blocks_of blocks.now in
+        IfOk result (λ found. IfSome found (λ batch. BeginsWithBatch block_bytes all (batch_of batch))) }
+    ensures none { IfOk result (λ found. IfNone found (BeginsWithNoBatch block_bytes (blocks_of blocks.now))) }
+{
+    let Some((block, after)) = blocks.split_first() else {
+        return Ok(None);
+    };
+    let Some(header) = read_header(alloc, block)? else {
+        return Ok(None);
+    };
+    let count = data_blocks(&header.entries);
+    if after.len() < count {
+        return Ok(None);
+    }
+    let body = copied(alloc, &after[..count])?;
+    Ok(Some(Batch { header, body }))
+}
+
+fn is_zero(block: &[u8]) -> bool
+    ensures { IsTrue result ↔ (block.now ≡ zero_block (length block.now)) }
+{
+    block.iter().all(|byte| *byte == 0)
+}
+
+fn are_zero(blocks: &[Vec<u8>]) -> bool
+    ensures { IsTrue result ↔ AllByRecursion (λ block. block.items ≡ zero_block (vec_len block)) blocks.now }
+{
+    blocks.iter().all(|block| is_zero(block))
+}
+
+// Whether no batch follows: nothing does, or zeros to the end of a full zone.
+fn is_end(blocks: &[Vec<u8>], block_bytes: usize, is_full: bool) -> bool
+    requires { AllByRecursion (λ block. vec_len block ≡ block_bytes) blocks.now }
+    ensures { IsTrue result ↔ IsLog block_bytes is_full (blocks_of blocks.now) [] }
+{
+    if blocks.is_empty() {
+        return true;
+    }
+    if !is_full {
+        return false;
+    }
+    are_zero(blocks)
+}
+
+/// The log that the written blocks of a zone spell, if they spell one. A block has 512 or 4096 bytes.
+/// After the last batch of a full zone there may be blocks of zeros.
+pub fn log(
+    alloc: Global,
+    blocks: &[Vec<u8>],
+    block_bytes: usize,
+    is_full: bool,
+) -> Result<Option<Vec<Batch>>, AllocError>
+    requires size { (block_bytes ≡ 512) ⊎ (block_bytes ≡ 4096) }
+    requires sizes { AllByRecursion (λ block. vec_len block ≡ block_bytes) blocks.now }
+    ensures some { let all = blocks_of blocks.now in
+        IfOk result (λ found. IfSome found (λ log. IsLog block_bytes is_full all (map batch_of log.items))) }
+    ensures none { IfOk result (λ found. IfNone found (HaveNoLog block_bytes is_full (blocks_of blocks.now))) }
+{
+    let mut log = Vec::new(alloc);
+    let mut rest = blocks;
+    loop {
+        if is_end(rest, block_bytes, is_full) {
+            return Ok(Some(log));
+        }
+        let Some(batch) = first_batch(alloc, rest, block_bytes)? else {
+            return Ok(None);
+        };
+        let (_, after) = rest.split_at(1 + batch.body.len());
+        rest = after;
+        log.push(batch)?;
+    }
+}

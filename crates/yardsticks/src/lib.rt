@@ -1,0 +1,29 @@
+//! Plain programs that compute definitions just as they stand: the log of a zone, the array that the
+//! newest records of a drive spell, whether a drive can be mounted, the quota of records.
+//!
+//! They are slow and copy all data, and are proved to compute what `batch_log` and `zone_choice`
+//! define, so that tests and worked runs can compare what a host does with what is defined. No host
+//! calls them.
+//!
+//! ```text
+//! let zones = [ZoneImage { state: ZoneState::Closed, blocks }, ..];
+//! let array = spelled_array(alloc, &geometry, &zones, 8)?; // 8 blocks, or None without logs
+//! let mountable = is_mountable(alloc, &geometry, &zones, 8)?;
+//! ```
+#![tactic(auto)]
+
+mod array;
+mod batches;
+#[cfg(test)]
+mod log_tests;
+mod logs;
+mod mountable;
+mod reserve;
+#[cfg(test)]
+mod tests;
+
+pub use array::spelled_array;
+pub use batches::{Batch, is_heading, log};
+pub use logs::ZoneImage;
+pub use mountable::is_mountable;
+pub use reserve::quota;

@@ -1,6 +1,0 @@
-use Rattle.std.proofs.Common.{take}
-use Rattle.zone_choice.specs.Reference.{AreZoneLogs, image_contents, logs_of}
-use Rattle.zone_choice.proofs.reference.logs.zone_logs.Given as goal
-
-abbrev pub invariant-loop-zone : goal.invariant-loop-zone
-invariant-loop-zone l = AreZoneLogs l.geometry (image_contents (take l.zone-index l.zones)) (logs_of l.logs.items)

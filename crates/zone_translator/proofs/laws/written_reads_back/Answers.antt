@@ -1,0 +1,5 @@
+use Rattle.zone_translator.proofs.WriteLaws.{written-reads-back}
+use Rattle.zone_translator.proofs.laws.written_reads_back.Goals as goal
+
+pub returns : goal.returns
+returns c = written-reads-back
