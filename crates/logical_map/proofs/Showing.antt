@@ -66,12 +66,16 @@ ready-at page n block h = get_or-map-range_with_len (λ b. is_some (page (b / 25
 pub ready-past : (page : ℕ → Option (List Place)) (n block : ℕ) → n ≤ block → get_or (ready page n) block false ≡ false
 ready-past page n block h = get_or_past (ready page n) block false (omega (arith, length-map-range_with_len (λ b. is_some (page (b / 256))) 0 n))
 
-pub reserves_there : (page : ℕ → Option (List Place)) (n block : ℕ) → block < n → is_some (page (block / 256)) ≡ true → Reserves (record { places = shown page n; ready = ready page n }) block (record { places = shown page n; ready = ready page n })
-reserves_there page n block h there = record { places = refl; here = ready-at page n block h ∙ there; kept = λ other p. p }
+-- the view of a map
+abbrev pub view_with : (ℕ → Option (List Place)) → ℕ → ℕ → ℕ → MapView
+view_with page n zones size = record { places = shown page n; ready = ready page n; zones = zones; zone_size = size }
 
-pub reserves_fresh : (page page' : ℕ → Option (List Place)) (n block : ℕ) → block < n → page (block / 256) ≡ Option.None → page' (block / 256) ≡ Some (replicate 256 places.None) → ((m : ℕ) → m ≢ block / 256 → page' m ≡ page m)
-    → Reserves (record { places = shown page n; ready = ready page n }) block (record { places = shown page' n; ready = ready page' n })
-reserves_fresh page page' n block h none fresh others = record {
+pub reserves_there : (page : ℕ → Option (List Place)) (n zones size block : ℕ) → block < n → is_some (page (block / 256)) ≡ true → Reserves (view_with page n zones size) block (view_with page n zones size)
+reserves_there page n zones size block h there = record { places = refl; here = ready-at page n block h ∙ there; kept = λ other p. p; zones = refl; zone_size = refl }
+
+pub reserves_fresh : (page page' : ℕ → Option (List Place)) (n zones size block : ℕ) → block < n → page (block / 256) ≡ Option.None → page' (block / 256) ≡ Some (replicate 256 places.None) → ((m : ℕ) → m ≢ block / 256 → page' m ≡ page m)
+    → Reserves (view_with page n zones size) block (view_with page' n zones size)
+reserves_fresh page page' n zones size block h none fresh others = record {
   places = shown-reserve page page' n (block / 256) none fresh others;
   here = ready-at page' n block h ∙ ap is_some fresh;
   kept = λ other p. elim (cases_lt other n) as (λ _. get_or (ready page' n) other false ≡ true) [
@@ -81,14 +85,16 @@ reserves_fresh page page' n block h none fresh others = record {
     ]
     | inr past ↦ absurd (false≢true (sym (ready-past page n other past) ∙ p))
   ];
+  zones = refl;
+  zone_size = refl;
 }
 
-abbrev made : List Place → List Bool → MapView
-made a b = record { places = a; ready = b }
+abbrev made : List Place → List Bool → ℕ → ℕ → MapView
+made a b zones size = record { places = a; ready = b; zones = zones; zone_size = size }
 
-pub sets : (page page' : ℕ → Option (List Place)) (n block : ℕ) (p : List Place) (place : Place) → block < n → length p ≡ 256 → page (block / 256) ≡ Some p → page' (block / 256) ≡ Some (set p (block % 256) place) → ((m : ℕ) → m ≢ block / 256 → page' m ≡ page m)
-    → made (shown page' n) (ready page' n) ≡ made (set (shown page n) block place) (ready page n)
-sets page page' n block p place h long old new others = both (shown page' n) (set (shown page n) block place) (ready page' n) (ready page n) (shown-set page page' n block p place h long old new others) same
+pub sets : (page page' : ℕ → Option (List Place)) (n zones size block : ℕ) (p : List Place) (place : Place) → block < n → length p ≡ 256 → page (block / 256) ≡ Some p → page' (block / 256) ≡ Some (set p (block % 256) place) → ((m : ℕ) → m ≢ block / 256 → page' m ≡ page m)
+    → made (shown page' n) (ready page' n) zones size ≡ made (set (shown page n) block place) (ready page n) zones size
+sets page page' n zones size block p place h long old new others = both (shown page' n) (set (shown page n) block place) (ready page' n) (ready page n) (shown-set page page' n block p place h long old new others) same
   where
     there : (k : ℕ) → is_some (page k) ≡ is_some (page' k)
     there k = elim (cases_eq k (block / 256)) as (λ _. is_some (page k) ≡ is_some (page' k)) [ inl e ↦ ap (λ (j : ℕ). is_some (page j)) e ∙ ap is_some old ∙ sym (ap is_some new) ∙ sym (ap (λ (j : ℕ). is_some (page' j)) e) | inr apart ↦ ap is_some (sym (others k apart)) ]
@@ -96,7 +102,7 @@ sets page page' n block p place h long old new others = both (shown page' n) (se
     same : ready page' n ≡ ready page n
     same = sym (fill_by_all (λ b. is_some (page' (b / 256))) (ready page n) n false (length-map-range_with_len (λ b. is_some (page (b / 256))) 0 n) (λ k below. ready-at page n k below ∙ there (k / 256)))
 
-    both : (a a' : List Place) (b b' : List Bool) → a ≡ a' → b ≡ b' → made a b ≡ made a' b'
+    both : (a a' : List Place) (b b' : List Bool) → a ≡ a' → b ≡ b' → made a b zones size ≡ made a' b' zones size
     both a a' b b' e f = rw (e, f) refl
 
 pub is_at-other : (a m : ℕ) → m ≢ a → is_at (nat_cmp a) m ≡ false

@@ -2,10 +2,12 @@
 use Rattle.std.specs.Prelude.{◌≡◌, ℕ, Bool, true, false, List, slice_index_or}
 use Rattle.logical_map.specs.declared.place.Place.{Place}
 
--- where each block lies, and whether its place can be set with no memory
+-- where each block lies, and whether its place can be set without an allocation; the drive's number of zones, and how many addresses a zone has
 pub record MapView : Type 0 where
   pub places : List Place
   pub ready : List Bool
+  pub zones : ℕ
+  pub zone_size : ℕ
 
 abbrev pub IsReady : MapView → ℕ → Type 0
 IsReady m block = slice_index_or m.ready block false ≡ true
@@ -15,3 +17,5 @@ pub record Reserves (old : MapView) (block : ℕ) (new : MapView) : Type 0 where
   pub places : new.places ≡ old.places
   pub here : IsReady new block
   pub kept : (other : ℕ) → IsReady old other → IsReady new other
+  pub zones : new.zones ≡ old.zones
+  pub zone_size : new.zone_size ≡ old.zone_size

@@ -1,4 +1,4 @@
-ghost use Rattle.std.specs.Prelude.{◌≡◌, ◌<◌, ◌≤◌, length, slice_index_or, slice_set, replicate, OnOk, OnErr};
+ghost use Rattle.std.specs.Prelude.{◌≡◌, ◌≢◌, ◌<◌, ◌≤◌, length, slice_index_or, slice_set, replicate, OnOk, OnErr};
 ghost use Rattle.logical_map.specs.Places.{IsReady, Reserves};
 ghost use Rattle.logical_map.specs.declared.place.Place.TheVariants as places;
 
@@ -10,12 +10,15 @@ use std::marker::Model;
 /// How many places a page has.
 const PAGE: u32 = 256;
 
-/// Where each of a number of logical blocks lies. The places stand in pages, which are made as they
-/// are wanted; a page that is missing holds no place.
+/// Where each of a number of logical blocks lies, on a drive of `zones` zones with `zone_size` addresses
+/// each. The places stand in pages, which are made as they are wanted; a page that is missing holds no
+/// place.
 #[derive(Drop)]
 pub struct Map {
     /// How many blocks there are.
     count: u32,
+    zones: u32,
+    zone_size: u32,
     alloc: Global,
     pages: BTreeMap<u32, Box<[Place; 256]>>,
 }
@@ -26,16 +29,21 @@ impl Model for Map {
 
     ghost Value = { MapView };
 
-    ghost view = { λ m. record { places = shown (page_of m.pages) m.count; ready = ready (page_of m.pages) m.count } };
+    ghost view = { λ m. record { places = shown (page_of m.pages) m.count; ready = ready (page_of m.pages) m.count; zones = m.zones; zone_size = m.zone_size } };
 }
 
 impl Map {
-    /// A map of so many blocks, with no place for any of them. Takes no memory yet.
-    pub fn new(alloc: Global, count: u32) -> Map
-        ensures { result.places ≡ replicate count places.None }
+    /// A map of `count` blocks, none of which has a place yet, on a drive of `zones` zones with
+    /// `zone_size` addresses each. It allocates nothing.
+    pub fn new(alloc: Global, count: u32, zones: u32, zone_size: u32) -> Map
+        ensures places { result.places ≡ replicate count places.None }
+        ensures zones { result.zones ≡ zones }
+        ensures zone_size { result.zone_size ≡ zone_size }
     {
         Map {
             count,
+            zones,
+            zone_size,
             alloc,
             pages: BTreeMap::new(alloc),
         }
@@ -48,10 +56,11 @@ impl Map {
         self.count
     }
 
-    /// Where a block lies.
+    /// Where a block lies. A block that has a place is ready to be placed again.
     pub fn get(&self, block: u32) -> Place
         requires { block < length self.now.places }
-        ensures { result ≡ slice_index_or self.now.places block places.None }
+        ensures place { result ≡ slice_index_or self.now.places block places.None }
+        ensures ready { result ≢ Place.None → IsReady self.now block }
     {
         match self.pages.get(&(block / PAGE)) {
             None => Place::None,
@@ -59,7 +68,8 @@ impl Map {
         }
     }
 
-    /// Makes room for a block's place, so that `set` takes no memory. Refused, the map is as it was.
+    /// Makes room for a block's place, so that `set` allocates nothing. Where an allocation fails, the map
+    /// is as it was.
     pub fn reserve_for(&mut self, block: u32) -> Result<(), AllocError>
         requires { block < length self.old.places }
         ensures ok { OnOk result (Reserves self.old block self.new) }
@@ -102,11 +112,11 @@ mod tests {
     use std::process::Abort;
     use std::test::Fail;
 
-    // The last of so many blocks is placed, and no other.
+    // The last block is placed, and no other.
     fn places_last(rt: &impl Abort, alloc: Global, count: u32) -> Result<(), Fail>
         requires { 2 ≤ count }
     {
-        let mut map = Map::new(alloc, count);
+        let mut map = Map::new(alloc, count, 3, 16);
         let last = count - 1;
         assert_eq!(rt; map.len(), count);
         let fresh = map.get(last);

@@ -1,5 +1,5 @@
 -- Whether zones can be mounted, tested clause by clause.
-use Rattle.std.proofs.Common.{◌≡◌, ◌≢◌, ◌↔◌, ℕ, zero, suc, ◌+◌, ◌-◌, ◌<◌, ◌≤◌, Bool, true, false, ◌||◌, eqb, List, [], ◌∷◌, map, length, take, drop, get_or, Option, Some, None, Vec, refl, sym, ap, ◌∙◌, arith}
+use Rattle.std.proofs.Common.{◌≡◌, ◌≢◌, ◌↔◌, ℕ, zero, suc, ◌+◌, ◌-◌, ◌<◌, ◌≤◌, ◌^◌, Bool, true, false, ◌||◌, eqb, List, [], ◌∷◌, map, length, take, drop, get_or, Option, Some, None, Vec, refl, sym, ap, ◌∙◌, arith}
 use Rattle.std.specs.declared.alloc.Global.{Global}
 use Rattle.std.specs.Prelude.{nat_eq}
 use Rattle.std.specs.List.{AllByRecursion, IsDistinct, count_by, list_any}
@@ -118,24 +118,22 @@ pub all-images : (P : Content → Type 0) (images : List ZoneImage) → AllByRec
 all-images P [] all = tt
 all-images P (z ∷ zs) all = (all.0, all-images P zs all.1)
 
-pub logs-numbered : (n : ℕ) (logs : List (Vec yardstick.Batch Global)) → AllByRecursion (λ (log : Vec yardstick.Batch Global). AllByRecursion (λ batch. IsNumbered n (batch_of batch)) log.items) logs
-    → AllByRecursion (AllByRecursion (IsNumbered n)) (logs_of logs)
+pub logs-numbered : (n : ℕ) (logs : List (Vec yardstick.Batch Global)) → AllByRecursion (λ (log : Vec yardstick.Batch Global). AllByRecursion (λ batch. IsNumbered (2 ^ 63) n (batch_of batch)) log.items) logs
+    → AllByRecursion (AllByRecursion (IsNumbered (2 ^ 63) n)) (logs_of logs)
 logs-numbered n [] all = tt
-logs-numbered n (log ∷ logs) all = (all-map (IsNumbered n) batch_of log.items all.0, logs-numbered n logs all.1)
+logs-numbered n (log ∷ logs) all = (all-map (IsNumbered (2 ^ 63) n) batch_of log.items all.0, logs-numbered n logs all.1)
 
-pub numbered-logs : (n : ℕ) (logs : List (Vec yardstick.Batch Global)) → AllByRecursion (AllByRecursion (IsNumbered n)) (logs_of logs)
-    → AllByRecursion (λ (log : Vec yardstick.Batch Global). AllByRecursion (λ batch. IsNumbered n (batch_of batch)) log.items) logs
+pub numbered-logs : (n : ℕ) (logs : List (Vec yardstick.Batch Global)) → AllByRecursion (AllByRecursion (IsNumbered (2 ^ 63) n)) (logs_of logs)
+    → AllByRecursion (λ (log : Vec yardstick.Batch Global). AllByRecursion (λ batch. IsNumbered (2 ^ 63) n (batch_of batch)) log.items) logs
 numbered-logs n [] all = tt
-numbered-logs n (log ∷ logs) all = (all-unmap (IsNumbered n) batch_of log.items all.0, numbered-logs n logs all.1)
+numbered-logs n (log ∷ logs) all = (all-unmap (IsNumbered (2 ^ 63) n) batch_of log.items all.0, numbered-logs n logs all.1)
 
 pub are_mountable : (geometry : Geometry) (zones : List Content) (n : ℕ) (logs : List (List Batch)) → AreZoneLogs geometry zones logs
-    → AllByRecursion (λ (zone : Content). is_usable zone.usage ≡ true) zones → count_by is_partly_written zones ≤ 2 → AllByRecursion (AllByRecursion (IsNumbered n)) logs
+    → AllByRecursion (λ (zone : Content). is_usable zone.usage ≡ true) zones → count_by is_partly_written zones ≤ 2 → AllByRecursion (AllByRecursion (IsNumbered (2 ^ 63) n)) logs
     → IsDistinct nat_eq (sequences logs) → HasSpare geometry.block n logs → AreMountable geometry zones n
 are_mountable geometry zones n logs are usable few batches distinct spare = record {
   usable = usable;
   few_partial = few;
-  logs = are.have;
-  batches = rw (← are.logs_are) batches;
-  distinct = rw (← are.logs_are) distinct;
+  sound = record { logs = are.have; batches = rw (← are.logs_are) batches; distinct = rw (← are.logs_are) distinct };
   spare = rw (← are.logs_are) spare;
 }

@@ -1,6 +1,6 @@
 //! Whether zones can be mounted, clause by clause.
 
-ghost use Rattle.std.specs.Prelude.{◌≡◌, ◌⊎◌, ◌↔◌, ◌<◌, ◌≤◌, ◌++◌, ℕ, [], count_by, length, nat_eq, true, IfNone, IfOk, IfSome, IsTrue, OnOk};
+ghost use Rattle.std.specs.Prelude.{◌≡◌, ◌⊎◌, ◌↔◌, ◌<◌, ◌≤◌, ◌^◌, ◌++◌, ℕ, [], count_by, length, nat_eq, true, IfNone, IfOk, IfSome, IsTrue, OnOk};
 ghost use Rattle.std.specs.List.{AllByRecursion, IsDistinct};
 ghost use Rattle.zone_states.specs.Geometry.{IsInRange};
 ghost use Rattle.drive_port.specs.Contents.{is_active_usage, is_usable, usage_of};
@@ -67,20 +67,20 @@ fn are_below(entries: &[Entry], n: u32) -> bool
 }
 
 fn is_numbered(batch: &Batch, n: u32) -> bool
-    ensures { IsTrue result ↔ IsNumbered n (batch_of batch.now) }
+    ensures { IsTrue result ↔ IsNumbered (2 ^ 63) n (batch_of batch.now) }
 {
     batch.header.sequence < 1 << 63 && are_below(&batch.header.entries, n)
 }
 
 fn is_log_numbered(log: &[Batch], n: u32) -> bool
-    ensures { IsTrue result ↔ AllByRecursion (λ batch. IsNumbered n (batch_of batch)) log.now }
+    ensures { IsTrue result ↔ AllByRecursion (λ batch. IsNumbered (2 ^ 63) n (batch_of batch)) log.now }
 {
     log.iter().all(|batch| is_numbered(batch, n))
 }
 
 fn are_numbered(logs: &[Vec<Batch>], n: u32) -> bool
     ensures { IsTrue result
-        ↔ AllByRecursion (λ log. AllByRecursion (λ batch. IsNumbered n (batch_of batch)) log.items) logs.now }
+        ↔ AllByRecursion (λ log. AllByRecursion (λ batch. IsNumbered (2 ^ 63) n (batch_of batch)) log.items) logs.now }
 {
     logs.iter().all(|log| is_log_numbered(log, n))
 }

@@ -1,8 +1,9 @@
 -- A drive takes the commands of a disk whose tables agree with it.
-use Rattle.std.proofs.Common.{◌≡◌, ◌≢◌, ℕ, zero, suc, ◌+◌, ◌*◌, ◌/◌, ◌%◌, ◌<◌, ◌≤◌, Bool, true, false, cond, List, [], ◌∷◌, length, get_or, Some, None, refl, sym, ap, inl, inr, arith}
-use Rattle.std.specs.List.{count_by, remove}
+use Rattle.std.proofs.Common.{◌≡◌, ◌≢◌, ◌⊎◌, ℕ, zero, suc, ◌+◌, ◌*◌, ◌/◌, ◌%◌, ◌<◌, ◌≤◌, Bool, true, false, ◌||◌, cond, eqb, List, [], ◌∷◌, length, set, get_or, refl, sym, ap, ◌∙◌, inl, inr, arith}
+use Rattle.std.specs.List.{AllByRecursion, count_by, list_any, remove}
 use Rattle.std.proofs.Math.ListN.{get_or-map}
-use Rattle.std.proofs.lemmas.List.{length-map}
+use Rattle.std.proofs.lemmas.Bool.{cases_eq, eqb-true, ne_eqb}
+use Rattle.std.proofs.lemmas.List.{get_or-set_other, get_or-set_same, length-map, length-set}
 use Rattle.std.proofs.lemmas.List.Sums.{sum_by-cons}
 use Rattle.std.proofs.lemmas.Nat.{div-mul-add, mod-mul-add, mul-le}
 use Rattle.std.proofs.Math.Nat.{add-mul}
@@ -12,15 +13,16 @@ use Rattle.zone_states.specs.Transition.{is_active, is_open}
 use Rattle.zone_states.specs.Zone.{IsLawfulZone, MayHold, Zone}
 use Rattle.drive_port.specs.Calls.{CanAppend, CanFinish}
 use Rattle.drive_port.specs.Drive.{DriveState, IsLawful, active_count, open_count}
-use Rattle.drive_port.specs.Contents.{Content, full, content_at, content_of, contents, is_writable, usage_of}
+use Rattle.drive_port.specs.Contents.{Content, full, content_at, content_of, contents, is_usable, is_writable, nothing, usage_of}
 use Rattle.drive_port.specs.Step.{nowhere, zone_at}
+use Rattle.batch_log.specs.Log.{Batch}
 use Rattle.zone_choice.specs.declared.roles.Filling.{Filling}
-use Rattle.zone_choice.specs.Agreement.{Agrees, RolesAgree}
-use Rattle.logical_map.specs.Places.{MapView}
-use Rattle.zone_choice.proofs.AgreementLaws.{tables_with}
+use Rattle.zone_choice.specs.Agreement.{Agrees, IsFilled, RolesAgree, drive_logs, mounted}
+use Rattle.zone_choice.specs.Roles.{IsOccupied, RolesView, fillings, is_at, is_filling_at}
+use Rattle.zone_choice.specs.Tables.{TablesView}
 use Rattle.zone_choice.proofs.AllLaws.{all-at}
-use Rattle.zone_choice.proofs.ContentLaws.{IsSettled, count-zero, host-usable, roles-settled, roles_with}
-use Rattle.std.proofs.lemmas.Bool.{ne_eqb}
+use Rattle.zone_choice.proofs.ContentLaws.{IsSettled, all-usable, count-fillings, count-zero, filling-writable, roles-settled}
+use Rattle.zone_choice.proofs.RolesLaws.{few-fillings, filling-occupied}
 
 -- the content of a zone, by its place in the list of zones
 pub content-zone : (zones : List Zone) (zone : ℕ) → content_at (contents zones) zone ≡ content_of (zone_at zones zone)
@@ -44,27 +46,61 @@ inactive-shut states.ReadOnly h = refl
 inactive-shut states.Full h = refl
 inactive-shut states.Offline h = refl
 
--- a count of all elements but one, of which each fails
-count-others : {X : Type 0} (p : X → Bool) (xs : List X) (i : ℕ) (d : X) → ((k : ℕ) → k < length xs → k ≢ i → p (get_or xs k d) ≡ false) → count_by p (remove xs i) ≡ 0
-count-others p [] zero d none = refl
-count-others p [] (suc i) d none = refl
-count-others p (x ∷ xs) zero d none = count-zero p xs d (λ k lt. none (suc k) (omega arith) (λ e. omega arith))
-count-others {X} p (x ∷ xs) (suc i) d none =
-    let here : cond {A = ℕ} (p x) 1 0 ≡ 0 = rw (none 0 (omega arith) (λ e. omega arith)) refl in
-    let rest = count-others p xs i d (λ k lt ne. none (suc k) (omega arith) (λ e. ne (omega arith))) in
-    omega (arith, sum_by-cons (λ (y : X). cond {A = ℕ} (p y) 1 0) x (remove xs i), rest, here)
+-- a count of all elements but one
+count-remove : {X : Type 0} (p : X → Bool) (xs : List X) (i : ℕ) (d : X) → p d ≡ false → i < length xs → count_by p (remove xs i) ≡ count_by p (set xs i d)
+count-remove p [] i d off lt = absurd (omega arith)
+count-remove {X} p (x ∷ xs) zero d off lt = let none : cond {A = ℕ} (p d) 1 0 ≡ 0 = rw off refl in omega (arith, sum_by-cons (λ (y : X). cond {A = ℕ} (p y) 1 0) d xs, none)
+count-remove {X} p (x ∷ xs) (suc i) d off lt =
+    omega (arith, sum_by-cons (λ (y : X). cond {A = ℕ} (p y) 1 0) x (remove xs i), sum_by-cons (λ (y : X). cond {A = ℕ} (p y) 1 0) x (set xs i d), count-remove p xs i d off (omega arith))
 
--- no zone but the host zone is active
-others-inactive : (capacity : ℕ) (zones : List Zone) (empties : List Bool) (host : Filling) (k : ℕ) → RolesAgree capacity (contents zones) (roles_with empties (Some host)) → k < length zones → k ≢ host.zone → is_active (zone_at zones k).state ≡ false
-others-inactive capacity zones empties host k agree lt ne =
-    settled-closed (zone_at zones k).state
-    (rw content-zone at (roles-settled capacity (contents zones) (roles_with empties (Some host)) k agree (omega (arith, length-map zones content_of)) (ne_eqb host.zone k (λ e. ne (sym e)))))
+-- where one of the zones that are being filled is left out, fewer are counted
+count-others : {X : Type 0} (p : X → Bool) (xs : List X) (fs : List Filling) (i : ℕ) (d : X) → p d ≡ false → i < length xs → list_any (is_at i) fs ≡ true → length fs ≤ 2
+    → ((k : ℕ) → k < length xs → list_any (is_at k) fs ≡ false → p (get_or xs k d) ≡ false) → count_by p (remove xs i) + 1 ≤ length fs
+count-others p xs [] i d off lt here few none = absurd (cc)
+count-others p xs (f ∷ []) i d off lt here few none =
+    omega (arith, count-remove p xs i d off lt, count-fillings p (set xs i d) [] d off (λ k below out. cleared k (omega (arith, below, length-set xs i d)) (λ ne. none k (omega (arith, below, length-set xs i d)) (rw (ne_eqb f.zone k (λ e. ne (sym (sym (only (eqb f.zone i) refl here) ∙ e)))) refl))))
+  where
+    only : (b : Bool) → eqb f.zone i ≡ b → (b || false) ≡ true → f.zone ≡ i
+    only true e h = eqb-true f.zone i e
+    only false e h = absurd (cc)
 
--- without a host zone no zone is active
-pub none-active : (drive : DriveState) (places : MapView) (empties : List Bool) (next n : ℕ) → Agrees drive (tables_with places (roles_with empties None) next) n → active_count drive.zones ≡ 0
-none-active drive places empties next n agrees =
+    cleared : (k : ℕ) → k < length xs → (k ≢ i → p (get_or xs k d) ≡ false) → p (get_or (set xs i d) k d) ≡ false
+    cleared k below rest = elim (cases_eq k i) as (λ _. p (get_or (set xs i d) k d) ≡ false) [
+      | inl e ↦ ap p (rw e (get_or-set_same xs i d d lt)) ∙ off
+      | inr ne ↦ ap p (get_or-set_other xs i k d d ne) ∙ rest ne
+    ]
+count-others p xs (f ∷ g ∷ []) i d off lt here few none = split (eqb f.zone i) refl here
+  where
+    cleared : (k : ℕ) → k < length xs → (k ≢ i → p (get_or xs k d) ≡ false) → p (get_or (set xs i d) k d) ≡ false
+    cleared k below rest = elim (cases_eq k i) as (λ _. p (get_or (set xs i d) k d) ≡ false) [
+      | inl e ↦ ap p (rw e (get_or-set_same xs i d d lt)) ∙ off
+      | inr ne ↦ ap p (get_or-set_other xs i k d d ne) ∙ rest ne
+    ]
+
+    last : (b : Bool) → eqb g.zone i ≡ b → (b || false) ≡ true → g.zone ≡ i
+    last true e h = eqb-true g.zone i e
+    last false e h = absurd (cc)
+
+    split : (b : Bool) → eqb f.zone i ≡ b → (b || (eqb g.zone i || false)) ≡ true → count_by p (remove xs i) + 1 ≤ 2
+    split true e h =
+        omega (arith, count-remove p xs i d off lt, count-fillings p (set xs i d) (g ∷ []) d off (λ k below out. cleared k (omega (arith, below, length-set xs i d)) (λ ne. none k (omega (arith, below, length-set xs i d)) (rw (ne_eqb f.zone k (λ same. ne (sym (sym (eqb-true f.zone i e) ∙ same)))) out))))
+    split false e h =
+        omega (arith, count-remove p xs i d off lt, count-fillings p (set xs i d) (f ∷ []) d off (λ k below out. cleared k (omega (arith, below, length-set xs i d)) (λ ne. none k (omega (arith, below, length-set xs i d)) (both k ne out))))
+      where
+        both : (k : ℕ) → k ≢ i → (eqb f.zone k || false) ≡ false → (eqb f.zone k || (eqb g.zone k || false)) ≡ false
+        both k ne out = rw (ne_eqb g.zone k (λ same. ne (sym (sym (last (eqb g.zone i) refl h) ∙ same)))) out
+count-others p xs (f ∷ g ∷ h ∷ fs) i d off lt here few none = absurd (omega arith)
+
+-- a zone that isn't being filled isn't active
+pub others-inactive : (capacity : ℕ) (zones : List Zone) (logs : List (List Batch)) (roles : RolesView) (k : ℕ) → RolesAgree capacity (contents zones) logs roles → k < length zones → is_filling_at roles k ≡ false → is_active (zone_at zones k).state ≡ false
+others-inactive capacity zones logs roles k agree lt out =
+    settled-closed (zone_at zones k).state (rw content-zone at (roles-settled capacity (contents zones) logs roles k agree (omega (arith, length-map zones content_of)) out))
+
+-- where no zone is being filled, none is active
+pub none-active : (drive : DriveState) (tables : TablesView) → Agrees (mounted drive tables) → fillings tables.roles ≡ [] → active_count drive.zones ≡ 0
+none-active drive tables agrees none =
     count-zero (λ (z : Zone). is_active z.state) drive.zones nowhere
-    (λ k lt. settled-closed (zone_at drive.zones k).state (rw content-zone at (roles-settled drive.geometry.capacity (contents drive.zones) (roles_with empties None) k agrees.roles (omega (arith, length-map drive.zones content_of)) refl)))
+    (λ k lt. others-inactive drive.geometry.capacity drive.zones (drive_logs drive) tables.roles k agrees.roles lt (rw none refl))
 
 -- where a zone starts
 pub zone-start : (zone size : ℕ) → 1 ≤ size → (zone * size / size ≡ zone) × (zone * size % size ≡ 0)
@@ -75,53 +111,58 @@ zone-start zone size some =
 start-below : (zone zones size : ℕ) → 1 ≤ size → zone < zones → zone * size < zones * size
 start-below zone zones size some lt = omega (arith, mul-le (zone + 1) size zones size (omega arith) (omega arith), add-mul zone 1 size)
 
-host-writable : (capacity : ℕ) (zones : List Content) (empties : List Bool) (host : Filling) → RolesAgree capacity zones (roles_with empties (Some host)) → host.written < capacity → is_writable (content_at zones host.zone).usage ≡ true
-host-writable capacity zones empties host agree lt = elim agree.host.1 as (λ _. is_writable (content_at zones host.zone).usage ≡ true) [ inl w ↦ w | inr f ↦ (let e = f.1 in absurd (omega arith)) ]
+pub filling-in_range : (drive : DriveState) (tables : TablesView) (zone : ℕ) → Agrees (mounted drive tables) → is_filling_at tables.roles zone ≡ true → zone < length drive.zones
+filling-in_range drive tables zone agrees here = omega (arith, (filling-occupied tables.roles zone agrees.roles.apart here).0, agrees.roles.count, length-map drive.zones content_of)
 
-pub host_is_writable : (drive : DriveState) (places : MapView) (empties : List Bool) (host : Filling) (next n : ℕ) → Agrees drive (tables_with places (roles_with empties (Some host)) next) n → host.written < drive.geometry.capacity → is_writable (content_at (contents drive.zones) host.zone).usage ≡ true
-host_is_writable drive places empties host next n agrees lt = host-writable drive.geometry.capacity (contents drive.zones) empties host agrees.roles lt
+-- among the other zones at most one is active
+others_active : (drive : DriveState) (tables : TablesView) (zone : ℕ) → Agrees (mounted drive tables) → is_filling_at tables.roles zone ≡ true
+    → (active_count (remove drive.zones zone) + 1 ≤ length (fillings tables.roles)) × (open_count (remove drive.zones zone) + 1 ≤ length (fillings tables.roles))
+others_active drive tables zone agrees here =
+    let lt = filling-in_range drive tables zone agrees here in
+    let inactive = λ (k : ℕ) (below : k < length drive.zones) (out : is_filling_at tables.roles k ≡ false). others-inactive drive.geometry.capacity drive.zones (drive_logs drive) tables.roles k agrees.roles below out in (
+      count-others (λ (z : Zone). is_active z.state) drive.zones (fillings tables.roles) zone nowhere refl lt here (few-fillings tables.roles) inactive,
+      count-others (λ (z : Zone). is_open z.state) drive.zones (fillings tables.roles) zone nowhere refl lt here (few-fillings tables.roles) (λ k below out. inactive-shut (zone_at drive.zones k).state (inactive k below out)),
+    )
 
-host-in_range : (drive : DriveState) (places : MapView) (empties : List Bool) (host : Filling) (next n : ℕ) → Agrees drive (tables_with places (roles_with empties (Some host)) next) n → host.zone < length drive.zones
-host-in_range drive places empties host next n agrees = omega (arith, agrees.roles.apart.0, agrees.roles.count, length-map drive.zones content_of)
-
--- an Append to the host zone, which has room for it
-pub can_append : (drive : DriveState) (places : MapView) (empties : List Bool) (host : Filling) (next n start count : ℕ)
-    → Agrees drive (tables_with places (roles_with empties (Some host)) next) n → start ≡ host.zone * drive.geometry.size → 1 ≤ count → count ≤ drive.geometry.transfer → host.written + count ≤ drive.geometry.capacity
+-- an Append to a zone that is being filled, which has room for it
+pub can_append : (drive : DriveState) (tables : TablesView) (zone start count : ℕ)
+    → Agrees (mounted drive tables) → is_filling_at tables.roles zone ≡ true → (2 ≤ drive.geometry.open) ⊎ (length (fillings tables.roles) ≤ 1)
+    → start ≡ zone * drive.geometry.size → 1 ≤ count → count ≤ drive.geometry.transfer → length (content_at (contents drive.zones) zone).blocks + count ≤ drive.geometry.capacity
     → CanAppend drive start count
-can_append drive places empties host next n start count agrees start-is some few room =
+can_append drive tables zone start count agrees here alone start-is some few room =
     let size = drive.geometry.size in
-    let at = zone-start host.zone size agrees.geometry.size.0 in
-    let index : start / size ≡ host.zone = rw start-is at.0 in
-    let lt = host-in_range drive places empties host next n agrees in
-    let here = content-zone drive.zones host.zone in
-    let inactive = λ (k : ℕ) (below : k < length drive.zones) (ne : k ≢ host.zone). others-inactive drive.geometry.capacity drive.zones empties host k agrees.roles below ne in
-    let no_active : active_count (remove drive.zones host.zone) ≡ 0 = count-others (λ (z : Zone). is_active z.state) drive.zones host.zone nowhere inactive in
-    let no_open : open_count (remove drive.zones host.zone) ≡ 0 = count-others (λ (z : Zone). is_open z.state) drive.zones host.zone nowhere (λ k below ne. inactive-shut (zone_at drive.zones k).state (inactive k below ne)) in
+    let at = zone-start zone size agrees.geometry.size.0 in
+    let index : start / size ≡ zone = rw start-is at.0 in
+    let lt = filling-in_range drive tables zone agrees here in
+    let content = content-zone drive.zones zone in
+    let others = others_active drive tables zone agrees here in
+    let two = few-fillings tables.roles in
     record {
       aligned = rw start-is at.1;
-      in_range = rw (start-is, ← agrees.lawful.count) (start-below host.zone (length drive.zones) size agrees.geometry.size.0 lt);
+      in_range = rw (start-is, ← agrees.lawful.count) (start-below zone (length drive.zones) size agrees.geometry.size.0 lt);
       few = few;
-      writable = rw (index, ← ap (λ (c : Content). c.usage) here) (host-writable drive.geometry.capacity (contents drive.zones) empties host agrees.roles (omega arith));
-      room = rw (index, ← ap (λ (c : Content). c.blocks) here) (omega (arith, agrees.roles.host.0));
-      active = rw index (omega (arith, no_active, agrees.geometry.active));
-      open_zones = rw index (omega (arith, no_open, agrees.geometry.open_zones));
+      writable = rw (index, ← ap (λ (c : Content). c.usage) content) (filling-writable drive.geometry.capacity (contents drive.zones) (drive_logs drive) tables.roles zone agrees.roles here (omega arith));
+      room = rw (index, ← ap (λ (c : Content). c.blocks) content) room;
+      active = rw index (omega (arith, others.0, two, agrees.geometry.active));
+      open_zones = rw index (elim alone as (λ _. open_count (remove drive.zones zone) < drive.geometry.open) [ inl more ↦ omega (arith, others.1, two, more) | inr one ↦ omega (arith, others.1, one, agrees.geometry.open_zones) ]);
     }
 
--- a Finish of the host zone
-pub can_finish : (drive : DriveState) (places : MapView) (empties : List Bool) (host : Filling) (next n start : ℕ)
-    → Agrees drive (tables_with places (roles_with empties (Some host)) next) n → start ≡ host.zone * drive.geometry.size → CanFinish drive start
-can_finish drive places empties host next n start agrees start-is =
+-- a Finish of a zone that is being filled
+pub can_finish : (drive : DriveState) (tables : TablesView) (zone start : ℕ) → Agrees (mounted drive tables) → is_filling_at tables.roles zone ≡ true → start ≡ zone * drive.geometry.size → CanFinish drive start
+can_finish drive tables zone start agrees here start-is =
     let size = drive.geometry.size in
-    let at = zone-start host.zone size agrees.geometry.size.0 in
-    let index : start / size ≡ host.zone = rw start-is at.0 in
-    let here = content-zone drive.zones host.zone in
+    let at = zone-start zone size agrees.geometry.size.0 in
+    let index : start / size ≡ zone = rw start-is at.0 in
+    let content = content-zone drive.zones zone in
+    let lt = filling-in_range drive tables zone agrees here in
+    let usable = all-usable drive.geometry.capacity (contents drive.zones) (drive_logs drive) tables.roles agrees.roles in
     record {
       aligned = rw start-is at.1;
-      in_range = rw (start-is, ← agrees.lawful.count) (start-below host.zone (length drive.zones) size agrees.geometry.size.0 (host-in_range drive places empties host next n agrees));
-      usable = rw (index, ← ap (λ (c : Content). c.usage) here) (host-usable drive.geometry.capacity (contents drive.zones) empties host agrees.roles);
+      in_range = rw (start-is, ← agrees.lawful.count) (start-below zone (length drive.zones) size agrees.geometry.size.0 lt);
+      usable = rw (index, ← ap (λ (c : Content). c.usage) content) (all-at (λ (c : Content). is_usable c.usage ≡ true) (contents drive.zones) zone nothing usable (omega (arith, lt, length-map drive.zones content_of)));
     }
 
--- ---- how far the host zone is written
+-- ---- how far a zone is written
 
 short-of : (state : ZoneState) (capacity written : ℕ) → MayHold state capacity written → is_writable (usage_of state) ≡ true → 0 < capacity → written < capacity
 short-of states.Empty capacity written h w some = omega arith
@@ -147,19 +188,26 @@ zone-few drive zone lawful lt =
     let one = all-at (IsLawfulZone drive.geometry) drive.zones zone nowhere lawful.zones lt in
     rw (content-zone drive.zones zone) (may-hold (zone_at drive.zones zone).state drive.geometry.capacity (length (zone_at drive.zones zone).blocks) one.written)
 
-pub host-few : (drive : DriveState) (places : MapView) (empties : List Bool) (host : Filling) (next n : ℕ) → Agrees drive (tables_with places (roles_with empties (Some host)) next) n → host.written ≤ drive.geometry.capacity
-host-few drive places empties host next n agrees =
-    omega (arith, zone-few drive host.zone agrees.lawful (host-in_range drive places empties host next n agrees), agrees.roles.host.0)
+pub filling-few : (drive : DriveState) (tables : TablesView) (f : Filling) → Agrees (mounted drive tables) → f.zone < length drive.zones → IsFilled drive.geometry.capacity (contents drive.zones) (drive_logs drive) f → f.written ≤ drive.geometry.capacity
+filling-few drive tables f agrees lt is = omega (arith, zone-few drive f.zone agrees.lawful lt, is.written)
 
--- a host zone that is written up to its capacity is full
-pub host-full : (drive : DriveState) (places : MapView) (empties : List Bool) (host : Filling) (next n : ℕ) → Agrees drive (tables_with places (roles_with empties (Some host)) next) n → host.written ≡ drive.geometry.capacity
-    → (content_at (contents drive.zones) host.zone).usage ≡ full
-host-full drive places empties host next n agrees e =
-    let lt = host-in_range drive places empties host next n agrees in
-    let one = all-at (IsLawfulZone drive.geometry) drive.zones host.zone nowhere agrees.lawful.zones lt in
-    let here = content-zone drive.zones host.zone in
-    let long : length (zone_at drive.zones host.zone).blocks ≡ host.written = rw here at agrees.roles.host.0 in
-    elim agrees.roles.host.1 as (λ _. (content_at (contents drive.zones) host.zone).usage ≡ full) [
-      | inl w ↦ (let bad = short-of (zone_at drive.zones host.zone).state drive.geometry.capacity (length (zone_at drive.zones host.zone).blocks) one.written (rw here at w) (omega (arith, agrees.geometry.capacity)) in absurd (omega arith))
-      | inr f ↦ f.0
+-- a zone that is written up to its capacity is full
+pub filling-full : (drive : DriveState) (tables : TablesView) (f : Filling) → Agrees (mounted drive tables) → f.zone < length drive.zones → IsFilled drive.geometry.capacity (contents drive.zones) (drive_logs drive) f → f.written ≡ drive.geometry.capacity
+    → (content_at (contents drive.zones) f.zone).usage ≡ full
+filling-full drive tables f agrees lt is e =
+    let one = all-at (IsLawfulZone drive.geometry) drive.zones f.zone nowhere agrees.lawful.zones lt in
+    let here = content-zone drive.zones f.zone in
+    let long : length (zone_at drive.zones f.zone).blocks ≡ f.written = rw here at is.written in
+    elim is.usage as (λ _. (content_at (contents drive.zones) f.zone).usage ≡ full) [
+      | inl w ↦ (let bad = short-of (zone_at drive.zones f.zone).state drive.geometry.capacity (length (zone_at drive.zones f.zone).blocks) one.written (rw here at w) (omega (arith, agrees.geometry.capacity)) in absurd (omega arith))
+      | inr h ↦ h.0
     ]
+
+-- all zones that are being filled have at most their capacity written
+pub fillings-few : (drive : DriveState) (tables : TablesView) → Agrees (mounted drive tables) → AllByRecursion (λ f. f.written ≤ drive.geometry.capacity) (fillings tables.roles)
+fillings-few drive tables agrees = go (fillings tables.roles) agrees.roles.apart.occupied agrees.roles.fillings_are
+  where
+    go : (fs : List Filling) → AllByRecursion (IsOccupied tables.roles.empty) fs → AllByRecursion (IsFilled drive.geometry.capacity (contents drive.zones) (drive_logs drive)) fs → AllByRecursion (λ f. f.written ≤ drive.geometry.capacity) fs
+    go [] occupied are = tt
+    go (f ∷ fs) occupied are =
+        (filling-few drive tables f agrees (omega (arith, occupied.0.in_range, agrees.roles.count, length-map drive.zones content_of)) are.0, go fs occupied.1 are.1)

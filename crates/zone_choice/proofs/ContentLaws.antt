@@ -1,91 +1,154 @@
--- Roles and contents, when the host zone is taken, written, finished or sealed.
-use Rattle.std.proofs.Common.{◌≡◌, ◌≢◌, ◌⊎◌, ℕ, zero, suc, ◌+◌, ◌<◌, ◌≤◌, Bool, true, false, cond, eqb, List, [], ◌∷◌, ◌++◌, length, set, get_or, Option, Some, None, refl, sym, ◌∙◌, inl, inr, arith}
-use Rattle.std.specs.List.{AllByRecursion, count_by}
-use Rattle.std.proofs.lemmas.Bool.{cases_eq, eqb-true, eq-eqb, ne_eqb}
+-- Roles and contents, when a zone is taken, written, finished or sealed.
+use Rattle.std.proofs.Common.{◌≡◌, ◌≢◌, ◌⊎◌, ℕ, suc, ◌+◌, ◌<◌, ◌≤◌, Bool, true, false, ◌||◌, cond, eqb, List, [], ◌∷◌, ◌++◌, length, set, get_or, Option, Some, None, refl, sym, ap, subst, ◌∙◌, inl, inr, arith}
+use Rattle.std.specs.List.{AllByRecursion, count_by, list_any}
+use Rattle.std.proofs.lemmas.Bool.{cases_eq, cases_lt, eqb-true, eq-eqb, ne_eqb}
 use Rattle.std.proofs.lemmas.List.{get_or-set_same, get_or-set_other, length-set, length-append}
-use Rattle.std.proofs.lemmas.List.Sums.{sum_by-cons}
+use Rattle.std.proofs.lemmas.List.Sums.{sum_by-set}
 use Rattle.drive_port.specs.Contents.{Content, Usage, empty, active, full, unusable, Appends, Finishes, content_at, emptied, filled, finished, is_usable, is_writable, nothing}
+use Rattle.batch_log.specs.Log.{Batch, batch_size, log_size}
 use Rattle.zone_choice.specs.declared.roles.Filling.{Filling}
-use Rattle.zone_choice.specs.Agreement.{RolesAgree, is_host_at}
-use Rattle.zone_choice.specs.Roles.{RolesView, is_empty_at}
-use Rattle.zone_choice.proofs.AllLaws.{all-from}
+use Rattle.zone_choice.specs.declared.roles.Second.{Second}
+use Rattle.zone_choice.specs.Agreement.{IsFilled, IsSealed, RolesAgree}
+use Rattle.zone_choice.specs.Records.{append_log}
+use Rattle.zone_choice.specs.Roles.{Differ, RolesView, filling_of, fillings, grown, is_at, is_empty_at, is_filling_at, taken, wrote}
+use Rattle.zone_choice.specs.ZoneLogs.{log_at}
+use Rattle.zone_choice.proofs.AllLaws.{all-from, all-weaker}
+use Rattle.zone_choice.proofs.RolesLaws.{all-filling, all-map, apart-seal, apart-take, apart-wrote, filling-occupied, filling_at-wrote, fillings-wrote, roles_with, second_list}
 
-abbrev pub roles_with : List Bool → Option Filling → RolesView
-roles_with empties host = record { empty = empties; host = host }
+-- ---- the log of a zone, with a batch more
 
-filled-host : (capacity written : ℕ) (blocks : List (List ℕ)) → length blocks ≡ written → (is_writable (filled capacity blocks).usage ≡ true) ⊎ (((filled capacity blocks).usage ≡ full) × (written ≡ capacity))
-filled-host capacity written blocks long = at (eqb (length blocks) capacity) refl
+pub log_size-append : (log : List Batch) (b : Batch) → log_size (log ++ b ∷ []) ≡ log_size log + batch_size b
+log_size-append [] b = omega arith
+log_size-append (x ∷ log) b = omega (arith, log_size-append log b)
+
+log_size-some : (log : List Batch) → 1 ≤ log_size log → 1 ≤ length log
+log_size-some [] some = some
+log_size-some (b ∷ log) some = omega arith
+
+log_at-same : (logs : List (List Batch)) (zone : ℕ) (b : Batch) → zone < length logs → log_at (append_log logs zone b) zone ≡ log_at logs zone ++ b ∷ []
+log_at-same logs zone b lt = get_or-set_same logs zone (log_at logs zone ++ b ∷ []) [] lt
+
+log_at-other : (logs : List (List Batch)) (zone k : ℕ) (b : Batch) → k ≢ zone → log_at (append_log logs zone b) k ≡ log_at logs k
+log_at-other logs zone k b other = get_or-set_other logs zone k (log_at logs zone ++ b ∷ []) [] other
+
+-- ---- blocks are written to a zone that is being filled
+
+filled-usage : (capacity written : ℕ) (blocks : List (List ℕ)) → length blocks ≡ written → (is_writable (filled capacity blocks).usage ≡ true) ⊎ (((filled capacity blocks).usage ≡ full) × (written ≡ capacity))
+filled-usage capacity written blocks long = at (eqb (length blocks) capacity) refl
   where
     at : (b : Bool) → eqb (length blocks) capacity ≡ b → (is_writable (cond b full active) ≡ true) ⊎ ((cond b full active ≡ full) × (written ≡ capacity))
     at true e = inr (refl, sym long ∙ eqb-true (length blocks) capacity e)
     at false e = inl refl
 
--- blocks are written to the host zone
-pub roles-write : (capacity : ℕ) (old new : List Content) (empties : List Bool) (host : Filling) (blocks : List (List ℕ)) → RolesAgree capacity old (roles_with empties (Some host)) → Appends old new capacity host.zone blocks
-    → RolesAgree capacity new (roles_with empties (Some (record { zone = host.zone; written = host.written + length blocks })))
-roles-write capacity old new empties host blocks agree appends =
-    let was = content_at old host.zone in
-    let made = filled capacity (was.blocks ++ blocks) in
-    let there : content_at new host.zone ≡ made = rw appends.zones (get_or-set_same old host.zone made nothing appends.in_range) in
-    let long : length (was.blocks ++ blocks) ≡ host.written + length blocks = omega (arith, length-append was.blocks blocks, agree.host.0) in
-    let other = λ (zone : ℕ) (ne : zone ≢ host.zone). (let e : content_at new zone ≡ content_at old zone = rw appends.zones (get_or-set_other old host.zone zone made nothing ne) in e) in
+-- a zone whose content and log are the same
+same-filled : (capacity : ℕ) (old new : List Content) (logs logs' : List (List Batch)) (f : Filling) → content_at new f.zone ≡ content_at old f.zone → log_at logs' f.zone ≡ log_at logs f.zone → IsFilled capacity old logs f → IsFilled capacity new logs' f
+same-filled capacity old new logs logs' f content log is = record { written = rw content is.written; usage = rw content is.usage; batches = rw log is.batches }
+
+grown-filled : (capacity : ℕ) (old new : List Content) (logs : List (List Batch)) (zone : ℕ) (blocks : List (List ℕ)) (batch : Batch) → Appends old new capacity zone blocks → length blocks ≡ batch_size batch → zone < length logs
+    → (f : Filling) → IsFilled capacity old logs f → IsFilled capacity new (append_log logs zone batch) (grown zone (batch_size batch) f)
+grown-filled capacity old new logs zone blocks batch appends size lt f is = at (eqb f.zone zone) refl
+  where
+    at : (b : Bool) → eqb f.zone zone ≡ b → IsFilled capacity new (append_log logs zone batch) (cond b (record { zone = f.zone; written = f.written + batch_size batch; may_open = true }) f)
+    at true e =
+        let made = filled capacity ((content_at old zone).blocks ++ blocks) in
+        let same : f.zone ≡ zone = eqb-true f.zone zone e in
+        let there : content_at new f.zone ≡ made = rw (same, appends.zones) (get_or-set_same old zone made nothing appends.in_range) in
+        let was : length (content_at old zone).blocks ≡ f.written = rw (← same) is.written in
+        let long : length ((content_at old zone).blocks ++ blocks) ≡ f.written + batch_size batch = omega (arith, length-append (content_at old zone).blocks blocks, was, size) in
+        let log : log_at (append_log logs zone batch) f.zone ≡ log_at logs f.zone ++ batch ∷ [] = rw same (log_at-same logs zone batch lt) in
+        record {
+          written = rw there long;
+          usage = rw there (filled-usage capacity (f.written + batch_size batch) ((content_at old zone).blocks ++ blocks) long);
+          batches = rw log (omega (arith, log_size-append (log_at logs f.zone) batch, is.batches));
+        }
+    at false e =
+        let made = filled capacity ((content_at old zone).blocks ++ blocks) in
+        let other : f.zone ≢ zone = λ same. (let bad = eq-eqb f.zone zone same in absurd (cc)) in
+        same-filled capacity old new logs (append_log logs zone batch) f (rw appends.zones (get_or-set_other old zone f.zone made nothing other)) (log_at-other logs zone f.zone batch other) is
+
+pub roles-write : (capacity : ℕ) (old new : List Content) (logs : List (List Batch)) (roles : RolesView) (zone : ℕ) (blocks : List (List ℕ)) (batch : Batch) → RolesAgree capacity old logs roles → is_filling_at roles zone ≡ true
+    → Appends old new capacity zone blocks → length blocks ≡ batch_size batch → zone < length logs → RolesAgree capacity new (append_log logs zone batch) (wrote roles zone (batch_size batch))
+roles-write capacity old new logs roles zone blocks batch agree here appends size lt =
+    let made = filled capacity ((content_at old zone).blocks ++ blocks) in
+    let there = filling-occupied roles zone agree.apart here in
+    let other = λ (k : ℕ) (ne : k ≢ zone). (let e : content_at new k ≡ content_at old k = rw appends.zones (get_or-set_other old zone k made nothing ne) in e) in
     record {
-      count = rw appends.zones (agree.count ∙ sym (length-set old host.zone made));
-      apart = agree.apart;
-      host = rw there (long, filled-host capacity (host.written + length blocks) (was.blocks ++ blocks) long);
-      empty = λ zone is_empty. other zone (λ same. let no = agree.apart.1 in let yes = rw same at is_empty in absurd (cc)) ∙ agree.empty zone is_empty;
-      sealed = λ zone lt not_empty not_host. rw (other zone (λ same. let bad : eqb host.zone zone ≡ true = eq-eqb host.zone zone (sym same) in absurd (cc))) (agree.sealed zone (rw (appends.zones, length-set) at lt) not_empty not_host);
+      count = rw appends.zones (agree.count ∙ sym (length-set old zone made));
+      apart = apart-wrote roles zone (batch_size batch) agree.apart;
+      fillings_are = subst (AllByRecursion (IsFilled capacity new (append_log logs zone batch))) (sym (fillings-wrote roles zone (batch_size batch)))
+          (all-map (IsFilled capacity new (append_log logs zone batch)) (grown zone (batch_size batch)) (fillings roles)
+          (all-weaker (IsFilled capacity old logs) (λ f. IsFilled capacity new (append_log logs zone batch) (grown zone (batch_size batch) f)) (fillings roles) (grown-filled capacity old new logs zone blocks batch appends size lt) agree.fillings_are));
+      empty = λ k is_empty. other k (λ same. let no = there.1 in let yes = rw same at is_empty in absurd (cc)) ∙ agree.empty k is_empty;
+      sealed_are = λ k below not_empty not_filling.
+          let was : is_filling_at roles k ≡ false = sym (filling_at-wrote roles zone (batch_size batch) k) ∙ not_filling in
+          let ne : k ≢ zone = λ same. (let yes = rw (← same) at here in absurd (cc)) in
+          let old_sealed = agree.sealed_are k (rw (appends.zones, length-set) at below) not_empty was in
+          record { usage = rw (other k ne) old_sealed.usage; has_batch = rw (log_at-other logs zone k batch ne) old_sealed.has_batch };
     }
 
--- the host zone is full, and sealed
-pub roles-seal : (capacity : ℕ) (zones : List Content) (empties : List Bool) (host : Filling) → RolesAgree capacity zones (roles_with empties (Some host)) → (content_at zones host.zone).usage ≡ full
-    → RolesAgree capacity zones (roles_with empties None)
-roles-seal capacity zones empties host agree is_full = record {
+-- ---- the host zone is sealed
+
+host_at : (host : Filling) (second : Option Second) (k : ℕ) → host.zone ≢ k → list_any (is_at k) (second_list second) ≡ false → list_any (is_at k) (host ∷ second_list second) ≡ false
+host_at host second k other none = rw (ne_eqb host.zone k other) none
+
+pub roles-seal : (capacity : ℕ) (zones : List Content) (logs : List (List Batch)) (empties : List Bool) (host : Filling) (second : Option Second) → RolesAgree capacity zones logs (roles_with empties (Some host) second)
+    → (content_at zones host.zone).usage ≡ full → 1 ≤ host.written → RolesAgree capacity zones logs (roles_with empties None second)
+roles-seal capacity zones logs empties host second agree is_full some = record {
   count = agree.count;
-  apart = tt;
-  host = tt;
+  apart = apart-seal (roles_with empties (Some host) second) agree.apart;
+  fillings_are = agree.fillings_are.1;
   empty = agree.empty;
-  sealed = λ zone lt not_empty not_host. elim (cases_eq host.zone zone) as (λ _. (content_at zones zone).usage ≡ full) [
-    | inl same ↦ rw (sym same) is_full
-    | inr other ↦ agree.sealed zone lt not_empty (ne_eqb host.zone zone other)
+  sealed_are = λ k lt not_empty not_filling. elim (cases_eq host.zone k) as (λ _. IsSealed zones logs k) [
+    | inl same ↦ rw (sym same) (record { usage = is_full; has_batch = log_size-some (log_at logs host.zone) (omega (arith, agree.fillings_are.0.batches, some)) })
+    | inr other ↦ agree.sealed_are k lt not_empty (host_at host second k other not_filling)
   ];
 }
 
 -- the host zone is finished, and sealed
-pub roles-finish : (capacity : ℕ) (old new : List Content) (empties : List Bool) (host : Filling) → RolesAgree capacity old (roles_with empties (Some host)) → Finishes old new host.zone
-    → RolesAgree capacity new (roles_with empties None)
-roles-finish capacity old new empties host agree finishes =
+other-filled : (capacity : ℕ) (old new : List Content) (logs : List (List Batch)) (host : Filling) (second : Option Second) → Differ (Some host) second → ((k : ℕ) → k ≢ host.zone → content_at new k ≡ content_at old k)
+    → AllByRecursion (IsFilled capacity old logs) (second_list second) → AllByRecursion (IsFilled capacity new logs) (second_list second)
+other-filled capacity old new logs host None differ same all = tt
+other-filled capacity old new logs host (Some s) differ same all = (same-filled capacity old new logs logs (filling_of s) (same (filling_of s).zone (λ e. differ (sym e))) refl all.0, tt)
+
+pub roles-finish : (capacity : ℕ) (old new : List Content) (logs : List (List Batch)) (empties : List Bool) (host : Filling) (second : Option Second) → RolesAgree capacity old logs (roles_with empties (Some host) second)
+    → Finishes old new host.zone → 1 ≤ host.written → RolesAgree capacity new logs (roles_with empties None second)
+roles-finish capacity old new logs empties host second agree finishes some =
     let made = finished (content_at old host.zone) in
     let there : content_at new host.zone ≡ made = rw finishes.zones (get_or-set_same old host.zone made nothing finishes.in_range) in
-    let other = λ (zone : ℕ) (ne : zone ≢ host.zone). (let e : content_at new zone ≡ content_at old zone = rw finishes.zones (get_or-set_other old host.zone zone made nothing ne) in e) in
+    let other = λ (k : ℕ) (ne : k ≢ host.zone). (let e : content_at new k ≡ content_at old k = rw finishes.zones (get_or-set_other old host.zone k made nothing ne) in e) in
     record {
       count = rw finishes.zones (agree.count ∙ sym (length-set old host.zone made));
-      apart = tt;
-      host = tt;
-      empty = λ zone is_empty. other zone (λ same. let no = agree.apart.1 in let yes = rw same at is_empty in absurd (cc)) ∙ agree.empty zone is_empty;
-      sealed = λ zone lt not_empty not_host. elim (cases_eq zone host.zone) as (λ _. (content_at new zone).usage ≡ full) [
-        | inl same ↦ rw (same, there) refl
-        | inr ne ↦ rw (other zone ne) (agree.sealed zone (rw (finishes.zones, length-set) at lt) not_empty (ne_eqb host.zone zone (λ same. ne (sym same))))
+      apart = apart-seal (roles_with empties (Some host) second) agree.apart;
+      fillings_are = other-filled capacity old new logs host second agree.apart.differ other agree.fillings_are.1;
+      empty = λ k is_empty. other k (λ same. let no = agree.apart.occupied.0.not_empty in let yes = rw same at is_empty in absurd (cc)) ∙ agree.empty k is_empty;
+      sealed_are = λ k lt not_empty not_filling. elim (cases_eq k host.zone) as (λ _. IsSealed new logs k) [
+        | inl same ↦ rw same (record { usage = rw there refl; has_batch = log_size-some (log_at logs host.zone) (omega (arith, agree.fillings_are.0.batches, some)) })
+        | inr ne ↦ (
+            let was = agree.sealed_are k (rw (finishes.zones, length-set) at lt) not_empty (host_at host second k (λ same. ne (sym same)) not_filling) in
+            record { usage = rw (other k ne) was.usage; has_batch = was.has_batch }
+            )
       ];
     }
 
--- an empty zone becomes the host zone
-pub roles-take : (capacity : ℕ) (zones : List Content) (empties : List Bool) (zone : ℕ) → 1 ≤ capacity → RolesAgree capacity zones (roles_with empties None) → zone < length empties → get_or empties zone false ≡ true
-    → RolesAgree capacity zones (roles_with (set empties zone false) (Some (record { zone = zone; written = 0 })))
-roles-take capacity zones empties zone some agree lt here =
+-- ---- an empty zone becomes the host zone
+
+pub roles-take : (capacity : ℕ) (zones : List Content) (logs : List (List Batch)) (empties : List Bool) (second : Option Second) (zone : ℕ) → RolesAgree capacity zones logs (roles_with empties None second)
+    → zone < length empties → get_or empties zone false ≡ true → log_at logs zone ≡ [] → RolesAgree capacity zones logs (taken (roles_with empties None second) zone)
+roles-take capacity zones logs empties second zone agree lt here no_log =
     let there = agree.empty zone here in
     let gone : get_or (set empties zone false) zone false ≡ false = get_or-set_same empties zone false false lt in
     record {
       count = length-set empties zone false ∙ agree.count;
-      apart = (rw length-set lt, gone);
-      host = rw there (refl, inl refl);
+      apart = apart-take (roles_with empties None second) zone agree.apart lt here;
+      fillings_are = (record { written = rw there refl; usage = rw there (inl refl); batches = rw no_log refl }, agree.fillings_are);
       empty = λ k is_empty. elim (cases_eq k zone) as (λ _. content_at zones k ≡ emptied) [
         | inl same ↦ rw same there
         | inr other ↦ agree.empty k (rw (get_or-set_other empties zone k false false other) at is_empty)
       ];
-      sealed = λ k below not_empty not_host.
-          let other : k ≢ zone = λ same. (let bad : eqb zone k ≡ true = eq-eqb zone k (sym same) in absurd (cc)) in
-          agree.sealed k below (rw (get_or-set_other empties zone k false false other) at not_empty) refl;
+      sealed_are = λ k below not_empty not_filling.
+          let other : k ≢ zone = λ same. (let bad : eqb zone k ≡ true = eq-eqb zone k (sym same) in let no : (true || list_any (is_at k) (second_list second)) ≡ false = rw bad at not_filling in absurd (cc)) in
+          let apart : zone ≢ k = λ same. other (sym same) in
+          agree.sealed_are k below (rw (get_or-set_other empties zone k false false other) at not_empty) (rw (ne_eqb zone k apart) at not_filling);
     }
 
 -- ---- what follows for all zones
@@ -93,13 +156,13 @@ roles-take capacity zones empties zone some agree lt here =
 abbrev pub IsSettled : Usage → Type 0
 IsSettled usage = (usage ≡ empty) ⊎ (usage ≡ full)
 
--- a zone that isn't the host zone is empty or full
-pub roles-settled : (capacity : ℕ) (zones : List Content) (roles : RolesView) (zone : ℕ) → RolesAgree capacity zones roles → zone < length zones → is_host_at roles.host zone ≡ false → IsSettled (content_at zones zone).usage
-roles-settled capacity zones roles zone agree lt not_host = at (is_empty_at roles zone) refl
+-- a zone that isn't being filled is empty or full
+pub roles-settled : (capacity : ℕ) (zones : List Content) (logs : List (List Batch)) (roles : RolesView) (zone : ℕ) → RolesAgree capacity zones logs roles → zone < length zones → is_filling_at roles zone ≡ false → IsSettled (content_at zones zone).usage
+roles-settled capacity zones logs roles zone agree lt not_filling = at (is_empty_at roles zone) refl
   where
     at : (b : Bool) → is_empty_at roles zone ≡ b → IsSettled (content_at zones zone).usage
     at true e = rw (agree.empty zone e) (inl refl)
-    at false e = inr (agree.sealed zone lt e not_host)
+    at false e = inr (agree.sealed_are zone lt e not_filling).usage
 
 settled-usable : (usage : Usage) → IsSettled usage → is_usable usage ≡ true
 settled-usable empty h = refl
@@ -113,33 +176,54 @@ writable-usable active h = refl
 writable-usable full h = refl
 writable-usable unusable h = absurd (cc)
 
-pub host-usable : (capacity : ℕ) (zones : List Content) (empties : List Bool) (host : Filling) → RolesAgree capacity zones (roles_with empties (Some host)) → is_usable (content_at zones host.zone).usage ≡ true
-host-usable capacity zones empties host agree = elim agree.host.1 as (λ _. is_usable (content_at zones host.zone).usage ≡ true) [ inl w ↦ writable-usable (content_at zones host.zone).usage w | inr f ↦ rw f.0 refl ]
+pub filled-usable : (capacity : ℕ) (zones : List Content) (logs : List (List Batch)) (f : Filling) → IsFilled capacity zones logs f → is_usable (content_at zones f.zone).usage ≡ true
+filled-usable capacity zones logs f is = elim is.usage as (λ _. is_usable (content_at zones f.zone).usage ≡ true) [ inl w ↦ writable-usable (content_at zones f.zone).usage w | inr h ↦ rw h.0 refl ]
 
-zone-usable : (capacity : ℕ) (zones : List Content) (empties : List Bool) (host : Option Filling) (zone : ℕ) → RolesAgree capacity zones (roles_with empties host) → zone < length zones → (b : Bool) → is_host_at host zone ≡ b → is_usable (content_at zones zone).usage ≡ true
-zone-usable capacity zones empties host zone agree lt false e = settled-usable (content_at zones zone).usage (roles-settled capacity zones (roles_with empties host) zone agree lt e)
-zone-usable capacity zones empties None zone agree lt true e = absurd (cc)
-zone-usable capacity zones empties (Some host) zone agree lt true e = rw (sym (eqb-true host.zone zone e)) (host-usable capacity zones empties host agree)
+zone-usable : (capacity : ℕ) (zones : List Content) (logs : List (List Batch)) (roles : RolesView) (zone : ℕ) → RolesAgree capacity zones logs roles → zone < length zones → (b : Bool) → is_filling_at roles zone ≡ b → is_usable (content_at zones zone).usage ≡ true
+zone-usable capacity zones logs roles zone agree lt false e = settled-usable (content_at zones zone).usage (roles-settled capacity zones logs roles zone agree lt e)
+zone-usable capacity zones logs roles zone agree lt true e =
+    all-filling (λ z. is_usable (content_at zones z).usage ≡ true) (fillings roles) zone
+    (all-weaker (IsFilled capacity zones logs) (λ f. is_usable (content_at zones f.zone).usage ≡ true) (fillings roles) (filled-usable capacity zones logs) agree.fillings_are) e
 
-pub all-usable : (capacity : ℕ) (zones : List Content) (roles : RolesView) → RolesAgree capacity zones roles → AllByRecursion (λ (zone : Content). is_usable zone.usage ≡ true) zones
-all-usable capacity zones roles agree =
-    all-from (λ (zone : Content). is_usable zone.usage ≡ true) zones nothing (λ zone lt. zone-usable capacity zones roles.empty roles.host zone agree lt (is_host_at roles.host zone) refl)
+pub all-usable : (capacity : ℕ) (zones : List Content) (logs : List (List Batch)) (roles : RolesView) → RolesAgree capacity zones logs roles → AllByRecursion (λ (zone : Content). is_usable zone.usage ≡ true) zones
+all-usable capacity zones logs roles agree =
+    all-from (λ (zone : Content). is_usable zone.usage ≡ true) zones nothing (λ zone lt. zone-usable capacity zones logs roles zone agree lt (is_filling_at roles zone) refl)
+
+-- a zone that is being filled and has a block left can be written
+pub filling-writable : (capacity : ℕ) (zones : List Content) (logs : List (List Batch)) (roles : RolesView) (zone : ℕ) → RolesAgree capacity zones logs roles → is_filling_at roles zone ≡ true → length (content_at zones zone).blocks < capacity
+    → is_writable (content_at zones zone).usage ≡ true
+filling-writable capacity zones logs roles zone agree here room =
+    all-filling (λ z. length (content_at zones z).blocks < capacity → is_writable (content_at zones z).usage ≡ true) (fillings roles) zone
+    (all-weaker (IsFilled capacity zones logs) (λ f. length (content_at zones f.zone).blocks < capacity → is_writable (content_at zones f.zone).usage ≡ true) (fillings roles) one agree.fillings_are) here room
+  where
+    one : (f : Filling) → IsFilled capacity zones logs f → length (content_at zones f.zone).blocks < capacity → is_writable (content_at zones f.zone).usage ≡ true
+    one f is lt = elim is.usage as (λ _. is_writable (content_at zones f.zone).usage ≡ true) [ inl w ↦ w | inr h ↦ absurd (omega (arith, is.written, h.1, lt)) ]
+
+-- ---- counts of zones that are not settled
 
 pub count-zero : {X : Type 0} (p : X → Bool) (xs : List X) (d : X) → ((k : ℕ) → k < length xs → p (get_or xs k d) ≡ false) → count_by p xs ≡ 0
 count-zero p [] d none = refl
 count-zero p (x ∷ xs) d none = let here : p x ≡ false = none 0 (omega arith) in rw here (count-zero p xs d (λ k lt. none (suc k) (omega arith)))
 
--- a count of elements of which all but one fail
-pub count-one : {X : Type 0} (p : X → Bool) (xs : List X) (i : ℕ) (d : X) → ((k : ℕ) → k < length xs → k ≢ i → p (get_or xs k d) ≡ false) → count_by p xs ≤ 1
-count-one p [] i d none = omega arith
-count-one {X} p (x ∷ xs) zero d none =
-    let rest : count_by p xs ≡ 0 = count-zero p xs d (λ k lt. none (suc k) (omega arith) (λ e. omega arith)) in
-    at (p x) refl rest
+at_most : (b : Bool) → cond {A = ℕ} b 1 0 ≤ 1
+at_most true = omega arith
+at_most false = omega arith
+
+count-set : {X : Type 0} (p : X → Bool) (xs : List X) (i : ℕ) (d : X) → p d ≡ false → i < length xs → count_by p xs ≤ count_by p (set xs i d) + 1
+count-set p xs i d off lt =
+    let none : cond {A = ℕ} (p d) 1 0 ≡ 0 = rw off refl in
+    omega (arith, sum_by-set (λ y. cond {A = ℕ} (p y) 1 0) xs i d d lt, none, at_most (p (get_or xs i d)))
+
+-- where what isn't among these zones isn't counted, no more than these are
+pub count-fillings : {X : Type 0} (p : X → Bool) (xs : List X) (fs : List Filling) (d : X) → p d ≡ false → ((k : ℕ) → k < length xs → list_any (is_at k) fs ≡ false → p (get_or xs k d) ≡ false) → count_by p xs ≤ length fs
+count-fillings p xs [] d off none = omega (arith, count-zero p xs d (λ k lt. none k lt refl))
+count-fillings {X} p xs (f ∷ fs) d off none = elim (cases_lt f.zone (length xs)) as (λ _. count_by p xs ≤ suc (length fs)) [
+  | inl lt ↦ omega (arith, count-set p xs f.zone d off lt, count-fillings p (set xs f.zone d) fs d off (λ k below out. cleared k (omega (arith, below, length-set xs f.zone d)) lt out (λ ne. none k (omega (arith, below, length-set xs f.zone d)) (rw (ne_eqb f.zone k ne) out))))
+  | inr past ↦ omega (arith, count-fillings p xs fs d off (λ k below out. none k below (rw (ne_eqb f.zone k (λ e. omega arith)) out)))
+]
   where
-    at : (b : Bool) → p x ≡ b → count_by p xs ≡ 0 → count_by p (x ∷ xs) ≤ 1
-    at true e rest = let one : cond {A = ℕ} (p x) 1 0 ≡ 1 = rw e refl in omega (arith, sum_by-cons (λ (y : X). cond {A = ℕ} (p y) 1 0) x xs, rest, one)
-    at false e rest = let one : cond {A = ℕ} (p x) 1 0 ≡ 0 = rw e refl in omega (arith, sum_by-cons (λ (y : X). cond {A = ℕ} (p y) 1 0) x xs, rest, one)
-count-one p (x ∷ xs) (suc i) d none =
-    let here : p x ≡ false = none 0 (omega arith) (λ e. omega arith) in
-    let rest = count-one p xs i d (λ k lt ne. none (suc k) (omega arith) (λ e. ne (omega arith))) in
-    rw here (omega (arith, rest))
+    cleared : (k : ℕ) → k < length xs → f.zone < length xs → list_any (is_at k) fs ≡ false → (f.zone ≢ k → p (get_or xs k d) ≡ false) → p (get_or (set xs f.zone d) k d) ≡ false
+    cleared k below lt out rest = elim (cases_eq k f.zone) as (λ _. p (get_or (set xs f.zone d) k d) ≡ false) [
+      | inl e ↦ ap p (rw e (get_or-set_same xs f.zone d d lt)) ∙ off
+      | inr ne ↦ ap p (get_or-set_other xs f.zone k d d ne) ∙ rest (λ e. ne (sym e))
+    ]

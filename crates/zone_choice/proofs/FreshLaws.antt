@@ -1,5 +1,5 @@
 -- A drive on which nothing is written agrees with tables that place nothing, and spells zeros.
-use Rattle.std.proofs.Common.{◌≡◌, ℕ, zero, suc, ◌+◌, ◌<◌, Bool, true, false, cond, List, [], ◌∷◌, map, length, get_or, replicate, Option, None, refl, sym, ap, ◌∙◌, arith}
+use Rattle.std.proofs.Common.{◌≡◌, ℕ, zero, suc, ◌+◌, ◌<◌, ◌≤◌, Bool, true, false, cond, List, [], ◌∷◌, map, length, get_or, replicate, Option, None, refl, sym, ap, ◌∙◌, arith}
 use Rattle.std.specs.Prelude.{nat_eq}
 use Rattle.std.specs.List.{AllByRecursion, IsDistinct, count_by, range_with_len}
 use Rattle.std.proofs.lemmas.List.{length-map, length-replicate}
@@ -8,16 +8,16 @@ use Rattle.zone_states.specs.declared.geometry.Geometry.{Geometry}
 use Rattle.zone_states.specs.Geometry.{IsInRange}
 use Rattle.drive_port.specs.Drive.{DriveState, IsLawful}
 use Rattle.drive_port.specs.Contents.{Content, content_at, content_of, contents, emptied}
-use Rattle.batch_log.specs.Log.{zero_block}
 use Rattle.logical_map.specs.declared.place.Place.TheVariants as places
-use Rattle.zone_choice.specs.declared.tables.Tables.{Tables}
+use Rattle.batch_log.specs.Log.{Batch, zero_block}
+use Rattle.zone_choice.specs.Roles.{empty_count, unused}
+use Rattle.zone_choice.specs.Tables.{TablesView, size_of}
 use Rattle.zone_choice.specs.Records.{Record, place, records, shown}
 use Rattle.zone_choice.specs.ZoneLogs.{HasLog, spelled_array, zone_log, zone_logs}
 use Rattle.zone_choice.specs.Mountable.{IsNumbered, sequences}
 use Rattle.zone_choice.specs.Reserve.{FitsReserve}
-use Rattle.zone_choice.specs.Agreement.{Agrees, RolesAgree, spelled}
+use Rattle.zone_choice.specs.Agreement.{Agrees, RolesAgree, drive_logs, mounted, spelled}
 use Rattle.zone_choice.proofs.AgreementLaws.{zone_log-emptied}
-use Rattle.zone_choice.proofs.ContentLaws.{roles_with}
 
 abbrev pub AllEmptied : List Content → Type 0
 AllEmptied zones = AllByRecursion (λ zone. zone ≡ emptied) zones
@@ -31,9 +31,9 @@ fresh-logs : (geometry : Geometry) (zones : List Content) → AllEmptied zones �
 fresh-logs geometry [] all = tt
 fresh-logs geometry (z ∷ zs) all = (rw all.0 (emptied-log geometry), fresh-logs geometry zs all.1)
 
-fresh-batches : (geometry : Geometry) (n : ℕ) (zones : List Content) → AllEmptied zones → AllByRecursion (AllByRecursion (IsNumbered n)) (zone_logs geometry zones)
-fresh-batches geometry n [] all = tt
-fresh-batches geometry n (z ∷ zs) all = (rw (all.0, zone_log-emptied) tt, fresh-batches geometry n zs all.1)
+fresh-batches : (geometry : Geometry) (limit n : ℕ) (zones : List Content) → AllEmptied zones → AllByRecursion (AllByRecursion (IsNumbered limit n)) (zone_logs geometry zones)
+fresh-batches geometry limit n [] all = tt
+fresh-batches geometry limit n (z ∷ zs) all = (rw (all.0, zone_log-emptied) tt, fresh-batches geometry limit n zs all.1)
 
 fresh-sequences : (geometry : Geometry) (zones : List Content) → AllEmptied zones → sequences (zone_logs geometry zones) ≡ []
 fresh-sequences geometry [] all = refl
@@ -71,36 +71,46 @@ count-all : (n : ℕ) → count_by (λ b. b) (replicate n true) ≡ n
 count-all zero = refl
 count-all (suc n) = omega (arith, sum_by-cons (λ (b : Bool). cond {A = ℕ} b 1 0) true (replicate n true), count-all n)
 
-fresh-roles : (capacity : ℕ) (zones : List Content) → AllEmptied zones → RolesAgree capacity zones (roles_with (replicate (length zones) true) None)
-fresh-roles capacity zones all = record {
+fresh-roles : (capacity : ℕ) (zones : List Content) (logs : List (List Batch)) → AllEmptied zones → RolesAgree capacity zones logs (unused (length zones))
+fresh-roles capacity zones logs all = record {
   count = length-replicate (length zones) true;
-  apart = tt;
-  host = tt;
+  apart = record { occupied = tt; differ = tt };
+  fillings_are = tt;
   empty = λ zone is_empty. emptied-at zones zone all (replicate-past (length zones) zone is_empty);
-  sealed = λ zone lt not_empty not_host. (let bad = replicate-at (length zones) zone lt in absurd (cc));
+  sealed_are = λ zone lt not_empty not_filling. (let bad = replicate-at (length zones) zone lt in absurd (cc));
 }
 
 -- the tables of a fresh disk
-pub fresh_agrees : (drive : DriveState) (tables : Tables) (n : ℕ) → IsInRange drive.geometry → FitsReserve drive.geometry n → IsLawful drive → AllEmptied (contents drive.zones)
-    → tables.map.places ≡ replicate n places.None → tables.roles ≡ roles_with (replicate drive.geometry.zones true) None → tables.next ≡ 1 → Agrees drive tables n
-fresh_agrees drive tables n range reserve lawful all mapped roles next =
+pub record IsFreshTables (geometry : Geometry) (tables : TablesView) (n : ℕ) : Type 0 where
+  pub places : tables.map.places ≡ replicate n places.None
+  pub zones : tables.map.zones ≡ geometry.zones
+  pub zone_size : tables.map.zone_size ≡ geometry.size
+  pub roles : tables.roles ≡ unused geometry.zones
+  pub next : tables.next ≡ 1
+
+pub fresh_agrees : (drive : DriveState) (tables : TablesView) (n : ℕ) → IsInRange drive.geometry → FitsReserve drive.geometry n → IsLawful drive → AllEmptied (contents drive.zones)
+    → IsFreshTables drive.geometry tables n → Agrees (mounted drive tables)
+fresh_agrees drive tables n range reserve lawful all fresh =
     let g = drive.geometry in
     let zones = contents drive.zones in
     let none = fresh-sequences g zones all in
     let count : drive.geometry.zones ≡ length zones = omega (arith, lawful.count, length-map drive.zones content_of) in
+    let size : size_of tables ≡ n = ap length fresh.places ∙ length-replicate n places.None in
     record {
       geometry = range;
-      reserve = reserve;
+      reserve = rw size reserve;
       lawful = lawful;
-      logs = fresh-logs g zones all;
-      batches = fresh-batches g n zones all;
-      distinct = rw none distinct-none;
-      older = rw none tt;
-      next = rw next (omega arith);
-      places = mapped ∙ rw (fresh-records g 0 zones all) (sym (told-none (place g.size) 0 n));
-      roles = rw (roles, count) (fresh-roles g.capacity zones all);
-      spare = rw roles (omega (arith, count-all drive.geometry.zones, range.zones));
+      sound = record { logs = fresh-logs g zones all; batches = fresh-batches g tables.next (size_of tables) zones all; distinct = rw none distinct-none };
+      next = omega (arith, fresh.next);
+      zones = fresh.zones;
+      zone_size = fresh.zone_size;
+      places = rw size (fresh.places ∙ rw (fresh-records g 0 zones all) (sym (told-none (place g.size) 0 n)));
+      roles = rw (fresh.roles ∙ ap unused count) (fresh-roles g.capacity zones (drive_logs drive) all);
     }
+
+-- all its zones are empty
+pub fresh_spare : (geometry : Geometry) (tables : TablesView) (n : ℕ) → IsInRange geometry → IsFreshTables geometry tables n → 1 ≤ empty_count tables.roles
+fresh_spare geometry tables n range fresh = rw fresh.roles (omega (arith, count-all geometry.zones, range.zones))
 
 -- and its array
 pub fresh_spelled : (drive : DriveState) (n : ℕ) → AllEmptied (contents drive.zones) → spelled drive n ≡ replicate n (zero_block drive.geometry.block)

@@ -4,6 +4,8 @@ pub mod ZoneLogLaws
 pub mod RolesLaws
 pub mod AllLaws
 pub mod SequenceLaws
+pub mod BuilderLaws
+pub mod ChangeLaws
 pub mod ContentLaws
 pub mod AgreementLaws
 pub mod CommandLaws

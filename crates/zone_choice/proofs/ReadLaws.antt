@@ -18,10 +18,10 @@ use Rattle.batch_log.specs.Header.{header_block}
 use Rattle.batch_log.specs.Log.{Batch, IsBatch, IsLog, batch_blocks, batch_size, data_count, one_unless, zero_block}
 use Rattle.logical_map.specs.declared.place.Place.{Place}
 use Rattle.logical_map.specs.declared.place.Place.TheVariants as places
-use Rattle.zone_choice.specs.declared.tables.Tables.{Tables}
 use Rattle.zone_choice.specs.Records.{IsNewest, Record, array_of, batch_records, entry_content, entry_offset, entry_records, log_records, newest, place, records, shown}
 use Rattle.zone_choice.specs.ZoneLogs.{HasLog, padding, readable, spelled_array, zone_log, zone_logs}
-use Rattle.zone_choice.specs.Agreement.{Agrees, spelled}
+use Rattle.zone_choice.specs.Agreement.{Agrees, drive_logs, mounted, spelled}
+use Rattle.zone_choice.specs.Tables.{TablesView, size_of}
 use Rattle.zone_choice.proofs.AllLaws.{all-append, all-at, all-weaker}
 use Rattle.zone_choice.proofs.CommandLaws.{content-zone, zone-few}
 use Rattle.zone_choice.proofs.ContentLaws.{all-usable}
@@ -148,9 +148,9 @@ abbrev pub HoldsPlace : DriveState → List (List ℕ) → ℕ → Place → Typ
 HoldsPlace drive array block (places.At address) = Holds drive array block address
 HoldsPlace drive array block place = get_or array block [] ≡ zero_block drive.geometry.block
 
-record_holds : (drive : DriveState) (tables : Tables) (n : ℕ) (array : List (List ℕ)) (block : ℕ) (r : Record) (bytes : List ℕ) → Agrees drive tables n → r.content ≡ Some bytes → get_or array block [] ≡ bytes
+record_holds : (drive : DriveState) (tables : TablesView) (array : List (List ℕ)) (block : ℕ) (r : Record) (bytes : List ℕ) → Agrees (mounted drive tables) → r.content ≡ Some bytes → get_or array block [] ≡ bytes
     → StandsOn drive.geometry (contents drive.zones) 0 r → Holds drive array block (r.zone * drive.geometry.size + r.offset)
-record_holds drive tables n array block r bytes agrees some says on =
+record_holds drive tables array block r bytes agrees some says on =
     let g = drive.geometry in
     let zones = contents drive.zones in
     let here : r.zone - 0 ≡ r.zone = omega arith in
@@ -161,7 +161,7 @@ record_holds drive tables n array block r bytes agrees some says on =
     let short : r.offset < g.size = omega (arith, stands.0, length-readable g (content_at zones r.zone) few, agrees.geometry.capacity) in
     let index : (r.zone * g.size + r.offset) / g.size ≡ r.zone = div-mul-add r.zone g.size r.offset short in
     let offset : (r.zone * g.size + r.offset) % g.size ≡ r.offset = mod-mul-add r.zone g.size r.offset short in
-    let usable = all-at (λ (c : Content). is_usable c.usage ≡ true) zones r.zone nothing (all-usable g.capacity zones tables.roles agrees.roles) (omega (arith, on.in_range)) in
+    let usable = all-at (λ (c : Content). is_usable c.usage ≡ true) zones r.zone nothing (all-usable g.capacity zones (drive_logs drive) tables.roles agrees.roles) (omega (arith, on.in_range)) in
     let same : r.zone * g.size + r.offset + 1 - 1 ≡ r.zone * g.size + r.offset = omega arith in
     let below : r.zone * g.size + r.offset + 1 ≤ end_of g = rw (← agrees.lawful.count) (omega (arith, short, mul-le (r.zone + 1) g.size (length drive.zones) g.size (omega arith) (omega arith), add-mul r.zone 1 g.size)) in
     record {
@@ -175,10 +175,11 @@ record_holds drive tables n array block r bytes agrees some says on =
       fits = below;
     }
 
-pub holds_place : (drive : DriveState) (tables : Tables) (n block : ℕ) → Agrees drive tables n → block < n
-    → HoldsPlace drive (spelled drive n) block (get_or tables.map.places block places.None)
+pub holds_place : (drive : DriveState) (tables : TablesView) (block : ℕ) → Agrees (mounted drive tables) → block < size_of tables
+    → HoldsPlace drive (spelled drive (size_of tables)) block (get_or tables.map.places block places.None)
 unfolding spelled_array
-holds_place drive tables n block agrees lt =
+holds_place drive tables block agrees lt =
+    let n = size_of tables in
     let g = drive.geometry in
     let logs = zone_logs g (contents drive.zones) in
     let rs = records 0 logs in
@@ -187,11 +188,11 @@ holds_place drive tables n block agrees lt =
     rw mapped (at (newest block rs) (newest-is block rs) says)
   where
     found : (r : Record) → IsNewest (records 0 (zone_logs drive.geometry (contents drive.zones))) block (Some r) → (content : Option (List ℕ)) → r.content ≡ content
-        → get_or (spelled drive n) block [] ≡ shown drive.geometry.block (Some r) → HoldsPlace drive (spelled drive n) block (place drive.geometry.size (Some r))
+        → get_or (spelled drive (size_of tables)) block [] ≡ shown drive.geometry.block (Some r) → HoldsPlace drive (spelled drive (size_of tables)) block (place drive.geometry.size (Some r))
     found r live None is says = rw is (rw is at says)
     found r live (Some bytes) is says =
-        rw is (record_holds drive tables n (spelled drive n) block r bytes agrees is (rw is at says) (all-among (StandsOn drive.geometry (contents drive.zones) 0) (records 0 (zone_logs drive.geometry (contents drive.zones))) r (records_stand drive.geometry (contents drive.zones) 0 agrees.logs) live.1.among))
+        rw is (record_holds drive tables (spelled drive (size_of tables)) block r bytes agrees is (rw is at says) (all-among (StandsOn drive.geometry (contents drive.zones) 0) (records 0 (zone_logs drive.geometry (contents drive.zones))) r (records_stand drive.geometry (contents drive.zones) 0 agrees.sound.logs) live.1.among))
 
-    at : (o : Option Record) → IsNewest (records 0 (zone_logs drive.geometry (contents drive.zones))) block o → get_or (spelled drive n) block [] ≡ shown drive.geometry.block o → HoldsPlace drive (spelled drive n) block (place drive.geometry.size o)
+    at : (o : Option Record) → IsNewest (records 0 (zone_logs drive.geometry (contents drive.zones))) block o → get_or (spelled drive (size_of tables)) block [] ≡ shown drive.geometry.block o → HoldsPlace drive (spelled drive (size_of tables)) block (place drive.geometry.size o)
     at None none says = says
     at (Some r) live says = found r live r.content refl says

@@ -79,5 +79,5 @@ unfolding spelled_array
 whole-spelled drive n mountable =
     let size = drive.geometry.block in
     let rs = records 0 (drive_logs drive) in
-    let all = records-whole drive.geometry 0 drive.zones mountable.lawful.zones mountable.holds.logs in
+    let all = records-whole drive.geometry 0 drive.zones mountable.lawful.zones mountable.holds.sound.logs in
     all-mapped (λ block. length block ≡ size) (λ block. shown size (newest block rs)) (range_with_len 0 n) (λ block. shown-whole size block rs (newest block rs) all (newest-is block rs))

@@ -1,54 +1,70 @@
 -- How the tables of a mounted disk agree with its drive.
-use Rattle.std.specs.Prelude.{◌≡◌, ◌⊎◌, ℕ, ◌<◌, ◌≤◌, ◌^◌, ◌==◌, nat_eq, Bool, true, false, List, length, Option, Some, None}
-use Rattle.std.specs.List.{AllByRecursion, IsDistinct}
+use Rattle.std.specs.Prelude.{◌≡◌, ◌⊎◌, ℕ, ◌<◌, ◌≤◌, ◌^◌, true, false, List, length}
+use Rattle.std.specs.List.{AllByRecursion}
 use Rattle.zone_states.specs.Geometry.{IsInRange}
 use Rattle.drive_port.specs.Drive.{DriveState, IsLawful}
 use Rattle.drive_port.specs.Contents.{Content, full, content_at, contents, emptied, is_writable}
-use Rattle.batch_log.specs.Log.{Batch}
+use Rattle.batch_log.specs.Log.{Batch, log_size}
 use Rattle.zone_choice.specs.declared.roles.Filling.{Filling}
-use Rattle.zone_choice.specs.declared.tables.Tables.{Tables}
 use Rattle.zone_choice.specs.Reserve.{FitsReserve}
 use Rattle.zone_choice.specs.Records.{map_of}
-use Rattle.zone_choice.specs.ZoneLogs.{HasLog, spelled_array, zone_logs}
-use Rattle.zone_choice.specs.Mountable.{IsNumbered, sequences}
-use Rattle.zone_choice.specs.Roles.{IsHostApart, RolesView, empty_count, is_empty_at}
+use Rattle.zone_choice.specs.ZoneLogs.{log_at, spelled_array, zone_logs}
+use Rattle.zone_choice.specs.Mountable.{AreSound}
+use Rattle.zone_choice.specs.Roles.{AreApart, RolesView, fillings, is_empty_at, is_filling_at}
+use Rattle.zone_choice.specs.Tables.{TablesView, size_of}
 
-abbrev pub is_host_at : Option Filling → ℕ → Bool
-is_host_at None zone = false
-is_host_at (Some host) zone = host.zone == zone
+-- a drive, and the tables of the disk that is mounted on it
+pub record Mounted : Type 0 where
+  pub drive : DriveState
+  pub tables : TablesView
 
--- the host zone can be written, or is full already, up to its capacity; its written blocks are counted
-abbrev pub HoldsHost : ℕ → List Content → Option Filling → Type 0
-HoldsHost capacity zones None = Unit {0}
-HoldsHost capacity zones (Some host) =
-    (length (content_at zones host.zone).blocks ≡ host.written)
-    × ((is_writable (content_at zones host.zone).usage ≡ true) ⊎ (((content_at zones host.zone).usage ≡ full) × (host.written ≡ capacity)))
+abbrev pub mounted : DriveState → TablesView → Mounted
+mounted drive tables = record { drive = drive; tables = tables }
 
--- Empty zones are empty, sealed zones are full.
-pub record RolesAgree (capacity : ℕ) (zones : List Content) (roles : RolesView) : Type 0 where
+-- ---- roles and contents
+
+-- A zone that is being filled can be written, or is full already, up to its capacity. Its written blocks are counted, and all of them belong to batches.
+pub record IsFilled (capacity : ℕ) (zones : List Content) (logs : List (List Batch)) (filling : Filling) : Type 0 where
+  pub written : length (content_at zones filling.zone).blocks ≡ filling.written
+  pub usage : (is_writable (content_at zones filling.zone).usage ≡ true) ⊎ (((content_at zones filling.zone).usage ≡ full) × (filling.written ≡ capacity))
+  pub batches : log_size (log_at logs filling.zone) ≡ filling.written
+
+-- a sealed zone is full, and has a batch
+pub record IsSealed (zones : List Content) (logs : List (List Batch)) (zone : ℕ) : Type 0 where
+  pub usage : (content_at zones zone).usage ≡ full
+  pub has_batch : 1 ≤ length (log_at logs zone)
+
+-- Empty zones are empty, all zones are written as their roles say.
+pub record RolesAgree (capacity : ℕ) (zones : List Content) (logs : List (List Batch)) (roles : RolesView) : Type 0 where
   pub count : length roles.empty ≡ length zones
-  pub apart : IsHostApart roles roles.host
-  pub host : HoldsHost capacity zones roles.host
+  pub apart : AreApart roles
+  pub fillings_are : AllByRecursion (IsFilled capacity zones logs) (fillings roles)
   pub empty : (zone : ℕ) → is_empty_at roles zone ≡ true → content_at zones zone ≡ emptied
-  pub sealed : (zone : ℕ) → zone < length zones → is_empty_at roles zone ≡ false → is_host_at roles.host zone ≡ false → (content_at zones zone).usage ≡ full
+  pub sealed_are : (zone : ℕ) → zone < length zones → is_empty_at roles zone ≡ false → is_filling_at roles zone ≡ false → IsSealed zones logs zone
+
+-- ---- what a drive encodes
 
 abbrev pub drive_logs : DriveState → List (List Batch)
 drive_logs drive = zone_logs drive.geometry (contents drive.zones)
 
--- the array of n blocks that a drive spells
+-- the array of n blocks that a drive encodes
 abbrev pub spelled : DriveState → ℕ → List (List ℕ)
 spelled drive n = spelled_array drive.geometry (contents drive.zones) n
 
--- The tables describe the drive as a disk of n blocks: every zone has a log, whose batches are older than the next one; the map has the place of each block's newest record; and an empty zone is left.
-pub record Agrees (drive : DriveState) (tables : Tables) (n : ℕ) : Type 0 where
-  pub geometry : IsInRange drive.geometry
-  pub reserve : FitsReserve drive.geometry n
-  pub lawful : IsLawful drive
-  pub logs : AllByRecursion (HasLog drive.geometry) (contents drive.zones)
-  pub batches : AllByRecursion (AllByRecursion (IsNumbered n)) (drive_logs drive)
-  pub distinct : IsDistinct nat_eq (sequences (drive_logs drive))
-  pub older : AllByRecursion (λ sequence. sequence < tables.next) (sequences (drive_logs drive))
-  pub next : tables.next ≤ 2 ^ 63
-  pub places : tables.map.places ≡ map_of drive.geometry.size n (drive_logs drive)
-  pub roles : RolesAgree drive.geometry.capacity (contents drive.zones) tables.roles
-  pub spare : 1 ≤ empty_count tables.roles
+-- the array of a mounted disk
+abbrev pub mounted_array : Mounted → List (List ℕ)
+mounted_array disk = spelled disk.drive (size_of disk.tables)
+
+-- ---- tables and drive
+
+-- The tables describe the drive: its logs are sound, with sequences below the next one; the map has the place of each block's newest record; and each zone is what its role says.
+pub record Agrees (disk : Mounted) : Type 0 where
+  pub geometry : IsInRange disk.drive.geometry
+  pub reserve : FitsReserve disk.drive.geometry (size_of disk.tables)
+  pub lawful : IsLawful disk.drive
+  pub sound : AreSound disk.drive.geometry (contents disk.drive.zones) disk.tables.next (size_of disk.tables)
+  pub next : disk.tables.next ≤ 2 ^ 63
+  pub zones : disk.tables.map.zones ≡ disk.drive.geometry.zones
+  pub zone_size : disk.tables.map.zone_size ≡ disk.drive.geometry.size
+  pub places : disk.tables.map.places ≡ map_of disk.drive.geometry.size (size_of disk.tables) (drive_logs disk.drive)
+  pub roles : RolesAgree disk.drive.geometry.capacity (contents disk.drive.zones) (drive_logs disk.drive) disk.tables.roles

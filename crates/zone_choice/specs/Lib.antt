@@ -3,5 +3,8 @@ pub mod Records
 pub mod ZoneLogs
 pub mod Mountable
 pub mod Roles
+pub mod Tables
 pub mod Agreement
+pub mod Changes
+pub mod Builder
 pub mod Laws

@@ -60,16 +60,20 @@ log_sequences log = map (λ (batch : Batch). batch.heading.sequence) log
 abbrev pub sequences : List (List Batch) → List ℕ
 sequences logs = flat_map log_sequences logs
 
--- a batch with a sequence below 2^63, and with blocks below n
-abbrev pub IsNumbered : ℕ → Batch → Type 0
-IsNumbered n batch = (batch.heading.sequence < 2 ^ 63) × AllByRecursion (λ (e : Entry). e.block < n) batch.heading.entries
+-- a batch with a sequence below a limit, and with blocks below n
+abbrev pub IsNumbered : ℕ → ℕ → Batch → Type 0
+IsNumbered limit n batch = (batch.heading.sequence < limit) × AllByRecursion (λ (e : Entry). e.block < n) batch.heading.entries
+
+-- What the logs of a disk of n blocks satisfy: every zone has one, each batch has a sequence below the limit and names blocks below n, and no two batches have one sequence.
+pub record AreSound (geometry : Geometry) (zones : List Content) (limit n : ℕ) : Type 0 where
+  pub logs : AllByRecursion (HasLog geometry) zones
+  pub batches : AllByRecursion (AllByRecursion (IsNumbered limit n)) (zone_logs geometry zones)
+  pub distinct : IsDistinct nat_eq (sequences (zone_logs geometry zones))
 
 pub record AreMountable (geometry : Geometry) (zones : List Content) (n : ℕ) : Type 0 where
   pub usable : AllByRecursion (λ (zone : Content). is_usable zone.usage ≡ true) zones
   pub few_partial : count_by is_partly_written zones ≤ 2
-  pub logs : AllByRecursion (HasLog geometry) zones
-  pub batches : AllByRecursion (AllByRecursion (IsNumbered n)) (zone_logs geometry zones)
-  pub distinct : IsDistinct nat_eq (sequences (zone_logs geometry zones))
+  pub sound : AreSound geometry zones (2 ^ 63) n
   pub spare : HasSpare geometry.block n (zone_logs geometry zones)
 
 -- A drive that can be mounted: lawful, with no Read Only or Offline zone and at most two partly written ones; every zone holds a log, in which each block stands at most once in a batch; all sequences differ and are below 2^63, all blocks are below n; and a zone is vacant or half clean.

@@ -1,11 +1,28 @@
 -- What the zones of a drive are for.
-use Rattle.std.specs.Prelude.{◌≡◌, ℕ, ◌+◌, ◌^◌, ◌<◌, ◌≤◌, Bool, true, false, List, length, count_by, slice_index_or, slice_set, Option, Some, None}
+use Rattle.std.specs.Prelude.{◌≡◌, ◌≢◌, ℕ, ◌+◌, ◌^◌, ◌<◌, ◌≤◌, ◌==◌, if◌then◌else◌, Bool, true, false, List, [], ◌∷◌, ◌++◌, length, count_by, replicate, slice_index_or, slice_set, Option, Some, None}
+use Rattle.std.specs.List.{list_any, AllByRecursion}
+use Rattle.std.specs.Option.{option_map}
 use Rattle.zone_choice.specs.declared.roles.Filling.{Filling}
+use Rattle.zone_choice.specs.declared.roles.Second.{Second}
+use Rattle.zone_choice.specs.declared.roles.Second.TheVariants.{Next, Destination}
 
--- which zones are empty, and the zone that the host's batches go to; all other zones are sealed
+-- which zones are empty, and the zones that are being filled: the host zone, to which the host's batches go, and a second one; all other zones are sealed
 pub record RolesView : Type 0 where
   pub empty : List Bool
   pub host : Option Filling
+  pub second : Option Second
+
+abbrev pub filling_of : Second → Filling
+filling_of (Next filling) = filling
+filling_of (Destination filling) = filling
+
+abbrev pub listed : Option Filling → List Filling
+listed None = []
+listed (Some filling) = filling ∷ []
+
+-- the zones that are being filled, two at most
+abbrev pub fillings : RolesView → List Filling
+fillings roles = listed roles.host ++ listed (option_map filling_of roles.second)
 
 abbrev pub is_empty_at : RolesView → ℕ → Bool
 is_empty_at roles zone = slice_index_or roles.empty zone false
@@ -13,10 +30,25 @@ is_empty_at roles zone = slice_index_or roles.empty zone false
 abbrev pub empty_count : RolesView → ℕ
 empty_count roles = count_by (λ b. b) roles.empty
 
--- the host zone is one of the zones, and not an empty one
-abbrev pub IsHostApart : RolesView → Option Filling → Type 0
-IsHostApart roles None = Unit {0}
-IsHostApart roles (Some host) = (host.zone < length roles.empty) × (is_empty_at roles host.zone ≡ false)
+abbrev pub is_at : ℕ → Filling → Bool
+is_at zone filling = filling.zone == zone
+
+abbrev pub is_filling_at : RolesView → ℕ → Bool
+is_filling_at roles zone = list_any (is_at zone) (fillings roles)
+
+-- a zone that is being filled is one of the zones, and not an empty one
+pub record IsOccupied (empty : List Bool) (filling : Filling) : Type 0 where
+  pub in_range : filling.zone < length empty
+  pub not_empty : slice_index_or empty filling.zone false ≡ false
+
+-- and the two are not the same zone
+abbrev pub Differ : Option Filling → Option Second → Type 0
+Differ (Some host) (Some second) = host.zone ≢ (filling_of second).zone
+Differ host second = Unit {0}
+
+pub record AreApart (roles : RolesView) : Type 0 where
+  pub occupied : AllByRecursion (IsOccupied roles.empty) (fillings roles)
+  pub differ : Differ roles.host roles.second
 
 pub record IsLowestEmpty (roles : RolesView) (zone : ℕ) : Type 0 where
   pub in_range : zone < length roles.empty
@@ -25,24 +57,33 @@ pub record IsLowestEmpty (roles : RolesView) (zone : ℕ) : Type 0 where
 
 -- the zone is the host zone now, with nothing written
 abbrev pub taken : RolesView → ℕ → RolesView
-taken roles zone = record { empty = slice_set roles.empty zone false; host = Some (record { zone = zone; written = 0 }) }
+taken roles zone = record { empty = slice_set roles.empty zone false; host = Some (record { zone = zone; written = 0; may_open = false }); second = roles.second }
 
--- how many blocks of the host zone are written, with so many more
-abbrev pub written_after : Option Filling → ℕ → ℕ
-written_after None blocks = 0
-written_after (Some host) blocks = host.written + blocks
+-- the host zone is sealed
+abbrev pub sealed : RolesView → RolesView
+sealed roles = record { empty = roles.empty; host = None; second = roles.second }
 
-abbrev pub filling_after : Option Filling → ℕ → Option Filling
-filling_after None blocks = None
-filling_after (Some host) blocks = Some (record { zone = host.zone; written = host.written + blocks })
+-- a zone with this number has that many more blocks written, and the drive may hold it open
+abbrev pub grown : ℕ → ℕ → Filling → Filling
+grown zone blocks filling = if filling.zone == zone then record { zone = filling.zone; written = filling.written + blocks; may_open = true } else filling
 
-abbrev pub wrote : RolesView → ℕ → RolesView
-wrote roles blocks = record roles { host = filling_after roles.host blocks }
+abbrev pub grown_second : ℕ → ℕ → Second → Second
+grown_second zone blocks (Next filling) = Next (grown zone blocks filling)
+grown_second zone blocks (Destination filling) = Destination (grown zone blocks filling)
+
+-- blocks were written to a zone
+abbrev pub wrote : RolesView → ℕ → ℕ → RolesView
+wrote roles zone blocks =
+    record { empty = roles.empty; host = option_map (grown zone blocks) roles.host; second = option_map (grown_second zone blocks) roles.second }
 
 -- the number of empty zones, and one below which no zone is empty
-pub record AreCounted (empty : List Bool) (host : Option Filling) (count lowest : ℕ) : Type 0 where
-  pub few : length empty < 2 ^ 32
-  pub count_is : count ≡ count_by (λ b. b) empty
-  pub none_below : (zone : ℕ) → zone < lowest → slice_index_or empty zone false ≡ false
-  pub short : lowest ≤ length empty
-  pub apart : IsHostApart (record { empty = empty; host = host }) host
+pub record AreCounted (roles : RolesView) (count lowest : ℕ) : Type 0 where
+  pub few : length roles.empty < 2 ^ 32
+  pub count_is : count ≡ count_by (λ b. b) roles.empty
+  pub none_below : (zone : ℕ) → zone < lowest → slice_index_or roles.empty zone false ≡ false
+  pub short : lowest ≤ length roles.empty
+  pub apart : AreApart roles
+
+-- all zones are empty
+abbrev pub unused : ℕ → RolesView
+unused zones = record { empty = replicate zones true; host = None; second = None }

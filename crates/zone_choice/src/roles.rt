@@ -1,5 +1,7 @@
 ghost use Rattle.std.specs.Prelude.{◌≡◌, ◌≤◌, ◌<◌, ◌+◌, ◌^◌, ℕ, IfOk, IfSome, IfNone, None, Some, false, replicate, true};
-ghost use Rattle.zone_choice.specs.Roles.{IsLowestEmpty, RolesView, empty_count, is_empty_at, taken, written_after, wrote};
+ghost use Rattle.std.specs.List.{AllByRecursion};
+ghost use Rattle.zone_choice.specs.Roles.{IsLowestEmpty, RolesView, empty_count, filling_of, fillings, grown, grown_second, is_empty_at, listed, sealed, taken, unused, wrote};
+ghost use Rattle.std.specs.Option.{option_map};
 
 use std::alloc::{AllocError, Global};
 use std::marker::Model;
@@ -10,10 +12,21 @@ pub struct Filling {
     pub zone: u32,
     /// How many of its blocks are written.
     pub written: u32,
+    /// Whether the drive may hold the zone open.
+    pub may_open: bool,
 }
 
-/// What each zone of a drive is for: it is *empty*, or the *host* zone, to which the host's batches
-/// go, or *sealed*.
+/// The second zone that batches go to, beside the host zone.
+#[derive(Clone, Copy, Debug, PartialEq, Eq)]
+pub enum Second {
+    /// The zone that becomes the host zone after the one that there is.
+    Next(Filling),
+    /// The zone that live records are moved to.
+    Destination(Filling),
+}
+
+/// What each zone of a drive is for: it is *empty*, or one of the two that are being filled, the *host*
+/// zone, to which the host's batches go, and a *second* one, or *sealed*.
 #[derive(Drop)]
 pub struct Roles {
     empty: Vec<bool>,
@@ -22,6 +35,7 @@ pub struct Roles {
     /// No zone below is empty.
     lowest: u32,
     host: Option<Filling>,
+    second: Option<Second>,
 }
 
 impl Model for Roles {
@@ -29,15 +43,28 @@ impl Model for Roles {
 
     ghost Value = { RolesView };
 
-    ghost view = { λ r. record { empty = r.empty.items; host = r.host } };
+    ghost view = { λ r. record { empty = r.empty.items; host = r.host; second = r.second } };
 
-    ghost invariant = { λ r. AreCounted r.empty.items r.host r.count r.lowest };
+    ghost invariant = { λ r. AreCounted (record { empty = r.empty.items; host = r.host; second = r.second }) r.count r.lowest };
+}
+
+impl Filling {
+    /// Counts blocks that were written to the zone with this number, if it is this one.
+    fn wrote(&mut self, zone: u32, blocks: u32)
+        requires { self.old.written + blocks < 2 ^ 32 }
+        ensures { self.new ≡ grown zone blocks self.old }
+    {
+        if self.zone == zone {
+            self.written += blocks;
+            self.may_open = true;
+        }
+    }
 }
 
 impl Roles {
-    /// All of so many zones are empty, and there is no host zone.
+    /// All zones are empty, and none is being filled.
     pub fn new(alloc: Global, zones: u32) -> Result<Roles, AllocError>
-        ensures { IfOk result (λ r. (r.empty ≡ replicate zones true) × (r.host ≡ None)) }
+        ensures { IfOk result (λ r. r ≡ unused zones) }
     {
         let empty = vec![in alloc; true; zones as usize]?;
         Ok(Roles {
@@ -45,6 +72,7 @@ impl Roles {
             count: zones,
             lowest: 0,
             host: None,
+            second: None,
         })
     }
 
@@ -69,25 +97,28 @@ impl Roles {
         self.empty[zone as usize] = false;
         self.count -= 1;
         self.lowest = zone + 1;
-        self.host = Some(Filling { zone, written: 0 });
+        self.host = Some(Filling {
+            zone,
+            written: 0,
+            may_open: false,
+        });
         Some(zone)
     }
 
     /// Seals the host zone, if there is one.
     pub fn seal(&mut self)
-        ensures { self.new ≡ record self.old { host = None } }
+        ensures { self.new ≡ sealed self.old }
     {
         self.host = None;
     }
 
-    /// Counts blocks that were written to the host zone.
-    pub fn wrote(&mut self, blocks: u32)
-        requires { written_after self.old.host blocks < 2 ^ 32 }
-        ensures { self.new ≡ wrote self.old blocks }
+    /// Counts blocks that were written to a zone that is being filled.
+    pub fn wrote(&mut self, zone: u32, blocks: u32)
+        requires { AllByRecursion (λ filling. filling.written + blocks < 2 ^ 32) (fillings self.old) }
+        ensures { self.new ≡ wrote self.old zone blocks }
     {
-        if let Some(host) = &mut self.host {
-            host.written += blocks;
-        }
+        grow(&mut self.host, zone, blocks);
+        grow_second(&mut self.second, zone, blocks);
     }
 
     fn lowest_empty(&self) -> Option<u32>
@@ -100,5 +131,25 @@ impl Roles {
             }
         }
         None
+    }
+}
+
+fn grow(filling: &mut Option<Filling>, zone: u32, blocks: u32)
+    requires { AllByRecursion (λ filling. filling.written + blocks < 2 ^ 32) (listed filling.old) }
+    ensures { filling.new ≡ option_map (grown zone blocks) filling.old }
+{
+    if let Some(filling) = filling {
+        filling.wrote(zone, blocks);
+    }
+}
+
+fn grow_second(second: &mut Option<Second>, zone: u32, blocks: u32)
+    requires { AllByRecursion (λ filling. filling.written + blocks < 2 ^ 32) (listed (option_map filling_of second.old)) }
+    ensures { second.new ≡ option_map (grown_second zone blocks) second.old }
+{
+    match second {
+        Some(Second::Next(filling)) => filling.wrote(zone, blocks),
+        Some(Second::Destination(filling)) => filling.wrote(zone, blocks),
+        None => {}
     }
 }

@@ -1,13 +1,126 @@
-use crate::roles::Roles;
-use logical_map::Map;
+ghost use Rattle.std.specs.Prelude.{◌≡◌, ◌≢◌, ◌≤◌, ◌<◌, ◌+◌, ◌^◌, IfNone, IfOk, IfSome, length, None, OnOk, replicate, slice_index_or, slice_set};
+ghost use Rattle.std.specs.List.{AllByRecursion};
+ghost use Rattle.logical_map.specs.Places.{IsReady, Reserves};
+ghost use Rattle.logical_map.specs.declared.place.Place.TheVariants as places;
+ghost use Rattle.zone_choice.specs.Roles.{IsLowestEmpty, empty_count, fillings, sealed, taken, unused, wrote};
+ghost use Rattle.zone_choice.specs.Tables.{AreReserved, MakesRoom, size_of};
 
-/// What a mounted disk knows of its drive.
+use crate::roles::{Filling, Roles};
+use logical_map::{Map, Place};
+use std::alloc::{AllocError, Global};
+use std::marker::Model;
+
+/// What a mounted disk knows of its drive: where the newest record of each logical block lies, what the
+/// zones are for, and the sequence of the next batch.
 #[derive(Drop)]
 pub struct Tables {
-    /// Where the newest record of each logical block lies.
-    pub map: Map,
-    /// What the zones are for.
-    pub roles: Roles,
-    /// The sequence of the next batch.
-    pub next: u64,
+    map: Map,
+    roles: Roles,
+    next: u64,
+}
+
+impl Model for Tables {
+    ghost use Rattle.zone_choice.specs.Tables.{AreOfOneDrive, TablesView};
+
+    ghost Value = { TablesView };
+
+    ghost view = { λ t. record { map = t.map; roles = t.roles; next = t.next } };
+
+    ghost invariant = { λ t. AreOfOneDrive t.map t.roles };
+}
+
+impl Tables {
+    /// The tables of a drive of `zones` empty zones, with `zone_size` addresses each, and of `blocks` logical
+    /// blocks, none of which is written.
+    pub fn new(alloc: Global, zones: u32, zone_size: u32, blocks: u32) -> Result<Tables, AllocError>
+        ensures places { IfOk result (λ tables. tables.map.places ≡ replicate blocks places.None) }
+        ensures zones { IfOk result (λ tables. tables.map.zones ≡ zones) }
+        ensures zone_size { IfOk result (λ tables. tables.map.zone_size ≡ zone_size) }
+        ensures roles { IfOk result (λ tables. tables.roles ≡ unused zones) }
+        ensures next { IfOk result (λ tables. tables.next ≡ 1) }
+    {
+        let roles = Roles::new(alloc, zones)?;
+        Ok(Tables {
+            map: Map::new(alloc, blocks, zones, zone_size),
+            roles,
+            next: 1,
+        })
+    }
+
+    /// How many logical blocks there are.
+    pub fn blocks(&self) -> u32
+        ensures { result ≡ size_of self.now }
+    {
+        self.map.len()
+    }
+
+    /// Where the newest record of a block lies.
+    pub fn place_of(&self, block: u32) -> Place
+        requires { block < size_of self.now }
+        ensures { result ≡ slice_index_or self.now.map.places block places.None }
+    {
+        self.map.get(block)
+    }
+
+    /// The sequence of the next batch: 2^63 after the last one that can be.
+    pub fn next(&self) -> u64
+        ensures { result ≡ self.now.next }
+    {
+        self.next
+    }
+
+    /// The host zone.
+    pub fn host(&self) -> Option<Filling>
+        ensures { result ≡ self.now.roles.host }
+    {
+        self.roles.host()
+    }
+
+    /// Makes room for the places of `count` blocks from `first` on. Where an allocation fails, there is room
+    /// for some of them.
+    pub fn reserve(&mut self, first: u32, count: u32) -> Result<(), AllocError>
+        requires in_range { first + count ≤ size_of self.old }
+        requires few { first + count < 2 ^ 32 }
+        ensures ok { OnOk result (AreReserved self.new.map first count) }
+        ensures kept { MakesRoom self.old self.new }
+    {
+        for block in first..first + count {
+            self.map.reserve_for(block)?;
+        }
+        Ok(())
+    }
+
+    /// Makes the lowest empty zone the host zone, unless it is the last empty one.
+    pub fn take_empty(&mut self) -> Option<u32>
+        ensures some { IfSome result (λ zone. IsLowestEmpty self.old.roles zone × (2 ≤ empty_count self.old.roles) × (self.new ≡ record self.old { roles = taken self.old.roles zone })) }
+        ensures none { IfNone result ((empty_count self.old.roles < 2) × (self.new ≡ self.old)) }
+    {
+        self.roles.take_empty()
+    }
+
+    /// Seals the host zone, if there is one.
+    pub fn seal(&mut self)
+        ensures { self.new ≡ record self.old { roles = sealed self.old.roles } }
+    {
+        self.roles.seal();
+    }
+
+    /// Places a block that room was made for.
+    pub(crate) fn place(&mut self, block: u32, place: Place)
+        requires in_range { block < size_of self.old }
+        requires ready { IsReady self.old.map block }
+        ensures { self.new ≡ record self.old { map = record self.old.map { places = slice_set self.old.map.places block place } } }
+    {
+        self.map.set(block, place);
+    }
+
+    /// Counts a batch of `blocks` blocks that was appended to a zone.
+    pub(crate) fn appended(&mut self, zone: u32, blocks: u32)
+        requires fits { AllByRecursion (λ filling. filling.written + blocks < 2 ^ 32) (fillings self.old.roles) }
+        requires next { self.old.next < 2 ^ 63 }
+        ensures { self.new ≡ record self.old { roles = wrote self.old.roles zone blocks; next = self.old.next + 1 } }
+    {
+        self.roles.wrote(zone, blocks);
+        self.next += 1;
+    }
 }

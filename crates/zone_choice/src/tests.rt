@@ -48,7 +48,8 @@ fn takes_the_lowest_empty_zone(rt: HostRuntime) -> Result<(), Fail> {
         roles.host(),
         Some(Filling {
             zone: 0,
-            written: 0
+            written: 0,
+            may_open: false
         })
     );
     roles.seal();

@@ -5,25 +5,25 @@ use Rattle.std.specs.List.{AllByRecursion, concat}
 use Rattle.std.proofs.lemmas.Bool.Decides.{nat_tests}
 use Rattle.std.proofs.lemmas.List.{get_or-drop, length-drop, length-replicate, take_more}
 use Rattle.drive_port.specs.Drive.{DriveState}
-use Rattle.zone_choice.specs.declared.tables.Tables.{Tables}
+use Rattle.zone_choice.specs.Agreement.{mounted}
+use Rattle.zone_choice.specs.Changes.{KeepsArray}
+use Rattle.zone_choice.specs.Tables.{TablesView}
 use Rattle.zone_choice.proofs.AgreementLaws.{agrees_mountable, length-spelled}
 use Rattle.zone_choice.proofs.WholeLaws.{whole-spelled}
 use Rattle.zone_choice.specs.Mountable.{IsMountable}
-use Rattle.zone_translator.specs.declared.buffer.BatchBuffer.{BatchBuffer}
 use Rattle.zone_translator.specs.declared.fault.DiskFault.{DiskFault}
 use Rattle.zone_translator.specs.declared.fault.DiskFault.TheVariants.{OutOfRange, OutOfMemory, Stopped, Spent, NoRoom}
 use Rattle.zone_translator.specs.declared.status.DiskStatus.{DiskStatus}
 use Rattle.zone_translator.specs.declared.status.DiskStatus.TheVariants as statuses
-use Rattle.zone_translator.specs.Buffer.{IsHostBatch}
 use Rattle.zone_translator.specs.Calls.{Holds, Reads, answer_before, is_known, status_of}
-use Rattle.zone_translator.specs.Changes.{AgreesWith, IsCause, KeepsArray, WritesBlocks, size_of}
+use Rattle.zone_translator.specs.Changes.{AgreesWith, IsCause, WritesBlocks}
 use Rattle.zone_translator.specs.Flat.{Begun, FlatCall, IsFront, blocks_from, known_answer, read, replaced, status_after, with_nothing, write}
 use Rattle.zone_translator.specs.Read.{IsReadFault}
 use Rattle.zone_translator.proofs.FlatLaws.{replaced-append}
 use Rattle.zone_translator.specs.View.{DiskCause, DiskView, KeepsDisk, array_of, disk_size, flat_of, next_sequence}
 
 -- what a disk of these parts is seen as
-abbrev pub view_of : DriveState → Tables → DiskStatus → DiskView
+abbrev pub view_of : DriveState → TablesView → DiskStatus → DiskView
 view_of drive tables status = record { drive = drive; tables = tables; status = status }
 
 -- the array has the disk's number of blocks, and on a drive that can be mounted each is a whole block
@@ -33,20 +33,20 @@ length-array disk = length-spelled disk.drive (disk_size disk)
 pub whole-array : (disk : DiskView) → IsMountable disk.drive (disk_size disk) → AllByRecursion (λ block. length block ≡ disk.drive.geometry.block) (array_of disk)
 whole-array disk mountable = whole-spelled disk.drive (disk_size disk) mountable
 
-pub kept-disk : (old new : DriveState) (tables tables' : Tables) (was is : DiskStatus) → KeepsArray old new tables tables' → KeepsDisk (view_of old tables was) (view_of new tables' is)
-kept-disk old new tables tables' was is kept = record {
+pub kept-disk : (old new : DriveState) (tables tables' : TablesView) (was is : DiskStatus) → AgreesWith new tables' → KeepsArray (mounted old tables) (mounted new tables') → KeepsDisk (view_of old tables was) (view_of new tables' is)
+kept-disk old new tables tables' was is serves kept = record {
   size = ap length kept.places;
   geometry = kept.geometry;
-  mountable = agrees_mountable new tables' (size_of tables') kept.agrees;
+  mountable = agrees_mountable new tables' serves.agrees serves.spare;
   refused = kept.refused;
   next = omega (arith, kept.next, kept.appended);
 }
 
-pub written-disk : (old new : DriveState) (tables tables' : Tables) (first : ℕ) (blocks : List (List ℕ)) (was is : DiskStatus) → WritesBlocks old new tables tables' first blocks → KeepsDisk (view_of old tables was) (view_of new tables' is)
-written-disk old new tables tables' first blocks was is written = record {
+pub written-disk : (old new : DriveState) (tables tables' : TablesView) (first : ℕ) (blocks : List (List ℕ)) (was is : DiskStatus) → AgreesWith new tables' → WritesBlocks (mounted old tables) (mounted new tables') first blocks → KeepsDisk (view_of old tables was) (view_of new tables' is)
+written-disk old new tables tables' first blocks was is serves written = record {
   size = written.size;
   geometry = written.geometry;
-  mountable = agrees_mountable new tables' (size_of tables') written.agrees;
+  mountable = agrees_mountable new tables' serves.agrees serves.spare;
   refused = written.refused;
   next = omega (arith, written.next, written.appended);
 }
@@ -66,28 +66,26 @@ kept-refl a mountable = record { size = refl; geometry = refl; mountable = mount
 -- ---- the parts of a disk
 
 -- a disk that serves, by the agreement of its tables and its drive
-pub holds-serving : (drive : DriveState) (tables : Tables) (batch : BatchBuffer) → AgreesWith drive tables → IsHostBatch batch → Holds drive tables statuses.Serving batch
-holds-serving drive tables batch agrees batch_is = record {
-  mountable = agrees_mountable drive tables (size_of tables) agrees;
-  short = agrees.reserve.1;
+pub holds-serving : (drive : DriveState) (tables : TablesView) → AgreesWith drive tables → Holds drive tables statuses.Serving
+holds-serving drive tables agrees = record {
+  mountable = agrees_mountable drive tables agrees.agrees agrees.spare;
+  short = agrees.agrees.reserve.1;
   agrees = agrees;
   stopped = λ e. absurd (cc);
-  batch_is = batch_is;
 }
 
 -- a disk after a refusal
-pub holds-refused : (drive : DriveState) (tables : Tables) (batch : BatchBuffer) (fault : DiskFault) → AgreesWith drive tables → IsHostBatch batch → IsCause drive tables.next fault → Holds drive tables (status_of fault) batch
-holds-refused drive tables batch OutOfRange agrees batch_is cause = absurd cause
-holds-refused drive tables batch OutOfMemory agrees batch_is cause = holds-serving drive tables batch agrees batch_is
-holds-refused drive tables batch Stopped agrees batch_is cause = record {
-  mountable = agrees_mountable drive tables (size_of tables) agrees;
-  short = agrees.reserve.1;
+pub holds-refused : (drive : DriveState) (tables : TablesView) (fault : DiskFault) → AgreesWith drive tables → IsCause drive tables.next fault → Holds drive tables (status_of fault)
+holds-refused drive tables OutOfRange agrees cause = absurd cause
+holds-refused drive tables OutOfMemory agrees cause = holds-serving drive tables agrees
+holds-refused drive tables Stopped agrees cause = record {
+  mountable = agrees_mountable drive tables agrees.agrees agrees.spare;
+  short = agrees.agrees.reserve.1;
   agrees = tt;
   stopped = λ e. cause;
-  batch_is = batch_is;
 }
-holds-refused drive tables batch Spent agrees batch_is cause = holds-serving drive tables batch agrees batch_is
-holds-refused drive tables batch NoRoom agrees batch_is cause = holds-serving drive tables batch agrees batch_is
+holds-refused drive tables Spent agrees cause = holds-serving drive tables agrees
+holds-refused drive tables NoRoom agrees cause = holds-serving drive tables agrees
 
 -- a read is refused for a cause of any call
 pub read-fault-cause : (drive : DriveState) (next : ℕ) (fault : DiskFault) → IsReadFault drive fault → IsCause drive next fault
@@ -98,9 +96,9 @@ read-fault-cause drive next Spent cause = absurd cause
 read-fault-cause drive next NoRoom cause = absurd cause
 
 -- while it serves, its tables agree with its drive
-pub holds-agrees : (drive : DriveState) (tables : Tables) (status : DiskStatus) (batch : BatchBuffer) → status ≡ statuses.Serving → Holds drive tables status batch → AgreesWith drive tables
-holds-agrees drive tables statuses.Serving batch e holds = holds.agrees
-holds-agrees drive tables statuses.Stopped batch e holds = absurd (cc)
+pub holds-agrees : (drive : DriveState) (tables : TablesView) (status : DiskStatus) → status ≡ statuses.Serving → Holds drive tables status → AgreesWith drive tables
+holds-agrees drive tables statuses.Serving e holds = holds.agrees
+holds-agrees drive tables statuses.Stopped e holds = absurd (cc)
 
 -- ---- fronts of a fill
 

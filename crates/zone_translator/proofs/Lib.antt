@@ -1,7 +1,6 @@
 pub mod RoomLaws
 pub mod FlatLaws
 pub mod BatchLaws
-pub mod CommitLaws
 pub mod FillLaws
 pub mod ReadLaws
 pub mod DiskLaws

@@ -1,5 +1,5 @@
 -- A fresh drive is mounted.
-use Rattle.std.proofs.Common.{◌≡◌, ◌≢◌, ℕ, ◌+◌, true, Bool, List, replicate, length, Option, None, sym, ap, ◌∙◌, arith}
+use Rattle.std.proofs.Common.{◌≡◌, ◌≢◌, ℕ, ◌+◌, replicate, length, sym, ap, ◌∙◌, arith}
 use Rattle.std.proofs.lemmas.List.{length-replicate}
 use Rattle.zone_states.specs.declared.geometry.Geometry.{Geometry}
 use Rattle.zone_states.specs.Geometry.{IsInRange}
@@ -7,15 +7,12 @@ use Rattle.drive_port.specs.Drive.{DriveState, IsLawful}
 use Rattle.drive_port.specs.Contents.{SameContents}
 use Rattle.batch_log.specs.Log.{zero_block}
 use Rattle.logical_map.specs.declared.place.Place.TheVariants as places
-use Rattle.zone_choice.specs.declared.tables.Tables.{Tables}
-use Rattle.zone_choice.specs.declared.roles.Filling.{Filling}
+use Rattle.zone_choice.specs.Tables.{TablesView, size_of}
 use Rattle.zone_choice.specs.Roles.{RolesView}
 use Rattle.zone_choice.specs.Reserve.{FitsReserve}
-use Rattle.zone_choice.specs.Agreement.{Agrees, spelled}
+use Rattle.zone_choice.specs.Agreement.{spelled}
 use Rattle.zone_choice.proofs.AgreementLaws.{agrees_same, spelled_same}
-use Rattle.zone_choice.proofs.ContentLaws.{roles_with}
-use Rattle.zone_choice.proofs.FreshLaws.{fresh_agrees, fresh_spelled}
-use Rattle.zone_translator.specs.Changes.{size_of}
+use Rattle.zone_choice.proofs.FreshLaws.{IsFreshTables, fresh_agrees, fresh_spare, fresh_spelled}
 use Rattle.zone_translator.specs.Mount.{IsFresh, IsFreshDisk, MountRefuses}
 use Rattle.zone_translator.specs.declared.mount.MountFault.TheVariants.{NotFresh}
 
@@ -23,27 +20,29 @@ pub not-fresh : (drive : DriveState) (geometry : Geometry) (blocks number : ℕ)
 not-fresh drive geometry blocks number same range fits all other =
     (rw same at range, rw same at fits, λ fresh. other (all fresh ∙ sym (ap (λ (g : Geometry). g.zones) same)))
 
-pub fresh-disk : (old new : DriveState) (geometry : Geometry) (blocks number : ℕ) (tables : Tables) → geometry ≡ old.geometry → IsInRange geometry → FitsReserve geometry blocks → (number ≡ old.geometry.zones → IsFresh old) → number ≡ geometry.zones
-    → IsLawful old → IsLawful new → SameContents old new → new.refused ≡ old.refused → new.appended ≡ old.appended + 0
-    → tables.map.places ≡ replicate blocks places.None → tables.roles ≡ roles_with (replicate geometry.zones true) None → tables.next ≡ 1 → IsFreshDisk old new tables blocks
-fresh-disk old new geometry blocks number tables same range fits all all_empty was lawful contents_are refused appended mapped roles next =
+pub fresh-disk : (old new : DriveState) (geometry : Geometry) (blocks number : ℕ) (tables : TablesView) → geometry ≡ old.geometry → IsInRange geometry → FitsReserve geometry blocks → (number ≡ old.geometry.zones → IsFresh old) → number ≡ geometry.zones
+    → IsLawful old → IsLawful new → SameContents old new → new.refused ≡ old.refused → new.appended ≡ old.appended + 0 → IsFreshTables geometry tables blocks → IsFreshDisk old new tables blocks
+fresh-disk old new geometry blocks number tables same range fits all all_empty was lawful contents_are refused appended tables-are =
     let zones = ap (λ (g : Geometry). g.zones) same in
     let fresh = all (all_empty ∙ zones) in
-    let size : size_of tables ≡ blocks = ap length mapped ∙ length-replicate blocks places.None in
-    let agrees : Agrees old tables blocks = fresh_agrees old tables blocks (rw same at range) (rw same at fits) was fresh mapped (roles ∙ ap (λ (n : ℕ). roles_with (replicate n true) None) zones) next in
+    let size : size_of tables ≡ blocks = ap length tables-are.places ∙ length-replicate blocks places.None in
+    let made = rw same at tables-are in
+    let here = rw same at range in
+    let agrees = fresh_agrees old tables blocks here (rw same at fits) was fresh made in
     record {
-      agrees = agrees_same old new tables (size_of tables) contents_are lawful (rw size agrees);
+      agrees = record {
+        agrees = agrees_same old new tables contents_are lawful agrees;
+        spare = fresh_spare old.geometry tables blocks here made;
+        alone = ap (λ (r : RolesView). r.second) tables-are.roles;
+      };
       size = size;
       fresh = fresh;
-      next = next;
+      next = tables-are.next;
       same = contents_are;
       refused = refused;
       appended = omega (arith, appended);
     }
 
-pub roles-are : (roles : RolesView) (empties : List Bool) (host : Option Filling) → roles.empty ≡ empties → roles.host ≡ host → roles ≡ roles_with empties host
-roles-are roles empties host e f = ap (λ (b : List Bool). roles_with b roles.host) e ∙ ap (λ (h : Option Filling). roles_with empties h) f
-
 -- the array of a disk over a fresh drive
-pub fresh-array : (old new : DriveState) (tables : Tables) (blocks : ℕ) → IsFreshDisk old new tables blocks → spelled new (size_of tables) ≡ replicate blocks (zero_block old.geometry.block)
+pub fresh-array : (old new : DriveState) (tables : TablesView) (blocks : ℕ) → IsFreshDisk old new tables blocks → spelled new (size_of tables) ≡ replicate blocks (zero_block old.geometry.block)
 fresh-array old new tables blocks is = spelled_same old new (size_of tables) is.same ∙ rw is.size (fresh_spelled old blocks is.fresh)

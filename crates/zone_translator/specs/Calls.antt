@@ -2,15 +2,13 @@
 use Rattle.std.specs.Prelude.{◌≡◌, ℕ, ◌≤◌, ◌^◌, Bool, true, false, List, Option, Some, None, Result, Ok, Err, is_some}
 use Rattle.std.specs.List.{concat}
 use Rattle.drive_port.specs.Drive.{DriveState}
-use Rattle.zone_choice.specs.declared.tables.Tables.{Tables}
+use Rattle.zone_choice.specs.Tables.{TablesView, size_of}
 use Rattle.zone_choice.specs.Mountable.{IsMountable}
-use Rattle.zone_translator.specs.declared.buffer.BatchBuffer.{BatchBuffer}
 use Rattle.zone_translator.specs.declared.fault.DiskFault.{DiskFault}
 use Rattle.zone_translator.specs.declared.fault.DiskFault.TheVariants as faults
 use Rattle.zone_translator.specs.declared.status.DiskStatus.{DiskStatus}
 use Rattle.zone_translator.specs.declared.status.DiskStatus.TheVariants.{Serving, Stopped}
-use Rattle.zone_translator.specs.Buffer.{IsHostBatch}
-use Rattle.zone_translator.specs.Changes.{AgreesWith, size_of}
+use Rattle.zone_translator.specs.Changes.{AgreesWith}
 use Rattle.zone_translator.specs.Flat.{Call, FlatCall, FlatDisk, count_of, first_of, known_answer, read}
 
 -- a fact that is kept while a disk serves
@@ -19,12 +17,11 @@ WhileServing Serving Fact = Fact
 WhileServing Stopped Fact = Unit {0}
 
 -- The drive of a disk can be mounted. While the disk serves, the tables agree with the drive; and it has answered `Stopped` only where the drive has stopped.
-pub record Holds (drive : DriveState) (tables : Tables) (status : DiskStatus) (batch : BatchBuffer) : Type 0 where
+pub record Holds (drive : DriveState) (tables : TablesView) (status : DiskStatus) : Type 0 where
   pub mountable : IsMountable drive (size_of tables)
   pub short : size_of tables ≤ 2 ^ 31
   pub agrees : WhileServing status (AgreesWith drive tables)
   pub stopped : status ≡ Stopped → drive.stopped ≡ true
-  pub batch_is : IsHostBatch batch
 
 -- what a refusal on its way leaves a disk in
 abbrev pub status_of : DiskFault → DiskStatus

@@ -6,8 +6,8 @@ use Rattle.drive_port.specs.declared.calls.PortFault.{PortFault}
 use Rattle.drive_port.specs.declared.calls.PortFault.TheVariants as port
 use Rattle.drive_port.specs.Contents.{AreEmpty, SameContents, contents}
 use Rattle.zone_choice.specs.Reserve.{FitsReserve}
-use Rattle.zone_choice.specs.declared.tables.Tables.{Tables}
-use Rattle.zone_translator.specs.Changes.{AgreesWith, size_of}
+use Rattle.zone_choice.specs.Tables.{TablesView, size_of}
+use Rattle.zone_translator.specs.Changes.{AgreesWith}
 use Rattle.zone_translator.specs.declared.mount.MountFault.{MountFault}
 use Rattle.zone_translator.specs.declared.mount.MountFault.TheVariants.{Reserve, Limits, Halted, OutOfMemory, NotFresh}
 
@@ -24,7 +24,7 @@ MountRefuses drive blocks Halted = drive.stopped ≡ true
 MountRefuses drive blocks OutOfMemory = Unit {0}
 
 -- the tables of a disk over a fresh drive
-pub record IsFreshDisk (old new : DriveState) (tables : Tables) (blocks : ℕ) : Type 0 where
+pub record IsFreshDisk (old new : DriveState) (tables : TablesView) (blocks : ℕ) : Type 0 where
   pub agrees : AgreesWith new tables
   pub size : size_of tables ≡ blocks
   pub fresh : IsFresh old

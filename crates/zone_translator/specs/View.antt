@@ -1,19 +1,19 @@
 -- What a disk is seen as, and what its calls keep.
 use Rattle.std.specs.Prelude.{◌≡◌, ℕ, ◌+◌, List}
 use Rattle.drive_port.specs.Drive.{DriveState}
-use Rattle.zone_choice.specs.declared.tables.Tables.{Tables}
+use Rattle.zone_choice.specs.Tables.{TablesView, size_of}
 use Rattle.zone_choice.specs.Agreement.{spelled}
 use Rattle.zone_choice.specs.Mountable.{IsMountable}
 use Rattle.zone_translator.specs.declared.fault.DiskFault.{DiskFault}
 use Rattle.zone_translator.specs.declared.fault.DiskFault.TheVariants.{OutOfRange}
 use Rattle.zone_translator.specs.declared.status.DiskStatus.{DiskStatus}
-use Rattle.zone_translator.specs.Changes.{IsCause, size_of}
+use Rattle.zone_translator.specs.Changes.{IsCause}
 use Rattle.zone_translator.specs.Flat.{FlatDisk}
 
 -- the drive below, what is known of it in memory, and whether `Stopped` was answered
 pub record DiskView : Type 0 where
   pub drive : DriveState
-  pub tables : Tables
+  pub tables : TablesView
   pub status : DiskStatus
 
 -- how many logical blocks there are

@@ -3,7 +3,7 @@ ghost use Rattle.zone_choice.specs.Mountable.{IsMountable};
 ghost use Rattle.zone_choice.specs.Reserve.{FitsReserve};
 ghost use Rattle.zone_states.specs.Geometry.{IsInRange};
 ghost use Rattle.zone_translator.specs.Calls.{Reads, answer_before, is_known, status_of};
-ghost use Rattle.zone_translator.specs.Changes.{IsCause, size_of};
+ghost use Rattle.zone_translator.specs.Changes.{IsCause};
 ghost use Rattle.zone_translator.specs.Flat.{FlatCall, known_answer, read, replaced, status_after, with_nothing, write};
 ghost use Rattle.zone_translator.specs.declared.status.DiskStatus.TheVariants.{Serving};
 ghost use Rattle.batch_log.specs.Log.{zero_block};
@@ -11,7 +11,6 @@ ghost use Rattle.zone_translator.specs.Mount.{IsFresh, KeepsDrive, MountRefuses}
 ghost use Rattle.zone_translator.specs.Read.{IsReadFault};
 ghost use Rattle.zone_translator.specs.View.{DiskCause, DiskView, KeepsDisk, array_of, disk_size, flat_of, next_sequence};
 
-use crate::buffer::BatchBuffer;
 use crate::fault::DiskFault;
 use crate::fill::fill_batch;
 use crate::mount::{MountFault, fresh_tables};
@@ -20,7 +19,7 @@ use crate::status::DiskStatus;
 use drive_port::Device;
 use std::alloc::Global;
 use std::marker::Model;
-use zone_choice::Tables;
+use zone_choice::{BatchBuilder, Tables};
 
 /// An array of logical blocks above a zoned drive. A disk owns its drive, and gives it back.
 #[derive(Drop)]
@@ -28,7 +27,7 @@ pub struct Disk<D: Device + Drop> {
     device: D,
     tables: Tables,
     status: DiskStatus,
-    batch: BatchBuffer,
+    batch: BatchBuilder,
     block: Vec<u8>,
     alloc: Global,
 }
@@ -41,7 +40,7 @@ impl<D: Device + Drop> Model for Disk<D> {
 
     ghost view = { λ d. record { drive = D.drive d.device; tables = d.tables; status = d.status } };
 
-    ghost invariant = { λ d. Holds (D.drive d.device) d.tables d.status d.batch };
+    ghost invariant = { λ d. Holds (D.drive d.device) d.tables d.status };
 }
 
 /// What a refusal leaves a disk in.
@@ -73,7 +72,7 @@ impl<D: Device + Drop> Disk<D> {
                 device,
                 tables,
                 status: DiskStatus::Serving,
-                batch: BatchBuffer::new(alloc),
+                batch: BatchBuilder::new(alloc),
                 block: Vec::new(alloc),
                 alloc,
             }),
@@ -99,7 +98,7 @@ impl<D: Device + Drop> Disk<D> {
     pub fn blocks(&self) -> u64
         ensures { result ≡ disk_size self.now }
     {
-        self.tables.map.len() as u64
+        self.tables.blocks() as u64
     }
 
     /// Whether the disk serves calls, or has answered `Stopped`.
@@ -169,7 +168,7 @@ impl<D: Device + Drop> Disk<D> {
         ensures mountable { IsMountable self.now.drive (disk_size self.now) }
         ensures short { disk_size self.now ≤ 2 ^ 31 }
     {
-        let size = self.tables.map.len() as u64;
+        let size = self.tables.blocks() as u64;
         if blocks == 0 {
             return Ok(true);
         }

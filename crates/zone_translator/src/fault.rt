@@ -1,3 +1,4 @@
+use std::alloc::AllocError;
 use thiserror::Error;
 
 /// Why a call of a disk was refused.
@@ -20,4 +21,15 @@ pub enum DiskFault {
     /// kept. A front of a write's blocks is in place, and reads go on.
     #[error("no zone is left to write to")]
     NoRoom,
+}
+
+impl From<AllocError> for DiskFault {
+    ghost use Rattle.std.specs.Prelude.{◌≡◌};
+    ghost use Rattle.zone_translator.specs.declared.fault.DiskFault.TheVariants.{OutOfMemory};
+
+    ghost from_gives = { λ _ fault. fault ≡ OutOfMemory };
+
+    fn from(_error: AllocError) -> DiskFault {
+        DiskFault::OutOfMemory
+    }
 }

@@ -1,18 +1,18 @@
 ghost use Rattle.std.specs.Prelude.{◌≡◌, ◌⊎◌, ◌+◌, ◌≤◌, ◌<◌, ◌^◌, ◌*◌, IfOk, IfErr, OnOk, OnErr, length, replicate};
 ghost use Rattle.batch_log.specs.Header.{entry_room};
 ghost use Rattle.zone_states.specs.Geometry.{IsInRange};
-ghost use Rattle.zone_translator.specs.Batches.{batch_count};
-ghost use Rattle.zone_translator.specs.Buffer.{IsDisk, IsHostBatch, IsPrepared};
-ghost use Rattle.zone_translator.specs.Changes.{IsCause, KeepsArray, WritesBlocks, size_of};
+ghost use Rattle.zone_choice.specs.Agreement.{mounted};
+ghost use Rattle.zone_choice.specs.Changes.{KeepsArray};
+ghost use Rattle.zone_choice.specs.Tables.{MakesRoom, size_of};
+ghost use Rattle.zone_translator.specs.Batches.{IsPrepared, batch_count};
+ghost use Rattle.zone_translator.specs.Changes.{AgreesWith, IsCause, WritesBlocks};
 
-use crate::batch::{commit, fill_buffer, name_blocks, reserve};
-use crate::buffer::BatchBuffer;
 use crate::fault::DiskFault;
-use crate::room::make_room;
+use crate::room::{fault_of, make_room};
+use batch_log::Kind;
 use drive_port::{Device, Geometry};
-use logical_map::Map;
 use std::alloc::{AllocError, Global};
-use zone_choice::{Filling, Tables, batch_most};
+use zone_choice::{BatchBuilder, Filling, Tables, append_batch, batch_most};
 
 /// How many of the blocks left the next batch takes.
 fn batch_count(geometry: &Geometry, host: Filling, left: u32) -> u32
@@ -24,34 +24,28 @@ fn batch_count(geometry: &Geometry, host: Filling, left: u32) -> u32
     left.min(batch_most(geometry).min(free - 1))
 }
 
-/// Makes every growth that a batch of one byte takes: its header, its blocks, and the map's pages.
+/// Makes each allocation that a batch of one byte needs, for its header, its blocks and their places, and
+/// builds it.
 fn prepare(
-    map: &mut Map,
-    batch: &mut BatchBuffer,
+    tables: &mut Tables,
+    batch: &mut BatchBuilder,
     block_bytes: u32,
-    sequence: u64,
     first: u32,
     count: u32,
     byte: u8,
 ) -> Result<(), AllocError>
-    requires host { IsHostBatch batch.old }
     requires block { (block_bytes ≡ 512) ⊎ (block_bytes ≡ 4096) }
-    requires in_range { first + count ≤ length map.old.places }
+    requires in_range { first + count ≤ size_of tables.old }
     requires few { first + count < 2 ^ 32 }
     requires room { count ≤ entry_room block_bytes }
-    ensures ok { OnOk result (IsPrepared block_bytes sequence first count byte map.new batch.new) }
-    ensures host { IsHostBatch batch.new }
-    ensures places { map.new.places ≡ map.old.places }
+    ensures ok { OnOk result (IsPrepared block_bytes first count byte tables.new batch.new) }
+    ensures kept { MakesRoom tables.old tables.new }
 {
-    name_blocks(&mut batch.header, sequence, first, count)?;
-    fill_buffer(
-        &mut batch.bytes,
-        &batch.header,
-        block_bytes as usize,
-        count as usize,
-        byte,
-    )?;
-    reserve(map, first, count)
+    batch.start(Kind::Host, tables.next(), 0);
+    batch.name_data(first, count)?;
+    batch.encode(block_bytes)?;
+    batch.fill(count as usize * block_bytes as usize, byte)?;
+    tables.reserve(first, count)
 }
 
 /// Appends one batch of the byte, for as many of the `left` blocks from `first` on as the batch and the
@@ -60,38 +54,29 @@ pub(crate) fn fill_batch<D: Device>(
     alloc: Global,
     tables: &mut Tables,
     device: &mut D,
-    batch: &mut BatchBuffer,
+    batch: &mut BatchBuilder,
     first: u32,
     left: u32,
     byte: u8,
 ) -> Result<u32, DiskFault>
-    requires disk { IsDisk (D.drive device.old) tables.old batch.old }
+    requires agrees { AgreesWith (D.drive device.old) tables.old }
     requires some { 1 ≤ left }
     requires in_range { first + left ≤ size_of tables.old }
-    ensures disk { IsDisk (D.drive device.new) tables.new batch.new }
+    ensures agrees { AgreesWith (D.drive device.new) tables.new }
     ensures count { IfOk result (λ count. (1 ≤ count) × (count ≤ left)) }
-    ensures ok { IfOk result (λ count. WritesBlocks (D.drive device.old) (D.drive device.new) tables.old tables.new first (replicate count (replicate (D.drive device.old).geometry.block byte))) }
-    ensures err { OnErr result (KeepsArray (D.drive device.old) (D.drive device.new) tables.old tables.new) }
+    ensures ok { IfOk result (λ count. WritesBlocks (mounted (D.drive device.old) tables.old) (mounted (D.drive device.new) tables.new) first (replicate count (replicate (D.drive device.old).geometry.block byte))) }
+    ensures err { OnErr result (KeepsArray (mounted (D.drive device.old) tables.old) (mounted (D.drive device.new) tables.new)) }
     ensures cause { IfErr result (λ fault. IsCause (D.drive device.new) tables.new.next fault) }
 {
     let host = make_room(alloc, tables, device)?;
-    if tables.next >= 1 << 63 {
+    if tables.next() >= 1 << 63 {
         return Err(DiskFault::Spent);
     }
     let geometry = device.geometry();
     let count = batch_count(&geometry, host, left);
-    let sequence = tables.next;
-    let Ok(()) = prepare(
-        &mut tables.map,
-        batch,
-        geometry.block,
-        sequence,
-        first,
-        count,
-        byte,
-    ) else {
-        return Err(DiskFault::OutOfMemory);
-    };
-    commit(alloc, tables, device, host, first, count, &batch.bytes)?;
-    Ok(count)
+    prepare(tables, batch, geometry.block, first, count, byte)?;
+    match append_batch(alloc, tables, device, host.zone, batch) {
+        Ok(()) => Ok(count),
+        Err(halt) => Err(fault_of(halt)),
+    }
 }

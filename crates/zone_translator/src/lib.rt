@@ -19,8 +19,6 @@
 //! (`KeepsDisk` in specs/View). A refused write has written a front of its blocks, and nothing else.
 #![tactic(auto)]
 
-mod batch;
-mod buffer;
 mod disk;
 mod fault;
 mod fill;

@@ -1,13 +1,12 @@
 ghost use Rattle.std.specs.Prelude.{◌≡◌, IfErr, OnOk, IfOk};
-ghost use Rattle.zone_translator.specs.Changes.{IsHalt};
+ghost use Rattle.zone_choice.specs.Changes.{IsHalt};
 ghost use Rattle.zone_translator.specs.Mount.{IsFreshDisk, KeepsDrive, MountRefuses, mount_fault};
 
 use drive_port::{Device, PortFault, count_zones};
-use logical_map::Map;
 use nvme_wire::{ReportingOptions, ZoneState};
 use std::alloc::Global;
 use thiserror::Error;
-use zone_choice::{Roles, Tables, fits_reserve};
+use zone_choice::{Tables, fits_reserve};
 
 /// Why a drive is not mounted. `Limits`, `Reserve` and `NotFresh` come exactly where they hold, the
 /// first of them that does; a stop or a failed allocation may come before `NotFresh`.
@@ -42,7 +41,7 @@ fn fault_of(fault: PortFault) -> MountFault
     }
 }
 
-/// The tables of a disk of so many blocks over a drive on which nothing is written. One report tells
+/// The tables of a disk of `blocks` blocks over a drive on which nothing is written. One report tells
 /// how many zones are Empty.
 pub(crate) fn fresh_tables<D: Device>(
     alloc: Global,
@@ -68,12 +67,8 @@ pub(crate) fn fresh_tables<D: Device>(
     if empty != geometry.zones as u64 {
         return Err(MountFault::NotFresh);
     }
-    let Ok(roles) = Roles::new(alloc, geometry.zones) else {
+    let Ok(tables) = Tables::new(alloc, geometry.zones, geometry.size, blocks as u32) else {
         return Err(MountFault::OutOfMemory);
     };
-    Ok(Tables {
-        map: Map::new(alloc, blocks as u32),
-        roles,
-        next: 1,
-    })
+    Ok(tables)
 }

@@ -1,6 +1,8 @@
 ghost use Rattle.std.specs.Prelude.{◌≡◌, ◌≤◌, ◌++◌, ◌<◌, [], IfErr, OnOk, length, replicate, slice_index_or};
-ghost use Rattle.zone_choice.specs.Agreement.{spelled};
-ghost use Rattle.zone_translator.specs.Changes.{AgreesWith, KeepsArray, size_of};
+ghost use Rattle.zone_choice.specs.Agreement.{mounted, spelled};
+ghost use Rattle.zone_choice.specs.Changes.{KeepsArray};
+ghost use Rattle.zone_choice.specs.Tables.{size_of};
+ghost use Rattle.zone_translator.specs.Changes.{AgreesWith};
 ghost use Rattle.zone_translator.specs.Read.{IsReadFault};
 
 use crate::fault::DiskFault;
@@ -8,7 +10,7 @@ use crate::room::fault_of;
 use drive_port::{Device, read};
 use logical_map::Place;
 use std::alloc::AllocError;
-use zone_choice::Tables;
+use zone_choice::{Tables, halt_of};
 
 fn extend_zeros(into: &mut Vec<u8>, count: usize) -> Result<(), AllocError>
     requires { count ≤ 4096 }
@@ -19,7 +21,7 @@ fn extend_zeros(into: &mut Vec<u8>, count: usize) -> Result<(), AllocError>
     Ok(())
 }
 
-/// Shows one block behind what `into` holds: the data at its place, or zeros where it has none.
+/// Shows one block after what `into` holds: the data at its place, or zeros where it has none.
 pub(crate) fn read_block<D: Device>(
     tables: &Tables,
     device: &mut D,
@@ -29,21 +31,18 @@ pub(crate) fn read_block<D: Device>(
 ) -> Result<(), DiskFault>
     requires agrees { AgreesWith (D.drive device.old) tables.now }
     requires in_range { block < size_of tables.now }
-    ensures kept { KeepsArray (D.drive device.old) (D.drive device.new) tables.now tables.now }
+    ensures agrees { AgreesWith (D.drive device.new) tables.now }
+    ensures kept { KeepsArray (mounted (D.drive device.old) tables.now) (mounted (D.drive device.new) tables.now) }
     ensures ok { OnOk result (into.new.items ≡ into.old.items ++ slice_index_or (spelled (D.drive device.old) (size_of tables.now)) block []) }
     ensures err { IfErr result (IsReadFault (D.drive device.new)) }
 {
-    let Place::At(address) = tables.map.get(block) else {
-        let Ok(()) = extend_zeros(into, device.geometry().block as usize) else {
-            return Err(DiskFault::OutOfMemory);
-        };
+    let Place::At(address) = tables.place_of(block) else {
+        extend_zeros(into, device.geometry().block as usize)?;
         return Ok(());
     };
     if let Err(fault) = read(device, address, 1, buffer) {
-        return Err(fault_of(fault));
+        return Err(fault_of(halt_of(fault)));
     }
-    let Ok(()) = into.extend_from_slice(buffer) else {
-        return Err(DiskFault::OutOfMemory);
-    };
+    into.extend_from_slice(buffer)?;
     Ok(())
 }

@@ -1,21 +1,21 @@
 ghost use Rattle.std.specs.Prelude.{◌≡◌, ◌+◌, ◌≤◌, ◌<◌, IfOk, IfErr, OnOk, Some, None};
 ghost use Rattle.drive_port.specs.Contents.{contents};
-ghost use Rattle.zone_translator.specs.Changes.{AgreesWith, HasRoom, IsCause, IsHalt, KeepsArray, disk_fault};
+ghost use Rattle.zone_choice.specs.Agreement.{mounted};
+ghost use Rattle.zone_choice.specs.Changes.{KeepsArray};
+ghost use Rattle.zone_translator.specs.Changes.{AgreesWith, HasRoom, IsCause, disk_fault};
 
 use crate::fault::DiskFault;
-use drive_port::{Device, PortFault, finish};
+use drive_port::{Device, Halt, finish};
 use std::alloc::Global;
-use zone_choice::{Filling, Tables};
+use zone_choice::{Filling, Tables, halt_of};
 
-/// What a halt of the drive is to the disk. The drive refuses no command of a disk.
-pub(crate) fn fault_of(fault: PortFault) -> DiskFault
-    requires { IsHalt fault }
-    ensures { result ≡ disk_fault fault }
+/// What a halt of the drive is to a disk.
+pub(crate) fn fault_of(halt: Halt) -> DiskFault
+    ensures { result ≡ disk_fault halt }
 {
-    match fault {
-        PortFault::Memory => DiskFault::OutOfMemory,
-        PortFault::Stopped => DiskFault::Stopped,
-        PortFault::Refused(_) => unreachable!(),
+    match halt {
+        Halt::Memory => DiskFault::OutOfMemory,
+        Halt::Stopped => DiskFault::Stopped,
     }
 }
 
@@ -29,35 +29,39 @@ fn retire<D: Device>(
     requires agrees { AgreesWith (D.drive device.old) tables.old }
     requires host { tables.old.roles.host ≡ Some host }
     requires few { (D.drive device.old).geometry.capacity < host.written + 2 }
-    ensures kept { KeepsArray (D.drive device.old) (D.drive device.new) tables.old tables.new }
+    ensures kept { KeepsArray (mounted (D.drive device.old) tables.old) (mounted (D.drive device.new) tables.new) }
     ensures ok { OnOk result (tables.new.roles.host ≡ None) }
     ensures err { IfErr result (λ fault. IsCause (D.drive device.new) tables.new.next fault) }
 {
     let geometry = device.geometry();
     if host.written == geometry.capacity {
-        tables.roles.seal();
+        tables.seal();
         return Ok(());
     }
     let start = host.zone as u64 * geometry.size as u64;
     if let Err(fault) = finish(alloc, device, start) {
-        return Err(fault_of(fault));
+        return Err(fault_of(halt_of(fault)));
     }
-    tables.roles.seal();
+    tables.seal();
     Ok(())
 }
 
-/// Makes an empty zone the host zone, where none is.
+/// Makes an empty zone the host zone, where there is none.
 fn take<D: Device>(tables: &mut Tables, device: &D) -> Result<Filling, DiskFault>
     requires agrees { AgreesWith (D.drive device.now) tables.old }
     requires host { tables.old.roles.host ≡ None }
-    ensures kept { KeepsArray (D.drive device.now) (D.drive device.now) tables.old tables.new }
-    ensures ok { IfOk result (λ host. (tables.new.roles.host ≡ Some host) × HasRoom (D.drive device.now) tables.new host) }
+    ensures kept { KeepsArray (mounted (D.drive device.now) tables.old) (mounted (D.drive device.now) tables.new) }
+    ensures ok { IfOk result (λ host. (tables.new.roles.host ≡ Some host) × HasRoom (D.drive device.now) host) }
     ensures err { IfErr result (λ fault. IsCause (D.drive device.now) tables.new.next fault) }
 {
-    let Some(zone) = tables.roles.take_empty() else {
+    let Some(zone) = tables.take_empty() else {
         return Err(DiskFault::NoRoom);
     };
-    Ok(Filling { zone, written: 0 })
+    Ok(Filling {
+        zone,
+        written: 0,
+        may_open: false,
+    })
 }
 
 /// A host zone with two free blocks at least: the one that there is, or else the lowest empty zone.
@@ -67,11 +71,11 @@ pub(crate) fn make_room<D: Device>(
     device: &mut D,
 ) -> Result<Filling, DiskFault>
     requires agrees { AgreesWith (D.drive device.old) tables.old }
-    ensures kept { KeepsArray (D.drive device.old) (D.drive device.new) tables.old tables.new }
-    ensures ok { IfOk result (λ host. (tables.new.roles.host ≡ Some host) × HasRoom (D.drive device.new) tables.new host) }
+    ensures kept { KeepsArray (mounted (D.drive device.old) tables.old) (mounted (D.drive device.new) tables.new) }
+    ensures ok { IfOk result (λ host. (tables.new.roles.host ≡ Some host) × HasRoom (D.drive device.new) host) }
     ensures err { IfErr result (λ fault. IsCause (D.drive device.new) tables.new.next fault) }
 {
-    let Some(host) = tables.roles.host() else {
+    let Some(host) = tables.host() else {
         return take(tables, device);
     };
     if host.written + 2 <= device.geometry().capacity {

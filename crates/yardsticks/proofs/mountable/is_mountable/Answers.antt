@@ -16,7 +16,7 @@ returns-then-not-are_usable c =
 pub returns-then-not-are_numbered : goal.returns-then-not-are_numbered
 returns-then-not-are_numbered c =
     let are = rw (c.in-Some.is) at c.in_ok-logs.ensures.some in
-    (λ e. absurd (false≢true e), λ all. c.if-not-are_numbered.ensures.1 (rw c.deref.ensures.value (numbered-logs c.args.n c.in-Some.logs.items (rw are.logs_are all.batches))))
+    (λ e. absurd (false≢true e), λ all. c.if-not-are_numbered.ensures.1 (rw c.deref.ensures.value (numbered-logs c.args.n c.in-Some.logs.items (rw are.logs_are all.sound.batches))))
 
 pub returns : goal.returns
 returns c =

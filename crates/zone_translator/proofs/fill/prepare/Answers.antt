@@ -2,6 +2,6 @@ use Rattle.std.proofs.Common.{arith}
 use Rattle.zone_translator.proofs.BatchLaws.{host-heading}
 use Rattle.zone_translator.proofs.fill.prepare.Goals as goal
 
-pub fill_buffer-requires-clause-heading : goal.fill_buffer-requires-clause-heading
-fill_buffer-requires-clause-heading c =
-    rw c.in_ok-name_blocks.ensures.ok (host-heading c.args.block_bytes c.args.sequence c.args.first c.args.count c.requires.room (omega arith) (omega arith))
+pub encode-requires-clause-heading : goal.encode-requires-clause-heading
+encode-requires-clause-heading c =
+    rw (c.in_ok-name_data.ensures, c.start.ensures) (host-heading c.args.block_bytes c.next.result c.args.first c.args.count c.requires.room (omega arith) (omega arith))

@@ -1,7 +1,7 @@
 use Rattle.std.proofs.Common.{rules, refl}
 use Rattle.zone_states.specs.Geometry.{IsInRange}
 use Rattle.zone_choice.specs.Reserve.{FitsReserve}
-use Rattle.zone_translator.proofs.MountLaws.{fresh-disk, not-fresh, roles-are}
+use Rattle.zone_translator.proofs.MountLaws.{fresh-disk, not-fresh}
 use Rattle.zone_translator.proofs.mount.fresh_tables.Goals as goal
 
 pub returns-then-empty-geometry-clause-err : goal.returns-then-empty-geometry-clause-err
@@ -15,4 +15,5 @@ returns-clause-ok g c =
     let range : IsInRange c.geometry-geometry.result = c.in-Ok.ensures.ok in
     let fits : FitsReserve c.geometry-geometry.result c.args.blocks = search rules in
     fresh-disk (g.D.Device.drive c.args.device.now) (g.D.Device.drive c.count_zones.new.device) c.geometry-geometry.result c.args.blocks c.in-Ok-count_zones.empty _ c.geometry-geometry.ensures.value range fits (c.in-Ok-count_zones.ensures.all_empty refl) c.if-empty-geometry.false
-    c.count_zones.ensures.obeys.was_lawful c.count_zones.ensures.obeys.lawful c.count_zones.ensures.kept c.in-Ok-count_zones.ensures.counted.counts.refused c.in-Ok-count_zones.ensures.counted.counts.appended c.new-2.ensures (roles-are _ _ _ c.in-Ok-new.ensures.0 c.in-Ok-new.ensures.1) refl
+    c.count_zones.ensures.obeys.was_lawful c.count_zones.ensures.obeys.lawful c.count_zones.ensures.kept c.in-Ok-count_zones.ensures.counted.counts.refused c.in-Ok-count_zones.ensures.counted.counts.appended
+    (record { places = c.in-Ok-new.ensures.places; zones = c.in-Ok-new.ensures.zones; zone_size = c.in-Ok-new.ensures.zone_size; roles = c.in-Ok-new.ensures.roles; next = c.in-Ok-new.ensures.next })

@@ -1,32 +1,28 @@
 use Rattle.std.proofs.Common.{◌∙◌, ◌++◌, List, ℕ, ap}
 use Rattle.zone_states.specs.declared.geometry.Geometry.{Geometry}
+use Rattle.zone_choice.proofs.ChangeLaws.{keeps-halt, keeps-refl}
 use Rattle.zone_translator.proofs.ReadLaws.{place_halts, place_shown, zeros_shown}
-use Rattle.zone_translator.proofs.RoomLaws.{keeps-halt, keeps-refl}
 use Rattle.zone_translator.proofs.read.read_block.Goals as goal
 
 pub returns-in_default-clause-kept : goal.returns-in_default-clause-kept
-returns-in_default-clause-kept g c = keeps-refl _ c.args.tables.now c.requires.agrees
+returns-in_default-clause-kept g c = keeps-refl _ c.args.tables.now c.requires.agrees.agrees
 
 pub returns-in_default-clause-ok : goal.returns-in_default-clause-ok
 returns-in_default-clause-ok g c =
     let old = g.D.Device.drive c.args.device.now in
-    let zeros = zeros_shown old c.args.tables.now c.args.block c.get.result c.requires.agrees c.requires.in_range c.get.ensures c.in_default.not-At in
-    c.in-Ok.ensures ∙ rw (ap (λ (x : Geometry). x.block) c.geometry.ensures.value) (ap (λ (xs : List ℕ). c.args.into.now.items ++ xs) zeros)
+    let zeros = zeros_shown old c.args.tables.now c.args.block c.place_of.result c.requires.agrees c.requires.in_range c.place_of.ensures c.in_default.not-At in
+    c.in_ok-extend_zeros.ensures ∙ rw (ap (λ (x : Geometry). x.block) c.geometry.ensures.value) (ap (λ (xs : List ℕ). c.args.into.now.items ++ xs) zeros)
 
-pub fault_of-requires : goal.fault_of-requires
-fault_of-requires g c =
+pub halt_of-requires : goal.halt_of-requires
+halt_of-requires g c =
     (place_halts (g.D.Device.drive c.args.device.now) _ c.args.tables.now c.args.block c.in-At.address _ c.in-Err.fault c.requires.agrees c.requires.in_range c.in-At.ensures c.in-Err.ensures.gives c.in-Err.ensures.taken).halt
 
 pub returns-in-Err-clause-kept : goal.returns-in-Err-clause-kept
 returns-in-Err-clause-kept g c =
-    keeps-halt _ _ c.args.tables.now (place_halts (g.D.Device.drive c.args.device.now) _ c.args.tables.now c.args.block c.in-At.address _ c.in-Err.fault c.requires.agrees c.requires.in_range c.in-At.ensures c.in-Err.ensures.gives c.in-Err.ensures.taken).same c.requires.agrees
-
-pub returns-in-Err-clause-err : goal.returns-in-Err-clause-err
-returns-in-Err-clause-err g c =
-    rw c.fault_of.ensures (place_halts (g.D.Device.drive c.args.device.now) (g.D.Device.drive c.read.new.device) c.args.tables.now c.args.block c.in-At.address _ c.in-Err.fault c.requires.agrees c.requires.in_range c.in-At.ensures c.in-Err.ensures.gives c.in-Err.ensures.taken).cause
+    keeps-halt _ _ c.args.tables.now (place_halts (g.D.Device.drive c.args.device.now) _ c.args.tables.now c.args.block c.in-At.address _ c.in-Err.fault c.requires.agrees c.requires.in_range c.in-At.ensures c.in-Err.ensures.gives c.in-Err.ensures.taken).same c.requires.agrees.agrees
 
 pub returns-clause-ok : goal.returns-clause-ok
 returns-clause-ok g c =
     let old = g.D.Device.drive c.args.device.now in
     let bytes = place_shown old c.args.tables.now c.args.block c.in-At.address _ c.requires.agrees c.requires.in_range c.in-At.ensures c.in_default-read.ensures.shown in
-    c.in-Ok-extend_from_slice.ensures.items ∙ rw c.deref.ensures.value (ap (λ (xs : List ℕ). c.args.into.now.items ++ xs) bytes)
+    c.in_ok-extend_from_slice.ensures.items ∙ rw c.deref.ensures.value (ap (λ (xs : List ℕ). c.args.into.now.items ++ xs) bytes)

@@ -1,19 +1,26 @@
-use Rattle.std.proofs.Common.{sym, ◌∙◌, ap, arith}
+use Rattle.std.proofs.Common.{sym, ◌∙◌, ap, arith, is_some}
 use Rattle.std.specs.Option.{option_map}
 use Rattle.logical_map.specs.Pages.{page_of}
-use Rattle.logical_map.proofs.Showing.{shown-at, length-shown, none-at, some-at}
+use Rattle.logical_map.proofs.Showing.{shown-at, length-shown, none-at, ready-at, some-at}
 use Rattle.logical_map.proofs.map.Map.get.Goals as goal
 
-pub returns-in-None : goal.returns-in-None
-returns-in-None c =
+pub returns-in-None-clause-place : goal.returns-in-None-clause-place
+returns-in-None-clause-place c =
     let page = page_of c.self.inside.pages in
     let below = rw (← c.self.view_is) at c.requires in
     let at = shown-at page c.self.inside.count c.args.block (omega (arith, below, length-shown page c.self.inside.count)) in
     rw (← c.self.view_is) (sym (at ∙ none-at page c.args.block (ap (option_map (λ b. b.value)) (sym c.in-None.ensures.value))))
 
-pub returns-in-Some : goal.returns-in-Some
-returns-in-Some c =
+pub returns-in-Some-clause-place : goal.returns-in-Some-clause-place
+returns-in-Some-clause-place c =
     let page = page_of c.self.inside.pages in
     let below = rw (← c.self.view_is) at c.requires in
     let at = shown-at page c.self.inside.count c.args.block (omega (arith, below, length-shown page c.self.inside.count)) in
     rw (← c.self.view_is, c.deref.ensures) (sym (at ∙ some-at page c.args.block c.in-Some.page.now.value (ap (option_map (λ b. b.value)) (sym c.in-Some.ensures.value))))
+
+pub returns-in-Some-clause-ready : goal.returns-in-Some-clause-ready
+returns-in-Some-clause-ready c =
+    let page = page_of c.self.inside.pages in
+    let below = rw (← c.self.view_is) at c.requires in
+    let there = ready-at page c.self.inside.count c.args.block (omega (arith, below, length-shown page c.self.inside.count)) in
+    rw (← c.self.view_is) (λ placed. there ∙ ap is_some (ap (option_map (λ b. b.value)) (sym c.in-Some.ensures.value)))

@@ -8,11 +8,11 @@ pub returns-then-contains_key-clause-ok : goal.returns-then-contains_key-clause-
 returns-then-contains_key-clause-ok c =
     let page = page_of c.self.inside.pages in
     let below = rw (← c.self.view_is) at c.requires in
-    rw (← c.self.view_is) (reserves_there page c.self.inside.count c.args.block (omega (arith, below, length-shown page c.self.inside.count)) (there-from _ c.if-contains_key.ensures))
+    rw (← c.self.view_is) (reserves_there page c.self.inside.count c.self.inside.zones c.self.inside.zone_size c.args.block (omega (arith, below, length-shown page c.self.inside.count)) (there-from _ c.if-contains_key.ensures))
 
 pub returns-clause-ok : goal.returns-clause-ok
 returns-clause-ok c =
     let page = page_of c.self.inside.pages in
     let below = rw (← c.self.view_is) at c.requires in
     let u = c.in_ok-insert.ensures.updates in
-    rw (← c.self.view_is) (reserves_fresh page (page_of c.insert.new.self) c.self.inside.count c.args.block (omega (arith, below, length-shown page c.self.inside.count)) (missing-from _ c.if-contains_key.ensures) (ap (option_map (λ b. b.value)) u.1 ∙ ap Some c.in_ok-fresh.ensures.ok) (λ m apart. ap (option_map (λ b. b.value)) (u.2 m (is_at-other (c.args.block / 256) m apart))))
+    rw (← c.self.view_is) (reserves_fresh page (page_of c.insert.new.self) c.self.inside.count c.self.inside.zones c.self.inside.zone_size c.args.block (omega (arith, below, length-shown page c.self.inside.count)) (missing-from _ c.if-contains_key.ensures) (ap (option_map (λ b. b.value)) u.1 ∙ ap Some c.in_ok-fresh.ensures.ok) (λ m apart. ap (option_map (λ b. b.value)) (u.2 m (is_at-other (c.args.block / 256) m apart))))

@@ -13,7 +13,7 @@ returns c =
     let page = page_of c.self.inside.pages in
     let page' = page_of (c.get_mut.follows.lender w) in
     let below = rw (← c.self.view_is) at c.requires.in_range in
-    rw (← c.self.view_is) (sets page page' c.self.inside.count c.args.block c.deref_mut.result.now c.args.place (omega (arith, below, length-shown page c.self.inside.count)) c.put.ensures.long
+    rw (← c.self.view_is) (sets page page' c.self.inside.count c.self.inside.zones c.self.inside.zone_size c.args.block c.deref_mut.result.now c.args.place (omega (arith, below, length-shown page c.self.inside.count)) c.put.ensures.long
     (ap (option_map (λ b. b.value)) (sym c.in-Some.ensures.value) ∙ ap Some (sym c.deref_mut.ensures.value)) (ap (option_map (λ b. b.value)) u.1 ∙ ap Some c.put.ensures.set)
     (λ m apart. ap (option_map (λ b. b.value)) (u.2 m (is_at-other (c.args.block / 256) m apart))))
 

@@ -1,5 +1,5 @@
 use Rattle.std.proofs.Common.{arith}
-use Rattle.zone_choice.proofs.RolesLaws.{count-none, counted-take}
+use Rattle.zone_choice.proofs.RolesLaws.{count-none, counted-take, roles_with}
 use Rattle.zone_choice.proofs.roles.Roles.take_empty.Goals as goal
 
 pub returns-in_default-clause-none : goal.returns-in_default-clause-none
@@ -10,4 +10,4 @@ returns-in_default-clause-none c =
 pub invariant_of-self : goal.invariant_of-self
 invariant_of-self c =
     let found = rw (← c.self.view_is) at c.in-Some.ensures.some in
-    counted-take c.self.inside.empty.items c.self.inside.host c.self.inside.count c.self.inside.lowest c.in-Some.zone c.self.invariant found.in_range found.is_empty found.lowest
+    counted-take (roles_with c.self.inside.empty.items c.self.inside.host c.self.inside.second) c.self.inside.count c.self.inside.lowest c.in-Some.zone c.self.invariant found.in_range found.is_empty found.lowest

@@ -6,7 +6,7 @@ use Rattle.zone_translator.proofs.disk.Disk.is_done.Goals as goal
 
 pub returns-then-blocks-size-clause-known : goal.returns-then-blocks-size-clause-known
 returns-then-blocks-size-clause-known g c =
-    let size : disk_size c.args.self.now ≡ c.len-size.result = rw (← c.self.view_is) (sym c.len-size.ensures) in
+    let size : disk_size c.args.self.now ≡ c.blocks-size.result = rw (← c.self.view_is) (sym c.blocks-size.ensures) in
     known-past c.args.self.now c.args.first c.args.blocks (omega arith)
     (elim c.then-blocks-size.branch as (λ _. disk_size c.args.self.now < c.args.first + c.args.blocks) [
       | then-blocks-size-via-then-blocks-size w ↦ omega (arith, size)
@@ -15,10 +15,10 @@ returns-then-blocks-size-clause-known g c =
 
 pub returns-in-Stopped-clause-known : goal.returns-in-Stopped-clause-known
 returns-in-Stopped-clause-known g c =
-    let size : disk_size c.args.self.now ≡ c.len-size.result = rw (← c.self.view_is) (sym c.len-size.ensures) in
+    let size : disk_size c.args.self.now ≡ c.blocks-size.result = rw (← c.self.view_is) (sym c.blocks-size.ensures) in
     known-stopped c.args.self.now c.args.first c.args.blocks (omega arith) (omega (arith, size)) (rw (← c.self.view_is) c.in-Stopped.is)
 
 pub returns-in-Serving-clause-known : goal.returns-in-Serving-clause-known
 returns-in-Serving-clause-known g c =
-    let size : disk_size c.args.self.now ≡ c.len-size.result = rw (← c.self.view_is) (sym c.len-size.ensures) in
+    let size : disk_size c.args.self.now ≡ c.blocks-size.result = rw (← c.self.view_is) (sym c.blocks-size.ensures) in
     known-none c.args.self.now c.args.first c.args.blocks (omega arith) (omega (arith, size)) (rw (← c.self.view_is) c.in-Serving.is)

@@ -1,0 +1,247 @@
+-- What commands change of a mounted disk: a halt nothing, an Append of a batch what the batch says.
+use Rattle.std.proofs.Common.{◌≡◌, ℕ, zero, suc, ◌+◌, ◌*◌, ◌/◌, ◌<◌, ◌≤◌, ◌^◌, List, [], ◌∷◌, length, take, drop, set, Some, Err, refl, sym, ap, ◌∙◌, inl, inr, arith}
+use Rattle.std.specs.List.{AllByRecursion}
+use Rattle.std.proofs.lemmas.List.{length-append, take_at}
+use Rattle.std.proofs.lemmas.Nat.{div-mul-add, mul-le}
+use Rattle.std.proofs.Math.Nat.{add-mul}
+use Rattle.nvme_wire.specs.declared.command.Command.{Command}
+use Rattle.nvme_wire.specs.declared.command.Command.TheVariants.{Append}
+use Rattle.zone_states.specs.declared.geometry.Geometry.{Geometry}
+use Rattle.zone_states.specs.Geometry.{IsInRange}
+use Rattle.zone_states.specs.Zone.{cut_blocks}
+use Rattle.drive_port.specs.Calls.{Appended, AppendGives, CallGives, CanAppend, IsNotRefused, IsWholeBlocks, block_count}
+use Rattle.drive_port.specs.Contents.{Counts, SameContents, content_at, contents}
+use Rattle.drive_port.specs.Drive.{DriveState, IsLawful}
+use Rattle.drive_port.specs.declared.calls.PortFault.{PortFault}
+use Rattle.drive_port.specs.declared.calls.PortFault.TheVariants as port
+use Rattle.batch_log.specs.declared.header.Entry.{Entry}
+use Rattle.batch_log.specs.Header.{IsHeading, header_block}
+use Rattle.batch_log.specs.Log.{batch_blocks, batch_size, data_count, one_unless}
+use Rattle.batch_log.proofs.HeaderLaws.{header_length}
+use Rattle.logical_map.specs.Places.{MapView}
+use Rattle.logical_map.specs.declared.place.Place.{Place}
+use Rattle.zone_choice.specs.Agreement.{Agrees, Mounted, mounted, spelled}
+use Rattle.zone_choice.specs.Builder.{BuilderView, IsBuilt, built, placed}
+use Rattle.zone_choice.specs.Changes.{CanPlace, HasHalted, IsHalt, KeepsArray, Places, halt_of, told_over}
+use Rattle.zone_choice.specs.Records.{entry_records, over, record_of, shown}
+use Rattle.zone_choice.specs.Roles.{RolesView, fillings, wrote}
+use Rattle.zone_choice.specs.Tables.{MakesRoom, TablesView, size_of}
+use Rattle.zone_choice.proofs.AgreementLaws.{AppendsBatch, IsPlaced, agrees_append, agrees_room, agrees_same, size-placed, spelled_append, spelled_same, tables_after, written_in}
+use Rattle.zone_choice.proofs.AllLaws.{all-weaker}
+use Rattle.zone_choice.proofs.BuilderLaws.{placed-over, with_places}
+use Rattle.zone_choice.proofs.CommandLaws.{can_append, fillings-few, filling-in_range, zone-start}
+
+-- ---- nothing changes
+
+pub keeps-refl : (drive : DriveState) (tables : TablesView) → Agrees (mounted drive tables) → KeepsArray (mounted drive tables) (mounted drive tables)
+keeps-refl drive tables agrees = record { agrees = agrees; array = refl; places = refl; next = refl; spare = λ some. some; second = refl; geometry = refl; refused = refl; appended = refl }
+
+pub keeps-halt : (old new : DriveState) (tables : TablesView) → new ≡ old → Agrees (mounted old tables) → KeepsArray (mounted old tables) (mounted new tables)
+keeps-halt old new tables same agrees = rw same (keeps-refl old tables agrees)
+
+-- a command that changes no content
+pub keeps-contents : (old new : DriveState) (tables : TablesView) → Agrees (mounted old tables) → SameContents old new → IsLawful new → Counts old new 0 → KeepsArray (mounted old tables) (mounted new tables)
+keeps-contents old new tables agrees same lawful counts = record {
+  agrees = agrees_same old new tables same lawful agrees;
+  array = spelled_same old new (size_of tables) same;
+  places = refl;
+  next = refl;
+  spare = λ some. some;
+  second = refl;
+  geometry = same.geometry;
+  refused = counts.refused;
+  appended = omega (arith, counts.appended);
+}
+
+pub keeps-join : (a b c : Mounted) → KeepsArray a b → KeepsArray b c → KeepsArray a c
+keeps-join a b c p q = record {
+  agrees = q.agrees;
+  array = q.array ∙ p.array;
+  places = q.places ∙ p.places;
+  next = q.next ∙ p.next;
+  spare = λ some. q.spare (p.spare some);
+  second = q.second ∙ p.second;
+  geometry = q.geometry ∙ p.geometry;
+  refused = q.refused ∙ p.refused;
+  appended = q.appended ∙ p.appended;
+}
+
+-- the tables have more room
+pub keeps-room : (drive : DriveState) (old new : TablesView) → MakesRoom old new → Agrees (mounted drive old) → KeepsArray (mounted drive old) (mounted drive new)
+keeps-room drive old new room agrees = record {
+  agrees = agrees_room drive old new room agrees;
+  array = ap (λ (ps : List Place). spelled drive (length ps)) room.places;
+  places = room.places;
+  next = room.next;
+  spare = λ some. rw room.roles some;
+  second = ap (λ (r : RolesView). r.second) room.roles;
+  geometry = refl;
+  refused = refl;
+  appended = refl;
+}
+
+-- a drive that halted is as it was
+pub record Halted (old new : DriveState) (fault : PortFault) : Type 0 where
+  pub halt : IsHalt fault
+  pub same : new ≡ old
+  pub cause : HasHalted new (halt_of fault)
+
+pub halted : (V : Type 0) (old new : DriveState) (command : Command) (bytes returned : List ℕ) (fault : PortFault) → CallGives old command bytes (Err fault) returned new → IsNotRefused {V = V} (Err fault) → Halted old new fault
+halted V old new command bytes returned (port.Refused status) gives passed = absurd passed
+halted V old new command bytes returned port.Memory gives passed = record { halt = tt; same = gives.1.1; cause = tt }
+halted V old new command bytes returned port.Stopped gives passed = record { halt = tt; same = gives.1.1; cause = rw gives.1.1 gives.1.0 }
+
+-- ---- the bytes of a batch
+
+pub large-block : (g : Geometry) → IsInRange g → 512 ≤ g.block
+large-block g range = elim range.block as (λ _. 512 ≤ g.block) [ inl e ↦ omega arith | inr e ↦ omega arith ]
+
+record IsSized (g : Geometry) (builder : BuilderView) : Type 0 where
+  long : length builder.bytes ≡ batch_size (built g.block builder) * g.block
+  count_is : block_count g builder.bytes ≡ batch_size (built g.block builder)
+  cut : cut_blocks g.block (block_count g builder.bytes) builder.bytes ≡ batch_blocks g.block (built g.block builder)
+
+sized : (g : Geometry) (builder : BuilderView) → IsInRange g → IsHeading g.block builder.heading → IsBuilt g.block builder → IsSized g builder
+sized g builder range says is =
+    let block = g.block in
+    let count = data_count builder.heading.entries in
+    let large = large-block g range in
+    let header = header_block block builder.heading in
+    let bytes = builder.bytes in
+    let one : length header ≡ block = header_length block builder.heading (omega arith) says in
+    let total : length bytes ≡ (count + 1) * block + 0 = ap length is.header ∙ omega (arith, length-append header (drop block bytes), one, is.data_length, add-mul count 1 block) in
+    let many : block_count g bytes ≡ count + 1 = ap (λ (n : ℕ). n / block) total ∙ div-mul-add (count + 1) block 0 (omega arith) in
+    let number : block_count g bytes ≡ suc count = omega (arith, many) in
+    let front : take block bytes ≡ header = ap (take block) is.header ∙ take_at header (drop block bytes) block one in
+    let suc_is : suc count ≡ count + 1 = omega arith in
+    record {
+      long = rw suc_is (omega (arith, total));
+      count_is = number;
+      cut = rw number (ap (λ (h : List ℕ). h ∷ cut_blocks block count (drop block bytes)) front);
+    }
+
+-- the Append is of whole blocks
+pub whole_blocks : (old : DriveState) (tables : TablesView) (zone : ℕ) (builder : BuilderView) (bytes : List ℕ) → bytes ≡ builder.bytes → IsBuilt old.geometry.block builder → CanPlace (mounted old tables) zone (built old.geometry.block builder) → IsWholeBlocks old.geometry.block bytes
+whole_blocks old tables zone builder bytes bytes-are is can =
+    let g = old.geometry in
+    let s = sized g builder can.agrees.geometry can.heading is in
+    let same : length builder.bytes / g.block ≡ batch_size (built g.block builder) = s.count_is in
+    rw bytes-are (record {
+      whole = s.long ∙ ap (λ (n : ℕ). n * g.block) (sym same);
+      some = omega (arith, same);
+      few = omega (arith, same, can.few, can.agrees.geometry.transfer);
+    })
+
+-- and the drive takes it
+place_can : (old : DriveState) (tables : TablesView) (zone start : ℕ) (builder : BuilderView) → IsBuilt old.geometry.block builder → CanPlace (mounted old tables) zone (built old.geometry.block builder) → start ≡ zone * old.geometry.size
+    → CanAppend old start (block_count old.geometry builder.bytes)
+place_can old tables zone start builder is can start-is =
+    let s = sized old.geometry builder can.agrees.geometry can.heading is in
+    can_append old tables zone start (block_count old.geometry builder.bytes) can.agrees can.filling can.alone start-is (omega (arith, s.count_is)) (omega (arith, s.count_is, can.few)) (omega (arith, s.count_is, can.room))
+
+pub place_halts : (old new : DriveState) (tables : TablesView) (zone start : ℕ) (builder : BuilderView) (bytes : List ℕ) (fault : PortFault) → bytes ≡ builder.bytes → IsBuilt old.geometry.block builder → CanPlace (mounted old tables) zone (built old.geometry.block builder) → start ≡ zone * old.geometry.size
+    → AppendGives old start bytes (Err fault) new → (CanAppend old start (block_count old.geometry bytes) → IsNotRefused {V = ℕ} (Err fault)) → Halted old new fault
+place_halts old new tables zone start builder bytes fault bytes-are is can start-is gives passed =
+    halted ℕ old new (Append start (block_count old.geometry bytes)) bytes gives.0 fault gives.1 (passed (rw bytes-are (place_can old tables zone start builder is can start-is)))
+
+-- where a batch lies
+pub address-fits : (old new : DriveState) (tables : TablesView) (zone start address : ℕ) (builder : BuilderView) (bytes : List ℕ) → CanPlace (mounted old tables) zone (built old.geometry.block builder) → start ≡ zone * old.geometry.size
+    → Appended old new start bytes address → address < 2 ^ 63
+address-fits old new tables zone start address builder bytes can start-is appended =
+    let g = old.geometry in
+    let index = (zone-start zone g.size can.agrees.geometry.size.0).0 in
+    let here : length (content_at (contents old.zones) (start / g.size)).blocks ≡ written_in old zone = rw (start-is, index) refl in
+    let below : zone * g.size ≤ 65536 * 1048576 = mul-le zone g.size 65536 1048576 (omega (arith, filling-in_range old tables zone can.agrees can.filling, can.agrees.lawful.count, can.agrees.geometry.zones)) (omega (arith, can.agrees.geometry.size)) in
+    omega (arith, appended.address_is, here, start-is, below, can.room, can.agrees.geometry.capacity, can.agrees.geometry.size)
+
+-- no zone that is being filled has more written than its number holds
+pub written-fits : (old : DriveState) (tables : TablesView) (zone blocks : ℕ) (builder : BuilderView) → CanPlace (mounted old tables) zone (built old.geometry.block builder) → blocks ≡ batch_size (built old.geometry.block builder)
+    → AllByRecursion (λ f. f.written + blocks < 2 ^ 32) (fillings tables.roles)
+written-fits old tables zone blocks builder can blocks-is =
+    let few = can.few in
+    let transfer = can.agrees.geometry.transfer in
+    let capacity = can.agrees.geometry.capacity in
+    let size = can.agrees.geometry.size in
+    all-weaker (λ f. f.written ≤ old.geometry.capacity) (λ f. f.written + blocks < 2 ^ 32) (fillings tables.roles) (λ f le. omega arith) (fillings-few old tables can.agrees)
+
+abbrev pub tables_placed : TablesView → ℕ → BuilderView → ℕ → ℕ → TablesView
+tables_placed tables zone builder address blocks = record {
+  map = record tables.map { places = placed address (address + 1) builder.heading.entries tables.map.places };
+  roles = wrote tables.roles zone blocks;
+  next = tables.next + 1;
+}
+
+abbrev advanced : TablesView → ℕ → ℕ → TablesView
+advanced tables zone blocks = record tables { roles = wrote tables.roles zone blocks; next = tables.next + 1 }
+
+-- how many blocks the batch takes
+pub size-built : (block_bytes blocks : ℕ) (builder : BuilderView) (entries : List Entry) → entries ≡ builder.heading.entries → blocks ≡ 1 + data_count entries → blocks ≡ batch_size (built block_bytes builder)
+size-built block_bytes blocks builder entries entries-are blocks-is = let here = rw entries-are at blocks-is in omega arith
+
+-- the tables after it
+pub placed-tables : (tables mid after : TablesView) (zone address blocks : ℕ) (builder : BuilderView) (entries : List Entry) → entries ≡ builder.heading.entries → mid ≡ with_places tables (placed address (address + 1) entries tables.map.places)
+    → after ≡ record mid { roles = wrote mid.roles zone blocks; next = mid.next + 1 } → after ≡ tables_placed tables zone builder address blocks
+placed-tables tables mid after zone address blocks builder entries entries-are mid-is after-is =
+    after-is ∙ ap (λ (t : TablesView). advanced t zone blocks) (mid-is ∙ ap (λ (es : List Entry). with_places tables (placed address (address + 1) es tables.map.places)) entries-are)
+
+pub few-entries : (old : DriveState) (tables : TablesView) (zone : ℕ) (builder : BuilderView) → CanPlace (mounted old tables) zone (built old.geometry.block builder) → length builder.heading.entries < 2 ^ 31
+few-entries old tables zone builder can =
+    let room = can.heading.room in
+    elim can.agrees.geometry.block as (λ _. length builder.heading.entries < 2 ^ 31) [ inl e ↦ (let few = rw e at room in omega arith) | inr e ↦ (let few = rw e at room in omega arith) ]
+
+-- ---- the batch is appended
+
+appends_batch : (old new : DriveState) (tables : TablesView) (zone start address : ℕ) (builder : BuilderView) → IsBuilt old.geometry.block builder → CanPlace (mounted old tables) zone (built old.geometry.block builder) → start ≡ zone * old.geometry.size
+    → Appended old new start builder.bytes address → IsLawful new → AppendsBatch old new zone tables.next (size_of tables) (built old.geometry.block builder)
+appends_batch old new tables zone start address builder is can start-is appended lawful =
+    let g = old.geometry in
+    let s = sized g builder can.agrees.geometry can.heading is in
+    let index = (zone-start zone g.size can.agrees.geometry.size.0).0 in
+    record {
+      batch = record { heading = can.heading; body = length-cut g.block (data_count builder.heading.entries) (drop g.block builder.bytes) };
+      sequence = can.sequence;
+      room = can.next;
+      blocks = can.in_range;
+      geometry = appended.geometry;
+      lawful = lawful;
+      appends = rw (start-is, index, s.cut) at appended.contents;
+    }
+  where
+    length-cut : (size n : ℕ) (xs : List ℕ) → length (cut_blocks size n xs) ≡ n
+    length-cut size zero xs = refl
+    length-cut size (suc n) xs = let rest = length-cut size n (drop size xs) in omega (arith, rest)
+
+-- what a batch says of the array does not depend on where it lies
+told_anywhere : (size sequence zone header k : ℕ) (body : List (List ℕ)) (es : List Entry) (array : List (List ℕ)) → over (shown size) (entry_records sequence body zone header k es) array ≡ over (shown size) (entry_records sequence body 0 0 k es) array
+told_anywhere size sequence zone header k body [] array = refl
+told_anywhere size sequence zone header k body (e ∷ es) array =
+    ap (λ (xs : List (List ℕ)). set xs e.block (shown size (Some (record_of sequence body zone header k e)))) (told_anywhere size sequence zone header (k + one_unless e.trim) body es array)
+
+pub place_writes : (old new : DriveState) (tables after : TablesView) (zone start address blocks : ℕ) (builder : BuilderView) (bytes : List ℕ) → bytes ≡ builder.bytes → IsBuilt old.geometry.block builder → CanPlace (mounted old tables) zone (built old.geometry.block builder) → start ≡ zone * old.geometry.size
+    → Appended old new start bytes address → IsLawful new → blocks ≡ batch_size (built old.geometry.block builder) → after ≡ tables_placed tables zone builder address blocks
+    → Places (mounted old tables) (mounted new after) zone (built old.geometry.block builder)
+place_writes old new tables after zone start address blocks builder bytes bytes-are is can start-is appended lawful blocks-is after-is =
+    let g = old.geometry in
+    let n = size_of tables in
+    let b = built g.block builder in
+    let a = appends_batch old new tables zone start address builder is can start-is (rw bytes-are at appended) lawful in
+    let index = (zone-start zone g.size can.agrees.geometry.size.0).0 in
+    let here : length (content_at (contents old.zones) (start / g.size)).blocks ≡ written_in old zone = rw (start-is, index) refl in
+    let header : address ≡ zone * g.size + written_in old zone = omega (arith, appended.address_is, here, start-is) in
+    let map : MapView = record tables.map { places = placed address (address + 1) builder.heading.entries tables.map.places } in
+    let is_placed : IsPlaced old tables map zone b =
+    record { places = placed-over g.size b.heading.sequence zone (written_in old zone) 0 address (address + 1) b.body b.heading.entries tables.map.places header (omega (arith, header)); zones = refl; zone_size = refl } in
+    let long = size-placed old tables map zone b is_placed in
+    let array : spelled new n ≡ told_over g.block b (spelled old n) =
+    spelled_append old new tables zone b can.agrees a ∙ told_anywhere g.block b.heading.sequence zone (written_in old zone) 0 b.body b.heading.entries (spelled old n) in
+    let same : after ≡ tables_after tables map zone b = after-is ∙ ap (λ (k : ℕ). tables_placed tables zone builder address k) blocks-is in
+    rw same (record {
+      agrees = agrees_append old new tables map zone b can.agrees can.filling a is_placed;
+      size = long;
+      array = rw long array;
+      next = refl;
+      roles = refl;
+      geometry = appended.geometry;
+      refused = appended.counts.refused;
+      appended = appended.counts.appended;
+    })

@@ -1,0 +1,23 @@
+use Rattle.std.proofs.Common.{false, get_or, refl, arith}
+use Rattle.batch_log.specs.declared.header.Entry.{Entry}
+use Rattle.zone_choice.proofs.BuilderLaws.{data_count-few, one-at_most, placing-more}
+use Rattle.zone_choice.proofs.append.place_blocks.Goals as goal
+
+pub overflow_add-address-in-loop-entry : goal.overflow_add-address-in-loop-entry
+overflow_add-address-in-loop-entry c =
+    let none : Entry = record { block = 0; trim = false } in
+    let entry = get_or c.args.entries.now c.loop-entry.entry-index none in
+    let was = c.loop-entry.invariant in
+    omega (arith, was.data_left, data_count-few c.args.entries.now, c.data_blocks-address.ensures, one-at_most entry.trim, c.requires.few, c.requires.fits)
+
+pub loop-entry-preserved : goal.loop-entry-preserved
+loop-entry-preserved c =
+    let none : Entry = record { block = 0; trim = false } in
+    let entry = get_or c.args.entries.now c.loop-entry.entry-index none in
+    placing-more c.args.header c.args.entries.now c.args.tables.now c.loop-entry.tables c.place.new.self c.loop-entry.address c.loop-entry.entry-index entry none c.place_of.result c.data_blocks-address.result
+    c.loop-entry.invariant c.requires.distinct c.loop-entry-test.true refl c.place_of.ensures c.data_blocks-address.ensures c.place.ensures
+
+pub overflow_cast-result : goal.overflow_cast-result
+overflow_cast-result c =
+    let was = c.loop-entry.invariant in
+    omega (arith, was.data_left, data_count-few c.args.entries.now, c.requires.few)

@@ -1,0 +1,10 @@
+use Rattle.std.proofs.Common.{◌≡◌, ◌++◌}
+use Rattle.zone_choice.specs.Builder.{data_entries}
+use Rattle.zone_choice.proofs.batch.BatchBuilder.name_data.Given as goal
+
+abbrev pub invariant-loop-i : goal.invariant-loop-i
+invariant-loop-i l =
+    (l.self-inside.header.kind ≡ l.fn.self.heading.kind)
+    × (l.self-inside.header.sequence ≡ l.fn.self.heading.sequence)
+    × (l.self-inside.header.source ≡ l.fn.self.heading.source)
+    × (l.self-inside.header.entries.items ≡ l.fn.self.heading.entries ++ data_entries l.fn.first l.i)

@@ -1,0 +1,76 @@
+-- What changes of a mounted disk: nothing that its array tells, or one batch more.
+use Rattle.std.specs.Prelude.{◌≡◌, ◌⊎◌, ℕ, ◌≤◌, ◌<◌, ◌+◌, ◌^◌, true, List, length, Result, Ok, Err}
+use Rattle.std.specs.List.{AllByRecursion}
+use Rattle.drive_port.specs.Drive.{DriveState}
+use Rattle.drive_port.specs.Contents.{content_at, contents}
+use Rattle.drive_port.specs.declared.calls.PortFault.{PortFault}
+use Rattle.drive_port.specs.declared.calls.PortFault.TheVariants as port
+use Rattle.drive_port.specs.declared.device.Halt.{Halt}
+use Rattle.drive_port.specs.declared.device.Halt.TheVariants as halt
+use Rattle.batch_log.specs.declared.header.Entry.{Entry}
+use Rattle.batch_log.specs.Header.{IsHeading}
+use Rattle.batch_log.specs.Log.{Batch, batch_size}
+use Rattle.logical_map.specs.Places.{IsReady}
+use Rattle.zone_choice.specs.Agreement.{Agrees, Mounted, mounted_array}
+use Rattle.zone_choice.specs.Records.{batch_records, over, shown}
+use Rattle.zone_choice.specs.Roles.{empty_count, fillings, is_filling_at, wrote}
+use Rattle.zone_choice.specs.Tables.{size_of}
+
+-- The tables agree with the drive as before, and the array, the map and the next sequence are the same; no command was refused, and nothing was appended. A zone that is kept empty stays so, and so does the second zone that is being filled.
+pub record KeepsArray (before after : Mounted) : Type 0 where
+  pub agrees : Agrees after
+  pub array : mounted_array after ≡ mounted_array before
+  pub places : after.tables.map.places ≡ before.tables.map.places
+  pub next : after.tables.next ≡ before.tables.next
+  pub spare : 1 ≤ empty_count before.tables.roles → 1 ≤ empty_count after.tables.roles
+  pub second : after.tables.roles.second ≡ before.tables.roles.second
+  pub geometry : after.drive.geometry ≡ before.drive.geometry
+  pub refused : after.drive.refused ≡ before.drive.refused
+  pub appended : after.drive.appended ≡ before.drive.appended
+
+-- an array with what a batch says of its blocks: the data of its data entries, zeros for its trims
+abbrev pub told_over : ℕ → Batch → List (List ℕ) → List (List ℕ)
+told_over block_bytes batch array = over (shown block_bytes) (batch_records 0 0 batch) array
+
+-- One batch was appended to a zone: the tables agree with the drive, and the array is the old one with what the batch says; no command was refused.
+pub record Places (before after : Mounted) (zone : ℕ) (batch : Batch) : Type 0 where
+  pub agrees : Agrees after
+  pub size : size_of after.tables ≡ size_of before.tables
+  pub array : mounted_array after ≡ told_over before.drive.geometry.block batch (mounted_array before)
+  pub next : after.tables.next ≡ before.tables.next + 1
+  pub roles : after.tables.roles ≡ wrote before.tables.roles zone (batch_size batch)
+  pub geometry : after.drive.geometry ≡ before.drive.geometry
+  pub refused : after.drive.refused ≡ before.drive.refused
+  pub appended : after.drive.appended ≡ before.drive.appended + 1
+
+-- What a batch needs to be appended to a zone. The zone is being filled and has room for it; the batch is the next one, its blocks are the disk's and are ready to be placed. Where one zone alone may be open, no other is being filled.
+pub record CanPlace (before : Mounted) (zone : ℕ) (batch : Batch) : Type 0 where
+  pub agrees : Agrees before
+  pub filling : is_filling_at before.tables.roles zone ≡ true
+  pub alone : (2 ≤ before.drive.geometry.open) ⊎ (length (fillings before.tables.roles) ≤ 1)
+  pub heading : IsHeading before.drive.geometry.block batch.heading
+  pub few : batch_size batch ≤ before.drive.geometry.transfer
+  pub room : length (content_at (contents before.drive.zones) zone).blocks + batch_size batch ≤ before.drive.geometry.capacity
+  pub sequence : batch.heading.sequence ≡ before.tables.next
+  pub next : before.tables.next < 2 ^ 63
+  pub in_range : AllByRecursion (λ (e : Entry). e.block < size_of before.tables) batch.heading.entries
+  pub ready : AllByRecursion (λ (e : Entry). IsReady before.tables.map e.block) batch.heading.entries
+
+-- why a drive halted: it has stopped, or memory, of which nothing can be said
+abbrev pub HasHalted : DriveState → Halt → Type 0
+HasHalted drive halt.Memory = Unit {0}
+HasHalted drive halt.Stopped = drive.stopped ≡ true
+
+-- what an Append of a batch leaves, by its answer
+abbrev pub AppendLeaves : Mounted → Mounted → ℕ → Batch → Result (Unit {0}) Halt → Type 0
+AppendLeaves before after zone batch (Ok done) = Places before after zone batch
+AppendLeaves before after zone batch (Err fault) = KeepsArray before after × HasHalted after.drive fault
+
+-- a fault of a command that was not refused
+abbrev pub IsHalt : PortFault → Type 0
+IsHalt (port.Refused status) = ⊥
+IsHalt fault = Unit {0}
+
+abbrev pub halt_of : PortFault → Halt
+halt_of port.Stopped = halt.Stopped
+halt_of fault = halt.Memory

@@ -1,0 +1,30 @@
+-- What a mounted disk knows of its drive.
+use Rattle.std.specs.Prelude.{◌≡◌, ℕ, ◌+◌, ◌≤◌, ◌<◌, length}
+use Rattle.logical_map.specs.Places.{IsReady, MapView}
+use Rattle.zone_choice.specs.Roles.{RolesView}
+
+-- where the newest record of each block lies, what the zones are for, and the sequence of the next batch
+pub record TablesView : Type 0 where
+  pub map : MapView
+  pub roles : RolesView
+  pub next : ℕ
+
+-- how many logical blocks there are
+abbrev pub size_of : TablesView → ℕ
+size_of tables = length tables.map.places
+
+-- the map and the roles are of one drive
+abbrev pub AreOfOneDrive : MapView → RolesView → Type 0
+AreOfOneDrive map roles = length roles.empty ≡ map.zones
+
+-- each of that many blocks from one on is ready to be placed
+abbrev pub AreReserved : MapView → ℕ → ℕ → Type 0
+AreReserved map first count = (block : ℕ) → first ≤ block → block < first + count → IsReady map block
+
+-- more blocks may be ready to be placed, and all else is the same
+pub record MakesRoom (old new : TablesView) : Type 0 where
+  pub places : new.map.places ≡ old.map.places
+  pub zones : new.map.zones ≡ old.map.zones
+  pub zone_size : new.map.zone_size ≡ old.map.zone_size
+  pub roles : new.roles ≡ old.roles
+  pub next : new.next ≡ old.next
