@@ -2,10 +2,11 @@ pub mod CountLaws
 pub mod StoredLaws
 pub mod ReadLaws
 pub mod OutcomeLaws
-pub mod PlaceLaws
+pub mod RoomLaws
 pub mod WriteLaws
 pub mod SendLaws
 pub mod OpeningLaws
 pub mod SubmitLaws
 pub mod ReceiveLaws
 pub mod ZonesLaws
+pub mod GroupLaws

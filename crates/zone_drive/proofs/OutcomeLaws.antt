@@ -15,11 +15,11 @@ use Rattle.zone_states.specs.Zone.{Zone}
 use Rattle.drive_port.specs.Drive.{DriveState, open_count}
 use Rattle.drive_port.specs.Step.{Outcome, bytes_from, decode_status, done, outcome, read_checks, sent_zone, unless_refused, write_effect, zone_at}
 use Rattle.zone_drive.specs.declared.reply.Reply.{Reply}
-use Rattle.zone_drive.specs.Choice.{Gives, PlaceGives, performed, wants_open_place, with_room}
+use Rattle.zone_drive.specs.Choice.{Gives, RoomGives, performed, wants_open_resource, with_room}
 use Rattle.zone_drive.specs.Sending.{Opens, send_first, sent_to}
 use Rattle.zone_drive.specs.Writing.{WritesBehind, append_first, write_first}
-use Rattle.zone_drive.proofs.OpeningLaws.{AllOther, by_choice, opening, opening-done, opening-no_place, opening-refused, other}
-use Rattle.zone_drive.proofs.PlaceLaws.{apart, zone_at-closing}
+use Rattle.zone_drive.proofs.OpeningLaws.{AllOther, by_choice, opening, opening-done, opening-no_room, opening-refused, other}
+use Rattle.zone_drive.proofs.RoomLaws.{apart, zone_at-closing}
 use Rattle.zone_drive.proofs.ReadLaws.{read-copies}
 
 pub outcome-Read : (geometry : Geometry) (zones : List Zone) (slba blocks : ℕ) (bytes : List ℕ) (refusal : Option Status)
@@ -72,12 +72,12 @@ append-refused old zslba blocks bytes status e =
     (performed-Append old.geometry old.zones zslba blocks bytes
     ∙ opening-refused old.geometry first (append_effect old.geometry zslba blocks bytes) index old.zones status (AllOther-append old.geometry (zone_at old.zones index) zslba blocks bytes) e)
 
--- the zone itself is not closed for its own place
-zone-with_room : (geometry : Geometry) (zones : List Zone) (index : ℕ) (closing : Option ℕ) → PlaceGives geometry zones (zone_at zones index) (Ok closing) → zone_at (with_room zones closing) index ≡ zone_at zones index
-zone-with_room geometry zones index None place = refl
-zone-with_room geometry zones index (Some low) (place, lowest) = zone_at-closing zones index low (apart geometry zones index low place lowest) lowest
+-- the zone itself is not closed to make room for it
+zone-with_room : (geometry : Geometry) (zones : List Zone) (index : ℕ) (closing : Option ℕ) → RoomGives geometry zones (zone_at zones index) (Ok closing) → zone_at (with_room zones closing) index ≡ zone_at zones index
+zone-with_room geometry zones index None needs = refl
+zone-with_room geometry zones index (Some low) (needs, lowest) = zone_at-closing zones index low (apart geometry zones index low needs lowest) lowest
 
--- how a command ended whose places refused it, or didn't
+-- how a command ended whose resources refused it, or didn't
 abbrev pub ended : Option Status → ℕ → Reply
 ended (Some status) value = record { status = status; value = 0 }
 ended None value = record { status = Success; value = value }
@@ -86,19 +86,19 @@ pub append-ended : (old new : DriveState) (zslba blocks : ℕ) (bytes : List ℕ
     → None ≡ first_failing (append_first old.geometry (zone_at old.zones (zslba / old.geometry.size)) zslba blocks bytes)
     → length bytes / old.geometry.block ≡ blocks → open_count old.zones ≤ old.geometry.open → WritesBehind old (zslba / old.geometry.size) bytes refusal new
     → Gives old (Ok (Append zslba blocks)) bytes (ended refusal (zslba + length (zone_at old.zones (zslba / old.geometry.size)).blocks)) [] new
-append-ended old new zslba blocks bytes (Some status) passed count most (place, same) =
+append-ended old new zslba blocks bytes (Some status) passed count most (needs, same) =
     let index = zslba / old.geometry.size in
     let first = λ (zone : Zone). append_first old.geometry zone zslba blocks bytes in
     rw same (gives-same old (Ok (Append zslba blocks)) bytes status
     (performed-Append old.geometry old.zones zslba blocks bytes
-    ∙ opening-no_place old.geometry first (append_effect old.geometry zslba blocks bytes) index old.zones status passed place))
-append-ended old new zslba blocks bytes None passed count most (closing, place, changed) =
+    ∙ opening-no_room old.geometry first (append_effect old.geometry zslba blocks bytes) index old.zones status passed needs))
+append-ended old new zslba blocks bytes None passed count most (closing, needs, changed) =
     let index = zslba / old.geometry.size in
     let first = λ (zone : Zone). append_first old.geometry zone zslba blocks bytes in
     rw changed (record {
       outcome = performed-Append old.geometry old.zones zslba blocks bytes
-          ∙ opening-done old.geometry first (append_effect old.geometry zslba blocks bytes) index old.zones closing (λ middle. refl) most passed place
-          ∙ rw (zone-with_room old.geometry old.zones index closing place, count) refl;
+          ∙ opening-done old.geometry first (append_effect old.geometry zslba blocks bytes) index old.zones closing (λ middle. refl) most passed needs
+          ∙ rw (zone-with_room old.geometry old.zones index closing needs, count) refl;
       others = refl;
     })
 
@@ -116,18 +116,18 @@ pub write-ended : (old new : DriveState) (slba blocks : ℕ) (bytes : List ℕ) 
     → None ≡ first_failing (write_first old.geometry (zone_at old.zones (slba / old.geometry.size)) slba blocks bytes)
     → length bytes / old.geometry.block ≡ blocks → open_count old.zones ≤ old.geometry.open → WritesBehind old (slba / old.geometry.size) bytes refusal new
     → Gives old (Ok (Write slba blocks)) bytes (ended refusal 0) [] new
-write-ended old new slba blocks bytes (Some status) passed count most (place, same) =
+write-ended old new slba blocks bytes (Some status) passed count most (needs, same) =
     let index = slba / old.geometry.size in
     let first = λ (zone : Zone). write_first old.geometry zone slba blocks bytes in
     rw same (gives-same old (Ok (Write slba blocks)) bytes status
     (performed-Write old.geometry old.zones slba blocks bytes
-    ∙ opening-no_place old.geometry first (write_done old.geometry slba blocks bytes) index old.zones status passed place))
-write-ended old new slba blocks bytes None passed count most (closing, place, changed) =
+    ∙ opening-no_room old.geometry first (write_done old.geometry slba blocks bytes) index old.zones status passed needs))
+write-ended old new slba blocks bytes None passed count most (closing, needs, changed) =
     let index = slba / old.geometry.size in
     let first = λ (zone : Zone). write_first old.geometry zone slba blocks bytes in
     rw changed (record {
       outcome = performed-Write old.geometry old.zones slba blocks bytes
-          ∙ opening-done old.geometry first (write_done old.geometry slba blocks bytes) index old.zones closing (λ middle. refl) most passed place
+          ∙ opening-done old.geometry first (write_done old.geometry slba blocks bytes) index old.zones closing (λ middle. refl) most passed needs
           ∙ rw count refl;
       others = refl;
     })
@@ -135,7 +135,7 @@ write-ended old new slba blocks bytes None passed count most (closing, place, ch
 -- ---- an action on one zone
 
 pub performed-plain : (geometry : Geometry) (zones : List Zone) (command : Result Command DecodeFault) (bytes : List ℕ) (given : Outcome)
-    → outcome geometry zones command bytes ≡ given → wants_open_place given.status ≡ false → performed geometry zones command bytes ≡ given
+    → outcome geometry zones command bytes ≡ given → wants_open_resource given.status ≡ false → performed geometry zones command bytes ≡ given
 performed-plain geometry zones command bytes given is none = rw (is, none) is
 
 outcome-Send : (geometry : Geometry) (zones : List Zone) (slba : ℕ) (action : Action) (bytes : List ℕ) → action ≢ Open
@@ -154,7 +154,7 @@ performed-Open : (geometry : Geometry) (zones : List Zone) (slba : ℕ) (bytes :
 unfolding outcome
 performed-Open geometry zones slba bytes = refl
 
--- none of the first checks of an action has the status of the open places
+-- none of the first checks of an action has the status of the open resources
 send-other : (geometry : Geometry) (zone : Zone) (slba : ℕ) (action : Action) → AllOther (send_first geometry zone slba action)
 send-other geometry zone slba action = (refl, (refl, (refl, tt)))
 
@@ -184,16 +184,16 @@ pub open-ended : (old new : DriveState) (slba : ℕ) (bytes : List ℕ) (refusal
     → None ≡ first_failing (send_first old.geometry (zone_at old.zones (slba / old.geometry.size)) slba Open)
     → open_count old.zones ≤ old.geometry.open → Opens old (slba / old.geometry.size) refusal new
     → Gives old (Ok (Send slba Open false)) bytes (ended refusal 0) [] new
-open-ended old new slba bytes (Some status) passed most (place, same) =
+open-ended old new slba bytes (Some status) passed most (needs, same) =
     let index = slba / old.geometry.size in
     rw same (gives-same old (Ok (Send slba Open false)) bytes status
     (performed-Open old.geometry old.zones slba bytes
-    ∙ opening-no_place old.geometry (λ zone. send_first old.geometry zone slba Open) (λ middle. done [] (sent_to middle index Open)) index old.zones status passed place))
-open-ended old new slba bytes None passed most (closing, place, changed) =
+    ∙ opening-no_room old.geometry (λ zone. send_first old.geometry zone slba Open) (λ middle. done [] (sent_to middle index Open)) index old.zones status passed needs))
+open-ended old new slba bytes None passed most (closing, needs, changed) =
     let index = slba / old.geometry.size in
     rw changed (record {
       outcome = performed-Open old.geometry old.zones slba bytes
-          ∙ opening-done old.geometry (λ zone. send_first old.geometry zone slba Open) (λ middle. done [] (sent_to middle index Open)) index old.zones closing (λ middle. refl) most passed place;
+          ∙ opening-done old.geometry (λ zone. send_first old.geometry zone slba Open) (λ middle. done [] (sent_to middle index Open)) index old.zones closing (λ middle. refl) most passed needs;
       others = refl;
     })
 

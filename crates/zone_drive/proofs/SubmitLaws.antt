@@ -9,7 +9,7 @@ use Rattle.zone_states.specs.Zone.{Zone}
 use Rattle.drive_port.specs.Drive.{ClosesOne, DriveState, IsClosing}
 use Rattle.drive_port.specs.Step.{Completes, Outcome, is_append, is_success, one_if, outcome}
 use Rattle.zone_drive.specs.declared.reply.Reply.{Reply}
-use Rattle.zone_drive.specs.Choice.{Gives, chosen, close_lowest, closed, wants_open_place}
+use Rattle.zone_drive.specs.Choice.{Gives, chosen, close_lowest, closed, wants_open_resource}
 use Rattle.zone_drive.specs.Counts.{counted}
 
 -- ---- the choice is a closing
@@ -58,7 +58,7 @@ completes old middle new entry bytes returned completion reply gives counts enco
       performs = record {
         effect = record {
           middle = chosen old.geometry old.zones command bytes;
-          before = closes-chosen (wants_open_place (outcome old.geometry old.zones command bytes).status) old.zones;
+          before = closes-chosen (wants_open_resource (outcome old.geometry old.zones command bytes).status) old.zones;
           status_is = sym (ap (λ (o : Outcome). o.status) gives.outcome);
           value_is = sym (ap (λ (o : Outcome). o.value) gives.outcome);
           returned_is = sym (ap (λ (o : Outcome). o.returned) gives.outcome);

@@ -30,13 +30,13 @@ pub record IsLowest (zones : List Zone) (low : ℕ) : Type 0 where
   pub opened : (zone_at zones low).state ≡ ImplicitlyOpened
   pub closes : close_lowest zones ≡ slice_set zones low (closed (zone_at zones low))
 
-abbrev pub wants_open_place : Status → Bool
-wants_open_place TooManyOpenZones = true
-wants_open_place status = false
+abbrev pub wants_open_resource : Status → Bool
+wants_open_resource TooManyOpenZones = true
+wants_open_resource status = false
 
 -- The zones as they are when the command is done: where it would be refused for want of an open place, the lowest implicitly opened zone is closed first. Nothing else is ever closed.
 abbrev pub chosen : Geometry → List Zone → Result Command DecodeFault → List ℕ → List Zone
-chosen geometry zones command bytes = if wants_open_place (outcome geometry zones command bytes).status then close_lowest zones else zones
+chosen geometry zones command bytes = if wants_open_resource (outcome geometry zones command bytes).status then close_lowest zones else zones
 
 -- what a command gives on this drive
 abbrev pub performed : Geometry → List Zone → Result Command DecodeFault → List ℕ → Outcome
@@ -53,11 +53,11 @@ pub record AnswersByChoice (old : DriveState) (entry bytes completion returned :
   pub returned_is : returned ≡ (performed old.geometry old.zones (decode_of entry) bytes).returned
   pub zones_are : new.zones ≡ (performed old.geometry old.zones (decode_of entry) bytes).zones
 
--- The places that a zone needs: they are there, or they are once the zone with this number is closed, or there are none.
-abbrev pub PlaceGives : Geometry → List Zone → Zone → Result (Option ℕ) Status → Type 0
-PlaceGives geometry zones zone (Ok None) = None ≡ first_failing (resource_checks geometry zones zone)
-PlaceGives geometry zones zone (Ok (Some low)) = (Some TooManyOpenZones ≡ first_failing (resource_checks geometry zones zone)) × IsLowest zones low
-PlaceGives geometry zones zone (Err status) = (Some status ≡ first_failing (resource_checks geometry zones zone)) × (wants_open_place status ≡ true → close_lowest zones ≡ zones)
+-- The resources that a zone needs: they are there, or they are once the zone with this number is closed, or there are none.
+abbrev pub RoomGives : Geometry → List Zone → Zone → Result (Option ℕ) Status → Type 0
+RoomGives geometry zones zone (Ok None) = None ≡ first_failing (resource_checks geometry zones zone)
+RoomGives geometry zones zone (Ok (Some low)) = (Some TooManyOpenZones ≡ first_failing (resource_checks geometry zones zone)) × IsLowest zones low
+RoomGives geometry zones zone (Err status) = (Some status ≡ first_failing (resource_checks geometry zones zone)) × (wants_open_resource status ≡ true → close_lowest zones ≡ zones)
 
 -- the zones once there is room for that zone: the lowest implicitly opened one is closed where it has to be
 abbrev pub with_room : List Zone → Option ℕ → List Zone

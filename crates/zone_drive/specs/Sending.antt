@@ -1,4 +1,4 @@
--- What a Zone Management Send to one zone meets before its places are looked at, and what an Open does.
+-- What a Zone Management Send to one zone meets before its resources are looked at, and what an Open does.
 use Rattle.std.specs.Prelude.{◌≡◌, ℕ, ◌%◌, ◌==◌, nat_le, not, if◌then◌else◌, Bool, List, [], ◌∷◌, slice_set, Option, Some, None, Ok, Err}
 use Rattle.nvme_wire.specs.declared.command.Action.{Action}
 use Rattle.nvme_wire.specs.declared.command.Action.TheVariants.{Open}
@@ -11,9 +11,9 @@ use Rattle.zone_states.specs.Transition.{state_after}
 use Rattle.zone_states.specs.Zone.{Zone}
 use Rattle.drive_port.specs.Drive.{DriveState}
 use Rattle.drive_port.specs.Step.{end_of, is_refusal, is_selected, zone_at}
-use Rattle.zone_drive.specs.Choice.{PlaceGives, with_room}
+use Rattle.zone_drive.specs.Choice.{RoomGives, with_room}
 
--- the checks of an action on one zone, those of its places left out
+-- the checks of an action on one zone, those of its resources left out
 abbrev pub send_first : Geometry → Zone → ℕ → Action → List (Bool × Status)
 send_first geometry zone slba action =
     (not (slba % geometry.size == 0), InvalidField)
@@ -27,12 +27,12 @@ sent_to zones index action =
     let zone = zone_at zones index in
     slice_set zones index (zone_after action zone (state_after zone.state action))
 
--- The zone is opened, where it has the places that it needs; else nothing changes.
+-- The zone is opened, where it has the resources that it needs; else nothing changes.
 abbrev pub Opens : DriveState → ℕ → Option Status → DriveState → Type 0
-Opens old index (Some status) new = PlaceGives old.geometry old.zones (zone_at old.zones index) (Err status) × (new ≡ old)
+Opens old index (Some status) new = RoomGives old.geometry old.zones (zone_at old.zones index) (Err status) × (new ≡ old)
 Opens old index None new =
     (closing : Option ℕ)
-    × PlaceGives old.geometry old.zones (zone_at old.zones index) (Ok closing)
+    × RoomGives old.geometry old.zones (zone_at old.zones index) (Ok closing)
     × (new ≡ record old { zones = sent_to (with_room old.zones closing) index Open })
 
 -- a stored zone after an action on all zones

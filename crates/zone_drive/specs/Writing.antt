@@ -1,4 +1,4 @@
--- What a Write or an Append meets before its places are looked at.
+-- What a Write or an Append meets before its resources are looked at.
 use Rattle.std.specs.Prelude.{◌≡◌, ℕ, ◌+◌, ◌/◌, ◌%◌, ◌==◌, nat_lt, nat_le, not, Bool, List, ◌∷◌, ◌++◌, length, Option, Some, None, Ok, Err}
 use Rattle.nvme_wire.specs.declared.status.Status.{Status}
 use Rattle.nvme_wire.specs.declared.status.Status.TheVariants.{InvalidField, LbaOutOfRange}
@@ -7,9 +7,9 @@ use Rattle.zone_states.specs.Writing.{data_checks, zone_append_checks, zone_writ
 use Rattle.zone_states.specs.Zone.{Zone}
 use Rattle.drive_port.specs.Drive.{DriveState}
 use Rattle.drive_port.specs.Step.{end_of, write_effect, zone_at}
-use Rattle.zone_drive.specs.Choice.{PlaceGives, with_room}
+use Rattle.zone_drive.specs.Choice.{RoomGives, with_room}
 
--- the checks of an Append, those of its places left out
+-- the checks of an Append, those of its resources left out
 abbrev pub append_first : Geometry → Zone → ℕ → ℕ → List ℕ → List (Bool × Status)
 append_first geometry zone zslba blocks bytes =
     data_checks geometry blocks bytes
@@ -17,17 +17,17 @@ append_first geometry zone zslba blocks bytes =
     ∷ (nat_le (end_of geometry) zslba, LbaOutOfRange)
     ∷ zone_append_checks geometry zone blocks
 
--- the checks of a Write, those of its places left out
+-- the checks of a Write, those of its resources left out
 abbrev pub write_first : Geometry → Zone → ℕ → ℕ → List ℕ → List (Bool × Status)
 write_first geometry zone slba blocks bytes =
     data_checks geometry blocks bytes
     ++ (nat_lt (end_of geometry) (slba + blocks), LbaOutOfRange)
     ∷ zone_write_checks geometry zone (slba % geometry.size) blocks
 
--- These blocks stand behind those of the zone, where it has the places that it needs; else nothing changes.
+-- These blocks stand behind those of the zone, where it has the resources that it needs; else nothing changes.
 abbrev pub WritesBehind : DriveState → ℕ → List ℕ → Option Status → DriveState → Type 0
-WritesBehind old index bytes (Some status) new = PlaceGives old.geometry old.zones (zone_at old.zones index) (Err status) × (new ≡ old)
+WritesBehind old index bytes (Some status) new = RoomGives old.geometry old.zones (zone_at old.zones index) (Err status) × (new ≡ old)
 WritesBehind old index bytes None new =
     (closing : Option ℕ)
-    × PlaceGives old.geometry old.zones (zone_at old.zones index) (Ok closing)
+    × RoomGives old.geometry old.zones (zone_at old.zones index) (Ok closing)
     × (new ≡ record old { zones = write_effect old.geometry (with_room old.zones closing) index (length bytes / old.geometry.block) bytes })

@@ -1,15 +1,16 @@
-ghost use Rattle.std.specs.Prelude.{◌≡◌, ◌/◌, ◌<◌, ◌≤◌, None, Ok, IfErr, OnOk, OnErr, count_by, length, map};
+ghost use Rattle.std.specs.Prelude.{◌≡◌, ◌/◌, ◌<◌, ◌≤◌, None, Ok, IfErr, OnOk, OnErr, length, map};
 ghost use Rattle.zone_states.specs.Checks.{first_failing};
 ghost use Rattle.zone_states.specs.Sending.{zone_after};
-ghost use Rattle.zone_states.specs.Transition.{is_active, is_open, state_after};
+ghost use Rattle.zone_states.specs.Transition.{state_after};
 ghost use Rattle.zone_states.specs.Writing.{append_bytes_checks};
 ghost use Rattle.zone_states.specs.Zone.{cut_blocks, written_zone};
 ghost use Rattle.drive_port.specs.Step.{is_selected, sent_zone, write_effect, zone_at};
-ghost use Rattle.zone_drive.specs.Choice.{PlaceGives, with_room};
+ghost use Rattle.zone_drive.specs.Choice.{RoomGives, with_room};
+ghost use Rattle.zone_drive.specs.Groups.{IsGrouped};
 ghost use Rattle.zone_drive.specs.Sending.{sent_stored, sent_to};
 ghost use Rattle.zone_drive.specs.Stored.{IsCounted, IsStored, Replaces, zones_of};
 
-use crate::places::{Places, is_active, is_open};
+use crate::resources::Resources;
 use drive_port::Halt;
 use zone_states::{Action, Geometry, Zone, ZoneFault, ZoneState};
 
@@ -17,20 +18,22 @@ use zone_states::{Action, Geometry, Zone, ZoneFault, ZoneState};
 pub fn write_zone(
     geometry: &Geometry,
     zones: &mut [Zone],
-    places: &mut Places,
+    resources: &mut Resources,
     index: usize,
     bytes: &[u8],
 ) -> Result<(), Halt>
-    requires counted { IsCounted geometry.now zones.old places.old.active_zones places.old.open_zones }
+    requires counted { IsCounted geometry.now zones.old resources.old.active_zones resources.old.open_zones }
+    requires grouped { IsGrouped zones.old resources.old.implicit }
     requires in_range { index < length zones.old }
     requires checks { None ≡ first_failing (append_bytes_checks geometry.now
         (zone_at (zones_of geometry.now.block zones.old) index) bytes.now) }
     ensures ok { OnOk result (Replaces geometry.now zones.old index
         (written_zone geometry.now.capacity (zone_at (zones_of geometry.now.block zones.old) index)
         (cut_blocks geometry.now.block (length bytes.now / geometry.now.block) bytes.now))
-        zones.new places.new.active_zones places.new.open_zones) }
+        zones.new resources.new.active_zones resources.new.open_zones) }
+    ensures grouped { IsGrouped zones.new resources.new.implicit }
     ensures err { IfErr result (λ halt. halt ≡ Halt.Memory) }
-    ensures kept { OnErr result ((zones.new ≡ zones.old) × (places.new ≡ places.old)) }
+    ensures kept { OnErr result ((zones.new ≡ zones.old) × (resources.new ≡ resources.old)) }
 {
     let zone = &mut zones[index];
     let before = zone.state();
@@ -39,7 +42,7 @@ pub fn write_zone(
         Err(ZoneFault::OutOfMemory) => return Err(Halt::Memory),
         Err(ZoneFault::Refused(_)) => unreachable!(),
     }
-    *places = places.moved(before, zone.state());
+    resources.move_zone(index, before, zone.state());
     Ok(())
 }
 
@@ -47,21 +50,23 @@ pub fn write_zone(
 pub fn apply_to_zone(
     geometry: &Geometry,
     zones: &mut [Zone],
-    places: &mut Places,
+    resources: &mut Resources,
     index: usize,
     action: Action,
 ) -> Result<(), ZoneFault>
-    requires counted { IsCounted geometry.now zones.old places.old.active_zones places.old.open_zones }
+    requires counted { IsCounted geometry.now zones.old resources.old.active_zones resources.old.open_zones }
+    requires grouped { IsGrouped zones.old resources.old.implicit }
     requires in_range { index < length zones.old }
-    ensures { Replaces geometry.now zones.old index
+    ensures grouped { IsGrouped zones.new resources.new.implicit }
+    ensures replaces { Replaces geometry.now zones.old index
         (let zone = zone_at (zones_of geometry.now.block zones.old) index in
         zone_after action zone (state_after zone.state action))
-        zones.new places.new.active_zones places.new.open_zones }
+        zones.new resources.new.active_zones resources.new.open_zones }
 {
     let zone = &mut zones[index];
     let before = zone.state();
     zone.apply(action)?;
-    *places = places.moved(before, zone.state());
+    resources.move_zone(index, before, zone.state());
     Ok(())
 }
 
@@ -69,27 +74,29 @@ pub fn apply_to_zone(
 pub fn write_with_room(
     geometry: &Geometry,
     zones: &mut [Zone],
-    places: &mut Places,
+    resources: &mut Resources,
     index: usize,
     bytes: &[u8],
     closing: Option<usize>,
 ) -> Result<(), Halt>
-    requires stored { IsStored geometry.now zones.old places.old.active_zones places.old.open_zones }
+    requires stored { IsStored geometry.now zones.old resources.old.active_zones resources.old.open_zones }
+    requires grouped { IsGrouped zones.old resources.old.implicit }
     requires in_range { index < length zones.old }
     requires checks { None ≡ first_failing (append_bytes_checks geometry.now
         (zone_at (zones_of geometry.now.block zones.old) index) bytes.now) }
-    requires places { (let zones' = zones_of geometry.now.block zones.old in
-        PlaceGives geometry.now zones' (zone_at zones' index) (Ok closing)) }
-    ensures stored { IsStored geometry.now zones.new places.new.active_zones places.new.open_zones }
+    requires resources { (let zones' = zones_of geometry.now.block zones.old in
+        RoomGives geometry.now zones' (zone_at zones' index) (Ok closing)) }
+    ensures stored { IsStored geometry.now zones.new resources.new.active_zones resources.new.open_zones }
     ensures ok { OnOk result (zones_of geometry.now.block zones.new ≡ write_effect geometry.now
         (with_room (zones_of geometry.now.block zones.old) closing) index
         (length bytes.now / geometry.now.block) bytes.now) }
+    ensures grouped { IsGrouped zones.new resources.new.implicit }
     ensures err { IfErr result (λ halt. halt ≡ Halt.Memory) }
-    ensures kept { OnErr result ((zones.new ≡ zones.old) × (places.new ≡ places.old)) }
+    ensures kept { OnErr result ((zones.new ≡ zones.old) × (resources.new ≡ resources.old)) }
 {
-    write_zone(geometry, zones, places, index, bytes)?;
+    write_zone(geometry, zones, resources, index, bytes)?;
     if let Some(low) = closing {
-        let _ = apply_to_zone(geometry, zones, places, low, Action::Close);
+        let _ = apply_to_zone(geometry, zones, resources, low, Action::Close);
     }
     Ok(())
 }
@@ -98,21 +105,23 @@ pub fn write_with_room(
 pub fn open_with_room(
     geometry: &Geometry,
     zones: &mut [Zone],
-    places: &mut Places,
+    resources: &mut Resources,
     index: usize,
     closing: Option<usize>,
 )
-    requires stored { IsStored geometry.now zones.old places.old.active_zones places.old.open_zones }
+    requires stored { IsStored geometry.now zones.old resources.old.active_zones resources.old.open_zones }
+    requires grouped { IsGrouped zones.old resources.old.implicit }
     requires in_range { index < length zones.old }
-    requires places { (let zones' = zones_of geometry.now.block zones.old in
-        PlaceGives geometry.now zones' (zone_at zones' index) (Ok closing)) }
-    ensures stored { IsStored geometry.now zones.new places.new.active_zones places.new.open_zones }
+    requires resources { (let zones' = zones_of geometry.now.block zones.old in
+        RoomGives geometry.now zones' (zone_at zones' index) (Ok closing)) }
+    ensures stored { IsStored geometry.now zones.new resources.new.active_zones resources.new.open_zones }
+    ensures grouped { IsGrouped zones.new resources.new.implicit }
     ensures zones { zones_of geometry.now.block zones.new ≡ sent_to
         (with_room (zones_of geometry.now.block zones.old) closing) index Action.Open }
 {
-    let _ = apply_to_zone(geometry, zones, places, index, Action::Open);
+    let _ = apply_to_zone(geometry, zones, resources, index, Action::Open);
     if let Some(other) = closing {
-        let _ = apply_to_zone(geometry, zones, places, other, Action::Close);
+        let _ = apply_to_zone(geometry, zones, resources, other, Action::Close);
     }
 }
 
@@ -139,20 +148,6 @@ fn apply_if_selected(zone: &mut Zone, action: Action)
     }
 }
 
-/// How many of these zones are active, and how many open.
-pub fn counted(zones: &[Zone]) -> Places
-    requires { length zones.now ≤ 65536 }
-    ensures active { result.active_zones ≡ count_by (λ zone. is_active zone.state) zones.now }
-    ensures open_zones { result.open_zones ≡ count_by (λ zone. is_open zone.state) zones.now }
-{
-    let active_zones = zones.iter().filter(|zone| is_active(zone.state()));
-    let open_zones = zones.iter().filter(|zone| is_open(zone.state()));
-    Places {
-        active_zones: active_zones.count() as u32,
-        open_zones: open_zones.count() as u32,
-    }
-}
-
 // Does an action on all zones that it selects.
 fn apply_to_each(zones: &mut [Zone], action: Action)
     ensures { zones.new ≡ map (sent_stored action) zones.old }
@@ -163,12 +158,18 @@ fn apply_to_each(zones: &mut [Zone], action: Action)
 }
 
 /// Does what an action of a Zone Management Send does to all zones that it selects.
-pub fn apply_to_all(geometry: &Geometry, zones: &mut [Zone], places: &mut Places, action: Action)
-    requires stored { IsStored geometry.now zones.old places.old.active_zones places.old.open_zones }
-    ensures stored { IsStored geometry.now zones.new places.new.active_zones places.new.open_zones }
+pub fn apply_to_all(
+    geometry: &Geometry,
+    zones: &mut [Zone],
+    resources: &mut Resources,
+    action: Action,
+)
+    requires stored { IsStored geometry.now zones.old resources.old.active_zones resources.old.open_zones }
+    ensures stored { IsStored geometry.now zones.new resources.new.active_zones resources.new.open_zones }
+    ensures grouped { IsGrouped zones.new resources.new.implicit }
     ensures zones { zones_of geometry.now.block zones.new
         ≡ map (sent_zone action) (zones_of geometry.now.block zones.old) }
 {
     apply_to_each(zones, action);
-    *places = counted(zones);
+    *resources = Resources::of(zones);
 }

@@ -1,8 +1,9 @@
-ghost use Rattle.std.specs.Prelude.{◌≡◌, ◌<◌, ◌^◌, [], IfOk, IfErr, OnErr, Ok, nat_le};
-ghost use Rattle.nvme_wire.specs.Entry.{IsAdmitted};
+ghost use Rattle.std.specs.Prelude.{◌≡◌, ◌<◌, ◌^◌, [], true, IfOk, IfErr, IsErrOf, OnErr, Ok, nat_le};
+ghost use Rattle.nvme_wire.specs.Entry.{IsAdmitted, decode_of};
 ghost use Rattle.drive_port.specs.Drive.{IsLawful};
 ghost use Rattle.drive_port.specs.Step.{SubmitGives, decode_status};
 ghost use Rattle.zone_drive.specs.Choice.{AnswersByChoice, Gives};
+ghost use Rattle.zone_drive.specs.Memory.{may_allocate};
 ghost use Rattle.zone_drive.specs.Counts.{counted};
 
 use crate::drive::Drive;
@@ -28,6 +29,7 @@ impl Drive {
         ensures ok { IfOk result (λ reply.
             Gives self.old (Ok command) bytes.now reply into.new.items self.new) }
         ensures err { IfErr result (λ halt. halt ≡ Halt.Memory) }
+        ensures allocates { OnErr result (may_allocate (Ok command) ≡ true) }
         ensures kept { OnErr result (self.new ≡ self.old) }
         ensures returned { OnErr result (into.new.items ≡ []) }
     {
@@ -46,7 +48,7 @@ impl Drive {
         }
     }
 
-    // Does the command of an entry, or refuses an entry that spells none.
+    // Does the command of an entry, or refuses an entry that has none.
     fn perform(
         &mut self,
         command: Result<Command, DecodeFault>,
@@ -58,6 +60,7 @@ impl Drive {
         ensures ok { IfOk result (λ reply.
             Gives self.old command bytes.now reply into.new.items self.new) }
         ensures err { IfErr result (λ halt. halt ≡ Halt.Memory) }
+        ensures allocates { OnErr result (may_allocate command ≡ true) }
         ensures kept { OnErr result (self.new ≡ self.old) }
         ensures returned { OnErr result (into.new.items ≡ []) }
     {
@@ -113,7 +116,10 @@ impl Device for Drive {
         ensures was_lawful { IsLawful self.old }
         ensures lawful { IsLawful self.new }
 
-        // It closes nothing but for want of an open place, and stops only by its count.
+        // Only a Read, a Write, an Append or a Receive may be out of memory.
+        ensures memory { IsErrOf result Halt.Memory → may_allocate (decode_of entry.now) ≡ true }
+
+        // It closes a zone only where an open resource is missing, and stops only by its count.
         ensures choice { IfOk result (λ completion.
             AnswersByChoice self.old entry.now bytes.now completion into.new.items self.new) }
         ensures stops { self.new.stopped ≡ nat_le (2 ^ 63) self.new.completed }

@@ -7,8 +7,7 @@ ghost use Rattle.drive_port.specs.Step.{zone_at};
 ghost use Rattle.zone_drive.specs.Faults.{IsFault, IsFreshFault};
 ghost use Rattle.zone_drive.specs.Stored.{AreZones, fresh, is_lawful, unused, zones_of};
 
-use crate::changes::counted;
-use crate::places::Places;
+use crate::resources::Resources;
 use std::alloc::{AllocError, Global};
 use std::marker::Model;
 use zone_states::{Action, Geometry, GeometryFault, Zone, ZoneState};
@@ -30,8 +29,7 @@ pub enum DriveFault {
 pub struct Drive {
     pub(crate) geometry: Geometry,
     pub(crate) zones: Vec<Zone>,
-    // How many zones are active and open.
-    pub(crate) places: Places,
+    pub(crate) resources: Resources,
     pub(crate) completed: u64,
     // Of the completed commands, those with a status other than Success, and the Appends among the rest.
     pub(crate) refused: u64,
@@ -46,6 +44,7 @@ impl Model for Drive {
     ghost Value = { DriveState };
 
     ghost use Rattle.zone_drive.specs.Stored.{zones_of, IsStored};
+    ghost use Rattle.zone_drive.specs.Groups.{IsGrouped};
 
     ghost view = { λ d. record {
       geometry = d.geometry;
@@ -56,7 +55,8 @@ impl Model for Drive {
       stopped = nat_le (2 ^ 63) d.completed;
     } };
 
-    ghost invariant = { λ d. IsStored d.geometry d.zones.items d.places.active_zones d.places.open_zones
+    ghost invariant = { λ d. IsStored d.geometry d.zones.items d.resources.active_zones d.resources.open_zones
+        × IsGrouped d.zones.items d.resources.implicit
         × (d.completed ≤ 2 ^ 63) × (d.refused ≤ d.completed) × (d.appended ≤ d.completed) };
 }
 
@@ -114,9 +114,10 @@ impl Drive {
         Ok(Drive {
             geometry,
             zones,
-            places: Places {
+            resources: Resources {
                 active_zones: 0,
                 open_zones: 0,
+                implicit: [0; 256],
             },
             completed: 0,
             refused: 0,
@@ -145,14 +146,14 @@ impl Drive {
         if !all_lawful(&geometry, &zones) {
             return Err(DriveFault::Zones);
         }
-        let places = counted(&zones);
-        if places.active_zones > geometry.active || places.open_zones > geometry.open {
+        let resources = Resources::of(&zones);
+        if resources.active_zones > geometry.active || resources.open_zones > geometry.open {
             return Err(DriveFault::Zones);
         }
         Ok(Drive {
             geometry,
             zones,
-            places,
+            resources,
             completed: 0,
             refused: 0,
             appended: 0,

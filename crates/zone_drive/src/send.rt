@@ -12,7 +12,7 @@ use nvme_wire::{Action, Command, Status};
 use zone_states::next_state;
 
 impl Drive {
-    // The first check that an action on one zone fails, its places left out.
+    // The first check that an action on one zone fails, its resources left out.
     fn send_refusal(&self, slba: u64, action: Action) -> Option<Status>
         ensures { result ≡ first_failing (send_first self.now.geometry
             (zone_at self.now.zones (slba / self.now.geometry.size)) slba action) }
@@ -30,7 +30,7 @@ impl Drive {
         }
     }
 
-    // Opens the zone that holds an address, which can be opened. A status says which of the places that
+    // Opens the zone that holds an address, which can be opened. A status says which of the resources that
     // it needs is not there.
     fn open(&mut self, address: u64) -> Option<Status>
         requires { address < end_of self.old.geometry }
@@ -38,7 +38,7 @@ impl Drive {
         ensures limit { open_count self.old.zones ≤ self.old.geometry.open }
     {
         let index = address / self.size();
-        let closing = match self.place_for(index) {
+        let closing = match self.room_for(index) {
             Ok(closing) => closing,
             Err(status) => return Some(status),
         };
@@ -46,7 +46,7 @@ impl Drive {
         open_with_room(
             &geometry,
             &mut self.zones,
-            &mut self.places,
+            &mut self.resources,
             index as usize,
             closing,
         );
@@ -62,7 +62,13 @@ impl Drive {
     {
         let geometry = self.geometry;
         let index = (address / u64::from(geometry.size)) as usize;
-        let _ = apply_to_zone(&geometry, &mut self.zones, &mut self.places, index, action);
+        let _ = apply_to_zone(
+            &geometry,
+            &mut self.zones,
+            &mut self.resources,
+            index,
+            action,
+        );
     }
 
     // A Zone Management Send to one zone.
@@ -90,7 +96,7 @@ impl Drive {
         ensures { self.new ≡ record self.old { zones = map (sent_zone action) self.old.zones } }
     {
         let geometry = self.geometry;
-        apply_to_all(&geometry, &mut self.zones, &mut self.places, action);
+        apply_to_all(&geometry, &mut self.zones, &mut self.resources, action);
     }
 
     /// A Zone Management Send, to one zone or to all. To all it always succeeds.

@@ -27,7 +27,7 @@ impl Drive {
         None
     }
 
-    // The first check that an Append fails, its places left out.
+    // The first check that an Append fails, its resources left out.
     fn append_refusal(&self, zslba: u64, blocks: u32, bytes: &[u8]) -> Option<Status>
         ensures checks { result ≡ first_failing (append_first self.now.geometry
             (zone_at self.now.zones (zslba / self.now.geometry.size)) zslba blocks bytes.now) }
@@ -46,7 +46,7 @@ impl Drive {
         zone.append_refusal(&self.geometry, u64::from(blocks))
     }
 
-    // The first check that a Write fails, its places left out.
+    // The first check that a Write fails, its resources left out.
     fn write_refusal(&self, slba: u64, blocks: u32, bytes: &[u8]) -> Option<Status>
         requires { 1 ≤ blocks }
         ensures checks { result ≡ first_failing (write_first self.now.geometry
@@ -64,7 +64,7 @@ impl Drive {
     }
 
     // Writes whole blocks behind those of the zone that holds an address, which takes them. A status says
-    // which of the places that it needs is not there.
+    // which of the resources that it needs is not there.
     fn write_behind(&mut self, address: u64, bytes: &[u8]) -> Result<Option<Status>, Halt>
         requires in_range { address < end_of self.old.geometry }
         requires checks { None ≡ first_failing (append_bytes_checks self.old.geometry
@@ -76,7 +76,7 @@ impl Drive {
         ensures kept { OnErr result (self.new ≡ self.old) }
     {
         let index = address / self.size();
-        let closing = match self.place_for(index) {
+        let closing = match self.room_for(index) {
             Ok(closing) => closing,
             Err(status) => return Ok(Some(status)),
         };
@@ -84,7 +84,7 @@ impl Drive {
         write_with_room(
             &geometry,
             &mut self.zones,
-            &mut self.places,
+            &mut self.resources,
             index as usize,
             bytes,
             closing,

@@ -1,6 +1,7 @@
 use Rattle.zone_states.specs.Stored.{IsWhole, StoredZone}
 use Rattle.drive_port.specs.Step.{zone_at}
 use Rattle.zone_drive.specs.Stored.{zones_of}
+use Rattle.zone_drive.proofs.GroupLaws.{grouped-counts, grouped-set}
 use Rattle.zone_drive.proofs.WriteLaws.{all-at, lawful-at, lawful-written, replaces, whole-checked, zone_at-stored}
 use Rattle.zone_drive.proofs.changes.write_zone.Goals as goal
 
@@ -17,4 +18,13 @@ returns-clause-ok c =
     let lawful = lawful-written geometry zone c.args.bytes.now (lawful-at geometry zones _ _ index c.requires.counted c.requires.in_range)
     (whole-checked geometry zone c.args.bytes.now c.requires.checks) c.requires.checks in
     replaces geometry zones _ _ index d c.append.new.self _ _ _ c.requires.counted c.requires.in_range (rw was behind.zone) lawful behind.whole
-    (rw (c.state-before.ensures, c.state.ensures) at c.moved.ensures.active) (rw (c.state-before.ensures, c.state.ensures) at c.moved.ensures.open_zones)
+    (rw (c.state-before.ensures, c.state.ensures) at c.move_zone.ensures.active) (rw (c.state-before.ensures, c.state.ensures) at c.move_zone.ensures.open_zones)
+
+pub move_zone-requires-clause-implicit : goal.move_zone-requires-clause-implicit
+move_zone-requires-clause-implicit c =
+    rw c.state-before.ensures (grouped-counts c.args.zones.now c.args.resources.now.implicit c.args.index c.index-zones-index.result c.requires.grouped c.requires.in_range)
+
+pub returns-clause-grouped : goal.returns-clause-grouped
+returns-clause-grouped c =
+    rw (c.move_zone.ensures.implicit, c.state-before.ensures, c.state.ensures)
+    (grouped-set c.args.zones.now c.args.resources.now.implicit c.args.index c.index-zones-index.result c.append.new.self c.requires.grouped c.requires.in_range)

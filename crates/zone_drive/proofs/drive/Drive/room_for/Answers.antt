@@ -1,5 +1,5 @@
-use Rattle.zone_drive.proofs.PlaceLaws.{lowest-Some, lowest-None}
-use Rattle.zone_drive.proofs.drive.Drive.place_for.Goals as goal
+use Rattle.zone_drive.proofs.RoomLaws.{lowest-Some, lowest-None}
+use Rattle.zone_drive.proofs.drive.Drive.room_for.Goals as goal
 
 pub returns-in-Some-lowest_implicit : goal.returns-in-Some-lowest_implicit
 returns-in-Some-lowest_implicit c =

@@ -15,7 +15,7 @@ use Rattle.zone_states.specs.Stored.{StoredZone, zone_of}
 use Rattle.zone_states.specs.Checks.{first_failing}
 use Rattle.zone_states.specs.Sending.{zone_after}
 use Rattle.drive_port.specs.Step.{nowhere, resource_checks, write_effect, zone_at}
-use Rattle.zone_drive.specs.Choice.{IsLowest, PlaceGives, close_lowest, closed}
+use Rattle.zone_drive.specs.Choice.{IsLowest, RoomGives, close_lowest, closed}
 use Rattle.zone_drive.specs.Sending.{sent_to}
 use Rattle.zone_drive.specs.Stored.{zones_of}
 
@@ -93,10 +93,10 @@ changes-then_closes zones index low zone away lowest =
 pub zone_at-closing : (zones : List Zone) (index low : ℕ) → index ≢ low → IsLowest zones low → zone_at (close_lowest zones) index ≡ zone_at zones index
 zone_at-closing zones index low away lowest = rw lowest.closes (get_or-set_other zones low index (closed (zone_at zones low)) nowhere away)
 
-pub write-closing : (geometry : Geometry) (zones : List Zone) (index low n : ℕ) (bytes : List ℕ) → PlaceGives geometry zones (zone_at zones index) (Ok (Some low))
+pub write-closing : (geometry : Geometry) (zones : List Zone) (index low n : ℕ) (bytes : List ℕ) → RoomGives geometry zones (zone_at zones index) (Ok (Some low))
     → set (close_lowest zones) index (written_zone geometry.capacity (zone_at zones index) (cut_blocks geometry.block n bytes)) ≡ write_effect geometry (close_lowest zones) index n bytes
 write-closing geometry zones index low n bytes (wants, lowest) = rw (zone_at-closing zones index low (apart geometry zones index low wants lowest) lowest) refl
 
-pub open-closing : (geometry : Geometry) (zones : List Zone) (index low : ℕ) → PlaceGives geometry zones (zone_at zones index) (Ok (Some low))
+pub open-closing : (geometry : Geometry) (zones : List Zone) (index low : ℕ) → RoomGives geometry zones (zone_at zones index) (Ok (Some low))
     → set (close_lowest zones) index (zone_after Open (zone_at zones index) (state_after (zone_at zones index).state Open)) ≡ sent_to (close_lowest zones) index Open
 open-closing geometry zones index low (wants, lowest) = rw (zone_at-closing zones index low (apart geometry zones index low wants lowest) lowest) refl

@@ -1,0 +1,296 @@
+-- The counts of groups of zones where a zone changes, and the lowest implicitly opened zone by them.
+use Rattle.std.proofs.Common.{◌≡◌, ◌≢◌, ℕ, zero, suc, ◌+◌, ◌-◌, ◌*◌, ◌/◌, ◌<◌, ◌≤◌, Bool, true, false, cond, ltb, get_or, List, [], ◌∷◌, ◌++◌, length, set, take, drop, replicate, Some, None, refl, sym, ap, ◌∙◌, inl, inr, arith}
+use Rattle.std.specs.List.{count_by, position, position_or_len}
+use Rattle.std.proofs.lemmas.Bool.{cases_lt, le-ltb, lt-ltb, ltb-false, ltb-true}
+use Rattle.std.proofs.lemmas.List.{get_or-drop, get_or-set_other, get_or-set_same, length-append, length-drop, length-replicate, length-set, set-get_or, take-append-le, take_all}
+use Rattle.std.proofs.lemmas.List.Quantifiers.{position-Some}
+use Rattle.std.proofs.lemmas.List.Sums.{fails_before_first, position_or_len_is, sum_by-cons}
+use Rattle.nvme_wire.specs.declared.zone_state.ZoneState.{ZoneState}
+use Rattle.nvme_wire.specs.declared.zone_state.ZoneState.TheVariants.{Empty, ImplicitlyOpened}
+use Rattle.drive_port.specs.Step.{one_if}
+use Rattle.zone_states.specs.Stored.{StoredZone}
+use Rattle.zone_states.specs.Transition.{is_state}
+use Rattle.zone_drive.specs.Groups.{IsGrouped, implicit_below, is_implicit}
+use Rattle.zone_drive.proofs.CountLaws.{one_if-is}
+
+-- ---- how many of the first elements pass a test
+
+count-cons : {X : Type 0} (p : X → Bool) (x : X) (xs : List X) → count_by p (x ∷ xs) ≡ one_if (p x) + count_by p xs
+count-cons {X = X} p x xs = rw (one_if-is (p x)) (sum_by-cons (λ (y : X). cond (p y) 1 0) x xs)
+
+count-set : {X : Type 0} (p : X → Bool) (xs : List X) (n i : ℕ) (y d : X) → i < n → i < length xs
+    → count_by p (take n (set xs i y)) + one_if (p (get_or xs i d)) ≡ count_by p (take n xs) + one_if (p y)
+count-set p [] n i y d lt low = absurd (omega arith)
+count-set p (x ∷ xs) zero i y d lt low = absurd (omega arith)
+count-set p (x ∷ xs) (suc n) zero y d lt low = omega (arith, count-cons p y (take n xs), count-cons p x (take n xs))
+count-set p (x ∷ xs) (suc n) (suc i) y d lt low =
+    omega (arith, count-set p xs n i y d (omega arith) (omega arith), count-cons p x (take n (set xs i y)), count-cons p x (take n xs))
+
+take-set_past : {X : Type 0} (xs : List X) (n i : ℕ) (y : X) → n ≤ i → take n (set xs i y) ≡ take n xs
+take-set_past [] n i y le = refl
+take-set_past (x ∷ xs) zero i y le = refl
+take-set_past (x ∷ xs) (suc n) zero y le = absurd (omega arith)
+take-set_past {X = X} (x ∷ xs) (suc n) (suc i) y le = ap (λ (rest : List X). x ∷ rest) (take-set_past xs n i y (omega arith))
+
+count-push : {X : Type 0} (p : X → Bool) (xs : List X) (n : ℕ) (y : X) → length xs < n → count_by p (take n (xs ++ y ∷ [])) ≡ count_by p (take n xs) + one_if (p y)
+count-push p xs zero y lt = absurd (omega arith)
+count-push p [] (suc zero) y lt = omega (arith, count-cons p y [])
+count-push p [] (suc (suc n)) y lt = omega (arith, count-cons p y [])
+count-push p (x ∷ xs) (suc n) y lt =
+    omega (arith, count-push p xs n y (omega arith), count-cons p x (take n (xs ++ y ∷ [])), count-cons p x (take n xs))
+
+count-mono : {X : Type 0} (p : X → Bool) (xs : List X) (n m : ℕ) → n ≤ m → count_by p (take n xs) ≤ count_by p (take m xs)
+count-mono p xs zero m le = omega arith
+count-mono p xs (suc n) zero le = absurd (omega arith)
+count-mono p [] (suc n) (suc m) le = omega arith
+count-mono p (x ∷ xs) (suc n) (suc m) le = omega (arith, count-mono p xs n m (omega arith), count-cons p x (take n xs), count-cons p x (take m xs))
+
+count-most : {X : Type 0} (p : X → Bool) (xs : List X) (n : ℕ) → count_by p (take n xs) ≤ length xs
+count-most p xs zero = omega arith
+count-most p [] (suc n) = omega arith
+count-most p (x ∷ xs) (suc n) = omega (arith, count-most p xs n, count-cons p x (take n xs), one_if-most (p x))
+  where
+    one_if-most : (b : Bool) → one_if b ≤ 1
+    one_if-most true = omega arith
+    one_if-most false = omega arith
+
+-- where none is counted, none passes
+none-passes : {X : Type 0} (p : X → Bool) (xs : List X) (n k : ℕ) (d : X) → count_by p (take n xs) ≡ 0 → k < n → k < length xs → p (get_or xs k d) ≡ false
+none-passes p [] n k d e lt low = absurd (omega arith)
+none-passes p (x ∷ xs) zero k d e lt low = absurd (omega arith)
+none-passes p (x ∷ xs) (suc n) zero d e lt low = fails (p x) (omega (arith, count-cons p x (take n xs), e))
+  where
+    fails : (b : Bool) → one_if b ≡ 0 → b ≡ false
+    fails true none = absurd (omega arith)
+    fails false none = refl
+none-passes p (x ∷ xs) (suc n) (suc k) d e lt low = none-passes p xs n k d (omega (arith, count-cons p x (take n xs), e)) (omega arith) (omega arith)
+
+-- ---- one zone changed
+
+abbrev empty_stored : StoredZone
+empty_stored = record { state = Empty; bytes = [] }
+
+-- a zone is counted in its group
+pub grouped-counts : (zones : List StoredZone) (counts : List ℕ) (index : ℕ) (d : StoredZone) → IsGrouped zones counts → index < length zones
+    → one_if (is_implicit (get_or zones index d)) ≤ get_or counts (index / 256) 0
+grouped-counts zones counts index d grouped low =
+    let group = index / 256 in
+    let less = take-set_past zones (256 * group) index empty_stored (omega arith) in
+    let same = ap (count_by is_implicit) less in
+    let end = count-set is_implicit zones (256 * group + 256) index empty_stored d (omega arith) low in
+    let mono = count-mono is_implicit (set zones index empty_stored) (256 * group) (256 * group + 256) (omega arith) in
+    omega (arith, grouped.each group (omega (arith, grouped.few)), same, end, mono)
+
+pub grouped-small : (zones : List StoredZone) (counts : List ℕ) (index : ℕ) → IsGrouped zones counts → index < length zones → get_or counts (index / 256) 0 ≤ 65536
+grouped-small zones counts index grouped low =
+    let group = index / 256 in
+    omega (arith, grouped.each group (omega (arith, grouped.few)), count-most is_implicit zones (256 * group + 256), grouped.few)
+
+pub grouped-set : (zones : List StoredZone) (counts : List ℕ) (index : ℕ) (d new : StoredZone) → IsGrouped zones counts → index < length zones
+    → IsGrouped (set zones index new) (set counts (index / 256) (get_or counts (index / 256) 0 + one_if (is_implicit new) - one_if (is_implicit (get_or zones index d))))
+grouped-set zones counts index d new grouped low = record {
+  few = omega (arith, length-set zones index new, grouped.few);
+  groups = length-set counts (index / 256) _ ∙ grouped.groups;
+  each = each;
+}
+  where
+    was : ℕ
+    was = one_if (is_implicit (get_or zones index d))
+
+    count : ℕ
+    count = get_or counts (index / 256) 0 + one_if (is_implicit new) - was
+
+    held : was ≤ get_or counts (index / 256) 0
+    held = grouped-counts zones counts index d grouped low
+
+    apart : (group : ℕ) → group ≢ index / 256 → get_or (set counts (index / 256) count) group 0 ≡ get_or counts group 0
+    apart group away = get_or-set_other counts (index / 256) group count 0 away
+
+    each : (group : ℕ) → group < 256 → implicit_below (set zones index new) (256 * group) + get_or (set counts (index / 256) count) group 0 ≡ implicit_below (set zones index new) (256 * group + 256)
+    each group lt =
+        elim (cases_lt index (256 * group)) [
+          | inl before ↦
+              omega (
+                arith,
+                apart group (λ (e : group ≡ index / 256). absurd (omega arith)),
+                grouped.each group lt,
+                count-set is_implicit zones (256 * group) index new d before low,
+                count-set is_implicit zones (256 * group + 256) index new d (omega arith) low,
+              )
+          | inr from ↦ elim (cases_lt index (256 * group + 256)) [
+            | inl inside ↦
+                let here : group ≡ index / 256 = omega arith in
+                let value : get_or (set counts (index / 256) count) group 0 ≡ count = rw here (get_or-set_same counts (index / 256) count 0 (omega (arith, grouped.groups, lt))) in
+                let same = ap (count_by is_implicit) (take-set_past zones (256 * group) index new from) in
+                let counts_is : get_or counts group 0 ≡ get_or counts (index / 256) 0 = ap (λ (k : ℕ). get_or counts k 0) here in
+                omega (arith, value, held, counts_is, same, grouped.each group lt, count-set is_implicit zones (256 * group + 256) index new d inside low)
+            | inr past ↦
+                let start = ap (count_by is_implicit) (take-set_past zones (256 * group) index new from) in
+                let end = ap (count_by is_implicit) (take-set_past zones (256 * group + 256) index new past) in
+                omega (arith, apart group (λ (e : group ≡ index / 256). absurd (omega arith)), grouped.each group lt, start, end)
+          ]
+        ]
+
+-- a zone that keeps its state
+pub grouped-same : (zones : List StoredZone) (counts : List ℕ) (index : ℕ) (d new : StoredZone) → IsGrouped zones counts → index < length zones
+    → new.state ≡ (get_or zones index d).state → IsGrouped (set zones index new) counts
+grouped-same zones counts index d new grouped low e =
+    let flag = ap (λ (state : ZoneState). one_if (is_state ImplicitlyOpened state)) e in
+    let value : get_or counts (index / 256) 0 + one_if (is_implicit new) - one_if (is_implicit (get_or zones index d)) ≡ get_or counts (index / 256) 0 = omega (arith, flag) in
+    rw (value, set-get_or counts (index / 256) 0) at (grouped-set zones counts index d new grouped low)
+
+-- ---- the zones counted one after the other
+
+get_or-zeros : (n i : ℕ) → get_or (replicate {A = ℕ} n 0) i 0 ≡ 0
+get_or-zeros zero i = refl
+get_or-zeros (suc n) zero = refl
+get_or-zeros (suc n) (suc i) = get_or-zeros n i
+
+count-empty : (n k : ℕ) → count_by is_implicit (take k (replicate n empty_stored)) ≡ 0
+count-empty n zero = refl
+count-empty zero (suc k) = refl
+count-empty (suc n) (suc k) = omega (arith, count-empty n k, count-cons is_implicit empty_stored (take k (replicate n empty_stored)))
+
+-- Empty zones, and none at all
+pub grouped-fresh : (n : ℕ) → n ≤ 65536 → IsGrouped (replicate n empty_stored) (replicate 256 0)
+grouped-fresh n few = record {
+  few = omega (arith, few, length-replicate n empty_stored);
+  groups = length-replicate {A = ℕ} 256 0;
+  each = λ group lt. rw (count-empty n (256 * group), count-empty n (256 * group + 256), get_or-zeros 256 group) refl;
+}
+
+pub grouped-push : (zones : List StoredZone) (counts : List ℕ) (zone : StoredZone) → IsGrouped zones counts → length zones < 65536
+    → IsGrouped (zones ++ zone ∷ []) (set counts (length zones / 256) (get_or counts (length zones / 256) 0 + one_if (is_implicit zone)))
+grouped-push zones counts zone grouped room = record {
+  few = omega (arith, length-append zones (zone ∷ []));
+  groups = length-set counts (length zones / 256) _ ∙ grouped.groups;
+  each = each;
+}
+  where
+    index : ℕ
+    index = length zones
+
+    count : ℕ
+    count = get_or counts (index / 256) 0 + one_if (is_implicit zone)
+
+    apart : (group : ℕ) → group ≢ index / 256 → get_or (set counts (index / 256) count) group 0 ≡ get_or counts group 0
+    apart group away = get_or-set_other counts (index / 256) group count 0 away
+
+    each : (group : ℕ) → group < 256 → implicit_below (zones ++ zone ∷ []) (256 * group) + get_or (set counts (index / 256) count) group 0 ≡ implicit_below (zones ++ zone ∷ []) (256 * group + 256)
+    each group lt =
+        elim (cases_lt index (256 * group)) [
+          | inl before ↦
+              omega (
+                arith,
+                apart group (λ (e : group ≡ index / 256). absurd (omega arith)),
+                grouped.each group lt,
+                count-push is_implicit zones (256 * group) zone before,
+                count-push is_implicit zones (256 * group + 256) zone (omega arith),
+              )
+          | inr from ↦ elim (cases_lt index (256 * group + 256)) [
+            | inl inside ↦
+                let here : group ≡ index / 256 = omega arith in
+                let value : get_or (set counts (index / 256) count) group 0 ≡ count = rw here (get_or-set_same counts (index / 256) count 0 (omega (arith, grouped.groups, lt))) in
+                let same = ap (count_by is_implicit) (take-append-le (256 * group) zones (zone ∷ []) from) in
+                let counts_is : get_or counts group 0 ≡ get_or counts (index / 256) 0 = ap (λ (k : ℕ). get_or counts k 0) here in
+                omega (arith, value, counts_is, same, grouped.each group lt, count-push is_implicit zones (256 * group + 256) zone inside)
+            | inr past ↦
+                let start = ap (count_by is_implicit) (take-append-le (256 * group) zones (zone ∷ []) from) in
+                let end = ap (count_by is_implicit) (take-append-le (256 * group + 256) zones (zone ∷ []) past) in
+                omega (arith, apart group (λ (e : group ≡ index / 256). absurd (omega arith)), grouped.each group lt, start, end)
+          ]
+        ]
+
+-- ---- the lowest implicitly opened zone
+
+-- below a group after groups that count none, none is implicitly opened
+zeros-below : (zones : List StoredZone) (counts : List ℕ) → IsGrouped zones counts → (group : ℕ) → group ≤ 256 → ((k : ℕ) → k < group → get_or counts k 0 ≡ 0) → implicit_below zones (256 * group) ≡ 0
+zeros-below zones counts grouped zero le zeros = refl
+zeros-below zones counts grouped (suc group) le zeros =
+    let next : 256 * suc group ≡ 256 * group + 256 = omega arith in
+    let rest = zeros-below zones counts grouped group (omega arith) (λ k lt. zeros k (omega arith)) in
+    rw next (omega (arith, rest, grouped.each group (omega arith), zeros group (omega arith)))
+
+no_position : (b : Bool) (n : ℕ) → None ≡ cond b (Some n) None → b ≡ false
+no_position true n h = absurd (cc h)
+no_position false n h = refl
+
+-- where no zone passes, the search finds none
+finds-none : (zones : List StoredZone) → ((k : ℕ) → k < length zones → is_implicit (get_or zones k empty_stored) ≡ false) → None ≡ position is_implicit zones
+finds-none zones none =
+    let is : position_or_len is_implicit zones ≡ length zones = position_or_len_is is_implicit zones (length zones) empty_stored (omega arith) none (λ lt. absurd (omega arith)) in
+    rw (is, le-ltb (length zones) (length zones) (omega arith)) refl
+
+pub lowest-no_group : (zones : List StoredZone) (counts : List ℕ) → IsGrouped zones counts → ((k : ℕ) → k < 256 → get_or counts k 0 ≡ 0) → None ≡ position is_implicit zones
+lowest-no_group zones counts grouped zeros =
+    let none = zeros-below zones counts grouped 256 (omega arith) zeros in
+    finds-none zones (λ k lt. none-passes is_implicit zones (256 * 256) k empty_stored none (omega (arith, lt, grouped.few)) lt)
+
+-- a group that counts a zone begins within the zones
+pub group-within : (zones : List StoredZone) (counts : List ℕ) (group : ℕ) → IsGrouped zones counts → group < 256 → 0 < get_or counts group 0 → 256 * group < length zones
+group-within zones counts group grouped lt some =
+    elim (cases_lt (256 * group) (length zones)) [
+      | inl within ↦ within
+      | inr past ↦
+          let start = ap (count_by is_implicit) (take_all (256 * group) zones past) in
+          let end = ap (count_by is_implicit) (take_all (256 * group + 256) zones (omega arith)) in
+          absurd (omega (arith, start, end, grouped.each group lt, some))
+    ]
+
+pub lowest-found : (zones : List StoredZone) (counts : List ℕ) (group within : ℕ) → IsGrouped zones counts → group < 256 → ((k : ℕ) → k < group → get_or counts k 0 ≡ 0)
+    → Some within ≡ position is_implicit (drop (256 * group) zones) → Some (256 * group + within) ≡ position is_implicit zones
+lowest-found zones counts group within grouped lt zeros e =
+    let start = 256 * group in
+    let found = position-Some is_implicit (drop start zones) within empty_stored (sym e) in
+    let none = zeros-below zones counts grouped group (omega arith) zeros in
+    let low : start + within < length zones = omega (arith, found.0, length-drop start zones) in
+    let before : (k : ℕ) → k < start + within → is_implicit (get_or zones k empty_stored) ≡ false = λ k less.
+    elim (cases_lt k start) [
+      | inl below ↦ none-passes is_implicit zones start k empty_stored none below (omega (arith, low, less))
+      | inr from ↦
+          let at : start + (k - start) ≡ k = omega arith in
+          rw (get_or-drop start zones (k - start) empty_stored, at) at (found.2 (k - start) (omega arith))
+    ] in
+    let is : position_or_len is_implicit zones ≡ start + within =
+    position_or_len_is is_implicit zones (start + within) empty_stored (omega arith) before (λ below. rw (get_or-drop start zones within empty_stored) at found.1) in
+    rw (is, lt-ltb (start + within) (length zones) low) refl
+
+pub lowest-none : (zones : List StoredZone) (counts : List ℕ) (group : ℕ) → IsGrouped zones counts → group < 256 → ((k : ℕ) → k < group → get_or counts k 0 ≡ 0)
+    → None ≡ position is_implicit (drop (256 * group) zones) → None ≡ position is_implicit zones
+lowest-none zones counts group grouped lt zeros e =
+    let start = 256 * group in
+    let none = zeros-below zones counts grouped group (omega arith) zeros in
+    let past : length (drop start zones) ≤ position_or_len is_implicit (drop start zones) = ltb-false _ _ (no_position (ltb (position_or_len is_implicit (drop start zones)) (length (drop start zones))) _ e) in
+    finds-none zones (λ k low.
+    elim (cases_lt k start) [
+      | inl below ↦ none-passes is_implicit zones start k empty_stored none below low
+      | inr from ↦
+          let at : start + (k - start) ≡ k = omega arith in
+          rw (get_or-drop start zones (k - start) empty_stored, at) at (fails_before_first is_implicit (drop start zones) (k - start) empty_stored (omega (arith, past, low, length-drop start zones)))
+    ])
+
+-- ---- the first group that counts a zone
+
+not_counted : (n : ℕ) → ltb 0 n ≡ false → n ≡ 0
+not_counted zero e = refl
+not_counted (suc n) e = let le = ltb-false 0 (suc n) e in absurd (omega arith)
+
+-- the first group that counts a zone, after groups that count none
+pub record IsFirstGroup (counts : List ℕ) (group : ℕ) : Type 0 where
+  pub in_range : group < 256
+  pub some : 0 < get_or counts group 0
+  pub zeros : (k : ℕ) → k < group → get_or counts k 0 ≡ 0
+
+pub found-group : (counts : List ℕ) (group : ℕ) → length counts ≡ 256 → Some group ≡ position (λ (count : ℕ). ltb 0 count) counts → IsFirstGroup counts group
+found-group counts group groups e =
+    let found = position-Some (λ (count : ℕ). ltb 0 count) counts group 0 (sym e) in
+    record {
+      in_range = omega (arith, found.0, groups);
+      some = ltb-true 0 _ found.1;
+      zeros = λ k lt. not_counted _ (found.2 k lt);
+    }
+
+pub no-group : (counts : List ℕ) → length counts ≡ 256 → None ≡ position (λ (count : ℕ). ltb 0 count) counts → (k : ℕ) → k < 256 → get_or counts k 0 ≡ 0
+no-group counts groups e k lt =
+    let past : length counts ≤ position_or_len (λ (count : ℕ). ltb 0 count) counts = ltb-false _ _ (no_position (ltb (position_or_len (λ (count : ℕ). ltb 0 count) counts) (length counts)) _ e) in
+    not_counted _ (fails_before_first (λ (count : ℕ). ltb 0 count) counts k 0 (omega (arith, past, groups, lt)))
