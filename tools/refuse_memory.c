@@ -1,5 +1,5 @@
-/* Loaded before the C library, refuses one growth: the one whose number, from 1 on, FAIL_ALLOC gives. Where
-   COUNT_ALLOC names a file, writes into it how many growths there were. */
+/* Loaded before the C library, lets one allocation fail: the one whose number, from 1 on, FAIL_ALLOC gives.
+   Where COUNT_ALLOC names a file, writes into it how many allocations there were. */
 #define _GNU_SOURCE
 #include <dlfcn.h>
 #include <stdio.h>
@@ -7,7 +7,7 @@
 
 static long count;
 
-static int refused(void) {
+static int fails(void) {
     const char *number = getenv("FAIL_ALLOC");
     count++;
     return number != NULL && count == strtol(number, NULL, 10);
@@ -15,12 +15,12 @@ static int refused(void) {
 
 void *malloc(size_t size) {
     void *(*next)(size_t) = (void *(*)(size_t))dlsym(RTLD_NEXT, "malloc");
-    return refused() ? NULL : next(size);
+    return fails() ? NULL : next(size);
 }
 
 void *realloc(void *old, size_t size) {
     void *(*next)(void *, size_t) = (void *(*)(void *, size_t))dlsym(RTLD_NEXT, "realloc");
-    return refused() ? NULL : next(old, size);
+    return fails() ? NULL : next(old, size);
 }
 
 __attribute__((destructor)) static void tell(void) {

@@ -9,43 +9,43 @@ use Rattle.std.proofs.lemmas.List.Elements.{All-append, All-cons, All-nil}
 use Rattle.std.proofs.lemmas.List.Splits.{slice_split_at, slice_split_none}
 use Rattle.hex.specs.Hex.{IsBytes, encode_lower, encode_with, hex_digit_value, lower_digits}
 use Rattle.hex.proofs.HexLemmas.{IsDigits-lower_digits}
-use Rattle.disk_files.specs.Words.{byte_of, digits_behind, is_space, number_of, words_of, ◌>>=◌}
+use Rattle.disk_files.specs.Words.{byte_of, digits_after, is_space, number_of, words_of, ◌>>=◌}
 
 abbrev pub NoSpace : List ℕ → Type 0
 NoSpace word = All (λ b. is_space b ≡ false) word
 
 -- ---- numbers
 
-digit_behind : (v d : ℕ) → d < 10 → digits_behind v ((48 + d) ∷ []) ≡ Some (10 * v + d)
-digit_behind v d small =
+digit_after : (v d : ℕ) → d < 10 → digits_after v ((48 + d) ∷ []) ≡ Some (10 * v + d)
+digit_after v d small =
     let digit : is_ascii_digit (48 + d) ≡ true = grind (arith, nat_tests) in
     let value : 48 + d - 48 ≡ d = omega arith in
     rw (digit, value) refl
 
-digits_behind-push : (ds : List ℕ) (v c : ℕ) → digits_behind v (ds ++ c ∷ []) ≡ (digits_behind v ds >>= (λ m. digits_behind m (c ∷ [])))
-digits_behind-push [] v c = refl
-digits_behind-push (d ∷ ds) v c = elim (is_ascii_digit d) as (λ b. (if b then digits_behind (10 * v + (d - 48)) (ds ++ c ∷ []) else None) ≡ ((if b then digits_behind (10 * v + (d - 48)) ds else None) >>= (λ m. digits_behind m (c ∷ [])))) [
-  | true ↦ digits_behind-push ds (10 * v + (d - 48)) c
+digits_after-push : (ds : List ℕ) (v c : ℕ) → digits_after v (ds ++ c ∷ []) ≡ (digits_after v ds >>= (λ m. digits_after m (c ∷ [])))
+digits_after-push [] v c = refl
+digits_after-push (d ∷ ds) v c = elim (is_ascii_digit d) as (λ b. (if b then digits_after (10 * v + (d - 48)) (ds ++ c ∷ []) else None) ≡ ((if b then digits_after (10 * v + (d - 48)) ds else None) >>= (λ m. digits_after m (c ∷ [])))) [
+  | true ↦ digits_after-push ds (10 * v + (d - 48)) c
   | false ↦ refl
 ]
 
--- a word spells a number
+-- a word stands for a number
 record IsWordOf (n : ℕ) (word : List ℕ) : Type 0 where
   no_space : NoSpace word
-  value : digits_behind 0 word ≡ Some n
+  value : digits_after 0 word ≡ Some n
 
 no_space-digit : (d : ℕ) → NoSpace ((48 + d) ∷ [])
 no_space-digit d = All-cons (λ b. is_space b ≡ false) (48 + d) [] (grind (arith, nat_tests)) (All-nil (λ b. is_space b ≡ false))
 
 one_digit : (n : ℕ) → n < 10 → IsWordOf n ((48 + n) ∷ [])
-one_digit n small = record { no_space = no_space-digit n; value = digit_behind 0 n small ∙ ap (λ (m : ℕ). Some m) (zero-add n) }
+one_digit n small = record { no_space = no_space-digit n; value = digit_after 0 n small ∙ ap (λ (m : ℕ). Some m) (zero-add n) }
 
 one_more : (n : ℕ) (word : List ℕ) → 10 ≤ n → IsWordOf (n / 10) word → IsWordOf n (word ++ (48 + n % 10) ∷ [])
 one_more n word large w =
     let whole : 10 * (n / 10) + n % 10 ≡ n = omega arith in
     record {
       no_space = All-append (λ b. is_space b ≡ false) word ((48 + n % 10) ∷ []) w.no_space (no_space-digit (n % 10));
-      value = rw (digits_behind-push word 0 (48 + n % 10), w.value, digit_behind (n / 10) (n % 10) (omega arith), whole) refl;
+      value = rw (digits_after-push word 0 (48 + n % 10), w.value, digit_after (n / 10) (n % 10) (omega arith), whole) refl;
     }
 
 decimal-IsWordOf : (n : ℕ) → n < 2 ^ 64 → IsWordOf n (decimal n)
@@ -87,9 +87,9 @@ AboveSpaces-encode_lower (b ∷ bytes) fits =
     let high = slice_index lower_digits (b / 16) in
     let low = slice_index lower_digits (b % 16) in
     let rest = encode_lower bytes in
-    let behind = AboveSpaces-encode_lower bytes (λ i. fits (suc i)) in
+    let after = AboveSpaces-encode_lower bytes (λ i. fits (suc i)) in
     All-cons P high (low ∷ rest) (digit-large high (b / 16) (IsDigits-lower_digits (b / 16) (omega arith)))
-    (All-cons P low rest (digit-large low (b % 16) (IsDigits-lower_digits (b % 16) (omega arith))) behind)
+    (All-cons P low rest (digit-large low (b % 16) (IsDigits-lower_digits (b % 16) (omega arith))) after)
 
 pub NoSpace-encode_lower : (bytes : List ℕ) → IsBytes bytes → NoSpace (encode_lower bytes)
 NoSpace-encode_lower bytes fits = λ k d lt. let large = AboveSpaces-encode_lower bytes fits k d lt in grind (arith, nat_tests)

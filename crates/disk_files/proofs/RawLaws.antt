@@ -12,17 +12,17 @@ use Rattle.hex.specs.declared.error.FromHexError.{FromHexError}
 use Rattle.hex.proofs.HexLemmas.{decode_sized-odd, decode_sized-other}
 use Rattle.hex.proofs.Pairs.{decode_sized-pairs}
 use Rattle.disk_files.specs.RawLine.{data_of, exact_bytes_of, raw_of}
-use Rattle.disk_files.specs.Words.{byte_of, bytes_of, words_behind, words_of, ◌>>=◌}
+use Rattle.disk_files.specs.Words.{byte_of, bytes_of, words_after, words_of, ◌>>=◌}
 use Rattle.disk_files.proofs.WordLaws.{words_of-IsCons}
 
--- two digits, and the bytes behind them
-pair_behind : (high low i : ℕ) (h l : Option ℕ) (bytes : Option (List ℕ)) (decoded : Result (List ℕ) FromHexError) → bytes ≡ result_ok decoded
+-- two digits, and the bytes after them
+pair_after : (high low i : ℕ) (h l : Option ℕ) (bytes : Option (List ℕ)) (decoded : Result (List ℕ) FromHexError) → bytes ≡ result_ok decoded
     → ((h >>= (λ x. l >>= (λ y. Some (x * 16 + y)))) >>= (λ b. bytes >>= (λ bs. Some (b ∷ bs))))
     ≡ result_ok ((digit_or_error high i h >>=? (λ (x : ℕ). digit_or_error low (i + 1) l >>=? (λ (y : ℕ). Ok (x * 16 + y)))) >>=? (λ (b : ℕ). decoded >>=? (λ (bs : List ℕ). Ok (b ∷ bs))))
-pair_behind high low i None l bytes decoded e = refl
-pair_behind high low i (Some x) None bytes decoded e = refl
-pair_behind high low i (Some x) (Some y) bytes (Ok bs) e = rw e refl
-pair_behind high low i (Some x) (Some y) bytes (Err error) e = rw e refl
+pair_after high low i None l bytes decoded e = refl
+pair_after high low i (Some x) None bytes decoded e = refl
+pair_after high low i (Some x) (Some y) bytes (Ok bs) e = rw e refl
+pair_after high low i (Some x) (Some y) bytes (Err error) e = rw e refl
 
 -- bytes are what their digits decode to
 pub bytes_of-decoded : (i : ℕ) (word : List ℕ) → bytes_of word ≡ result_ok (decode_pairs i word)
@@ -30,19 +30,19 @@ unfolding decode_pairs
 bytes_of-decoded i [] = refl
 bytes_of-decoded i (high ∷ []) = refl
 bytes_of-decoded i (high ∷ low ∷ rest) =
-    pair_behind high low i (hex_digit_value high) (hex_digit_value low) (bytes_of rest) (decode_pairs (i + 2) rest) (bytes_of-decoded (i + 2) rest)
+    pair_after high low i (hex_digit_value high) (hex_digit_value low) (bytes_of rest) (decode_pairs (i + 2) rest) (bytes_of-decoded (i + 2) rest)
 
--- an odd number of digits spells no bytes
-none_behind : (byte : Option ℕ) (bytes : Option (List ℕ)) → bytes ≡ None → (byte >>= (λ b. bytes >>= (λ bs. Some (b ∷ bs)))) ≡ None
-none_behind None bytes e = refl
-none_behind (Some b) bytes e = rw e refl
+-- an odd number of digits stands for no bytes
+none_after : (byte : Option ℕ) (bytes : Option (List ℕ)) → bytes ≡ None → (byte >>= (λ b. bytes >>= (λ bs. Some (b ∷ bs)))) ≡ None
+none_after None bytes e = refl
+none_after (Some b) bytes e = rw e refl
 
 bytes_of-odd : (word : List ℕ) → length word % 2 ≡ 1 → bytes_of word ≡ None
 bytes_of-odd [] odd = absurd (omega arith)
 bytes_of-odd (high ∷ []) odd = refl
-bytes_of-odd (high ∷ low ∷ rest) odd = none_behind (byte_of (high ∷ low ∷ [])) (bytes_of rest) (bytes_of-odd rest (omega arith))
+bytes_of-odd (high ∷ low ∷ rest) odd = none_after (byte_of (high ∷ low ∷ [])) (bytes_of rest) (bytes_of-odd rest (omega arith))
 
--- so many bytes
+-- this many bytes
 pub exact_bytes_of-decoded : (count : ℕ) (word : List ℕ) → exact_bytes_of count word ≡ result_ok (decode_sized word count)
 exact_bytes_of-decoded count word = elim (cases_eq (length word % 2) 1) [
   | inl odd ↦ rw (decode_sized-odd word count odd) (grind (arith, nat_tests))
@@ -99,7 +99,7 @@ module _ (word : List ℕ) (count : ℕ) (result : Result (Unit {0}) FromHexErro
 -- ---- words
 
 -- a line of more than two words is no raw line
-pub raw_of-more : (count : ℕ) (word digits : List ℕ) (rest : Option (Bor (List ℕ))) → is_some rest ≡ true → raw_of count (word ∷ digits ∷ words_behind (option_copied rest)) ≡ None
+pub raw_of-more : (count : ℕ) (word digits : List ℕ) (rest : Option (Bor (List ℕ))) → is_some rest ≡ true → raw_of count (word ∷ digits ∷ words_after (option_copied rest)) ≡ None
 raw_of-more count word digits None e = absurd cc
 raw_of-more count word digits (Some line) e = rw (words_of-IsCons line.now).is refl
 
@@ -108,6 +108,6 @@ length-two_words line word digits e =
     let text = sym (join_with_byte-slice_split 32 line) ∙ ap (join_with_byte 32) e in
     omega (arith, ap length text, length-append word (32 ∷ digits))
 
-pub words_behind-None : (rest : Option (Bor (List ℕ))) → is_some rest ≡ false → words_behind (option_copied rest) ≡ []
-words_behind-None None e = refl
-words_behind-None (Some line) e = absurd cc
+pub words_after-None : (rest : Option (Bor (List ℕ))) → is_some rest ≡ false → words_after (option_copied rest) ≡ []
+words_after-None None e = refl
+words_after-None (Some line) e = absurd cc

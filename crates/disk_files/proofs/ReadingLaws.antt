@@ -7,8 +7,8 @@ use Rattle.std.proofs.lemmas.List.Elements.{All-append}
 use Rattle.std.proofs.lemmas.List.Folds.{prefix_len-append}
 use Rattle.std.proofs.lemmas.List.Sums.{position_or_len_is}
 use Rattle.std.proofs.lemmas.Bool.Decides.{nat_tests}
-use Rattle.disk_files.specs.Ahead.{PutsBehind}
-use Rattle.disk_files.specs.Line.{NoFeed, ReadsLine, behind_line, feed, first_line, is_feed}
+use Rattle.disk_files.specs.Ahead.{PutsAfter}
+use Rattle.disk_files.specs.Line.{NoFeed, ReadsLine, after_line, feed, first_line, is_feed}
 use Rattle.disk_files.specs.declared.line_reader.LineFault.TheVariants.{Long}
 use Rattle.disk_files.specs.declared.line_reader.TheConstants.{LONGEST_LINE}
 
@@ -30,14 +30,14 @@ module _ (line : List ℕ) (none : NoFeed line) where
   pub first_line-feed : (rest : List ℕ) → first_line (line ++ feed ∷ rest) ≡ line
   first_line-feed rest = rw (place_feed rest) (take_at line (feed ∷ rest) (length line) refl)
 
-  pub behind_line-feed : (rest : List ℕ) → behind_line (line ++ feed ∷ rest) ≡ rest
-  behind_line-feed rest = rw (place_feed rest, ← drop-drop 1 (length line) (line ++ feed ∷ rest), drop_at line (feed ∷ rest) (length line) refl) refl
+  pub after_line-feed : (rest : List ℕ) → after_line (line ++ feed ∷ rest) ≡ rest
+  after_line-feed rest = rw (place_feed rest, ← drop-drop 1 (length line) (line ++ feed ∷ rest), drop_at line (feed ∷ rest) (length line) refl) refl
 
   first_line-none : first_line line ≡ line
   first_line-none = take_all (position_or_len is_feed line) line (omega (arith, place_none))
 
-  behind_line-none : behind_line line ≡ []
-  behind_line-none = drop_all (position_or_len is_feed line + 1) line (omega (arith, place_none))
+  after_line-none : after_line line ≡ []
+  after_line-none = drop_all (position_or_len is_feed line + 1) line (omega (arith, place_none))
 
   length-first_line : (rest : List ℕ) → length line ≤ length (first_line (line ++ rest))
   length-first_line rest = omega (arith, place_more rest, length-take (position_or_len is_feed (line ++ rest)) (line ++ rest), length-append line rest)
@@ -46,7 +46,7 @@ module _ (line : List ℕ) (none : NoFeed line) where
 
 -- the line feed is read
 pub line_done : (old mid new : Option (List ℕ)) (before line bytes : List ℕ) → NoFeed before → Consumes old mid before
-    → PutsBehind before line bytes → Consumes mid new (bytes ++ feed ∷ []) → ReadsLine old new line (Ok true)
+    → PutsAfter before line bytes → Consumes mid new (bytes ++ feed ∷ []) → ReadsLine old new line (Ok true)
 line_done None mid new before line bytes none p puts q = tt
 line_done (Some xs) None new before line bytes none p puts q = absurd p
 line_done (Some xs) (Some ys) None before line bytes none p puts q = absurd q
@@ -56,10 +56,10 @@ line_done (Some xs) (Some ys) (Some zs) before line bytes none p puts q =
     record {
       some = λ e. absurd (omega (arith, ap length (sym text ∙ e), length-append (before ++ bytes) (feed ∷ zs)));
       line_is = puts.text ∙ rw (text, first_line-feed (before ++ bytes) clean zs) refl;
-      rest_is = rw (text, behind_line-feed (before ++ bytes) clean zs) refl;
+      rest_is = rw (text, after_line-feed (before ++ bytes) clean zs) refl;
     }
 
--- the reader ends behind a line
+-- the reader ends after a line
 pub line_ends : (old mid new : Option (List ℕ)) (line : List ℕ) → NoFeed line → Consumes old mid line → Keeps mid new → IsAtEnd new → line ≢ [] → ReadsLine old new line (Ok true)
 line_ends None mid new line none p q end some = tt
 line_ends (Some xs) None new line none p q end some = absurd p
@@ -69,7 +69,7 @@ line_ends (Some xs) (Some ys) (Some zs) line none p q end some =
     record {
       some = λ e. some (sym text ∙ e);
       line_is = rw (text, first_line-none line none) refl;
-      rest_is = end ∙ rw (text, behind_line-none line none) refl;
+      rest_is = end ∙ rw (text, after_line-none line none) refl;
     }
 
 -- no line feed is found in time

@@ -12,14 +12,14 @@ abbrev pub Refills : Option (List ℕ) → Option (List ℕ) → Result (Unit {0
 Refills old new (Ok done) ahead = Consumes old new ahead × (ahead ≡ [] → IsAtEnd new)
 Refills old new (Err fault) ahead = Keeps old new × (ahead ≡ []) × (fault ≡ Input)
 
--- bytes of a line are put behind a text
-pub record PutsBehind (before after bytes : List ℕ) : Type 0 where
+-- bytes of a line are put at the end of a text
+pub record PutsAfter (before after bytes : List ℕ) : Type 0 where
   pub text : after ≡ before ++ bytes
   pub no_feed : NoFeed bytes
 
--- Bytes of a line go from those that are left to the end of a text, with their line feed at most so many. Nothing is taken only at the end, and by a fault.
+-- Bytes of a line go from those that are left to the end of a text, at most `room` of them with their line feed. Nothing is taken only at the end, and by a fault.
 abbrev pub ReadsPart : Option (List ℕ) → Option (List ℕ) → ℕ → List ℕ → List ℕ → Result Part LineFault → Type 0
-ReadsPart old new room before after (Ok Front) = (bytes : List ℕ) × PutsBehind before after bytes × Consumes old new bytes × (bytes ≢ []) × (length bytes ≤ room)
-ReadsPart old new room before after (Ok Line) = (bytes : List ℕ) × PutsBehind before after bytes × Consumes old new (bytes ++ feed ∷ []) × (length bytes < room)
+ReadsPart old new room before after (Ok Front) = (bytes : List ℕ) × PutsAfter before after bytes × Consumes old new bytes × (bytes ≢ []) × (length bytes ≤ room)
+ReadsPart old new room before after (Ok Line) = (bytes : List ℕ) × PutsAfter before after bytes × Consumes old new (bytes ++ feed ∷ []) × (length bytes < room)
 ReadsPart old new room before after (Ok End) = Keeps old new × IsAtEnd new × (after ≡ before)
 ReadsPart old new room before after (Err fault) = Keeps old new × (after ≡ before) × (fault ≢ Long)

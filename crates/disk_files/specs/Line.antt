@@ -15,20 +15,20 @@ is_feed b = b == feed
 abbrev pub first_line : List ℕ → List ℕ
 first_line bytes = before_first is_feed bytes
 
--- the bytes behind the first line feed, none where there is none
-abbrev pub behind_line : List ℕ → List ℕ
-behind_line bytes = after_first is_feed bytes
+-- the bytes after the first line feed, none where there is none
+abbrev pub after_line : List ℕ → List ℕ
+after_line bytes = after_first is_feed bytes
 
 abbrev pub NoFeed : List ℕ → Type 0
 NoFeed bytes = All (λ b. is_feed b ≡ false) bytes
 
--- the first line of some bytes, and the bytes behind it
+-- the first line of some bytes, and the bytes after it
 pub record TakesLine (bytes rest line : List ℕ) : Type 0 where
   pub some : bytes ≢ []
   pub line_is : line ≡ first_line bytes
-  pub rest_is : rest ≡ behind_line bytes
+  pub rest_is : rest ≡ after_line bytes
 
--- the first bytes of a line, and the bytes behind them
+-- the first bytes of a line, and the bytes after them
 pub record TakesFront (bytes rest front : List ℕ) : Type 0 where
   pub no_feed : NoFeed front
   pub text : bytes ≡ front ++ rest

@@ -3,7 +3,7 @@ use Rattle.std.specs.Prelude.{ℕ, ◌*◌, ◌==◌, if◌then◌else◌, List,
 use Rattle.hex.specs.Hex.{encode_lower}
 use Rattle.disk_files.specs.Words.{bytes_of, words_of, ◌>>=◌}
 
--- so many bytes
+-- this many bytes
 abbrev pub exact_bytes_of : ℕ → List ℕ → Option (List ℕ)
 exact_bytes_of count word = if length word == 2 * count then bytes_of word else None
 
@@ -12,7 +12,7 @@ abbrev pub data_of : List ℕ → Option (List ℕ)
 data_of [] = None
 data_of (digit ∷ digits) = bytes_of (digit ∷ digits)
 
--- so many bytes, and the data beside them, if there is any
+-- this many bytes, and the data beside them, if there is any
 abbrev pub raw_of : ℕ → List (List ℕ) → Option (List ℕ × List ℕ)
 raw_of count (word ∷ []) = do
   bytes ← exact_bytes_of count word
@@ -31,7 +31,7 @@ raw_line line = raw_of 64 (words_of line)
 abbrev pub raw_answer : List ℕ → Option (List ℕ × List ℕ)
 raw_answer line = raw_of 16 (words_of line)
 
--- data behind a space, or nothing
+-- a space and data, or nothing
 abbrev pub beside_text : List ℕ → List ℕ
 beside_text [] = []
 beside_text (b ∷ bs) = codes " " ++ encode_lower (b ∷ bs)

@@ -31,7 +31,7 @@ out_of_range_text = codes "refused 1 OutOfRange\n"
 abbrev pub read_text : ℕ → List (List ℕ) → List ℕ
 read_text first blocks = block_lines first blocks ++ ok_text
 
--- bytes as so many blocks of a size
+-- bytes as `count` blocks of a size
 abbrev pub blocks_in : ℕ → ℕ → List ℕ → List (List ℕ)
 blocks_in size zero bytes = []
 blocks_in size (suc count) bytes = take size bytes ∷ blocks_in size count (drop size bytes)

@@ -34,7 +34,7 @@ fill_of (first ∷ blocks ∷ byte ∷ []) = do
   Some (Fill l n b)
 fill_of words = None
 
--- what a line of each name says, by the words behind its name
+-- what a line of each name says, by the words after its name
 abbrev pub line_of : Name → List (List ℕ) → Option TraceLine
 line_of names.Read words = read_of words
 line_of names.Fill words = fill_of words

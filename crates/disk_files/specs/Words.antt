@@ -1,4 +1,4 @@
--- The words of a line, and the numbers and bytes that words spell.
+-- The words of a line, and the numbers and bytes that words stand for.
 use Rattle.std.specs.Prelude.{ℕ, ◌+◌, ◌-◌, ◌*◌, ◌^◌, ◌==◌, nat_lt, nat_le, ◌&&◌, if◌then◌else◌, Bool, List, [], ◌∷◌, length, Option, Some, None, option_and_then}
 use Rattle.std.specs.Char.{is_ascii_digit}
 use Rattle.std.specs.List.{slice_split}
@@ -17,14 +17,14 @@ abbrev pub words_of : List ℕ → List (List ℕ)
 words_of line = slice_split is_space line
 
 -- the words of what follows a word, if a space does
-abbrev pub words_behind : Option (List ℕ) → List (List ℕ)
-words_behind None = []
-words_behind (Some line) = words_of line
+abbrev pub words_after : Option (List ℕ) → List (List ℕ)
+words_after None = []
+words_after (Some line) = words_of line
 
 -- the number of a value's digits and those of a word
-abbrev pub digits_behind : ℕ → List ℕ → Option ℕ
-digits_behind value [] = Some value
-digits_behind value (b ∷ bs) = if is_ascii_digit b then digits_behind (10 * value + (b - 48)) bs else None
+abbrev pub digits_after : ℕ → List ℕ → Option ℕ
+digits_after value [] = Some value
+digits_after value (b ∷ bs) = if is_ascii_digit b then digits_after (10 * value + (b - 48)) bs else None
 
 abbrev pub below_limit : ℕ → Option ℕ
 below_limit n = if nat_lt n (2 ^ 64) then Some n else None
@@ -32,7 +32,7 @@ below_limit n = if nat_lt n (2 ^ 64) then Some n else None
 -- a number has 1 to 20 decimal digits, and is below 2^64
 abbrev pub number_of : List ℕ → Option ℕ
 number_of word =
-    if nat_le 1 (length word) && nat_le (length word) 20 then digits_behind 0 word >>= below_limit
+    if nat_le 1 (length word) && nat_le (length word) 20 then digits_after 0 word >>= below_limit
     else None
 
 -- a byte has two hexadecimal digits, of either case

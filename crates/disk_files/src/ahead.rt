@@ -71,7 +71,7 @@ impl Ahead {
         }
     }
 
-    /// Takes bytes of a line, at most `room` with its line feed, and puts them behind `line`.
+    /// Takes bytes of a line, at most `room` with its line feed, and puts them after what `line` holds.
     pub fn take(&mut self, room: usize, line: &mut Vec<u8>) -> Result<Part, LineFault>
         requires { 1 ≤ room }
         ensures { ReadsPart (Some self.old) (Some self.new) room line.old.items line.new.items result }

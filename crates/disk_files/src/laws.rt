@@ -3,7 +3,7 @@
 ghost use Rattle.std.specs.Prelude.{◌≡◌, ℕ, ◌*◌, ◌<◌, ◌^◌, List, [], ◌∷◌, ◌++◌, Some, codes, decimal, length};
 ghost use Rattle.std.specs.List.{AllByRecursion, concat};
 ghost use Rattle.hex.specs.Hex.{IsBytes, encode_lower};
-ghost use Rattle.disk_files.specs.Line.{NoFeed, behind_line, feed, first_line};
+ghost use Rattle.disk_files.specs.Line.{NoFeed, after_line, feed, first_line};
 ghost use Rattle.disk_files.specs.RawLine.{raw_answer, raw_line, raw_reply_text, raw_text};
 ghost use Rattle.disk_files.specs.Reply.{blocks_in};
 ghost use Rattle.disk_files.specs.TraceLine.{trace_line};
@@ -12,7 +12,7 @@ ghost use Rattle.disk_files.specs.declared.trace_line.TraceLine.TheVariants as l
 /// A line that is written with its line feed is read again.
 pub fn line_again()
     ensures first { (line rest : List ℕ) → NoFeed line → first_line (line ++ feed ∷ rest) ≡ line }
-    ensures behind { (line rest : List ℕ) → NoFeed line → behind_line (line ++ feed ∷ rest) ≡ rest }
+    ensures after { (line rest : List ℕ) → NoFeed line → after_line (line ++ feed ∷ rest) ≡ rest }
 {}
 
 /// Every read and every fill has a line in the grammar.

@@ -1,4 +1,24 @@
-//! The texts and files of a disk: lines of a trace, raw lines, and the replies to them.
+//! The texts of a disk: lines of a trace, raw lines, and the replies to them.
+//!
+//! ```text
+//! let mut reader = LineReader::new(rt.reader());
+//! let mut line = Vec::new(alloc);
+//! while reader.next_line(&mut line)? {
+//!     if is_skipped(&line) {
+//!         continue;
+//!     }
+//!     match TraceLine::parse(&line) {
+//!         Some(TraceLine::Read { first, blocks }) => ..,
+//!         Some(TraceLine::Fill { first, blocks, byte }) => ..,
+//!         None => ..,
+//!     }
+//! }
+//! ```
+//!
+//! What is promised: [`LineReader::next_line`] takes the first line of what is left, or says why it did not;
+//! [`TraceLine::parse`] and [`parse_raw_line`] accept the lines of their grammars and no others, and say what
+//! those say; replies are their texts; and [`write_out`] writes all its bytes, or after a fault a beginning
+//! of them. `laws` has what holds of all lines: those that are written are read again.
 #![tactic(auto)]
 
 mod ahead;

@@ -8,6 +8,7 @@ use crate::ahead::{Ahead, Part};
 use std::alloc::AllocError;
 use std::io::Read;
 use std::marker::Model;
+use thiserror::Error;
 
 /// The greatest number of bytes in a line, without its line feed.
 pub const LONGEST_LINE: usize = 4_194_304;
@@ -16,13 +17,16 @@ pub const LONGEST_LINE: usize = 4_194_304;
 const MOST_READS: u64 = 1 << 62;
 
 /// Why no line was read.
-#[derive(Clone, Copy, Debug, PartialEq, Eq)]
+#[derive(Clone, Copy, Debug, PartialEq, Eq, Error)]
 pub enum LineFault {
     /// The line has more than `LONGEST_LINE` bytes.
+    #[error("a line is too long")]
     Long,
     /// The reader failed, or hadn't ended after 2^62 reads.
+    #[error("the input failed")]
     Input,
     /// There is no memory for the line.
+    #[error("out of memory")]
     Memory,
 }
 
@@ -86,7 +90,7 @@ impl<R: Read + Drop> LineReader<R> {
         }
     }
 
-    /// Takes bytes of a line, and puts them behind `line`.
+    /// Takes bytes of a line, and puts them after what `line` holds.
     fn take_part(&mut self, room: usize, line: &mut Vec<u8>) -> Result<Part, LineFault>
         requires { 1 ≤ room }
         ensures { ReadsPart self.old self.new room line.old.items line.new.items result }

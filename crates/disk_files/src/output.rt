@@ -3,9 +3,11 @@ ghost use Rattle.std.specs.Io.KnownBytes.{Appends};
 ghost use Rattle.disk_files.specs.Output.{AppendsFront};
 
 use std::io::Write;
+use thiserror::Error;
 
 /// A writer failed, or took no byte.
-#[derive(Clone, Copy, Debug, PartialEq, Eq)]
+#[derive(Clone, Copy, Debug, PartialEq, Eq, Error)]
+#[error("the output failed")]
 pub struct WriteFault;
 
 /// Writes all the bytes. After a fault a beginning of them is written.

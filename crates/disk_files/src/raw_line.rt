@@ -5,13 +5,16 @@ ghost use Rattle.disk_files.specs.declared.raw_line.RawFault.TheVariants.{Memory
 use crate::words::split_word;
 use hex::FromHex;
 use std::alloc::AllocError;
+use thiserror::Error;
 
 /// Why a raw line was not read.
-#[derive(Clone, Copy, Debug, PartialEq, Eq)]
+#[derive(Clone, Copy, Debug, PartialEq, Eq, Error)]
 pub enum RawFault {
     /// The line is not in the grammar.
+    #[error("the line is not in the grammar")]
     Grammar,
     /// There is no memory for the data.
+    #[error("out of memory")]
     Memory,
 }
 

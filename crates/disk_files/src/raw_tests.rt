@@ -25,7 +25,7 @@ fn append_entry() -> [u8; 64] {
     entry
 }
 
-/// One text behind another.
+/// One text after another.
 fn joined(alloc: Global, head: &[u8], rest: &[u8]) -> Result<Vec<u8>, AllocError> {
     let mut line = Vec::from_slice(alloc, head)?;
     line.extend_from_slice(rest)?;

@@ -80,7 +80,7 @@ fn skipped_lines(rt: HostRuntime) {
     }
 }
 
-/// The lines of a reader one behind the other, each ended by a bar, and how reading them ended.
+/// The lines of a reader one after the other, each ended by a bar, and how reading them ended.
 fn lines<R: Read + Drop>(
     alloc: Global,
     reader: R,

@@ -73,7 +73,7 @@ fn fill_line(words: &[u8]) -> Option<TraceLine>
 }
 
 impl TraceLine {
-    /// The line that some bytes spell, without their line feed. None if they are not in the grammar.
+    /// What a line says, without its line feed. None if it is not in the grammar.
     pub fn parse(line: &[u8]) -> Option<TraceLine>
         ensures { result ≡ trace_line line.now }
     {

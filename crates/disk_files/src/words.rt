@@ -1,12 +1,12 @@
 ghost use Rattle.std.specs.Prelude.{◌≡◌, ◌∷◌, option_copied};
-ghost use Rattle.disk_files.specs.Words.{byte_of, number_of, words_behind, words_of};
+ghost use Rattle.disk_files.specs.Words.{byte_of, number_of, words_after, words_of};
 
 use crate::bytes::first_place;
 use hex::FromHex;
 
-/// The first word of a line, and what follows the space behind it.
+/// The first word of a line, and what follows the space after it.
 pub fn split_word(line: &[u8]) -> (&[u8], Option<&[u8]>)
-    ensures { words_of line.now ≡ result.0.now ∷ words_behind (option_copied result.1) }
+    ensures { words_of line.now ≡ result.0.now ∷ words_after (option_copied result.1) }
 {
     match first_place(line, b' ') {
         Some(place) => (&line[..place], Some(&line[place + 1..])),
@@ -14,7 +14,7 @@ pub fn split_word(line: &[u8]) -> (&[u8], Option<&[u8]>)
     }
 }
 
-/// The number that a word of 1 to 20 decimal digits spells, below 2^64.
+/// The number that a word of 1 to 20 decimal digits stands for, below 2^64.
 pub fn number(word: &[u8]) -> Option<u64>
     ensures { result ≡ number_of word.now }
 {
@@ -31,7 +31,7 @@ pub fn number(word: &[u8]) -> Option<u64>
     u64::try_from(value).ok()
 }
 
-/// The byte that a word of two hexadecimal digits, of either case, spells.
+/// The byte that a word of two hexadecimal digits, of either case, stands for.
 pub fn byte(word: &[u8]) -> Option<u8>
     ensures { result ≡ byte_of word.now }
 {

@@ -4,7 +4,7 @@ use Rattle.std.specs.Prelude.{Bool, IfErr, IsErrAnd, IsErrOf, Result, ◌↔◌}
 use Rattle.std.proofs.lemmas.Bool.{cases_lt}
 use Rattle.std.specs.Io.KnownBytes.{Appends}
 use Rattle.std.proofs.lemmas.List.{append-nil, length-append}
-use Rattle.disk_files.specs.Line.{ReadsLine, TakesLine, behind_line, first_line}
+use Rattle.disk_files.specs.Line.{ReadsLine, TakesLine, after_line, first_line}
 use Rattle.disk_files.specs.Output.{AppendsFront}
 use Rattle.disk_files.specs.declared.line_reader.TheConstants.{LONGEST_LINE}
 use Rattle.disk_files.specs.declared.line_reader.LineFault.{LineFault}
@@ -16,15 +16,15 @@ use Rattle.disk_runs.specs.declared.fault.RunFault.TheVariants.{Line, Long, Disk
 
 -- ---- one line more
 
-TakesLines-more : (lines : List (List ℕ)) (bytes rest line : List ℕ) → TakesLines bytes lines rest → rest ≢ [] → line ≡ first_line rest → TakesLines bytes (lines ++ line ∷ []) (behind_line rest)
-TakesLines-more [] bytes rest line p some e = (λ none. some (sym p ∙ none), e ∙ ap first_line (sym p), ap behind_line p)
-TakesLines-more (l ∷ ls) bytes rest line p some e = (p.0, p.1, TakesLines-more ls (behind_line bytes) rest line p.2 some e)
+TakesLines-more : (lines : List (List ℕ)) (bytes rest line : List ℕ) → TakesLines bytes lines rest → rest ≢ [] → line ≡ first_line rest → TakesLines bytes (lines ++ line ∷ []) (after_line rest)
+TakesLines-more [] bytes rest line p some e = (λ none. some (sym p ∙ none), e ∙ ap first_line (sym p), ap after_line p)
+TakesLines-more (l ∷ ls) bytes rest line p some e = (p.0, p.1, TakesLines-more ls (after_line bytes) rest line p.2 some e)
 
 AnswersAll-more : {S : Type 0} (language : Language S) (lines : List (List ℕ)) (line reply text : List ℕ) (old middle new : S)
     → AnswersAll language old lines text middle → IsLine language line → language.Answers middle line reply new → AnswersAll language old (lines ++ line ∷ []) (text ++ reply) new
 AnswersAll-more language [] line reply text old middle new p is_line a = record {
   reply = reply;
-  behind = [];
+  after = [];
   middle = new;
   is_line = is_line;
   answers = rw p.1 at a;
@@ -33,12 +33,12 @@ AnswersAll-more language [] line reply text old middle new p is_line a = record 
 }
 AnswersAll-more language (l ∷ ls) line reply text old middle new p is_line a = record {
   reply = p.reply;
-  behind = p.behind ++ reply;
+  after = p.after ++ reply;
   middle = p.middle;
   is_line = p.is_line;
   answers = p.answers;
-  rest = AnswersAll-more language ls line reply p.behind p.middle middle new p.rest is_line a;
-  text_is = ap (λ (xs : List ℕ). xs ++ reply) p.text_is ∙ append_assoc p.reply p.behind reply;
+  rest = AnswersAll-more language ls line reply p.after p.middle middle new p.rest is_line a;
+  text_is = ap (λ (xs : List ℕ). xs ++ reply) p.text_is ∙ append_assoc p.reply p.after reply;
 }
 
 -- ---- known bytes
@@ -52,7 +52,7 @@ appended a (Some b) (Some c) x e p = let same : b ≡ a = cc in ap (λ (xs : Lis
 pub record Taken (rest line : List ℕ) (new : Option (List ℕ)) : Type 0 where
   pub some : rest ≢ []
   pub line_is : line ≡ first_line rest
-  pub left_is : new ≡ Some (behind_line rest)
+  pub left_is : new ≡ Some (after_line rest)
 
 pub taken_line : (rest line : List ℕ) (old new : Option (List ℕ)) → old ≡ Some rest → ReadsLine old new line (Ok true) → Taken rest line new
 taken_line rest line None new e r = absurd cc
@@ -95,7 +95,7 @@ goes_on_at language input written old number left left' contents contents' line 
     let t = taken_line s.rest line left left' s.left_is r in
     record {
       lines = s.lines ++ line ∷ [];
-      rest = behind_line s.rest;
+      rest = after_line s.rest;
       text = s.text ++ reply;
       taken = TakesLines-more s.lines input s.rest line s.taken t.some t.line_is;
       answered = AnswersAll-more language s.lines line reply s.text old new new' s.answered is_line answers;

@@ -1,6 +1,6 @@
 -- Runs of lines: each line of a reader is answered, in order, and the replies are what a writer gets.
 use Rattle.std.specs.Prelude.{◌≡◌, ◌≢◌, ℕ, ◌+◌, ◌<◌, ◌≤◌, Bool, true, false, List, [], ◌∷◌, ◌++◌, length, take, Option, Some, None, ⊤}
-use Rattle.disk_files.specs.Line.{behind_line, first_line}
+use Rattle.disk_files.specs.Line.{after_line, first_line}
 use Rattle.disk_files.specs.declared.line_reader.TheConstants.{LONGEST_LINE}
 use Rattle.disk_files.specs.declared.line_reader.LineFault.{LineFault}
 use Rattle.disk_files.specs.declared.line_reader.LineFault.TheVariants as lines
@@ -21,23 +21,23 @@ pub record IsLine {S : Type 0} (language : Language S) (line : List ℕ) : Type 
 -- these are the first lines of the bytes, and the rest is what follows them
 abbrev pub TakesLines : List ℕ → List (List ℕ) → List ℕ → Type 0
 TakesLines bytes [] rest = bytes ≡ rest
-TakesLines bytes (line ∷ lines) rest = (bytes ≢ []) × (line ≡ first_line bytes) × TakesLines (behind_line bytes) lines rest
+TakesLines bytes (line ∷ lines) rest = (bytes ≢ []) × (line ≡ first_line bytes) × TakesLines (after_line bytes) lines rest
 
 -- one line is answered, and what follows it is done from where it led
 pub record AnswersFirst {S : Type 0} (language : Language S) (old : S) (line text : List ℕ) (Rest : S → List ℕ → Type 0) : Type 0 where
   pub reply : List ℕ
-  pub behind : List ℕ
+  pub after : List ℕ
   pub middle : S
   pub is_line : IsLine language line
   pub answers : language.Answers old line reply middle
-  pub rest : Rest middle behind
-  pub text_is : text ≡ reply ++ behind
+  pub rest : Rest middle after
+  pub text_is : text ≡ reply ++ after
 
 -- the lines are answered one after the other, by this text in all
 abbrev pub AnswersAll : {S : Type 0} → Language S → S → List (List ℕ) → List ℕ → S → Type 0
 AnswersAll language old [] text new = (text ≡ []) × (new ≡ old)
 AnswersAll language old (line ∷ lines) text new =
-    AnswersFirst language old line text (λ middle behind. AnswersAll language middle lines behind new)
+    AnswersFirst language old line text (λ middle after. AnswersAll language middle lines after new)
 
 -- a line that was read is answered
 pub record IsAnswered {S : Type 0} (language : Language S) (old : S) (line reply : List ℕ) (new : S) : Type 0 where

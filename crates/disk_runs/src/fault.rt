@@ -12,28 +12,28 @@ use zone_translator::{DiskFault, MountFault};
 #[derive(Clone, Copy, Debug, PartialEq, Eq, Error)]
 pub enum RunFault {
     /// The line of this number, counted from 1, is not in the grammar.
-    #[error("Line")]
+    #[error("line {0} is not in the grammar")]
     Line(u64),
     /// The line of this number has more than `LONGEST_LINE` bytes.
-    #[error("Long")]
+    #[error("line {0} is too long")]
     Long(u64),
     /// The disk refused a call, or the drive halted.
-    #[error("Disk")]
+    #[error("the disk refused a call: {0:?}")]
     Disk(DiskFault),
     /// The drive was not mounted.
-    #[error("Mount")]
+    #[error("the drive was not mounted: {0:?}")]
     Mount(MountFault),
     /// The geometry of the drive is out of range.
-    #[error("Geometry")]
+    #[error("the geometry is out of range: {0:?}")]
     Geometry(GeometryFault),
     /// The reader failed, or did not end.
-    #[error("Input")]
+    #[error("the input failed")]
     Input,
     /// The writer failed, or took no byte.
-    #[error("Output")]
+    #[error("the output failed")]
     Output,
-    /// There is no memory for a line or a reply.
-    #[error("Memory")]
+    /// Memory ran out for a line or a reply. Nothing came of the line.
+    #[error("out of memory")]
     Memory,
 }
 

@@ -1,4 +1,31 @@
-//! Runs of lines: the lines of a reader are answered, in order, and their replies go to a writer.
+//! Runs of lines: the lines of a reader are answered, in order, and a writer gets their replies.
+//!
+//! [`run_trace`] mounts a drive as a disk and answers the lines of a trace by the disk's calls. [`run_raw`]
+//! submits the entry of each raw line to a drive. Both give the drive back, as it stands.
+//!
+//! ```text
+//! let alloc = rt.alloc();
+//! let drive = zone_drive::Drive::new(alloc, geometry)?;
+//! let mut output = io::writer(&rt);
+//! let (drive, result) = disk_runs::run_trace(alloc, rt.reader(), &mut output, drive, 9);
+//! if let Err(fault) = result {
+//!     disk_runs::write_fault(alloc, fault, &mut output)?;
+//! }
+//! ```
+//!
+//! With the lines `fill 0 2 aa` and `read 1 1` the output is `ok`, `1 aa*512`, `ok`.
+//!
+//! What is promised, of every device, every reader and every writer:
+//!
+//! - What is written are the replies of a flat disk, an array of blocks, to the lines that were read, in
+//!   order; the drive then keeps that array. Of a line that ends the run nothing is written but, where the
+//!   writer failed, a beginning of its reply. The bytes are promised where the reader and the writer say by
+//!   contract which bytes they have left and hold, as those in memory do.
+//! - A run ends with `Ok` only where the reader ended and every line was answered.
+//! - A line is refused only where it asks for a call, and only as a flat disk may refuse that call. After
+//!   `Memory` nothing came of the line.
+//! - Each answer but `Mount` comes from a drive that was mounted, and that can be mounted again.
+//! - A raw line is one step of the drive, which had not stopped.
 #![tactic(auto)]
 
 mod fault;

@@ -1,4 +1,4 @@
-// A reader and a writer over memory that fail after so many bytes, and a device that fails once.
+// A reader and a writer over memory that fail after a number of bytes, and a device that fails once.
 
 use drive_port::{Device, Geometry, Halt};
 use std::io;
@@ -69,7 +69,7 @@ impl Read for Comments {
     }
 }
 
-/// A device that has no memory for one submit, behind so many others.
+/// A device that has no memory for one submit, after that many others.
 #[derive(Drop)]
 pub struct OnceWithoutMemory<D: Device + Drop> {
     pub device: D,

@@ -8,7 +8,7 @@ use zone_states::Geometry;
 #[derive(Clone, Copy, Debug, PartialEq, Eq)]
 pub enum Job {
     /// Makes a fresh drive in memory, mounts it as `blocks` logical blocks, and answers the lines of a
-    /// trace. With `report` the zones of the drive are shown behind the replies.
+    /// trace. With `report` the zones of the drive are shown after the replies.
     Fresh {
         geometry: Geometry,
         blocks: u64,
@@ -86,7 +86,7 @@ fn fresh_command<'a>(alloc: Global) -> Result<Command<'a>, AllocError> {
     let blocks = value_parser!(u64).range(0..=i64::MAX);
     let report = Arg::new(alloc, "report")
         .long("report")
-        .help("Shows the zones of the drive behind the replies")
+        .help("Shows the zones of the drive after the replies")
         .action(ArgAction::SetTrue);
     let command = Command::new(alloc, "fresh").about(
         "Answers the trace on standard input, over a fresh drive in memory",

@@ -1,4 +1,17 @@
-//! An array of logical blocks above a zoned drive: lines of calls go in, lines of replies come out.
+//! The program: an array of logical blocks above a zoned drive. Lines of calls go in, lines of replies come
+//! out.
+//!
+//! ```text
+//! $ printf 'fill 0 2 aa\nread 1 1\n' | zonedisk fresh --block 512 --zones 4 --size 8 --capacity 6 \
+//!       --transfer 4 --active 2 --open 2 --blocks 9
+//! ok
+//! 1 aa*512
+//! ok
+//! ```
+//!
+//! [`job_of`] reads the words of the command line, and [`run_job`] does what they ask for. What the replies
+//! are is promised by the runs below, [`run_trace`] and [`run_raw`]; the words, the zones that `--report`
+//! shows and the exit status are tested.
 #![tactic(auto)]
 
 mod job;
@@ -27,7 +40,7 @@ use std::process::ExitCode;
 /// The exit status where the words were refused.
 const REFUSED: u8 = 2;
 
-/// The words of the command line, the program's name first.
+/// The words of the command line, the program's name first. One that is not UTF-8 is refused.
 fn words<R: Env + Alloc<A = Global>>(rt: &R) -> io::Result<Vec<String>> {
     Ok(std::env::args(rt)?.collect(rt.alloc())?)
 }
@@ -42,8 +55,15 @@ fn fail<W: Write>(alloc: Global, fault: RunFault, output: &mut W) -> ExitCode {
 fn main(rt: HostRuntime) -> io::Result<ExitCode> {
     let alloc = rt.alloc();
     let mut output = io::writer(&rt);
-    let Ok(words) = words(&rt) else {
-        return Ok(fail(alloc, RunFault::Memory, &mut output));
+    let words = match words(&rt) {
+        Ok(words) => words,
+        Err(error) if error.kind() == io::ErrorKind::OutOfMemory => {
+            return Ok(fail(alloc, RunFault::Memory, &mut output));
+        }
+        Err(_) => {
+            eprintln!(rt; "error: a word of the command line is not UTF-8")?;
+            return Ok(ExitCode::from(REFUSED));
+        }
     };
     let job = match job_of(alloc, &words) {
         Ok(job) => job,

@@ -3,7 +3,7 @@ use Rattle.disk_files.specs.RawLine.{exact_bytes_of}
 use Rattle.disk_files.specs.Words.{words_of}
 use Rattle.disk_files.specs.declared.raw_line.RawFault.{RawFault}
 use Rattle.disk_files.specs.declared.raw_line.RawFault.TheVariants.{Memory}
-use Rattle.disk_files.proofs.RawLaws.{length-exact_bytes_of, length-two_words, raw_of-more, words_behind-None}
+use Rattle.disk_files.proofs.RawLaws.{length-exact_bytes_of, length-two_words, raw_of-more, words_after-None}
 use Rattle.disk_files.proofs.raw_line.parse_raw_line.Goals as goal
 
 pub returns-then-is_some-clause-grammar : goal.returns-then-is_some-clause-grammar
@@ -15,7 +15,7 @@ pub returns-in_err-decode_data-clause-memory : goal.returns-in_err-decode_data-c
 returns-in_err-decode_data-clause-memory c = λ e.
     let word = c.split_word.result.0.now in
     let digits = c.split_word-2.result.0.now in
-    let last = words_behind-None c.split_word-2.result.1 (sym c.is_some.ensures ∙ c.if-is_some.false) in
+    let last = words_after-None c.split_word-2.result.1 (sym c.is_some.ensures ∙ c.if-is_some.false) in
     let two : words_of c.args.line.now ≡ word ∷ digits ∷ [] = rw (c.split_word.ensures, c.in-Some.is, c.split_word-2.ensures, last) refl in
     let entry : exact_bytes_of 64 word ≡ Some c.in_ok-entry.entry = rw (← c.decode_entry.ensures, c.ok_or.ensures.ok_part, c.in_ok-entry.was) refl in
     let first = length-exact_bytes_of 64 word c.in_ok-entry.entry entry in
