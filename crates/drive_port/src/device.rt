@@ -1,7 +1,9 @@
 ghost use Rattle.std.specs.Prelude.{◌≡◌};
 ghost use Rattle.drive_port.specs.Drive.{DriveState, IsLawful};
 ghost use Rattle.drive_port.specs.Step.{SubmitGives};
+ghost use Rattle.drive_port.specs.declared.device.Halt.TheVariants.{Memory};
 
+use std::alloc::AllocError;
 use thiserror::Error;
 use zone_states::Geometry;
 
@@ -16,7 +18,15 @@ pub enum Halt {
     Stopped,
 }
 
-/// A zoned namespace behind its command interface: one command at a time, each completed before the
+impl From<AllocError> for Halt {
+    ghost from_gives = { λ _ halt. halt ≡ Memory };
+
+    fn from(_error: AllocError) -> Halt {
+        Halt::Memory
+    }
+}
+
+/// A zoned namespace, known by its command interface alone: one command at a time, each completed before the
 /// next is submitted.
 pub trait Device {
     /// What the drive holds and has counted.

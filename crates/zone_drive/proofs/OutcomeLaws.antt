@@ -17,7 +17,7 @@ use Rattle.drive_port.specs.Step.{Outcome, bytes_from, decode_status, done, outc
 use Rattle.zone_drive.specs.declared.reply.Reply.{Reply}
 use Rattle.zone_drive.specs.Choice.{Gives, RoomGives, performed, wants_open_resource, with_room}
 use Rattle.zone_drive.specs.Sending.{Opens, send_first, sent_to}
-use Rattle.zone_drive.specs.Writing.{WritesBehind, append_first, write_first}
+use Rattle.zone_drive.specs.Writing.{WritesAfter, append_first, write_first}
 use Rattle.zone_drive.proofs.OpeningLaws.{AllOther, by_choice, opening, opening-done, opening-no_room, opening-refused, other}
 use Rattle.zone_drive.proofs.RoomLaws.{apart, zone_at-closing}
 use Rattle.zone_drive.proofs.ReadLaws.{read-copies}
@@ -84,7 +84,7 @@ ended None value = record { status = Success; value = value }
 
 pub append-ended : (old new : DriveState) (zslba blocks : ℕ) (bytes : List ℕ) (refusal : Option Status)
     → None ≡ first_failing (append_first old.geometry (zone_at old.zones (zslba / old.geometry.size)) zslba blocks bytes)
-    → length bytes / old.geometry.block ≡ blocks → open_count old.zones ≤ old.geometry.open → WritesBehind old (zslba / old.geometry.size) bytes refusal new
+    → length bytes / old.geometry.block ≡ blocks → open_count old.zones ≤ old.geometry.open → WritesAfter old (zslba / old.geometry.size) bytes refusal new
     → Gives old (Ok (Append zslba blocks)) bytes (ended refusal (zslba + length (zone_at old.zones (zslba / old.geometry.size)).blocks)) [] new
 append-ended old new zslba blocks bytes (Some status) passed count most (needs, same) =
     let index = zslba / old.geometry.size in
@@ -114,7 +114,7 @@ write-refused old slba blocks bytes status e =
 
 pub write-ended : (old new : DriveState) (slba blocks : ℕ) (bytes : List ℕ) (refusal : Option Status)
     → None ≡ first_failing (write_first old.geometry (zone_at old.zones (slba / old.geometry.size)) slba blocks bytes)
-    → length bytes / old.geometry.block ≡ blocks → open_count old.zones ≤ old.geometry.open → WritesBehind old (slba / old.geometry.size) bytes refusal new
+    → length bytes / old.geometry.block ≡ blocks → open_count old.zones ≤ old.geometry.open → WritesAfter old (slba / old.geometry.size) bytes refusal new
     → Gives old (Ok (Write slba blocks)) bytes (ended refusal 0) [] new
 write-ended old new slba blocks bytes (Some status) passed count most (needs, same) =
     let index = slba / old.geometry.size in

@@ -1,10 +1,10 @@
--- What a Read shows of stored bytes: those that are written, and zeros behind them.
+-- What a Read shows of stored bytes: those that are written, and zeros after them.
 use Rattle.std.proofs.Common.{◌≡◌, ℕ, zero, suc, ◌+◌, ◌-◌, ◌*◌, ◌≤◌, List, [], ◌∷◌, ◌++◌, length, take, drop, replicate, refl, sym, ap, ◌∙◌, arith}
 use Rattle.std.proofs.lemmas.List.{drop-drop, length-drop}
 use Rattle.zone_states.specs.Zone.{cut_blocks}
 use Rattle.drive_port.specs.Step.{block_in, bytes_from}
 
--- so many bytes from the front, zeros where there are no more
+-- the first bytes, zeros where there are no more
 abbrev pub padded : ℕ → List ℕ → List ℕ
 padded zero bytes = []
 padded (suc n) [] = 0 ∷ padded n []

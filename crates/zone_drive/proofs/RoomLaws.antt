@@ -32,7 +32,7 @@ is_state-implicit ReadOnly e = absurd (cc e)
 is_state-implicit Full e = absurd (cc e)
 is_state-implicit Offline e = absurd (cc e)
 
--- one zone in front of zones of which the first so many are passed over
+-- one zone in front of zones of which the first n are passed over
 closes-cons : (b : Bool) (zone : Zone) (zones : List Zone) (n : ℕ) → close_lowest zones ≡ set zones n (closed (zone_at zones n))
     → cond b (closed zone ∷ zones) (zone ∷ close_lowest zones) ≡ set (zone ∷ zones) (cond (not b) (1 + n) 0) (closed (zone_at (zone ∷ zones) (cond (not b) (1 + n) 0)))
 closes-cons true zone zones n e = refl
@@ -69,7 +69,7 @@ lowest-None block zones e =
     let past : length zones ≤ position_or_len is_implicit zones = ltb-false _ _ (none_found (ltb (position_or_len is_implicit zones) (length zones)) _ e) in
     closes-at block zones ∙ set_past (zones_of block zones) (position_or_len is_implicit zones) _ (omega (arith, past, length-map zones (zone_of block)))
 
--- ---- a write that gets the place of the zone that is closed
+-- ---- a write that gets the resource of the zone that is closed
 
 -- a zone for which another one is closed is not open itself
 pub apart : (geometry : Geometry) (zones : List Zone) (index low : ℕ) → Some TooManyOpenZones ≡ first_failing (resource_checks geometry zones (zone_at zones index)) → IsLowest zones low → index ≢ low

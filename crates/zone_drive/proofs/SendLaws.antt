@@ -83,7 +83,7 @@ replaces-after geometry zones active open_zones index d new action active' open'
 
 -- ---- all zones
 
--- one more element of a list is mapped in its place
+-- one more element of a list is mapped
 pub map-step : {X : Type 0} (f : X → X) (xs : List X) (i next : ℕ) (d : X) → i < length xs → next ≡ i + 1
     → set (map f (take i xs) ++ drop i xs) i (f (get_or (map f (take i xs) ++ drop i xs) i d)) ≡ map f (take next xs) ++ drop next xs
 map-step f [] i next d lt e = absurd (omega arith)
@@ -126,7 +126,7 @@ whole-sent block action (zone ∷ zones) all = (either (is_selected action zone.
     either true = whole-after block action zone (state_after zone.state action) all.0
     either false = all.0
 
--- no action on all zones takes a place
+-- no action on all zones takes a resource
 active-sent : (action : Action) (zone : Zone) → one_if (is_active (sent_zone action zone).state) ≤ one_if (is_active zone.state)
 active-sent action zone = fewer action zone.state
   where

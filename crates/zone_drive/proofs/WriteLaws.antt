@@ -73,7 +73,7 @@ replaces geometry zones active open_zones index d new zone active' open' counted
       zones = map-set (zone_of b) zones index new ∙ rw is refl;
     }
 
--- a zone takes no place that is not counted
+-- a zone takes no resource that is not counted
 pub active-counted : (geometry : Geometry) (zones : List StoredZone) (active open_zones : ℕ) (index : ℕ) (d : StoredZone)
     → IsCounted geometry zones active open_zones → index < length zones → one_if (is_active (get_or zones index d).state) ≤ active
 active-counted geometry zones active open_zones index d counted lt =

@@ -34,7 +34,7 @@ abbrev pub wants_open_resource : Status → Bool
 wants_open_resource TooManyOpenZones = true
 wants_open_resource status = false
 
--- The zones as they are when the command is done: where it would be refused for want of an open place, the lowest implicitly opened zone is closed first. Nothing else is ever closed.
+-- The zones on which the command is done: where it would be refused because no open resource is left, the lowest implicitly opened zone is closed first. Nothing else is ever closed.
 abbrev pub chosen : Geometry → List Zone → Result Command DecodeFault → List ℕ → List Zone
 chosen geometry zones command bytes = if wants_open_resource (outcome geometry zones command bytes).status then close_lowest zones else zones
 
@@ -53,7 +53,7 @@ pub record AnswersByChoice (old : DriveState) (entry bytes completion returned :
   pub returned_is : returned ≡ (performed old.geometry old.zones (decode_of entry) bytes).returned
   pub zones_are : new.zones ≡ (performed old.geometry old.zones (decode_of entry) bytes).zones
 
--- The resources that a zone needs: they are there, or they are once the zone with this number is closed, or there are none.
+-- Room for a zone to be opened: there are resources for it, or there are once the zone with this number is closed, or there are none.
 abbrev pub RoomGives : Geometry → List Zone → Zone → Result (Option ℕ) Status → Type 0
 RoomGives geometry zones zone (Ok None) = None ≡ first_failing (resource_checks geometry zones zone)
 RoomGives geometry zones zone (Ok (Some low)) = (Some TooManyOpenZones ≡ first_failing (resource_checks geometry zones zone)) × IsLowest zones low

@@ -14,7 +14,7 @@ IsFault geometry zones (faults.Geometry fault) = first_failing (geometry_checks 
 IsFault geometry zones faults.Zones = IsInRange geometry × ¬ AreZones geometry zones
 IsFault geometry zones faults.OutOfMemory = ⊥
 
--- The same of a fresh drive, where memory may be wanting.
+-- The same of a fresh drive, for which an allocation may fail.
 abbrev pub IsFreshFault : Geometry → DriveFault → Type 0
 IsFreshFault geometry (faults.Geometry fault) = first_failing (geometry_checks geometry) ≡ Some fault
 IsFreshFault geometry faults.OutOfMemory = IsInRange geometry

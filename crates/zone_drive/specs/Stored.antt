@@ -13,7 +13,7 @@ use Rattle.drive_port.specs.Drive.{DriveState, active_count, open_count}
 abbrev pub zones_of : ℕ → List StoredZone → List Zone
 zones_of block zones = map (zone_of block) zones
 
--- Each zone holds whole blocks, as many as its state allows, and so many zones are active and open as is counted.
+-- Each zone holds whole blocks, as many as its state allows, and the counts of active and open zones are right.
 pub record IsCounted (geometry : Geometry) (zones : List StoredZone) (active open_zones : ℕ) : Type 0 where
   pub in_range : IsInRange geometry
   pub count : length zones ≡ geometry.zones

@@ -24,10 +24,10 @@ write_first geometry zone slba blocks bytes =
     ++ (nat_lt (end_of geometry) (slba + blocks), LbaOutOfRange)
     ∷ zone_write_checks geometry zone (slba % geometry.size) blocks
 
--- These blocks stand behind those of the zone, where it has the resources that it needs; else nothing changes.
-abbrev pub WritesBehind : DriveState → ℕ → List ℕ → Option Status → DriveState → Type 0
-WritesBehind old index bytes (Some status) new = RoomGives old.geometry old.zones (zone_at old.zones index) (Err status) × (new ≡ old)
-WritesBehind old index bytes None new =
+-- These blocks come after those of the zone, where there are resources for it; else nothing changes.
+abbrev pub WritesAfter : DriveState → ℕ → List ℕ → Option Status → DriveState → Type 0
+WritesAfter old index bytes (Some status) new = RoomGives old.geometry old.zones (zone_at old.zones index) (Err status) × (new ≡ old)
+WritesAfter old index bytes None new =
     (closing : Option ℕ)
     × RoomGives old.geometry old.zones (zone_at old.zones index) (Ok closing)
     × (new ≡ record old { zones = write_effect old.geometry (with_room old.zones closing) index (length bytes / old.geometry.block) bytes })

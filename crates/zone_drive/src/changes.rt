@@ -14,7 +14,7 @@ use crate::resources::Resources;
 use drive_port::Halt;
 use zone_states::{Action, Geometry, Zone, ZoneFault, ZoneState};
 
-/// Writes whole blocks behind those of a zone that takes them.
+/// Writes whole blocks after those of a zone that takes them: its checks are passed.
 pub fn write_zone(
     geometry: &Geometry,
     zones: &mut [Zone],
@@ -37,11 +37,7 @@ pub fn write_zone(
 {
     let zone = &mut zones[index];
     let before = zone.state();
-    match zone.append(geometry, bytes) {
-        Ok(()) => {}
-        Err(ZoneFault::OutOfMemory) => return Err(Halt::Memory),
-        Err(ZoneFault::Refused(_)) => unreachable!(),
-    }
+    zone.extend(geometry, bytes)?;
     resources.move_zone(index, before, zone.state());
     Ok(())
 }
@@ -70,7 +66,7 @@ pub fn apply_to_zone(
     Ok(())
 }
 
-/// Writes whole blocks behind those of a zone that takes them, and closes the zone that makes room for it.
+/// Writes whole blocks after those of a zone that takes them, and closes the zone that makes room for it.
 pub fn write_with_room(
     geometry: &Geometry,
     zones: &mut [Zone],

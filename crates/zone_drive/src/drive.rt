@@ -6,32 +6,45 @@ ghost use Rattle.drive_port.specs.Run.{restarted};
 ghost use Rattle.drive_port.specs.Step.{zone_at};
 ghost use Rattle.zone_drive.specs.Faults.{IsFault, IsFreshFault};
 ghost use Rattle.zone_drive.specs.Stored.{AreZones, fresh, is_lawful, unused, zones_of};
+ghost use Rattle.zone_drive.specs.declared.drive.DriveFault.TheVariants.{OutOfMemory};
 
 use crate::resources::Resources;
 use std::alloc::{AllocError, Global};
 use std::marker::Model;
+use thiserror::Error;
 use zone_states::{Action, Geometry, GeometryFault, Zone, ZoneState};
 
 /// Why there is no drive.
-#[derive(Clone, Copy, Debug, PartialEq, Eq)]
+#[derive(Clone, Copy, Debug, PartialEq, Eq, Error)]
 pub enum DriveFault {
     /// The first part of the geometry that is out of range.
+    #[error("{0}")]
     Geometry(GeometryFault),
-    /// A growth was refused.
+    /// An allocation failed.
+    #[error("out of memory")]
     OutOfMemory,
-    /// The zones are none that a drive of this geometry can have.
+    /// A drive of this geometry cannot have these zones.
+    #[error("a drive of this geometry cannot have these zones")]
     Zones,
 }
 
-/// A zoned drive in memory. It closes a zone by itself only where a command needs an open place and
-/// the limit on open zones is met: then it is the lowest implicitly opened zone, if there is one.
+impl From<AllocError> for DriveFault {
+    ghost from_gives = { λ _ fault. fault ≡ OutOfMemory };
+
+    fn from(_error: AllocError) -> DriveFault {
+        DriveFault::OutOfMemory
+    }
+}
+
+/// A zoned drive in memory. It closes a zone by itself only where a command needs an open resource and
+/// the limit on open zones is met: then it closes the lowest implicitly opened zone, if there is one.
 #[derive(Drop)]
 pub struct Drive {
     pub(crate) geometry: Geometry,
     pub(crate) zones: Vec<Zone>,
     pub(crate) resources: Resources,
     pub(crate) completed: u64,
-    // Of the completed commands, those with a status other than Success, and the Appends among the rest.
+    // Of the completed commands, those that were refused, and the Appends that succeeded.
     pub(crate) refused: u64,
     pub(crate) appended: u64,
     pub(crate) alloc: Global,
@@ -108,9 +121,7 @@ impl Drive {
         if let Err(fault) = geometry.check() {
             return Err(DriveFault::Geometry(fault));
         }
-        let Ok(zones) = empty_zones(alloc, geometry.zones) else {
-            return Err(DriveFault::OutOfMemory);
-        };
+        let zones = empty_zones(alloc, geometry.zones)?;
         Ok(Drive {
             geometry,
             zones,
@@ -126,7 +137,7 @@ impl Drive {
         })
     }
 
-    /// A drive of this shape with these zones, which has completed no command. This takes no memory.
+    /// A drive of this shape with these zones, which has completed no command. It allocates nothing.
     pub fn from_zones(
         alloc: Global,
         geometry: Geometry,
@@ -179,7 +190,7 @@ impl Drive {
         &self.zones
     }
 
-    /// Open zones become Closed, and the counts begin again. This takes no memory.
+    /// Makes open zones Closed, and begins all counts again. It allocates nothing.
     pub fn restart(&mut self)
         ensures { self.new ≡ restarted self.old }
     {

@@ -1,7 +1,27 @@
-//! A zoned drive in memory: one namespace of zones behind the command interface of `drive_port`.
+//! A zoned drive in memory: a device of `drive_port` whose zones are vectors of bytes.
 //!
-//! Each command has a file of its own. What its checks and its effect are is said by the command step
-//! of `drive_port`; what this drive chooses where that leaves it a choice stands in `specs/Choice.antt`.
+//! # Example
+//!
+//! ```text
+//! let geometry = Geometry { block: 512, zones: 4, size: 8, capacity: 6, transfer: 4, active: 2, open: 2 };
+//! let mut drive = Drive::new(alloc, geometry)?;
+//! assert_eq!(append(alloc, &mut drive, 8, &[0xaa; 1024])?, 8);
+//! drive.restart();
+//! assert_eq!(drive.zone(1)?.state(), ZoneState::Closed);
+//! ```
+//!
+//! # What is promised
+//!
+//! * The drive is a `Device`: each command does what the step of `drive_port` says, and nothing else.
+//! * Where the step leaves a choice, the drive makes it: it closes the lowest implicitly opened zone
+//!   where a command needs an open resource and none is left, and no other zone ever
+//!   (`specs/Choice.antt`). It stops once it has completed 2^63 commands.
+//! * Only a Read, a Write, an Append and a Receive may be out of memory (`specs/Memory.antt`), and then
+//!   nothing changed.
+//! * A drive can be made of any zones that a drive of its geometry can have (`AreZones` in
+//!   `specs/Stored.antt`), and shows its zones at any time.
+//!
+//! Each command has a file of its own.
 #![tactic(auto)]
 
 mod changes;

@@ -12,21 +12,21 @@ use std::alloc::AllocError;
 use zone_states::ZoneState;
 
 impl Drive {
-    // The first check that a Read fails.
+    // The status of the first check that a Read fails.
     fn read_refusal(&self, slba: u64, blocks: u32) -> Option<Status>
         ensures { result ≡ first_failing
             (read_checks self.now.geometry
             (zone_at self.now.zones (slba / self.now.geometry.size)) slba blocks) }
     {
         let size = u64::from(self.geometry.size);
-        let behind = slba.saturating_add(u64::from(blocks));
+        let end = slba.saturating_add(u64::from(blocks));
         if blocks > self.geometry.transfer {
             return Some(Status::InvalidField);
         }
-        if behind > self.end() {
+        if end > self.end() {
             return Some(Status::LbaOutOfRange);
         }
-        if slba / size != behind.saturating_sub(1) / size {
+        if slba / size != end.saturating_sub(1) / size {
             return Some(Status::ZoneBoundaryError);
         }
         if self.state_at(slba / size) == ZoneState::Offline {
@@ -62,7 +62,7 @@ impl Drive {
         let written = self.written_at(slba / size);
         let from = (slba % size) as usize * self.block();
         let len = blocks as usize * self.block();
-        match copy(bytes_behind(written, from), len, into) {
+        match copy(bytes_from(written, from), len, into) {
             Ok(()) => Ok(Reply::done(0)),
             Err(_) => {
                 into.clear();
@@ -72,14 +72,14 @@ impl Drive {
     }
 }
 
-// The bytes behind so many of them; none where there are fewer.
-fn bytes_behind(bytes: &[u8], from: usize) -> &[u8]
+// The bytes from an offset on; none where there are fewer.
+fn bytes_from(bytes: &[u8], from: usize) -> &[u8]
     ensures { result.now ≡ drop from bytes.now }
 {
     &bytes[bytes.len().min(from)..]
 }
 
-// So many bytes from the front of those that are stored, and zeros where there are no more.
+// The first `len` of the stored bytes, and zeros where there are fewer.
 fn copy(stored: &[u8], len: usize, into: &mut Vec<u8>) -> Result<(), AllocError>
     requires { into.old.items ≡ [] }
     ensures { OnOk result (into.new.items

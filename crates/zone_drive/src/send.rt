@@ -12,7 +12,7 @@ use nvme_wire::{Action, Command, Status};
 use zone_states::next_state;
 
 impl Drive {
-    // The first check that an action on one zone fails, its resources left out.
+    // The status of the first check that an action on one zone fails, without those of the resources.
     fn send_refusal(&self, slba: u64, action: Action) -> Option<Status>
         ensures { result ≡ first_failing (send_first self.now.geometry
             (zone_at self.now.zones (slba / self.now.geometry.size)) slba action) }
@@ -30,8 +30,7 @@ impl Drive {
         }
     }
 
-    // Opens the zone that holds an address, which can be opened. A status says which of the resources that
-    // it needs is not there.
+    // Opens the zone that holds an address, which can be opened. A status says which resource is missing.
     fn open(&mut self, address: u64) -> Option<Status>
         requires { address < end_of self.old.geometry }
         ensures opens { Opens self.old (address / self.old.geometry.size) result self.new }

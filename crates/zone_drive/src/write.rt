@@ -4,7 +4,7 @@ ghost use Rattle.zone_states.specs.Writing.{append_bytes_checks, data_checks};
 ghost use Rattle.drive_port.specs.Drive.{open_count};
 ghost use Rattle.drive_port.specs.Step.{end_of, zone_at};
 ghost use Rattle.zone_drive.specs.Choice.{Gives};
-ghost use Rattle.zone_drive.specs.Writing.{WritesBehind, append_first, write_first};
+ghost use Rattle.zone_drive.specs.Writing.{WritesAfter, append_first, write_first};
 
 use crate::changes::write_with_room;
 use crate::drive::Drive;
@@ -13,7 +13,7 @@ use drive_port::Halt;
 use nvme_wire::{Command, Status};
 
 impl Drive {
-    // Whether the data is so many blocks, and no more than one transfer moves.
+    // The status where the data is not that many blocks, or is more than one transfer moves.
     fn data_refusal(&self, blocks: u32, bytes: &[u8]) -> Option<Status>
         ensures checks { result ≡ first_failing (data_checks self.now.geometry blocks bytes.now) }
         ensures count { IfNone result (length bytes.now / self.now.geometry.block ≡ blocks) }
@@ -27,7 +27,7 @@ impl Drive {
         None
     }
 
-    // The first check that an Append fails, its resources left out.
+    // The status of the first check that an Append fails, without those of the resources.
     fn append_refusal(&self, zslba: u64, blocks: u32, bytes: &[u8]) -> Option<Status>
         ensures checks { result ≡ first_failing (append_first self.now.geometry
             (zone_at self.now.zones (zslba / self.now.geometry.size)) zslba blocks bytes.now) }
@@ -46,7 +46,7 @@ impl Drive {
         zone.append_refusal(&self.geometry, u64::from(blocks))
     }
 
-    // The first check that a Write fails, its resources left out.
+    // The status of the first check that a Write fails, without those of the resources.
     fn write_refusal(&self, slba: u64, blocks: u32, bytes: &[u8]) -> Option<Status>
         requires { 1 ≤ blocks }
         ensures checks { result ≡ first_failing (write_first self.now.geometry
@@ -63,14 +63,14 @@ impl Drive {
         zone.write_refusal(&self.geometry, slba % self.size(), u64::from(blocks))
     }
 
-    // Writes whole blocks behind those of the zone that holds an address, which takes them. A status says
-    // which of the resources that it needs is not there.
-    fn write_behind(&mut self, address: u64, bytes: &[u8]) -> Result<Option<Status>, Halt>
+    // Writes whole blocks after those of the zone that holds an address, which takes them. A status says
+    // which resource is missing.
+    fn write_after(&mut self, address: u64, bytes: &[u8]) -> Result<Option<Status>, Halt>
         requires in_range { address < end_of self.old.geometry }
         requires checks { None ≡ first_failing (append_bytes_checks self.old.geometry
             (zone_at self.old.zones (address / self.old.geometry.size)) bytes.now) }
         ensures ok { IfOk result (λ refusal.
-            WritesBehind self.old (address / self.old.geometry.size) bytes.now refusal self.new) }
+            WritesAfter self.old (address / self.old.geometry.size) bytes.now refusal self.new) }
         ensures limit { open_count self.old.zones ≤ self.old.geometry.open }
         ensures err { IfErr result (λ halt. halt ≡ Halt.Memory) }
         ensures kept { OnErr result (self.new ≡ self.old) }
@@ -92,7 +92,7 @@ impl Drive {
         Ok(None)
     }
 
-    /// A Zone Append: it answers the address of its first block. This is one growth of the zone.
+    /// A Zone Append: it answers the address of its first block. The zone's bytes grow once.
     pub(crate) fn append(&mut self, zslba: u64, blocks: u32, bytes: &[u8]) -> Result<Reply, Halt>
         ensures ok { IfOk result (λ reply.
             Gives self.old (Ok (Command.Append zslba blocks)) bytes.now reply [] self.new) }
@@ -103,13 +103,13 @@ impl Drive {
             return Ok(Reply::refused(status));
         }
         let pointer = zslba + self.written_in(zslba);
-        match self.write_behind(zslba, bytes)? {
+        match self.write_after(zslba, bytes)? {
             Some(status) => Ok(Reply::refused(status)),
             None => Ok(Reply::done(pointer)),
         }
     }
 
-    /// A Write. This is one growth of the zone.
+    /// A Write. The zone's bytes grow once.
     pub(crate) fn write(&mut self, slba: u64, blocks: u32, bytes: &[u8]) -> Result<Reply, Halt>
         requires { 1 ≤ blocks }
         ensures ok { IfOk result (λ reply.
@@ -120,7 +120,7 @@ impl Drive {
         if let Some(status) = self.write_refusal(slba, blocks, bytes) {
             return Ok(Reply::refused(status));
         }
-        match self.write_behind(slba, bytes)? {
+        match self.write_after(slba, bytes)? {
             Some(status) => Ok(Reply::refused(status)),
             None => Ok(Reply::done(0)),
         }

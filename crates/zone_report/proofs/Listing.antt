@@ -4,7 +4,7 @@ use Rattle.std.specs.List.{flat_map}
 use Rattle.nvme_wire.specs.declared.descriptor.Descriptor.{Descriptor}
 use Rattle.nvme_wire.specs.Descriptor.{descriptor_bytes}
 
--- behind the front, the descriptors written so far and those of the rest are those of the whole
+-- after the front, the descriptors written so far and those of the rest are those of the whole
 pub record Continues (front : List ℕ) (room : ℕ) (whole : List Descriptor) (named : ℕ) (bytes : List ℕ) (rest : List Descriptor) : Type 0 where
   pub count : named + length rest ≡ length whole
   pub encoded : bytes ++ flat_map descriptor_bytes (take (room - named) rest) ≡ front ++ flat_map descriptor_bytes (take room whole)

@@ -9,7 +9,7 @@ use Rattle.zone_states.specs.declared.geometry.Geometry.{Geometry}
 use Rattle.zone_states.specs.Zone.{Zone}
 use Rattle.zone_report.specs.Report.{matching, descriptor_room, report}
 
--- the zeros behind what is there, and the head over its first bytes
+-- the zeros after what is there, and the head over its first bytes
 pub written_over :
     (old : List ℕ) (size : ℕ) (resized head written : List ℕ) (len : ℕ) →
     64 ≤ length old → length old ≤ size → length head ≡ 64 →

@@ -11,7 +11,7 @@ use Rattle.zone_report.specs.ReportText.{IsListing, IsReport, ListsText, descrip
 abbrev pub BeginsOtherwise : List ℕ → Type 0
 BeginsOtherwise bytes = (d : Descriptor) → IsDescriptor d → take 64 bytes ≡ descriptor_bytes d → ⊥
 
--- what is left of a listing behind its first descriptor
+-- what is left of a listing after its first descriptor
 pub record Left (bytes : List ℕ) (d : Descriptor) (descriptors : List Descriptor) : Type 0 where
   pub others : List Descriptor
   pub is : descriptors ≡ d ∷ others

@@ -1,4 +1,4 @@
--- Checks that are made one behind the other.
+-- Checks that are made one after the other.
 use Rattle.std.proofs.Common.{◌≡◌, Bool, true, false, List, [], ◌∷◌, ◌++◌, Option, Some, None}
 use Rattle.zone_states.specs.Checks.{first_failing}
 

@@ -1,11 +1,11 @@
--- Bytes behind one another are cut into blocks behind one another.
-use Rattle.std.proofs.Common.{◌≡◌, ℕ, zero, suc, ◌+◌, ◌*◌, ◌/◌, ◌≤◌, List, [], ◌∷◌, ◌++◌, length, take, drop, refl, ◌∙◌, Result, Ok, Err, OnOk, arith}
+-- Bytes one after the other are cut into blocks one after the other.
+use Rattle.std.proofs.Common.{◌≡◌, ℕ, zero, suc, ◌+◌, ◌*◌, ◌/◌, ◌≤◌, List, [], ◌∷◌, ◌++◌, length, take, drop, refl, ◌∙◌, arith}
 use Rattle.std.proofs.lemmas.List.{take-append-le, drop-append-le, length-append, length-drop}
 use Rattle.std.proofs.lemmas.Nat.{div-mul-add}
 use Rattle.std.proofs.Math.Nat.{add-mul, div-zero}
 use Rattle.zone_states.specs.declared.geometry.Geometry.{Geometry}
 use Rattle.zone_states.specs.Zone.{cut_blocks}
-use Rattle.zone_states.specs.Stored.{IsWhole, StoredZone, WrittenBehind, stored_write}
+use Rattle.zone_states.specs.Stored.{IsWhole, StoredZone, WrittenAfter, stored_write}
 
 pub length-cut : (size n : ℕ) (xs : List ℕ) → length (cut_blocks size n xs) ≡ n
 length-cut size zero xs = refl
@@ -31,9 +31,9 @@ blocks_together (suc size) a b whole_a whole_b =
     let total : a + b ≡ (n + m) * suc size + 0 = omega (arith, whole_a, whole_b, add-mul n m (suc size)) in
     rw total (div-mul-add (n + m) (suc size) 0 (omega arith))
 
--- bytes that are written behind a zone's own are blocks behind its own
-pub stored_write-behind : (geometry : Geometry) (zone : StoredZone) (bytes : List ℕ) → IsWhole geometry.block zone.bytes → IsWhole geometry.block bytes → WrittenBehind geometry zone bytes (stored_write geometry zone bytes)
-stored_write-behind geometry zone bytes whole_zone whole_bytes =
+-- bytes that are written after a zone's own are blocks after its own
+pub stored_write-after : (geometry : Geometry) (zone : StoredZone) (bytes : List ℕ) → IsWhole geometry.block zone.bytes → IsWhole geometry.block bytes → WrittenAfter geometry zone bytes (stored_write geometry zone bytes)
+stored_write-after geometry zone bytes whole_zone whole_bytes =
     let size = geometry.block in
     let n = length zone.bytes / size in
     let m = length bytes / size in
@@ -47,8 +47,6 @@ stored_write-behind geometry zone bytes whole_zone whole_bytes =
       whole = rw count (sum ∙ omega (arith, whole_zone, whole_bytes, add-mul n m size));
     }
 
--- so it is where a growth succeeded
-pub written_on_ok : {V E : Type 0} (result : Result V E) (geometry : Geometry) (zone : StoredZone) (bytes : List ℕ) (new : StoredZone) → IsWhole geometry.block zone.bytes → IsWhole geometry.block bytes
-    → OnOk result (new ≡ stored_write geometry zone bytes) → OnOk result (WrittenBehind geometry zone bytes new)
-written_on_ok (Ok v) geometry zone bytes new whole_zone whole_bytes same = rw same (stored_write-behind geometry zone bytes whole_zone whole_bytes)
-written_on_ok (Err e) geometry zone bytes new whole_zone whole_bytes same = tt
+pub written-after : (geometry : Geometry) (zone : StoredZone) (bytes : List ℕ) (new : StoredZone) → new ≡ stored_write geometry zone bytes → IsWhole geometry.block zone.bytes → IsWhole geometry.block bytes
+    → WrittenAfter geometry zone bytes new
+written-after geometry zone bytes new same whole_zone whole_bytes = rw same (stored_write-after geometry zone bytes whole_zone whole_bytes)

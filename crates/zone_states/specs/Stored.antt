@@ -29,7 +29,7 @@ stored_write geometry zone bytes =
     record { state = if length all / geometry.block == geometry.capacity then Full else opened_by_write zone.state; bytes = all }
 
 -- In blocks: those of these bytes are after those of the zone, and its bytes are whole blocks again.
-pub record WrittenBehind (geometry : Geometry) (old : StoredZone) (bytes : List ℕ) (new : StoredZone) : Type 0 where
+pub record WrittenAfter (geometry : Geometry) (old : StoredZone) (bytes : List ℕ) (new : StoredZone) : Type 0 where
   pub zone : zone_of geometry.block new ≡ written_zone geometry.capacity (zone_of geometry.block old) (cut_blocks geometry.block (length bytes / geometry.block) bytes)
   pub whole : IsWhole geometry.block new.bytes
 

@@ -1,15 +1,16 @@
 ghost use Rattle.std.specs.Prelude.{◌≡◌, ◌/◌, [], length, Ok, Err, Some, None, IfErr, OnOk, OnErr, IfSome, OnSome, is_some, if◌then◌else◌};
 ghost use Rattle.zone_states.specs.Checks.{first_failing};
 ghost use Rattle.zone_states.specs.Sending.{zone_after};
-ghost use Rattle.zone_states.specs.Stored.{IsWhole, WrittenBehind, apply_result, refusal_of, stored_after, stored_write, zone_of};
+ghost use Rattle.zone_states.specs.Stored.{IsWhole, WrittenAfter, apply_result, refusal_of, stored_after, stored_write, zone_of};
 ghost use Rattle.zone_states.specs.Transition.{state_after};
 ghost use Rattle.zone_states.specs.Writing.{append_bytes_checks, data_checks, room_checks, state_checks, zone_append_checks, zone_write_checks, write_bytes_checks};
 ghost use Rattle.zone_states.specs.Zone.{opened_by_write};
+ghost use Rattle.zone_states.specs.declared.zone.ZoneFault.TheVariants.{OutOfMemory};
 
 use crate::geometry::Geometry;
 use crate::transition::next_state;
 use nvme_wire::{Action, Status, ZoneState};
-use std::alloc::Global;
+use std::alloc::{AllocError, Global};
 use std::marker::Model;
 use thiserror::Error;
 
@@ -22,6 +23,14 @@ pub enum ZoneFault {
     /// An allocation failed.
     #[error("out of memory")]
     OutOfMemory,
+}
+
+impl From<AllocError> for ZoneFault {
+    ghost from_gives = { λ _ fault. fault ≡ OutOfMemory };
+
+    fn from(_error: AllocError) -> ZoneFault {
+        ZoneFault::OutOfMemory
+    }
 }
 
 /// One zone: its state and its written blocks. The write pointer is after the last of them.
@@ -164,15 +173,15 @@ impl Zone {
         self.room_refusal(geometry, blocks)
     }
 
-    // Adds these bytes after the others.
-    fn extend(&mut self, geometry: &Geometry, bytes: &[u8]) -> Result<(), ZoneFault>
+    /// Adds these bytes after the others, as a Write or an Append does that passed its checks: nothing is
+    /// checked here. The zone's bytes grow once.
+    pub fn extend(&mut self, geometry: &Geometry, bytes: &[u8]) -> Result<(), AllocError>
         ensures ok { OnOk result (self.new ≡ stored_write geometry.now self.old bytes.now) }
-        ensures err { IfErr result (λ fault. fault ≡ ZoneFault.OutOfMemory) }
+        ensures in_blocks { IsWhole geometry.now.block self.old.bytes → IsWhole geometry.now.block bytes.now
+            → OnOk result (WrittenAfter geometry.now self.old bytes.now self.new) }
         ensures kept { OnErr result (self.new ≡ self.old) }
     {
-        if self.written.extend_from_slice(bytes).is_err() {
-            return Err(ZoneFault::OutOfMemory);
-        }
+        self.written.extend_from_slice(bytes)?;
         if self.blocks(geometry) == geometry.capacity as usize {
             self.state = ZoneState::Full;
         } else {
@@ -187,7 +196,7 @@ impl Zone {
             (append_bytes_checks geometry.now (zone_of geometry.now.block self.old) bytes.now) }
         ensures ok { OnOk result (self.new ≡ stored_write geometry.now self.old bytes.now) }
         ensures in_blocks { IsWhole geometry.now.block self.old.bytes
-            → OnOk result (WrittenBehind geometry.now self.old bytes.now self.new) }
+            → OnOk result (WrittenAfter geometry.now self.old bytes.now self.new) }
         ensures err { OnErr result (self.new ≡ self.old) }
     {
         let Some(blocks) = block_count(geometry, bytes) else {
@@ -196,7 +205,8 @@ impl Zone {
         if let Some(status) = self.append_refusal(geometry, blocks as u64) {
             return Err(ZoneFault::Refused(status));
         }
-        self.extend(geometry, bytes)
+        self.extend(geometry, bytes)?;
+        Ok(())
     }
 
     /// Writes these bytes from an offset in blocks on, which has to be that of the write pointer: whole
@@ -211,7 +221,7 @@ impl Zone {
             (write_bytes_checks geometry.now (zone_of geometry.now.block self.old) offset bytes.now) }
         ensures ok { OnOk result (self.new ≡ stored_write geometry.now self.old bytes.now) }
         ensures in_blocks { IsWhole geometry.now.block self.old.bytes
-            → OnOk result (WrittenBehind geometry.now self.old bytes.now self.new) }
+            → OnOk result (WrittenAfter geometry.now self.old bytes.now self.new) }
         ensures err { OnErr result (self.new ≡ self.old) }
     {
         let Some(blocks) = block_count(geometry, bytes) else {
@@ -220,7 +230,8 @@ impl Zone {
         if let Some(status) = self.write_refusal(geometry, offset, blocks as u64) {
             return Err(ZoneFault::Refused(status));
         }
-        self.extend(geometry, bytes)
+        self.extend(geometry, bytes)?;
+        Ok(())
     }
 
     /// Does the action of a Zone Management Send to the zone (Zoned Namespace Command Set 1.1, section

@@ -12,12 +12,12 @@ returns-clause-ok c =
     let index = c.args.index in
     let d = c.index-zones-index.result in
     let whole = all-at (λ (zone : StoredZone). IsWhole geometry.block zone.bytes) zones index d c.requires.counted.whole c.requires.in_range in
-    let behind = c.in-Ok.ensures.in_blocks whole in
+    let after = c.in_ok-extend.ensures.in_blocks whole (whole-checked geometry (zone_at (zones_of geometry.block zones) index) c.args.bytes.now c.requires.checks) in
     let was = zone_at-stored geometry.block zones index d c.requires.in_range in
     let zone = zone_at (zones_of geometry.block zones) index in
     let lawful = lawful-written geometry zone c.args.bytes.now (lawful-at geometry zones _ _ index c.requires.counted c.requires.in_range)
     (whole-checked geometry zone c.args.bytes.now c.requires.checks) c.requires.checks in
-    replaces geometry zones _ _ index d c.append.new.self _ _ _ c.requires.counted c.requires.in_range (rw was behind.zone) lawful behind.whole
+    replaces geometry zones _ _ index d c.extend.new.self _ _ _ c.requires.counted c.requires.in_range (rw was after.zone) lawful after.whole
     (rw (c.state-before.ensures, c.state.ensures) at c.move_zone.ensures.active) (rw (c.state-before.ensures, c.state.ensures) at c.move_zone.ensures.open_zones)
 
 pub move_zone-requires-clause-implicit : goal.move_zone-requires-clause-implicit
@@ -27,4 +27,4 @@ move_zone-requires-clause-implicit c =
 pub returns-clause-grouped : goal.returns-clause-grouped
 returns-clause-grouped c =
     rw (c.move_zone.ensures.implicit, c.state-before.ensures, c.state.ensures)
-    (grouped-set c.args.zones.now c.args.resources.now.implicit c.args.index c.index-zones-index.result c.append.new.self c.requires.grouped c.requires.in_range)
+    (grouped-set c.args.zones.now c.args.resources.now.implicit c.args.index c.index-zones-index.result c.extend.new.self c.requires.grouped c.requires.in_range)

@@ -1,4 +1,4 @@
--- Where bytes spell a descriptor, each of its fields is read back, and so is the whole.
+-- Where bytes encode a descriptor, each of its fields is read back, and so is the whole.
 use Rattle.std.proofs.Common.{rules, ◌≡◌, Ok, ◌∙◌, sym, ap}
 use Rattle.nvme_wire.specs.Descriptor.{descriptor_bytes}
 use Rattle.nvme_wire.proofs.DescriptorLaws.{descriptor_bytes-parts, HasParts-same}

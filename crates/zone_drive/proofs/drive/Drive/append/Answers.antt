@@ -7,12 +7,12 @@ returns-in-Some-clause-ok c = rw c.refused.ensures (append-refused c.args.self.n
 
 pub returns-in-Some-2-clause-ok : goal.returns-in-Some-2-clause-ok
 returns-in-Some-2-clause-ok c =
-    let behind = rw c.in-Some-2.is at c.in_ok-status.ensures.ok in
+    let after = rw c.in-Some-2.is at c.in_ok-status.ensures.ok in
     rw c.refused-in-Some-2.ensures
-    (append-ended c.args.self.now c.write_behind.new.self c.args.zslba c.args.blocks c.args.bytes.now (Some c.in-Some-2.status) c.in_default.ensures.checks c.in_default.ensures.count c.write_behind.ensures.limit behind)
+    (append-ended c.args.self.now c.write_after.new.self c.args.zslba c.args.blocks c.args.bytes.now (Some c.in-Some-2.status) c.in_default.ensures.checks c.in_default.ensures.count c.write_after.ensures.limit after)
 
 pub returns-in-None-clause-ok : goal.returns-in-None-clause-ok
 returns-in-None-clause-ok c =
-    let behind = rw c.in-None.is at c.in_ok-status.ensures.ok in
+    let after = rw c.in-None.is at c.in_ok-status.ensures.ok in
     rw (c.done.ensures, c.written_in.ensures.value)
-    (append-ended c.args.self.now c.write_behind.new.self c.args.zslba c.args.blocks c.args.bytes.now None c.in_default.ensures.checks c.in_default.ensures.count c.write_behind.ensures.limit behind)
+    (append-ended c.args.self.now c.write_after.new.self c.args.zslba c.args.blocks c.args.bytes.now None c.in_default.ensures.checks c.in_default.ensures.count c.write_after.ensures.limit after)

@@ -13,7 +13,7 @@ returns-in-Ok-clause-ok c = λ bytes.
     let long = c.args.blocks * c.block-2.result in
     let from_is : from ≡ c.args.slba % geometry.size * geometry.block = rw (c.size-size.ensures.value, c.block.ensures.value) refl in
     let long_is : long ≡ c.args.blocks * geometry.block = rw c.block-2.ensures.value refl in
-    let copied = rw c.bytes_behind.ensures at c.in-Ok.ensures in
+    let copied = rw c.bytes_from.ensures at c.in-Ok.ensures in
     let stored = rw c.size-size.ensures.value at c.written_at-written.ensures.zone in
     rw c.done.ensures (read-copied c.args.self.now c.args.slba c.args.blocks bytes c.written_at-written.result.now _ from long
     c.in_default.ensures stored c.written_at-written.ensures.whole from_is long_is copied)

@@ -1,4 +1,4 @@
-use Rattle.std.proofs.Common.{◌≡◌, ◌<◌, ◌*◌, List, Some, None, arith}
+use Rattle.std.proofs.Common.{◌*◌, arith}
 use Rattle.std.proofs.lemmas.List.{take_rest}
 use Rattle.zone_drive.proofs.GroupLaws.{found-group, group-within, lowest-found, lowest-no_group, lowest-none, no-group}
 use Rattle.zone_drive.proofs.resources.Resources.lowest_implicit.Goals as goal

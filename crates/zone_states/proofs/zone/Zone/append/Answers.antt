@@ -1,5 +1,4 @@
-use Rattle.zone_states.proofs.Cutting.{written_on_ok}
 use Rattle.zone_states.proofs.zone.Zone.append.Goals as goal
 
 pub returns-clause-in_blocks : goal.returns-clause-in_blocks
-returns-clause-in_blocks c = λ whole. written_on_ok _ _ _ _ _ whole c.in-Some.ensures.whole c.extend.ensures.ok
+returns-clause-in_blocks c = λ whole. c.in_ok-extend.ensures.in_blocks whole c.in-Some.ensures.whole
