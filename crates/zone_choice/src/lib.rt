@@ -17,6 +17,6 @@ pub use laws::{
     append_first, append_logs, append_spells, append_writes, finish_logs, newest_is_live,
     spelled_blocks,
 };
-pub use reserve::{batch_most, fill, fits_reserve};
+pub use reserve::{batch_most, fill, fits_reserve, most_blocks};
 pub use roles::{Filling, Roles, Second};
 pub use tables::Tables;
