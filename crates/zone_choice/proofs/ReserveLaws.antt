@@ -43,7 +43,7 @@ fill-quota k c q records pos fits more h =
 
 -- ---- the quota
 
--- with t headers of k records each, what is left of the room holds just so many records
+-- with t headers of k records each, what is left of the room holds that many records
 quota-fits : (k room t q : ℕ) → 0 < k → 2 ≤ room → t ≡ div_ceil room (k + 1) → q + t ≡ room → fill k q ≤ room
 quota-fits k room t q pos some t-is total =
     let enough : room ≤ t * (k + 1) = rw t-is ((div_ceil_times room (k + 1) (omega arith)).0) in
