@@ -21,7 +21,7 @@ impl Model for LiveIndex {
 }
 
 impl LiveIndex {
-    /// So many zones, none of which has a live record.
+    /// `zones` zones, none of which has a live record.
     pub fn new(alloc: Global, zones: u32) -> Result<LiveIndex, AllocError>
         ensures { IfOk result (λ index. index ≡ replicate zones 0) }
     {

@@ -1,4 +1,13 @@
 //! How many live records each zone has, and which zone has the fewest.
+//!
+//! ```text
+//! let mut index = LiveIndex::new(alloc, 4)?;      // 4 zones with no live record
+//! index.add(2);
+//! index.least(&[true, true, true, false])         // zone 0
+//! ```
+//!
+//! What is promised: the counts are a list of numbers, `add` and `remove` change one of them by one, and
+//! `least` finds the lowest of the named zones with the fewest (`FindsLeast` in specs/Least).
 #![tactic(auto)]
 
 mod index;

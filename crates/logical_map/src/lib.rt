@@ -1,4 +1,14 @@
 //! The map from logical blocks to places on the drive.
+//!
+//! ```text
+//! let mut map = Map::new(alloc, 9, 4, 8);     // 9 blocks, on 4 zones of 8 addresses
+//! map.reserve_for(5)?;                        // the only call that allocates
+//! map.set(5, Place::At(12));                  // block 5 lies at address 12, in zone 1
+//! ```
+//!
+//! What is promised: the map is a list of places, and `set` changes that of one block and no other. Its
+//! memory is made page by page, so a map of few written blocks is small; a block that was placed can be
+//! placed again without an allocation (`MapView` and `Reserves` in specs/Places).
 #![tactic(auto)]
 
 mod map;

@@ -1,4 +1,4 @@
--- A drive on which nothing is written agrees with tables that place nothing, and spells zeros.
+-- A drive on which nothing is written agrees with tables that place nothing, and encodes zeros.
 use Rattle.std.proofs.Common.{◌≡◌, ℕ, zero, suc, ◌+◌, ◌<◌, ◌≤◌, Bool, true, false, cond, List, [], ◌∷◌, map, length, get_or, replicate, Option, None, refl, sym, ap, ◌∙◌, arith}
 use Rattle.std.specs.Prelude.{nat_eq}
 use Rattle.std.specs.List.{AllByRecursion, IsDistinct, count_by, range_with_len}

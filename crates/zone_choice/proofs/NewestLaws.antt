@@ -89,7 +89,7 @@ pub AllBelow-parts : (s : ℕ) (xs ys : List Record) → AllBelow s (xs ++ ys) �
 AllBelow-parts s [] ys all = (tt, all)
 AllBelow-parts s (x ∷ xs) ys all = let rest = AllBelow-parts s xs ys all.1 in ((all.0, rest.0), rest.1)
 
--- the records of a batch behind a log stand behind the log's
+-- the records of a batch at the end of a log follow those of the log
 pub log_records-append : (zone offset next : ℕ) (log : List Batch) (b : Batch) → next ≡ offset + log_size log → log_records zone offset (log ++ b ∷ []) ≡ log_records zone offset log ++ batch_records zone next b
 log_records-append zone offset next [] b e = let same : next ≡ offset = omega arith in rw same (append-nil (batch_records zone offset b))
 log_records-append zone offset next (x ∷ log) b e =
@@ -190,14 +190,14 @@ all-absent block s (r ∷ rs) all = ((λ same. absurd (all.0 same)), all-absent 
 all-renamed : (a b s : ℕ) (rs : List Record) → a ≡ b → AllByRecursion (λ other. other.block ≡ a → other.sequence ≤ s) rs → AllByRecursion (λ other. other.block ≡ b → other.sequence ≤ s) rs
 all-renamed a b s rs e all = let P : ℕ → Type 0 = λ n. AllByRecursion (λ (other : Record). other.block ≡ n → other.sequence ≤ s) rs in subst P e all
 
--- a live record stays so behind a record that is no later one of its block
+-- a live record stays so after a record that is no later one of its block
 live-behind : (first r : Record) (rs : List Record) → (first.block ≡ r.block → first.sequence ≤ r.sequence) → IsLive rs r → IsLive (first ∷ rs) r
 live-behind first r rs no_later live = record {
   among = (suc live.among.0, omega (arith, live.among.1), live.among.2);
   greatest = (no_later, live.greatest);
 }
 
--- the first record is live where none behind it is later
+-- the first record is live where none after it is later
 live-first : (r : Record) (rs : List Record) → AllByRecursion (λ other. other.block ≡ r.block → other.sequence ≤ r.sequence) rs → IsLive (r ∷ rs) r
 live-first r rs all = record { among = (0, omega arith, refl); greatest = ((λ same. omega arith), all) }
 

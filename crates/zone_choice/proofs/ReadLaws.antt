@@ -102,7 +102,7 @@ records_stand geometry (c ∷ cs) first all =
     behind : (r : Record) → StandsOn geometry cs (suc first) r → StandsOn geometry (c ∷ cs) first r
     behind r s = let more : r.zone - first ≡ suc (r.zone - suc first) = omega (arith, s.above) in record { in_range = omega (arith, s.in_range); above = omega (arith, s.above); stands = rw more s.stands }
 
--- unwritten blocks are read as zeros, and so are those behind the blocks of a full zone
+-- unwritten blocks are read as zeros, and so are those after the blocks of a full zone
 get_or-padded : (blocks : List (List ℕ)) (k i : ℕ) (z : List ℕ) → get_or (blocks ++ replicate k z) i z ≡ get_or blocks i z
 get_or-padded [] zero i z = refl
 get_or-padded [] (suc k) zero z = refl

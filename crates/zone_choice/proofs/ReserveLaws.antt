@@ -1,11 +1,13 @@
 -- Quotients rounded up, and what moves take of a zone.
-use Rattle.std.proofs.Common.{◌≡◌, ℕ, ◌+◌, ◌-◌, ◌*◌, ◌<◌, ◌≤◌, inl, inr, arith}
+use Rattle.std.proofs.Common.{◌≡◌, ℕ, ◌+◌, ◌-◌, ◌*◌, ◌^◌, ◌<◌, ◌≤◌, min, inl, inr, arith}
 use Rattle.std.specs.Int.{div_ceil}
 use Rattle.std.proofs.lemmas.Grind.{div_ceil_times}
 use Rattle.std.proofs.lemmas.Nat.{mul-le}
 use Rattle.std.proofs.lemmas.Bool.{cases_lt}
 use Rattle.std.proofs.Math.Nat.{add-mul, add-div_right, add-mod_right}
-use Rattle.zone_choice.specs.Reserve.{fill, IsQuota}
+use Rattle.zone_states.specs.declared.geometry.Geometry.{Geometry}
+use Rattle.zone_states.specs.Geometry.{IsInRange}
+use Rattle.zone_choice.specs.Reserve.{batch_most, fill, FitsReserve, IsQuota}
 
 -- no more than m batches of k are wanted for at most m * k records
 pub div_ceil-le : (a k m : ℕ) → 0 < k → a ≤ m * k → div_ceil a k ≤ m
@@ -41,7 +43,7 @@ fill-quota k c q records pos fits more h =
 
 -- ---- the quota
 
--- with t headers of k records each, what is left of the room holds just so many records
+-- with t headers of k records each, what is left of the room holds that many records
 quota-fits : (k room t q : ℕ) → 0 < k → 2 ≤ room → t ≡ div_ceil room (k + 1) → q + t ≡ room → fill k q ≤ room
 quota-fits k room t q pos some t-is total =
     let enough : room ≤ t * (k + 1) = rw t-is ((div_ceil_times room (k + 1) (omega arith)).0) in
@@ -66,3 +68,19 @@ quota-is k capacity t q pos some t-is total = record {
   fits = omega (arith, quota-fits k (capacity - 2) t q pos (omega arith) t-is total);
   greatest = λ records h. quota-greatest k (capacity - 2) t q records pos t-is total (omega arith);
 }
+
+-- ---- the greatest number of logical blocks
+
+-- a batch has one entry at least
+pub positive-most : (geometry : Geometry) → IsInRange geometry → 1 ≤ batch_most geometry
+positive-most geometry range = elim range.block as (λ _. 1 ≤ batch_most geometry) [ inl e ↦ rw e (omega (arith, range.transfer)) | inr e ↦ rw e (omega (arith, range.transfer)) ]
+
+-- a quota is one at least
+quota-some : (k capacity q : ℕ) → 0 < k → 4 ≤ capacity → IsQuota k capacity q → 1 ≤ q
+quota-some k capacity q pos some is = is.greatest 1 (omega (arith, div_ceil-last 1 k (omega arith) pos))
+
+pub most-fits : (geometry : Geometry) (q n : ℕ) → 1 ≤ batch_most geometry → 4 ≤ geometry.capacity → 3 ≤ geometry.zones → IsQuota (batch_most geometry) geometry.capacity q → n ≡ min (q * (geometry.zones - 1)) (2 ^ 31) → FitsReserve geometry n
+most-fits geometry q n most room zones quota is =
+    let some = quota-some (batch_most geometry) geometry.capacity q most room quota in
+    let product : 1 * 1 ≤ q * (geometry.zones - 1) = mul-le 1 1 q (geometry.zones - 1) some (omega arith) in
+    (omega (arith, is, product), omega (arith, is), (q, quota, omega (arith, is)))

@@ -1,4 +1,4 @@
--- How the logs of a drive's zones, and the array that they spell, change with an Append of a batch.
+-- How the logs of a drive's zones, and the array that they encode, change with an Append of a batch.
 use Rattle.std.proofs.Common.{◌≡◌, ℕ, zero, suc, ◌-◌, ◌<◌, ◌^◌, Bool, true, false, cond, eqb, List, [], ◌∷◌, ◌++◌, length, set, get_or, replicate, refl, ap, ◌∙◌, arith, append-nil}
 use Rattle.std.specs.List.{AllByRecursion}
 use Rattle.std.proofs.lemmas.Bool.{eqb-true}
@@ -13,7 +13,7 @@ use Rattle.zone_choice.specs.ZoneLogs.{HasLog, padding, readable, spelled_array,
 use Rattle.zone_choice.specs.Laws.{AppendLogs, AppendSpells, FinishLogs}
 use Rattle.zone_choice.proofs.NewestLaws.{told-append_log}
 
--- behind the blocks of a zone that isn't full nothing stands
+-- nothing follows the blocks of a zone that isn't full
 pub writable-not_full : (usage : Usage) → is_writable usage ≡ true → is_full usage ≡ false
 writable-not_full empty w = refl
 writable-not_full active w = refl
@@ -23,7 +23,7 @@ writable-not_full unusable w = absurd (cc)
 pub readable-not_full : (geometry : Geometry) (content : Content) → is_full content.usage ≡ false → readable geometry content ≡ content.blocks
 readable-not_full geometry content e = rw e (append-nil content.blocks)
 
--- nor behind those of a zone that is written up to its capacity
+-- nor those of a zone that is written up to its capacity
 readable-filled : (geometry : Geometry) (blocks : List (List ℕ)) → readable geometry (filled geometry.capacity blocks) ≡ blocks
 readable-filled geometry blocks = at (eqb (length blocks) geometry.capacity) refl
   where

@@ -14,7 +14,7 @@ use Rattle.zone_choice.specs.Agreement.{spelled}
 abbrev pub NewestIsLive : Type 0
 NewestIsLive = (block : ℕ) (rs : List Record) → IsNewest rs block (newest block rs)
 
--- a batch with the greatest sequence, behind the log of a zone, counts as if its records came first: each block's newest record, with its place, is the batch's or the old one
+-- a batch with the greatest sequence, at the end of a zone's log, counts as if its records came first: each block's newest record, with its place, is the batch's or the old one
 abbrev pub AppendFirst : Type 0
 AppendFirst =
     (block zone : ℕ) (logs : List (List Batch)) (batch : Batch) → zone < length logs → AllBelow batch.heading.sequence (records 0 logs)
@@ -42,7 +42,7 @@ AppendLogs =
     → geometry.block < 2 ^ 32 → IsBatch geometry.block batch → HasLog geometry (content_at old zone)
     → Appends old new geometry.capacity zone (batch_blocks geometry.block batch) → LogsAppend geometry old new zone batch
 
--- with the greatest sequence, it changes the array that the drive spells by its records alone
+-- with the greatest sequence, it changes the array that the drive encodes by its records alone
 abbrev pub AppendSpells : Type 0
 AppendSpells =
     (geometry : Geometry) (old new : List Content) (zone n : ℕ) (batch : Batch)
@@ -51,7 +51,7 @@ AppendSpells =
     → Appends old new geometry.capacity zone (batch_blocks geometry.block batch)
     → spelled_array geometry new n ≡ over (shown geometry.block) (new_records (zone_logs geometry old) zone batch) (spelled_array geometry old n)
 
--- A Finish of a zone that could be written keeps all logs: zero blocks stand behind the zone's batches now.
+-- A Finish of a zone that could be written keeps all logs: zero blocks follow the zone's batches now.
 pub record SameLogs (geometry : Geometry) (old new : List Content) : Type 0 where
   pub logs : zone_logs geometry new ≡ zone_logs geometry old
   pub all_logs : AllByRecursion (HasLog geometry) old → AllByRecursion (HasLog geometry) new
@@ -62,7 +62,7 @@ FinishLogs =
     → geometry.block < 2 ^ 32 → HasLog geometry (content_at old zone) → is_writable (content_at old zone).usage ≡ true
     → Finishes old new zone → SameLogs geometry old new
 
--- The array that a drive spells has its number of blocks. On a drive that can be mounted each is a whole block.
+-- The array that a drive encodes has its number of blocks. On a drive that can be mounted each is a whole block.
 abbrev pub SpelledCount : Type 0
 SpelledCount = (drive : DriveState) (n : ℕ) → length (spelled drive n) ≡ n
 

@@ -1,4 +1,4 @@
--- The records of the batches of all zones, the newest of a block, and the array that they spell.
+-- The records of the batches of all zones, the newest of a block, and the array that they encode.
 use Rattle.std.specs.Prelude.{◌≡◌, ℕ, suc, ◌+◌, ◌<◌, ◌≤◌, ◌==◌, nat_lt, if◌then◌else◌, Bool, true, false, List, [], ◌∷◌, ◌++◌, map, replicate, slice_set, slice_index_or, Contains, Option, Some, None, is_some, ◌*◌}
 use Rattle.std.specs.List.{range_with_len, AllByRecursion}
 use Rattle.logical_map.specs.declared.place.Place.{Place}
@@ -86,11 +86,11 @@ abbrev pub shown : ℕ → Option Record → List ℕ
 shown block_bytes (Some r) = shown_content block_bytes r.content
 shown block_bytes None = replicate block_bytes 0
 
--- the array of n blocks of so many bytes: of each block what its newest record says
+-- the array of n blocks of `block_bytes` bytes: of each block what its newest record says
 abbrev pub array : ℕ → ℕ → List Record → List (List ℕ)
 array block_bytes n rs = told (shown block_bytes) n rs
 
--- where a record's data lies, or a trim's header: its address, in zones of so many addresses
+-- where a record's data lies, or a trim's header: its address, in zones of `zone_size` addresses
 abbrev pub place : ℕ → Option Record → Place
 place zone_size None = places.None
 place zone_size (Some r) = if is_some r.content then places.At (r.zone * zone_size + r.offset) else places.Trimmed (r.zone * zone_size + r.offset)
@@ -99,7 +99,7 @@ place zone_size (Some r) = if is_some r.content then places.At (r.zone * zone_si
 abbrev pub places_of : ℕ → ℕ → List Record → List Place
 places_of zone_size n rs = told (place zone_size) n rs
 
--- the array and the map that the logs of all zones spell
+-- the array and the map that the logs of all zones encode
 abbrev pub array_of : ℕ → ℕ → List (List Batch) → List (List ℕ)
 array_of block_bytes n logs = array block_bytes n (records 0 logs)
 

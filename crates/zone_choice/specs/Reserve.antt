@@ -8,7 +8,7 @@ use Rattle.batch_log.specs.Header.{entry_room}
 abbrev pub batch_most : Geometry → ℕ
 batch_most geometry = min (geometry.transfer - 1) (entry_room geometry.block)
 
--- how many blocks moving so many records may take: one for each, and a header for each batch, one at least
+-- how many blocks it may take to move that many records: one for each, and a header for each batch, one at least
 abbrev pub fill : ℕ → ℕ → ℕ
 fill most records = max 1 (records + div_ceil records most)
 
@@ -17,7 +17,7 @@ pub record IsQuota (most capacity quota : ℕ) : Type 0 where
   pub fits : fill most quota + 2 ≤ capacity
   pub greatest : (records : ℕ) → fill most records + 2 ≤ capacity → records ≤ quota
 
--- So many logical blocks are served: with all zones but one in use, one of them holds at most a quota of live records, so it can be cleaned into the last.
+-- A drive can serve n logical blocks: with all zones but one in use, one of them holds at most a quota of live records, so it can be cleaned into the last.
 abbrev pub FitsReserve : Geometry → ℕ → Type 0
 FitsReserve geometry n =
     (1 ≤ n) × (n ≤ 2 ^ 31) × ((quota : ℕ) × IsQuota (batch_most geometry) geometry.capacity quota × (n ≤ quota * (geometry.zones - 1)))

@@ -1,11 +1,11 @@
--- The logs of a drive's zones, and the array that the drive spells.
+-- The logs of a drive's zones, and the array that the drive encodes.
 use Rattle.std.specs.Prelude.{ℕ, ◌-◌, Bool, true, false, List, [], ◌++◌, map, length, replicate, slice_index_or}
 use Rattle.zone_states.specs.declared.geometry.Geometry.{Geometry}
 use Rattle.drive_port.specs.Contents.{Content, is_full}
 use Rattle.batch_log.specs.Log.{Batch, IsLog, log_of, zero_block}
 use Rattle.zone_choice.specs.Records.{array_of}
 
--- what stands behind the written blocks of a zone, as a host can tell: in a full zone zero blocks up to the capacity, since a report doesn't tell how far a finished zone was written
+-- what follows the written blocks of a zone, as a host can tell: in a full zone zero blocks up to the capacity, since a report doesn't tell how far a finished zone was written
 abbrev pub padding : Geometry → Bool → ℕ → List (List ℕ)
 padding geometry true written = replicate (geometry.capacity - written) (zero_block geometry.block)
 padding geometry false written = []
@@ -28,6 +28,6 @@ zone_logs geometry zones = map (zone_log geometry) zones
 abbrev pub log_at : List (List Batch) → ℕ → List Batch
 log_at logs zone = slice_index_or logs zone []
 
--- the array of n blocks that the zones spell
+-- the array of n blocks that the zones encode
 unfoldable pub spelled_array : Geometry → List Content → ℕ → List (List ℕ)
 spelled_array geometry zones n = array_of geometry.block n (zone_logs geometry zones)

@@ -24,7 +24,7 @@ pub fn append_logs()
     ensures { AppendLogs }
 {}
 
-/// An Append of a batch with the greatest sequence changes the spelled array by its records alone.
+/// An Append of a batch with the greatest sequence changes the encoded array by its records alone.
 pub fn append_spells()
     ensures { AppendSpells }
 {}
@@ -34,7 +34,7 @@ pub fn finish_logs()
     ensures { FinishLogs }
 {}
 
-/// The spelled array has its number of blocks; on a drive that can be mounted each is a whole block.
+/// The encoded array has its number of blocks; on a drive that can be mounted each is a whole block.
 pub fn spelled_blocks()
     ensures count { SpelledCount }
     ensures whole { SpelledWhole }

@@ -1,5 +1,25 @@
 //! What the zones of a drive hold, taken together: the records of all batches, the array that the
-//! newest of them spell, which drives can be mounted, and how many blocks are kept in reserve.
+//! newest of them encode, which drives can be mounted, how many blocks are kept in reserve, and how
+//! the tables of a mounted disk follow its drive, batch by batch.
+//!
+//! ```text
+//! let mut tables = Tables::new(alloc, geometry.zones, geometry.size, 9)?;
+//! let zone = tables.take_empty()?;                       // the host zone
+//! let mut batch = BatchBuilder::new(alloc);
+//! batch.start(Kind::Host, tables.next(), 0);
+//! batch.name_data(2, 3)?;                                // blocks 2 to 4
+//! batch.encode(geometry.block)?;                         // the header block
+//! batch.fill(3 * geometry.block as usize, 0xaa)?;        // their data
+//! tables.reserve(2, 3)?;                                 // the last allocation
+//! append_batch(alloc, &mut tables, &mut drive, zone, &batch)?;
+//! ```
+//!
+//! What is promised, of any drive that obeys its rules: a batch that is appended changes the array by
+//! what it says and by nothing else, and the tables name the place of each block's newest record again
+//! (`Places` in specs/Changes); where the drive halts, all is as before (`AppendLeaves`). The drive
+//! refuses no such Append (`CanPlace` says what it needs). While tables and drive agree (`Agrees` in
+//! specs/Agreement) and a zone is kept empty, the drive can be mounted (`IsMountable` in
+//! specs/Mountable). `laws` has what holds of all drives' contents.
 #![tactic(auto)]
 
 mod append;
@@ -17,6 +37,6 @@ pub use laws::{
     append_first, append_logs, append_spells, append_writes, finish_logs, newest_is_live,
     spelled_blocks,
 };
-pub use reserve::{batch_most, fill, fits_reserve};
+pub use reserve::{batch_most, fill, fits_reserve, most_blocks};
 pub use roles::{Filling, Roles, Second};
 pub use tables::Tables;

@@ -1,4 +1,4 @@
-ghost use Rattle.std.specs.Prelude.{◌≡◌, ◌≤◌, ◌<◌, ◌↔◌, IsTrue};
+ghost use Rattle.std.specs.Prelude.{◌≡◌, ◌≤◌, ◌<◌, ◌↔◌, ℕ, IsTrue};
 ghost use Rattle.zone_states.specs.Geometry.{IsInRange};
 ghost use Rattle.zone_choice.specs.Reserve.{FitsReserve, IsQuota, batch_most, fill};
 
@@ -14,8 +14,8 @@ pub fn batch_most(geometry: &Geometry) -> u32
     entry_room(geometry.block).min(geometry.transfer - 1)
 }
 
-/// How many blocks moving so many records may take: one for each, and a header for each batch. The
-/// geometry is one that `check` admits.
+/// How many blocks it takes to move that many records: one for each at most, and a header for each batch.
+/// The geometry is one that `check` admits.
 pub fn fill(geometry: &Geometry, records: u32) -> u64
     requires { IsInRange geometry.now }
     ensures { result ≡ fill (batch_most geometry.now) records }
@@ -34,6 +34,15 @@ fn quota(geometry: &Geometry) -> u64
     let room = geometry.capacity as u64 - 2;
     let batch_blocks = batch_most(geometry) as u64 + 1;
     room - room.div_ceil(batch_blocks)
+}
+
+/// The greatest number of logical blocks that a drive can serve. The geometry is one that `check` admits.
+pub fn most_blocks(geometry: &Geometry) -> u64
+    requires { IsInRange geometry.now }
+    ensures fits { FitsReserve geometry.now result }
+    ensures most { (blocks : ℕ) → FitsReserve geometry.now blocks → blocks ≤ result }
+{
+    (quota(geometry) * (geometry.zones as u64 - 1)).min(1 << 31)
 }
 
 /// Whether a drive can serve `blocks` logical blocks: 1 to 2^31, and no more than its reserve allows.

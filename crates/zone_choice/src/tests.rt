@@ -1,4 +1,4 @@
-use crate::{Filling, Roles, batch_most, fill, fits_reserve};
+use crate::{Filling, Roles, batch_most, fill, fits_reserve, most_blocks};
 use std::test::Fail;
 use zone_states::Geometry;
 
@@ -38,6 +38,7 @@ fn keeps_a_reserve(rt: HostRuntime) {
         [2, 3].map(|blocks| fits_reserve(&NARROW, blocks)),
         [true, false]
     );
+    assert_eq!(rt; [most_blocks(&WIDE), most_blocks(&NARROW)], [9, 2]);
 }
 
 #[test]

@@ -37,7 +37,7 @@ unfolding IsDistinct
 entries-distinct first zero = tt
 entries-distinct first (suc count) = (entries-other first (first + 1) count (omega arith), entries-distinct (first + 1) count)
 
--- a heading of ours can be spelled
+-- a heading of ours can be encoded
 pub host-heading : (size sequence first count : ℕ) → count ≤ entry_room size → sequence < 2 ^ 64 → first + count ≤ 2 ^ 63 → IsHeading size (host_heading sequence first count)
 host-heading size sequence first count room short le = record {
   room = omega (arith, length-entries first count);

@@ -1,6 +1,7 @@
 -- The calls of a disk, by what its parts change.
 use Rattle.std.proofs.Common.{◌≡◌, ◌==◌, ℕ, nat_lt, zero, suc, ◌+◌, ◌<◌, ◌≤◌, Bool, true, false, List, [], ◌∷◌, ◌++◌, length, take, drop, get_or, replicate, Some, None, Ok, Err, refl, sym, ap, ◌∙◌, arith, append_assoc, append-nil}
 use Rattle.std.specs.Prelude.{Result}
+use Rattle.std.specs.Result.{IfErr, OnErr, OnOk}
 use Rattle.std.specs.List.{AllByRecursion, concat}
 use Rattle.std.proofs.lemmas.Bool.Decides.{nat_tests}
 use Rattle.std.proofs.lemmas.List.{get_or-drop, length-drop, length-replicate, take_more}
@@ -218,6 +219,16 @@ shown-more array first count block shown more block-is lt is more-is =
     let long : count < length (drop first array) = omega (arith, length-drop first array) in
     let at : get_or (drop first array) count [] ≡ get_or array block [] = get_or-drop first array count [] ∙ ap (λ (k : ℕ). get_or array k []) (omega arith) in
     more-is ∙ rw (is, ← at) (sym (concat-append (blocks_from array first count) (get_or (drop first array) count [])) ∙ ap concat (sym (take_more (drop first array) count [] long)))
+
+-- a read of one block
+pub read-alone : (old new : DiskView) (first n : ℕ) (result : Result (Unit {0}) DiskFault) (bytes : List ℕ) → known_answer (flat_of old) first n ≡ None → n ≡ 1 → first < disk_size old → array_of new ≡ array_of old
+    → OnOk result (bytes ≡ get_or (array_of old) first []) → OnOk result (new.status ≡ statuses.Serving) → IfErr result (λ fault. new.status ≡ status_of fault) → IfErr result (IsReadFault new.drive) → OnErr result (bytes ≡ [])
+    → Reads (flat_of old) first n result bytes (flat_of new)
+read-alone old new first n (Ok done) bytes known one lt same ok serves status err nothing =
+    let shown : bytes ≡ concat (blocks_from (array_of old) first 1) = shown-more (array_of old) first 0 first [] bytes (omega arith) (omega (arith, lt, length-array old)) refl ok in
+    read-begun old new first n (Ok done) (blocks_from (array_of old) first n) bytes known (refl, same) serves (rw one shown)
+read-alone old new first n (Err fault) bytes known one lt same ok serves status err nothing =
+    read-begun old new first n (Err fault) [] bytes known (read-refused old new first n fault same err) (status ∙ status-refused fault) nothing
 
 -- a call that isn't done before it begins
 pub goes-begun : (old : DiskView) (first n : ℕ) (done : Bool) → known_answer (flat_of old) first n ≡ answer_before (Ok done) → done ≡ false → known_answer (flat_of old) first n ≡ None

@@ -1,12 +1,11 @@
 -- A batch of one byte is prepared and appended.
-use Rattle.std.proofs.Common.{◌≡◌, ℕ, zero, suc, ◌+◌, ◌-◌, ◌*◌, ◌<◌, ◌≤◌, ◌^◌, List, ◌∷◌, ◌++◌, length, take, drop, replicate, Option, Some, None, Ok, Err, refl, ap, ◌∙◌, inl, inr, arith}
+use Rattle.std.proofs.Common.{◌≡◌, ℕ, zero, suc, ◌+◌, ◌-◌, ◌*◌, ◌<◌, ◌≤◌, ◌^◌, List, ◌∷◌, ◌++◌, length, take, drop, replicate, Option, Some, None, Ok, Err, refl, ap, ◌∙◌, inr, arith}
 use Rattle.std.specs.Option.{option_map}
 use Rattle.std.specs.Prelude.{Result}
 use Rattle.std.specs.Result.{OnErr}
 use Rattle.std.proofs.lemmas.List.{drop_at, length-replicate}
 use Rattle.std.proofs.Math.Nat.{add-mul}
 use Rattle.zone_states.specs.declared.geometry.Geometry.{Geometry}
-use Rattle.zone_states.specs.Geometry.{IsInRange}
 use Rattle.zone_states.specs.Zone.{cut_blocks}
 use Rattle.drive_port.specs.Drive.{DriveState}
 use Rattle.batch_log.specs.Header.{IsHeading, entry_room, header_block}
@@ -22,6 +21,7 @@ use Rattle.zone_choice.specs.Roles.{RolesView, grown_second, listed, wrote}
 use Rattle.zone_choice.specs.Tables.{MakesRoom, TablesView, size_of}
 use Rattle.zone_choice.proofs.AgreementLaws.{length-spelled}
 use Rattle.zone_choice.proofs.ChangeLaws.{keeps-join, keeps-room, large-block}
+use Rattle.zone_choice.proofs.ReserveLaws.{positive-most}
 use Rattle.zone_choice.proofs.RolesLaws.{second_list}
 use Rattle.zone_translator.specs.Batches.{IsPrepared, batch_count, host_heading}
 use Rattle.zone_translator.specs.Changes.{AgreesWith, WritesBlocks}
@@ -57,9 +57,6 @@ cut-replicate size zero x = refl
 cut-replicate size (suc count) x =
     let e : suc count * size ≡ size + count * size = omega (arith, add-mul count 1 size) in
     rw (e, take-replicate size (count * size) x, drop-replicate size (count * size) x) (ap (λ (bs : List (List ℕ)). replicate size x ∷ bs) (cut-replicate size count x))
-
-positive-most : (g : Geometry) → IsInRange g → 1 ≤ batch_most g
-positive-most g range = elim range.block as (λ _. 1 ≤ batch_most g) [ inl e ↦ rw e (omega (arith, range.transfer)) | inr e ↦ rw e (omega (arith, range.transfer)) ]
 
 -- ---- what is prepared can be appended
 

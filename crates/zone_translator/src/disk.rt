@@ -14,7 +14,7 @@ ghost use Rattle.zone_translator.specs.View.{DiskCause, DiskView, KeepsDisk, arr
 use crate::fault::DiskFault;
 use crate::fill::fill_batch;
 use crate::mount::{MountFault, fresh_tables};
-use crate::read::read_block;
+use crate::read::{read_block, read_into};
 use crate::status::DiskStatus;
 use drive_port::Device;
 use std::alloc::Global;
@@ -159,6 +159,28 @@ impl<D: Device + Drop> Disk<D> {
         }
     }
 
+    /// A read of one block, shown in place of what `into` holds. `into` is empty after a refusal.
+    fn read_alone(&mut self, block: u32, into: &mut Vec<u8>) -> Result<(), DiskFault>
+        requires in_range { block < disk_size self.old }
+        requires serving { self.old.status ≡ Serving }
+        ensures kept { KeepsDisk self.old self.new }
+        ensures array { array_of self.new ≡ array_of self.old }
+        ensures ok { OnOk result (into.new.items ≡ slice_index_or (array_of self.old) block []) }
+        ensures serving { OnOk result (self.new.status ≡ Serving) }
+        ensures status { IfErr result (λ fault. self.new.status ≡ status_of fault) }
+        ensures err { IfErr result (IsReadFault self.new.drive) }
+        ensures nothing { OnErr result (into.new.items ≡ []) }
+    {
+        match read_into(&self.tables, &mut self.device, block, into) {
+            Ok(()) => Ok(()),
+            Err(fault) => {
+                into.clear();
+                self.status = status_of(fault);
+                Err(fault)
+            }
+        }
+    }
+
     /// Whether a read or a write of n blocks is done before it begins: it is where n is 0. One past the
     /// end is refused, and so is each once the disk has answered `Stopped`.
     fn is_done(&self, first: u64, blocks: u64) -> Result<bool, DiskFault>
@@ -213,6 +235,9 @@ impl<D: Device + Drop> Disk<D> {
         into.clear();
         if self.is_done(first, blocks)? {
             return Ok(());
+        }
+        if blocks == 1 {
+            return self.read_alone(first as u32, into);
         }
         for i in 0..blocks as u32 {
             if let Err(fault) = self.read_one(first as u32 + i, into) {

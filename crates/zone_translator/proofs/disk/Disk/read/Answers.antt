@@ -1,7 +1,7 @@
 use Rattle.std.proofs.Common.{◌∙◌, refl, arith}
 use Rattle.zone_choice.proofs.AgreementLaws.{length-spelled}
 use Rattle.zone_translator.specs.View.{array_of, disk_size}
-use Rattle.zone_translator.proofs.DiskLaws.{kept-join, shown-more}
+use Rattle.zone_translator.proofs.DiskLaws.{goes-begun, kept-join, read-alone, shown-more}
 use Rattle.zone_translator.proofs.disk.Disk.read.Goals as goal
 
 pub loop-i-preserved : goal.loop-i-preserved
@@ -13,3 +13,10 @@ loop-i-preserved g c =
       c.read_one.ensures.array ∙ so_far.2,
       shown-more (array_of c.args.self.now) c.args.first c.loop-i.i _ _ _ refl (omega (arith, range, length-spelled c.args.self.now.drive (disk_size c.args.self.now))) so_far.3 (rw so_far.2 at c.in_default.ensures.ok),
     )
+
+pub returns-then-blocks-eq1-clause-flat : goal.returns-then-blocks-eq1-clause-flat
+returns-then-blocks-eq1-clause-flat g c =
+    let range = c.in_ok-is_done.ensures.in_range c.if-branch.false in
+    let e = c.read_alone.ensures in
+    read-alone c.args.self.now c.read_alone.new.self c.args.first c.args.blocks c.read_alone.result _ (goes-begun c.args.self.now c.args.first c.args.blocks c.in_ok-is_done.field-0 c.in_ok-is_done.ensures.known c.if-branch.false)
+    c.if-blocks-eq1.true (omega (arith, range.1, range.0)) e.array e.ok e.serving e.status e.err e.nothing
