@@ -1,3 +1,6 @@
 pub mod HeaderLaws
 pub mod LogLaws
+pub mod EntryLaws
+pub mod NumberLaws
+pub mod CauseLaws
 pub mod Writing

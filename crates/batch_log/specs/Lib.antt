@@ -1,3 +1,5 @@
 pub mod Header
+pub mod Reading
+pub mod Causes
 pub mod Log
 pub mod LogLaws

@@ -4,9 +4,13 @@
 //! `docs/formats.md` states the header's bytes, `docs/placement.md` what batches are for.
 #![tactic(auto)]
 
+mod encode;
+mod fault;
 mod header;
 pub mod laws;
-mod spelling;
+mod view;
 
+pub use encode::{entry_room, header_bytes};
+pub use fault::{FaultAt, LogFault};
 pub use header::{Entry, Header, Kind};
-pub use spelling::{entry_room, header_bytes};
+pub use view::{HeaderView, read_header};

@@ -1,5 +1,5 @@
 -- The batches that a disk writes: data of blocks that follow one another.
-use Rattle.std.specs.Prelude.{ℕ, zero, suc, ◌+◌, ◌-◌, min, false, List, [], ◌∷◌}
+use Rattle.std.specs.Prelude.{ℕ, zero, suc, ◌+◌, ◌-◌, min, false, List, [], ◌∷◌, None}
 use Rattle.zone_states.specs.declared.geometry.Geometry.{Geometry}
 use Rattle.zone_choice.specs.declared.roles.Filling.{Filling}
 use Rattle.zone_choice.specs.Reserve.{batch_most}
@@ -15,7 +15,7 @@ data_entries first zero = []
 data_entries first (suc count) = record { block = first; trim = false } ∷ data_entries (first + 1) count
 
 abbrev pub host_heading : ℕ → ℕ → ℕ → Heading
-host_heading sequence first count = record { kind = Host; sequence = sequence; source = 0; entries = data_entries first count }
+host_heading sequence first count = record { kind = Host; sequence = sequence; source = 0; size = None; entries = data_entries first count }
 
 -- places at so many addresses from one on
 abbrev pub places_from : ℕ → ℕ → List Place

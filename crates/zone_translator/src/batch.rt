@@ -1,4 +1,4 @@
-ghost use Rattle.std.specs.Prelude.{◌≡◌, ◌⊎◌, ◌++◌, ◌+◌, ◌*◌, ◌≤◌, ◌<◌, ◌^◌, ℕ, OnOk, OnErr, IfErr, length, replicate, take, drop};
+ghost use Rattle.std.specs.Prelude.{◌≡◌, ◌⊎◌, ◌++◌, ◌+◌, ◌*◌, ◌≤◌, ◌<◌, ◌^◌, ℕ, OnOk, OnErr, IfErr, length, replicate, take, drop, None};
 ghost use Rattle.batch_log.specs.Header.{heading_of, header_block, IsHeading};
 ghost use Rattle.batch_log.specs.declared.header.Kind.TheVariants.{Host};
 ghost use Rattle.logical_map.specs.Places.{IsReady};
@@ -23,10 +23,12 @@ pub(crate) fn name_blocks(
 ) -> Result<(), AllocError>
     requires kind { header.old.kind ≡ Host }
     requires source { header.old.source ≡ 0 }
+    requires size { header.old.size ≡ None }
     requires few { first + count < 2 ^ 32 }
     ensures ok { OnOk result (heading_of header.new ≡ host_heading sequence first count) }
     ensures kind { header.new.kind ≡ Host }
     ensures source { header.new.source ≡ 0 }
+    ensures size { header.new.size ≡ None }
 {
     header.sequence = sequence;
     header.entries.clear();

@@ -21,6 +21,7 @@ impl BatchBuffer {
                 kind: Kind::Host,
                 sequence: 0,
                 source: 0,
+                size: None,
                 entries: Vec::new(alloc),
             },
             bytes: Vec::new(alloc),
