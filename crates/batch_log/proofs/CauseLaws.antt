@@ -87,7 +87,7 @@ distinct-back (x ∷ xs) all = rw (differ-back x xs all.0) (distinct-back xs all
 
 -- ---- zeros
 
-all_zeros : (xs : List ℕ) → is_zero xs ≡ true → xs ≡ replicate (length xs) 0
+pub all_zeros : (xs : List ℕ) → is_zero xs ≡ true → xs ≡ replicate (length xs) 0
 all_zeros [] e = refl
 all_zeros (x ∷ xs) e =
     let both = and-true (eqb x 0) (is_zero xs) e in

@@ -1,7 +1,8 @@
 -- The entries of a header block, one after the other.
-use Rattle.std.proofs.Common.{◌≡◌, ℕ, zero, suc, ◌+◌, ◌-◌, ◌*◌, ◌<◌, ◌≤◌, Bool, true, false, ◌||◌, List, ◌∷◌, length, drop, Some, refl, ap, ◌∙◌, arith}
-use Rattle.std.specs.Prelude.{nat_eq, slice_get}
+use Rattle.std.proofs.Common.{◌≡◌, ℕ, zero, suc, ◌+◌, ◌-◌, ◌*◌, ◌<◌, ◌≤◌, Bool, true, false, ◌&&◌, ◌||◌, leb, List, [], ◌∷◌, length, drop, Some, refl, ap, ◌∙◌, arith}
+use Rattle.std.specs.Prelude.{nat_eq, nat_le, slice_get}
 use Rattle.std.specs.List.{list_any}
+use Rattle.std.proofs.lemmas.Bool.{leb-true, ne_eqb}
 use Rattle.std.proofs.lemmas.List.{drop-drop}
 use Rattle.byteorder.specs.Endian.{little_from}
 use Rattle.batch_log.specs.declared.header.Entry.{Entry}
@@ -53,3 +54,38 @@ data_more count i bytes e lt is = ap data_count (entries_more count i bytes lt) 
 pub few-data : (trim : Bool) → one_unless trim ≤ 1
 few-data true = omega arith
 few-data false = omega arith
+
+-- ---- entries in ascending order
+
+abbrev pub ascends : ℕ → List ℕ → Bool
+ascends least [] = true
+ascends least (x ∷ xs) = nat_le least x && ascends (x + 1) xs
+
+abbrev pub ascends_from : List ℕ → ℕ → ℕ → ℕ → Bool
+ascends_from bytes count least i = ascends least (blocks_named (entries_in (count - i) (drop (8 * i) bytes)))
+
+pub ascends_more : (count i least : ℕ) (bytes : List ℕ) (e : Entry) → i < count → e ≡ entry_of (number_at (8 * i) 8 bytes)
+    → ascends_from bytes count least i ≡ (nat_le least e.block && ascends_from bytes count (e.block + 1) (i + 1))
+ascends_more count i least bytes e lt is = ap (λ (es : List Entry). ascends least (blocks_named es)) (entries_more count i bytes lt) ∙ rw is refl
+
+-- numbers from one on, none of them twice
+record AreApart (least : ℕ) (xs : List ℕ) : Type 0 where
+  once : repeats xs ≡ false
+  above : (y : ℕ) → y < least → list_any (λ z. nat_eq y z) xs ≡ false
+
+apart : (least : ℕ) (xs : List ℕ) → ascends least xs ≡ true → AreApart least xs
+apart least [] e = record { once = refl; above = λ y lt. refl }
+apart least (x ∷ xs) e = by (leb least x) refl e (apart (x + 1) xs)
+  where
+    by : (b : Bool) → leb least x ≡ b → (b && ascends (x + 1) xs) ≡ true → (ascends (x + 1) xs ≡ true → AreApart (x + 1) xs) → AreApart least (x ∷ xs)
+    by false h e rest = absurd (cc)
+    by true h e rest =
+        let le = leb-true least x h in
+        let others = rest e in
+        record {
+          once = rw (others.above x (omega arith)) others.once;
+          above = λ y lt. rw (ne_eqb y x (λ same. omega (arith, same, le, lt))) (others.above y (omega (arith, le, lt)));
+        }
+
+pub ascending : (xs : List ℕ) → ascends 0 xs ≡ true → repeats xs ≡ false
+ascending xs e = (apart 0 xs e).once

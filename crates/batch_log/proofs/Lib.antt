@@ -4,3 +4,6 @@ pub mod EntryLaws
 pub mod NumberLaws
 pub mod CauseLaws
 pub mod Writing
+pub mod LentLaws
+pub mod ReadingLaws
+pub mod EndingLaws

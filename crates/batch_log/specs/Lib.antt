@@ -3,3 +3,5 @@ pub mod Reading
 pub mod Causes
 pub mod Log
 pub mod LogLaws
+pub mod Ending
+pub mod Lent

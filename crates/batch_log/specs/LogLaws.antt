@@ -2,6 +2,7 @@
 use Rattle.std.specs.Prelude.{◌≡◌, ℕ, ◌<◌, ◌≤◌, ◌^◌, Bool, true, false, List, [], ◌∷◌, ◌++◌, length, replicate, take}
 use Rattle.batch_log.specs.Header.{Heading, IsHeading, head_size, header_block}
 use Rattle.batch_log.specs.Reading.{heading_in}
+use Rattle.batch_log.specs.Ending.{AreBlocks, Ending, Reads, SaysOfLog}
 use Rattle.batch_log.specs.Log.{Batch, IsBatch, IsLog, IsTorn, IsUntornLog, IsWhole, batch_blocks, zero_block, log_of, tail_of, has_tail}
 
 -- a header block is read again
@@ -75,3 +76,21 @@ abbrev pub Finish : Type 0
 Finish =
     (block_bytes rest : ℕ) (blocks : List (List ℕ)) (log : List Batch)
     → IsWhole block_bytes blocks log → IsLog block_bytes true (blocks ++ replicate rest (zero_block block_bytes)) log
+
+-- ---- readings
+
+-- blocks are read in one way
+pub record IsOne (log other : List Batch) (ending end : Ending) : Type 0 where
+  pub log_is : other ≡ log
+  pub ending_is : end ≡ ending
+
+abbrev pub OneReading : Type 0
+OneReading =
+    (block_bytes : ℕ) (is_full : Bool) (blocks : List (List ℕ)) (log other : List Batch) (ending end : Ending)
+    → block_bytes < 2 ^ 32 → Reads block_bytes is_full blocks log ending → Reads block_bytes is_full blocks other end → IsOne log other ending end
+
+-- and how they end says whether they have a log: they have none exactly where a fault is met, and the batches read are it elsewhere
+abbrev pub ReadingSays : Type 0
+ReadingSays =
+    (block_bytes : ℕ) (is_full : Bool) (blocks : List (List ℕ)) (log : List Batch) (ending : Ending)
+    → head_size ≤ block_bytes → block_bytes < 2 ^ 32 → AreBlocks block_bytes blocks → Reads block_bytes is_full blocks log ending → SaysOfLog block_bytes is_full blocks log ending

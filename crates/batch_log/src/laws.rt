@@ -1,7 +1,7 @@
 //! What holds of all header blocks and of all logs. Each function carries one law as its contract,
 //! and does nothing.
 
-ghost use Rattle.batch_log.specs.LogLaws.{HeaderAgain, OneHeader, HeaderLength, OneLog, OneTail, WholeLog, NoTail, UntornLog, AppendBatch, AppendFront, Finish};
+ghost use Rattle.batch_log.specs.LogLaws.{HeaderAgain, OneHeader, HeaderLength, OneLog, OneTail, WholeLog, NoTail, UntornLog, AppendBatch, AppendFront, Finish, OneReading, ReadingSays};
 
 /// A header block is read again.
 pub fn header_again()
@@ -53,4 +53,10 @@ pub fn append_front()
 /// Zero blocks that fill up a zone without a tail keep its log.
 pub fn finish()
     ensures { Finish }
+{}
+
+/// Blocks are read in one way, and how they end says whether they have a log.
+pub fn one_reading()
+    ensures one { OneReading }
+    ensures says { ReadingSays }
 {}

@@ -36,7 +36,8 @@ fn u64_at(block: &[u8], place: usize) -> u64
 /// The entry with a number, of those that the bytes hold.
 fn entry_at(bytes: &[u8], i: usize) -> Entry
     requires { 8 * i + 8 ≤ length bytes.now }
-    ensures { result ≡ entry_of (number_at (8 * i) 8 bytes.now) }
+    ensures value { result ≡ entry_of (number_at (8 * i) 8 bytes.now) }
+    ensures small { result.block < 2 ^ 63 }
 {
     let word = u64_at(bytes, 8 * i);
     if word < TRIM_BIT {
@@ -125,11 +126,31 @@ fn is_named(block: u64, bytes: &[u8], first: usize, count: usize) -> bool
     false
 }
 
-/// Whether two of the entries name one block. It compares each with each, 508 * 507 / 2 at most.
+/// Whether each entry names a later block than the one before, so that none repeats another.
+fn ascend(bytes: &[u8], count: usize) -> bool
+    requires { 8 * count ≤ length bytes.now }
+    ensures { IsTrue result → repeats (blocks_named (entries_in count bytes.now)) ≡ false }
+{
+    let mut least = 0;
+    for i in 0..count {
+        let block = entry_at(bytes, i).block;
+        if block < least {
+            return false;
+        }
+        least = block + 1;
+    }
+    true
+}
+
+/// Whether two of the entries name one block. Entries in ascending order are looked at once; of
+/// others each is compared with each, 508 * 507 / 2 times at most.
 fn repeats(bytes: &[u8], count: usize) -> bool
     requires { 8 * count ≤ length bytes.now }
     ensures { result ≡ repeats (blocks_named (entries_in count bytes.now)) }
 {
+    if ascend(bytes, count) {
+        return false;
+    }
     for i in 0..count {
         if is_named(entry_at(bytes, i).block, bytes, i + 1, count) {
             return true;
