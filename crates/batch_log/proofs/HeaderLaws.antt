@@ -1,5 +1,6 @@
 -- A header block is read again, so each heading has a block of its own.
-use Rattle.std.proofs.Common.{◌≡◌, ℕ, ◌+◌, ◌-◌, ◌*◌, ◌<◌, ◌^◌, Bool, true, false, ltb, List, [], ◌∷◌, ◌++◌, length, replicate, refl, sym, ap, ◌∙◌, arith}
+use Rattle.std.proofs.Common.{◌≡◌, ℕ, ◌+◌, ◌-◌, ◌*◌, ◌<◌, ◌^◌, Bool, true, false, ltb, List, [], ◌∷◌, ◌++◌, length, replicate, Option, Some, None, refl, sym, ap, ◌∙◌, arith}
+use Rattle.std.specs.Prelude.{IfSome}
 use Rattle.std.specs.List.{flat_map, AllByRecursion}
 use Rattle.std.proofs.lemmas.List.{length-append, length-replicate}
 use Rattle.std.proofs.lemmas.Bool.{lt-ltb, le-ltb}
@@ -8,10 +9,10 @@ use Rattle.byteorder.specs.Numbers.{little_number-reads_back}
 use Rattle.batch_log.specs.declared.header.Kind.{Kind}
 use Rattle.batch_log.specs.declared.header.Kind.TheVariants.{Host, Move}
 use Rattle.batch_log.specs.declared.header.Entry.{Entry}
-use Rattle.batch_log.specs.Header.{Heading, head_size, header_block, entry_bytes, entry_word, trim_bit, kind_code}
+use Rattle.batch_log.specs.Header.{Heading, IsSize, head_size, header_block, entry_bytes, entry_word, trim_bit, kind_code, version_of, size_word}
 use Rattle.batch_log.specs.LogLaws.{HeaderAgain, OneHeader, HeaderLength}
 use Rattle.batch_log.proofs.Writing.{length-entries}
-use Rattle.batch_log.specs.Log.{kind_of, entry_of, entries_in, heading_in}
+use Rattle.batch_log.specs.Reading.{kind_of, size_of, entry_of, entries_in, heading_in}
 
 entry_again : (e : Entry) → e.block < 2 ^ 63 → entry_of (entry_word e) ≡ e
 entry_again e lt = again e.trim
@@ -37,30 +38,43 @@ entries_again (e ∷ es) rest all =
     let others = entries_again es rest all.1 in
     ap (λ (w : ℕ). entry_of w ∷ entries_in (length es) behind) word ∙ rw (entry_again e all.0, others) refl
 
-kind_again : (k : Kind) → kind_of (little_from 0 2 (little_bytes 2 (kind_code k))) ≡ k
+pub kind_again : (k : Kind) → kind_of (little_from 0 2 (little_bytes 2 (kind_code k))) ≡ k
 kind_again Host = refl
 kind_again Move = refl
 
--- a heading, and that it is given by its parts
-abbrev pub made : Kind → ℕ → ℕ → List Entry → Heading
-made kind sequence source entries = record { kind = kind; sequence = sequence; source = source; entries = entries }
+pub version_again : (size : Option ℕ) → little_from 0 2 (little_bytes 2 (version_of size)) ≡ version_of size
+version_again None = refl
+version_again (Some n) = refl
 
-pub same_heading : (k k' : Kind) (s s' o o' : ℕ) (es es' : List Entry) → k ≡ k' → s ≡ s' → o ≡ o' → es ≡ es' → made k s o es ≡ made k' s' o' es'
-same_heading k k' s s' o o' es es' e1 e2 e3 e4 = rw (e1, e2, e3, e4) refl
+size_again : (size : Option ℕ) (version word : ℕ) → version ≡ version_of size → word ≡ size_word size → size_of version word ≡ size
+size_again None version word e h = rw e refl
+size_again (Some n) version word e h = rw (e, h) refl
+
+pub word_small : (size : Option ℕ) → IfSome size IsSize → size_word size < 256 ^ 4
+word_small None is = omega arith
+word_small (Some n) is = omega (arith, is.1)
+
+-- a heading, and that it is given by its parts
+abbrev pub made : Kind → ℕ → ℕ → Option ℕ → List Entry → Heading
+made kind sequence source size entries = record { kind = kind; sequence = sequence; source = source; size = size; entries = entries }
+
+pub same_heading : (k k' : Kind) (s s' o o' : ℕ) (n n' : Option ℕ) (es es' : List Entry) → k ≡ k' → s ≡ s' → o ≡ o' → n ≡ n' → es ≡ es' → made k s o n es ≡ made k' s' o' n' es'
+same_heading k k' s s' o o' n n' es es' e1 e2 e3 e4 e5 = rw (e1, e2, e3, e4, e5) refl
 
 pub header_again : HeaderAgain
 unfolding heading_in header_block
 header_again size h small is =
     let zeros : List ℕ = replicate (size - head_size - 8 * length h.entries) 0 in
     let more : List ℕ = flat_map entry_bytes h.entries ++ zeros in
-    let behind_source : List ℕ = replicate 4 0 ++ more in
-    let behind_sequence : List ℕ = little_bytes 4 h.source ++ behind_source in
-    let behind_count : List ℕ = little_bytes 8 h.sequence ++ behind_sequence in
-    let count : little_from 0 4 (little_bytes 4 (length h.entries) ++ behind_count) ≡ length h.entries = little_number-reads_back 4 (length h.entries) behind_count (omega (arith, is.room)) in
-    let sequence : little_from 0 8 (little_bytes 8 h.sequence ++ behind_sequence) ≡ h.sequence = little_number-reads_back 8 h.sequence behind_sequence (omega (arith, is.sequence)) in
-    let source : little_from 0 4 (little_bytes 4 h.source ++ behind_source) ≡ h.source = little_number-reads_back 4 h.source behind_source (omega (arith, is.source)) in
+    let after_source : List ℕ = little_bytes 4 (size_word h.size) ++ more in
+    let after_sequence : List ℕ = little_bytes 4 h.source ++ after_source in
+    let after_count : List ℕ = little_bytes 8 h.sequence ++ after_sequence in
+    let count : little_from 0 4 (little_bytes 4 (length h.entries) ++ after_count) ≡ length h.entries = little_number-reads_back 4 (length h.entries) after_count (omega (arith, is.room)) in
+    let sequence : little_from 0 8 (little_bytes 8 h.sequence ++ after_sequence) ≡ h.sequence = little_number-reads_back 8 h.sequence after_sequence (omega (arith, is.sequence)) in
+    let source : little_from 0 4 (little_bytes 4 h.source ++ after_source) ≡ h.source = little_number-reads_back 4 h.source after_source (omega (arith, is.source)) in
+    let word : little_from 0 4 (little_bytes 4 (size_word h.size) ++ more) ≡ size_word h.size = little_number-reads_back 4 (size_word h.size) more (word_small h.size is.size) in
     let entries = ap (λ (n : ℕ). entries_in n more) count ∙ entries_again h.entries zeros is.blocks in
-    same_heading _ _ _ _ _ _ _ _ (kind_again h.kind) sequence source entries
+    same_heading _ _ _ _ _ _ _ _ _ _ (kind_again h.kind) sequence source (size_again h.size _ _ (version_again h.size) word) entries
 
 pub one_header : OneHeader
 one_header size h k small is is' same = sym (header_again size h small is) ∙ ap heading_in same ∙ header_again size k small is'

@@ -1,3 +1,9 @@
 pub mod HeaderLaws
 pub mod LogLaws
+pub mod EntryLaws
+pub mod NumberLaws
+pub mod CauseLaws
 pub mod Writing
+pub mod LentLaws
+pub mod ReadingLaws
+pub mod EndingLaws

@@ -1,11 +1,9 @@
--- The batches that a list of blocks spells.
-use Rattle.std.specs.Prelude.{◌≡◌, ℕ, zero, suc, ◌+◌, ◌-◌, ◌^◌, ◌==◌, ◌&&◌, nat_lt, nat_le, if◌then◌else◌, Bool, true, false, List, [], ◌∷◌, ◌++◌, length, replicate, take, drop, slice_index}
+-- The batches that a list of blocks holds, and what may stand after them.
+use Rattle.std.specs.Prelude.{◌≡◌, ◌⊎◌, ℕ, zero, suc, ◌+◌, ◌<◌, ◌==◌, ◌&&◌, nat_lt, nat_le, if◌then◌else◌, Bool, true, false, List, [], ◌∷◌, ◌++◌, length, replicate, take, drop, slice_index}
 use Rattle.std.specs.List.{flat_map, AllByRecursion}
-use Rattle.byteorder.specs.Endian.{little_from}
-use Rattle.batch_log.specs.declared.header.Kind.{Kind}
-use Rattle.batch_log.specs.declared.header.Kind.TheVariants.{Host, Move}
 use Rattle.batch_log.specs.declared.header.Entry.{Entry}
-use Rattle.batch_log.specs.Header.{Heading, IsHeading, header_block, head_size}
+use Rattle.batch_log.specs.Header.{Heading, IsHeading, header_block}
+use Rattle.batch_log.specs.Reading.{heading_in}
 
 -- a batch: what its header says, and its data blocks
 pub record Batch : Type 0 where
@@ -22,7 +20,7 @@ abbrev pub data_count : List Entry → ℕ
 data_count [] = 0
 data_count (e ∷ es) = one_unless e.trim + data_count es
 
--- A batch that blocks of `block_bytes` bytes can spell. Its data blocks are taken as they are: that each has `block_bytes` bytes is the drive's matter.
+-- A batch that blocks of `block_bytes` bytes can hold. Its data blocks are taken as they are: that each has `block_bytes` bytes is the drive's matter.
 pub record IsBatch (block_bytes : ℕ) (batch : Batch) : Type 0 where
   pub heading : IsHeading block_bytes batch.heading
   pub body : length batch.body ≡ data_count batch.heading.entries
@@ -42,18 +40,26 @@ log_size (batch ∷ log) = batch_size batch + log_size log
 abbrev pub zero_block : ℕ → List ℕ
 zero_block block_bytes = replicate block_bytes 0
 
--- the blocks are these batches, spelled one after the other, and a tail
+-- the blocks are these batches, one after the other, and a tail
 pub record BeginsWith (block_bytes : ℕ) (blocks : List (List ℕ)) (log : List Batch) (tail : List (List ℕ)) : Type 0 where
   pub spelled : blocks ≡ flat_map (batch_blocks block_bytes) log ++ tail
   pub batches : AllByRecursion (IsBatch block_bytes) log
 
 -- the blocks begin with no batch
 abbrev pub BeginsWithNoBatch : ℕ → List (List ℕ) → Type 0
-BeginsWithNoBatch block_bytes blocks = (batch : Batch) (behind : List (List ℕ)) → IsBatch block_bytes batch → blocks ≡ batch_blocks block_bytes batch ++ behind → ⊥
+BeginsWithNoBatch block_bytes blocks = (batch : Batch) (others : List (List ℕ)) → IsBatch block_bytes batch → blocks ≡ batch_blocks block_bytes batch ++ others → ⊥
 
--- what may stand behind the last batch: in a full zone zero blocks, elsewhere nothing
+-- A torn tail: a header block and fewer data blocks than its entries need, as an Append leaves that was stopped on its way. It is no batch, and says nothing.
+pub record IsTorn (block_bytes : ℕ) (tail : List (List ℕ)) : Type 0 where
+  pub heading : Heading
+  pub body : List (List ℕ)
+  pub says : IsHeading block_bytes heading
+  pub few : length body < data_count heading.entries
+  pub spelled : tail ≡ header_block block_bytes heading ∷ body
+
+-- what may stand after the last batch: in a full zone zero blocks, elsewhere nothing, or a torn tail
 abbrev pub IsTail : ℕ → Bool → List (List ℕ) → Type 0
-IsTail block_bytes false tail = tail ≡ []
+IsTail block_bytes false tail = (tail ≡ []) ⊎ IsTorn block_bytes tail
 IsTail block_bytes true tail = tail ≡ replicate (length tail) (zero_block block_bytes)
 
 -- the blocks are the batches of a log and its tail
@@ -66,34 +72,31 @@ pub record IsLog (block_bytes : ℕ) (is_full : Bool) (blocks : List (List ℕ))
 abbrev pub HaveNoLog : ℕ → Bool → List (List ℕ) → Type 0
 HaveNoLog block_bytes is_full blocks = (log : List Batch) → IsLog block_bytes is_full blocks log → ⊥
 
+-- the blocks are the batches of a log, and nothing stands after them
+abbrev pub IsWhole : ℕ → List (List ℕ) → List Batch → Type 0
+IsWhole block_bytes blocks log = BeginsWith block_bytes blocks log []
+
+-- what may stand after the last batch where no Append was torn: in a full zone zero blocks, elsewhere nothing
+abbrev pub IsUntornTail : ℕ → Bool → List (List ℕ) → Type 0
+IsUntornTail block_bytes false tail = tail ≡ []
+IsUntornTail block_bytes true tail = tail ≡ replicate (length tail) (zero_block block_bytes)
+
+-- the blocks are the batches of a log, and no torn tail stands after them
+pub record IsUntornLog (block_bytes : ℕ) (is_full : Bool) (blocks : List (List ℕ)) (log : List Batch) : Type 0 where
+  pub tail : List (List ℕ)
+  pub front : BeginsWith block_bytes blocks log tail
+  pub end : IsUntornTail block_bytes is_full tail
+
 -- ---- the batches, read
 --
 -- A list of blocks has at most one log, and these functions find it: where there is one, `log_of` is it. Where there is none they give some list.
 
-abbrev pub kind_of : ℕ → Kind
-kind_of code = if code == 2 then Move else Host
-
-abbrev pub entry_of : ℕ → Entry
-entry_of word = if nat_lt word (2 ^ 63) then record { block = word; trim = false } else record { block = word - 2 ^ 63; trim = true }
-
-abbrev pub entries_in : ℕ → List ℕ → List Entry
-entries_in zero bytes = []
-entries_in (suc n) bytes = entry_of (little_from 0 8 bytes) ∷ entries_in n (drop 8 bytes)
-
-unfoldable pub heading_in : List ℕ → Heading
-heading_in block = record {
-  kind = kind_of (little_from 0 2 (drop 10 block));
-  sequence = little_from 0 8 (drop 16 block);
-  source = little_from 0 4 (drop 24 block);
-  entries = entries_in (little_from 0 4 (drop 12 block)) (drop head_size block);
-}
-
 abbrev pub batch_in : List ℕ → List (List ℕ) → Batch
-batch_in block behind = record { heading = heading_in block; body = take (data_count (heading_in block).entries) behind }
+batch_in block others = record { heading = heading_in block; body = take (data_count (heading_in block).entries) others }
 
--- a block that begins as a header does, with as many data blocks behind it as its entries need
+-- a block that begins as a header does, with as many data blocks after it as its entries need
 abbrev pub begins_batch : List ℕ → List (List ℕ) → Bool
-begins_batch block behind = slice_index block 0 == 0x5a && nat_le (data_count (heading_in block).entries) (length behind)
+begins_batch block others = slice_index block 0 == 0x5a && nat_le (data_count (heading_in block).entries) (length others)
 
 -- the batches from the first block on that isn't skipped: the data of a batch is skipped by count and never looked at
 abbrev pub log_from : ℕ → List (List ℕ) → List Batch
@@ -104,3 +107,11 @@ log_from zero (block ∷ blocks) =
 
 abbrev pub log_of : List (List ℕ) → List Batch
 log_of blocks = log_from 0 blocks
+
+-- what stands after the batches
+abbrev pub tail_of : List (List ℕ) → List (List ℕ)
+tail_of blocks = drop (log_size (log_of blocks)) blocks
+
+-- whether more blocks stand there than the batches take
+abbrev pub has_tail : List (List ℕ) → Bool
+has_tail blocks = nat_lt (log_size (log_of blocks)) (length blocks)

@@ -22,6 +22,9 @@ pub struct Header {
     pub sequence: u64,
     /// The zone that a Move empties, 0 for a Host batch.
     pub source: u32,
+    /// The number of logical blocks of the disk, 1 to 2^31: in a header of version 2. A header of
+    /// version 1 does not say it.
+    pub size: Option<u32>,
     /// At most `entry_room` entries, of distinct blocks.
     pub entries: Vec<Entry>,
 }

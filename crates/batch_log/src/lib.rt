@@ -1,12 +1,44 @@
 //! The log that a zone holds: batches, each a header block that names logical blocks, followed by
 //! their data.
 //!
+//! A batch is written by one Append. `header_bytes` writes its header block: in version 2 where the
+//! header has the disk's size, in version 1 where it has none. `read_header` reads a block of either
+//! version, and `Batches` reads a whole zone. Both lend what they are given, and take no memory.
+//!
+//! ```text
+//! let mut batches = Batches::new(&bytes, 512, is_full);
+//! while let Some(item) = batches.next() {
+//!     let batch = item?; // or the first fault, and the block where it is met
+//!     for i in 0..batch.header.count() {
+//!         let entry = batch.header.entry(i); // a trim, or its data is the next block of batch.body
+//!     }
+//! }
+//! let torn = batches.torn(); // the block where a torn tail begins, if there is one
+//! ```
+//!
+//! A zone that is not full may end in a torn tail: a header block and fewer data blocks than it needs,
+//! as an Append leaves that was stopped on its way. It is no batch.
+//!
+//! Promised: each header has one block that encodes it, and any other block is refused with the first
+//! cause that holds of it. A zone is read in one way: as the batches from its first block on, up to
+//! where none begins, and what stands there, which is nothing, a torn tail or a fault. Where the zone
+//! has a log, it is these batches; where a fault is met it has none. `laws` says what an Append, a part
+//! of one and a Finish do to a log.
+//!
 //! `docs/formats.md` states the header's bytes, `docs/placement.md` what batches are for.
 #![tactic(auto)]
 
+mod batches;
+mod encode;
+mod fault;
 mod header;
 pub mod laws;
-mod spelling;
+#[cfg(test)]
+mod tests;
+mod view;
 
+pub use batches::{Batch, Batches};
+pub use encode::{entry_room, header_bytes};
+pub use fault::{FaultAt, LogFault};
 pub use header::{Entry, Header, Kind};
-pub use spelling::{entry_room, header_bytes};
+pub use view::{HeaderView, read_header};

@@ -1,12 +1,11 @@
 -- The entries of a header block, one after the other.
-use Rattle.std.proofs.Common.{◌≡◌, ◌⊎◌, ℕ, zero, suc, ◌+◌, ◌-◌, ◌*◌, ◌<◌, List, [], ◌∷◌, ◌++◌, length, take, drop, refl, sym, ap, ◌∙◌, append_assoc, arith}
+use Rattle.std.proofs.Common.{◌≡◌, ◌⊎◌, ℕ, zero, suc, ◌+◌, ◌-◌, ◌*◌, ◌<◌, List, [], ◌∷◌, ◌++◌, length, take, drop, Option, refl, sym, ap, ◌∙◌, append_assoc, arith}
 use Rattle.std.proofs.lemmas.List.{drop-drop, take_rest}
 use Rattle.byteorder.specs.Endian.{little_from}
 use Rattle.batch_log.specs.declared.header.Entry.{Entry}
 use Rattle.batch_log.specs.declared.header.Kind.{Kind}
-use Rattle.batch_log.specs.Header.{Heading, IsHeading, IsHeaderBlock, entry_room, header_block}
-use Rattle.yardsticks.specs.Batches.{IsNoHeader}
-use Rattle.batch_log.specs.Log.{kind_of, entry_of, entries_in, heading_in}
+use Rattle.batch_log.specs.Header.{Heading, IsHeading, IsHeaderBlock, IsNoHeader, entry_room, header_block}
+use Rattle.batch_log.specs.Reading.{kind_of, size_of, entry_of, entries_in, heading_in}
 use Rattle.batch_log.proofs.HeaderLaws.{same_heading, header_again}
 
 pub length-entries_in : (count : ℕ) (bytes : List ℕ) → length (entries_in count bytes) ≡ count
@@ -28,21 +27,24 @@ one_more_read count i bytes done now whole e lt so_far is after =
 abbrev pub from_place : ℕ → List ℕ → List ℕ
 from_place n bytes = take (length bytes - n) (drop n bytes)
 
-pub heading_read : (block : List ℕ) (kind : Kind) (count sequence source : ℕ) (entries : List Entry)
+pub heading_read : (block : List ℕ) (kind : Kind) (count sequence source : ℕ) (size : Option ℕ) (entries : List Entry)
     → count ≡ little_from 0 4 (from_place 12 block)
     → kind ≡ kind_of (little_from 0 2 (from_place 10 block))
     → sequence ≡ little_from 0 8 (from_place 16 block)
     → source ≡ little_from 0 4 (from_place 24 block)
+    → size ≡ size_of (little_from 0 2 (from_place 8 block)) (little_from 0 4 (from_place 28 block))
     → entries ≡ entries_in count (from_place 32 block)
-    → record { kind = kind; sequence = sequence; source = source; entries = entries } ≡ heading_in block
+    → record { kind = kind; sequence = sequence; source = source; size = size; entries = entries } ≡ heading_in block
 unfolding heading_in
-heading_read block kind count sequence source entries e1 e2 e3 e4 e5 =
+heading_read block kind count sequence source size entries e1 e2 e3 e4 e5 e6 =
     let count-is : count ≡ little_from 0 4 (drop 12 block) = e1 ∙ ap (λ (xs : List ℕ). little_from 0 4 xs) (take_rest block 12) in
     let kind-is : kind ≡ kind_of (little_from 0 2 (drop 10 block)) = e2 ∙ ap (λ (xs : List ℕ). kind_of (little_from 0 2 xs)) (take_rest block 10) in
     let sequence-is : sequence ≡ little_from 0 8 (drop 16 block) = e3 ∙ ap (λ (xs : List ℕ). little_from 0 8 xs) (take_rest block 16) in
     let source-is : source ≡ little_from 0 4 (drop 24 block) = e4 ∙ ap (λ (xs : List ℕ). little_from 0 4 xs) (take_rest block 24) in
-    let entries-are : entries ≡ entries_in (little_from 0 4 (drop 12 block)) (drop 32 block) = e5 ∙ ap (λ (xs : List ℕ). entries_in count xs) (take_rest block 32) ∙ ap (λ (n : ℕ). entries_in n (drop 32 block)) count-is in
-    same_heading _ _ _ _ _ _ _ _ kind-is sequence-is source-is entries-are
+    let size-is : size ≡ size_of (little_from 0 2 (drop 8 block)) (little_from 0 4 (drop 28 block)) =
+    e5 ∙ ap (λ (xs : List ℕ). size_of (little_from 0 2 xs) (little_from 0 4 (from_place 28 block))) (take_rest block 8) ∙ ap (λ (xs : List ℕ). size_of (little_from 0 2 (drop 8 block)) (little_from 0 4 xs)) (take_rest block 28) in
+    let entries-are : entries ≡ entries_in (little_from 0 4 (drop 12 block)) (drop 32 block) = e6 ∙ ap (λ (xs : List ℕ). entries_in count xs) (take_rest block 32) ∙ ap (λ (n : ℕ). entries_in n (drop 32 block)) count-is in
+    same_heading _ _ _ _ _ _ _ _ _ _ kind-is sequence-is source-is size-is entries-are
 
 pub count_read : (block : List ℕ) (count : ℕ) → count ≡ little_from 0 4 (from_place 12 block) → length (heading_in block).entries ≡ count
 unfolding heading_in

@@ -4,9 +4,9 @@ use Rattle.std.specs.declared.alloc.Global.{Global}
 use Rattle.std.specs.List.{flat_map, AllByRecursion}
 use Rattle.std.proofs.lemmas.List.{append-nil, drop_at, length-append, length-map, drop-map, map_push}
 use Rattle.batch_log.specs.Header.{Heading, header_block}
-use Rattle.batch_log.specs.Log.{Batch, BeginsWithNoBatch, HaveNoLog, IsLog, IsTail, batch_blocks, data_count, zero_block}
+use Rattle.batch_log.specs.Log.{Batch, BeginsWithNoBatch, IsUntornLog, IsUntornTail, batch_blocks, data_count, zero_block}
 use Rattle.yardsticks.specs.declared.batches.Batch as yardstick
-use Rattle.yardsticks.specs.Batches.{blocks_of, batch_of, BeginsWithBatch}
+use Rattle.yardsticks.specs.Batches.{blocks_of, batch_of, BeginsWithBatch, HaveNoUntornLog}
 use Rattle.batch_log.proofs.HeaderLaws.{one_header}
 
 abbrev pub HaveSize : ℕ → List (Vec ℕ Global) → Type 0
@@ -21,7 +21,7 @@ zeros size (b ∷ bs) sizes zero_all =
     let first : b.items ≡ zero_block size = zero_all.0 ∙ ap zero_block sizes.0 in
     rw (first, zeros size bs sizes.1 zero_all.1) refl
 
-pub end_of_zeros : (size : ℕ) (blocks : List (Vec ℕ Global)) → HaveSize size blocks → AreZero blocks → IsLog size true (blocks_of blocks) []
+pub end_of_zeros : (size : ℕ) (blocks : List (Vec ℕ Global)) → HaveSize size blocks → AreZero blocks → IsUntornLog size true (blocks_of blocks) []
 end_of_zeros size blocks sizes zero_all = record {
   tail = blocks_of blocks;
   front = record { spelled = refl; batches = tt };
@@ -36,14 +36,14 @@ are_zeros size (suc rest) (b ∷ bs) sizes e =
     let others : blocks_of bs ≡ replicate rest (zero_block size) = cc in
     (first ∙ ap zero_block (sym sizes.0), are_zeros size rest bs sizes.1 others)
 
-pub zeros_of_end : (size : ℕ) (is_full : Bool) (blocks : List (Vec ℕ Global)) → HaveSize size blocks → IsLog size is_full (blocks_of blocks) [] → AreZero blocks
+pub zeros_of_end : (size : ℕ) (is_full : Bool) (blocks : List (Vec ℕ Global)) → HaveSize size blocks → IsUntornLog size is_full (blocks_of blocks) [] → AreZero blocks
 zeros_of_end size false blocks sizes is = are_zeros size 0 blocks sizes (is.front.spelled ∙ is.end)
 zeros_of_end size true blocks sizes is = are_zeros size (length is.tail) blocks sizes (is.front.spelled ∙ is.end)
 
 -- What was read stands in front of what is left: what is a log of the rest goes on with it, and where there is a log of all blocks there is one of the rest.
 pub record IsRest (size : ℕ) (is_full : Bool) (blocks : List (List ℕ)) (log : List Batch) (rest : List (List ℕ)) : Type 0 where
-  pub goes_on : (more : List Batch) → IsLog size is_full rest more → IsLog size is_full blocks (log ++ more)
-  pub goes_back : (whole : List Batch) → IsLog size is_full blocks whole → (more : List Batch) × IsLog size is_full rest more
+  pub goes_on : (more : List Batch) → IsUntornLog size is_full rest more → IsUntornLog size is_full blocks (log ++ more)
+  pub goes_back : (whole : List Batch) → IsUntornLog size is_full blocks whole → (more : List Batch) × IsUntornLog size is_full rest more
 
 pub none_read : (size : ℕ) (is_full : Bool) (blocks : List (List ℕ)) → IsRest size is_full blocks [] blocks
 none_read size is_full blocks = record { goes_on = λ more is. is; goes_back = λ whole is. (whole, is) }
@@ -53,7 +53,7 @@ unfolding header_block
 not_zero zero h e = absurd (cc)
 not_zero (suc size) h e = absurd (cc)
 
-with_batch : (size : ℕ) (is_full : Bool) (rest : List (List ℕ)) (b : Batch) (more : List Batch) → BeginsWithBatch size rest b → IsLog size is_full (drop (suc (length b.body)) rest) more → IsLog size is_full rest (b ∷ more)
+with_batch : (size : ℕ) (is_full : Bool) (rest : List (List ℕ)) (b : Batch) (more : List Batch) → BeginsWithBatch size rest b → IsUntornLog size is_full (drop (suc (length b.body)) rest) more → IsUntornLog size is_full rest (b ∷ more)
 with_batch size is_full rest b more begin is = record {
   tail = is.tail;
   front = record {
@@ -63,14 +63,14 @@ with_batch size is_full rest b more begin is = record {
   end = is.end;
 }
 
-without_batch : (size : ℕ) (is_full : Bool) (rest : List (List ℕ)) (b : Batch) (whole : List Batch) → size < 2 ^ 32 → BeginsWithBatch size rest b → IsLog size is_full rest whole → (more : List Batch) × IsLog size is_full (drop (suc (length b.body)) rest) more
+without_batch : (size : ℕ) (is_full : Bool) (rest : List (List ℕ)) (b : Batch) (whole : List Batch) → size < 2 ^ 32 → BeginsWithBatch size rest b → IsUntornLog size is_full rest whole → (more : List Batch) × IsUntornLog size is_full (drop (suc (length b.body)) rest) more
 without_batch size is_full rest b [] small begin is = absurd (no_tail is_full is.tail is.end (sym begin.spelled ∙ is.front.spelled))
   where
     no_zeros : (n : ℕ) → batch_blocks size b ++ drop (suc (length b.body)) rest ≡ replicate n (zero_block size) → ⊥
     no_zeros zero e = absurd (cc)
     no_zeros (suc n) e = let first : header_block size b.heading ≡ zero_block size = cc in not_zero size b.heading first
 
-    no_tail : (full : Bool) (tail : List (List ℕ)) → IsTail size full tail → batch_blocks size b ++ drop (suc (length b.body)) rest ≡ tail → ⊥
+    no_tail : (full : Bool) (tail : List (List ℕ)) → IsUntornTail size full tail → batch_blocks size b ++ drop (suc (length b.body)) rest ≡ tail → ⊥
     no_tail false tail end e = no_zeros 0 (e ∙ end)
     no_tail true tail end e = no_zeros (length tail) (e ∙ end)
 without_batch size is_full rest b (c ∷ cs) small begin is =
@@ -92,13 +92,13 @@ one_more_batch size is_full blocks rest log b whole so_far begin = record {
   goes_back = λ all is. let back = so_far.goes_back all is in without_batch size is_full rest b back.0 (omega arith) begin back.1;
 }
 
-pub all_read : (size : ℕ) (is_full : Bool) (blocks rest : List (List ℕ)) (log : List Batch) → IsRest size is_full blocks log rest → IsLog size is_full rest [] → IsLog size is_full blocks log
+pub all_read : (size : ℕ) (is_full : Bool) (blocks rest : List (List ℕ)) (log : List Batch) → IsRest size is_full blocks log rest → IsUntornLog size is_full rest [] → IsUntornLog size is_full blocks log
 all_read size is_full blocks rest log so_far end = rw append-nil at (so_far.goes_on [] end)
 
-pub none_left : (size : ℕ) (is_full : Bool) (blocks rest : List (List ℕ)) (log : List Batch) → IsRest size is_full blocks log rest → (IsLog size is_full rest [] → ⊥) → BeginsWithNoBatch size rest → HaveNoLog size is_full blocks
+pub none_left : (size : ℕ) (is_full : Bool) (blocks rest : List (List ℕ)) (log : List Batch) → IsRest size is_full blocks log rest → (IsUntornLog size is_full rest [] → ⊥) → BeginsWithNoBatch size rest → HaveNoUntornLog size is_full blocks
 none_left size is_full blocks rest log so_far not_end no_batch all is = let back = so_far.goes_back all is in impossible back.0 back.1
   where
-    impossible : (more : List Batch) → IsLog size is_full rest more → ⊥
+    impossible : (more : List Batch) → IsUntornLog size is_full rest more → ⊥
     impossible [] left = not_end left
     impossible (b ∷ bs) left =
         no_batch b (flat_map (batch_blocks size) bs ++ left.tail) left.front.batches.0

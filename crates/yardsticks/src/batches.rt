@@ -1,12 +1,13 @@
 //! The log that the written blocks of a zone spell, computed as it is defined.
 
-ghost use Rattle.std.specs.Prelude.{◌≡◌, ◌⊎◌, ◌≤◌, ◌<◌, ◌*◌, ◌^◌, ◌↔◌, [], length, map, nat_eq, vec_len, IsTrue, IfOk, IfSome, IfNone};
+ghost use Rattle.std.specs.Prelude.{◌≡◌, ◌⊎◌, ◌≤◌, ◌<◌, ◌*◌, ◌^◌, ◌↔◌, [], drop, length, map, nat_eq, vec_len, IsTrue, IfOk, IfSome, IfNone};
 ghost use Rattle.batch_log.specs.declared.header.Kind.TheVariants.{Host};
 ghost use Rattle.std.specs.List.{AllByRecursion, IsDistinct, list_any};
 ghost use Rattle.byteorder.specs.Endian.{little_from};
-ghost use Rattle.batch_log.specs.Header.{IsHeading, IsHeaderBlock, heading_of, header_block, head_size, entry_room};
-ghost use Rattle.batch_log.specs.Log.{BeginsWithNoBatch, HaveNoLog, IsLog, entry_of, entries_in, kind_of, heading_in, data_count, zero_block};
-ghost use Rattle.yardsticks.specs.Batches.{blocks_of, batch_of, BeginsWithBatch, IsNoHeader};
+ghost use Rattle.batch_log.specs.Header.{IsHeading, IsHeaderBlock, IsNoHeader, IsSize, heading_of, header_block, head_size, entry_room};
+ghost use Rattle.batch_log.specs.Reading.{entry_of, entries_in, kind_of, size_of, heading_in};
+ghost use Rattle.batch_log.specs.Log.{BeginsWithNoBatch, IsUntornLog, data_count, zero_block};
+ghost use Rattle.yardsticks.specs.Batches.{blocks_of, batch_of, BeginsWithBatch, HaveNoUntornLog};
 
 use batch_log::{Entry, Header, Kind, header_bytes};
 use byteorder::{ByteOrder, LittleEndian};
@@ -65,6 +66,19 @@ fn kind_at(bytes: &[u8]) -> Kind
     }
 }
 
+// The size after a header's source, which version 2 says.
+fn size_at(version: &[u8], word: &[u8]) -> Option<u32>
+    requires version { 2 ≤ length version.now }
+    requires word { 4 ≤ length word.now }
+    ensures { result ≡ size_of (little_from 0 2 version.now) (little_from 0 4 word.now) }
+{
+    if LittleEndian::read_u16(version) == 2 {
+        Some(LittleEndian::read_u32(word))
+    } else {
+        None
+    }
+}
+
 // The only header that the block can encode, unless its entries do not fit the block.
 fn claimed_header(alloc: Global, block: &[u8]) -> Result<Option<Header>, AllocError>
     requires { head_size ≤ length block.now }
@@ -80,6 +94,7 @@ fn claimed_header(alloc: Global, block: &[u8]) -> Result<Option<Header>, AllocEr
         kind: kind_at(&block[10..]),
         sequence: LittleEndian::read_u64(&block[16..]),
         source: LittleEndian::read_u32(&block[24..]),
+        size: size_at(&block[8..], &block[28..]),
         entries: entries_at(alloc, count, &block[HEAD_SIZE..])?,
     }))
 }
@@ -116,6 +131,15 @@ fn is_source(kind: Kind, source: u32) -> bool
     }
 }
 
+fn is_size(size: Option<u32>) -> bool
+    ensures { IsTrue result ↔ IfSome size IsSize }
+{
+    match size {
+        None => true,
+        Some(size) => 1 <= size && size <= 1 << 31,
+    }
+}
+
 /// Whether a block of that many bytes, 32 at least, can encode the header.
 pub fn is_heading(header: &Header, block_bytes: usize) -> bool
     requires size { head_size ≤ block_bytes }
@@ -126,6 +150,9 @@ pub fn is_heading(header: &Header, block_bytes: usize) -> bool
         return false;
     }
     if !is_source(header.kind, header.source) {
+        return false;
+    }
+    if !is_size(header.size) {
         return false;
     }
     if !are_small(&header.entries) {
@@ -237,7 +264,7 @@ fn are_zero(blocks: &[Vec<u8>]) -> bool
 // Whether no batch follows: nothing does, or zeros to the end of a full zone.
 fn is_end(blocks: &[Vec<u8>], block_bytes: usize, is_full: bool) -> bool
     requires { AllByRecursion (λ block. vec_len block ≡ block_bytes) blocks.now }
-    ensures { IsTrue result ↔ IsLog block_bytes is_full (blocks_of blocks.now) [] }
+    ensures { IsTrue result ↔ IsUntornLog block_bytes is_full (blocks_of blocks.now) [] }
 {
     if blocks.is_empty() {
         return true;
@@ -259,8 +286,8 @@ pub fn log(
     requires size { (block_bytes ≡ 512) ⊎ (block_bytes ≡ 4096) }
     requires sizes { AllByRecursion (λ block. vec_len block ≡ block_bytes) blocks.now }
     ensures some { let all = blocks_of blocks.now in
-        IfOk result (λ found. IfSome found (λ log. IsLog block_bytes is_full all (map batch_of log.items))) }
-    ensures none { IfOk result (λ found. IfNone found (HaveNoLog block_bytes is_full (blocks_of blocks.now))) }
+        IfOk result (λ found. IfSome found (λ log. IsUntornLog block_bytes is_full all (map batch_of log.items))) }
+    ensures none { IfOk result (λ found. IfNone found (HaveNoUntornLog block_bytes is_full (blocks_of blocks.now))) }
 {
     let mut log = Vec::new(alloc);
     let mut rest = blocks;

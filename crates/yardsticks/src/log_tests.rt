@@ -85,6 +85,7 @@ fn spells_headers(rt: HostRuntime) -> Result<(), Fail> {
             kind,
             sequence,
             source,
+            size: None,
             entries: Vec::from_slice(alloc, entries)?,
         };
         assert!(rt; is_heading(&header, 512));

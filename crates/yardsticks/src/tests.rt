@@ -86,6 +86,7 @@ fn header_of(alloc: Global, row: &Row) -> Result<Header, AllocError> {
         kind: row.kind,
         sequence: row.sequence,
         source: row.source,
+        size: None,
         entries,
     })
 }

@@ -15,7 +15,7 @@ use Rattle.drive_port.specs.Calls.{CanRead}
 use Rattle.drive_port.specs.Step.{block_in, end_of, is_state, zone_at}
 use Rattle.batch_log.specs.declared.header.Entry.{Entry}
 use Rattle.batch_log.specs.Header.{header_block}
-use Rattle.batch_log.specs.Log.{Batch, IsBatch, IsLog, batch_blocks, batch_size, data_count, one_unless, zero_block}
+use Rattle.batch_log.specs.Log.{Batch, IsBatch, IsUntornLog, batch_blocks, batch_size, data_count, one_unless, zero_block}
 use Rattle.logical_map.specs.declared.place.Place.{Place}
 use Rattle.logical_map.specs.declared.place.Place.TheVariants as places
 use Rattle.zone_choice.specs.Records.{IsNewest, Record, array_of, batch_records, entry_content, entry_offset, entry_records, log_records, newest, place, records, shown}
@@ -76,7 +76,7 @@ log_stands size zone offset front (b ∷ bs) tail blocks z fits e is =
         let total : length blocks ≡ length front + suc (length b.body + length rest) = ap length whole ∙ omega (arith, length-append front (header ∷ (b.body ++ rest)), length-append b.body rest) in
         (omega (arith, total), rw (spot, whole) (get_or-append-add front (header ∷ (b.body ++ rest)) (suc k) z ∙ get_or-left z b.body rest k lt))
 
-zone_stands : (size zone : ℕ) (is_full : Bool) (blocks : List (List ℕ)) (log : List Batch) (z : List ℕ) → IsLog size is_full blocks log → AllByRecursion (StandsIn blocks z zone) (log_records zone 0 log)
+zone_stands : (size zone : ℕ) (is_full : Bool) (blocks : List (List ℕ)) (log : List Batch) (z : List ℕ) → IsUntornLog size is_full blocks log → AllByRecursion (StandsIn blocks z zone) (log_records zone 0 log)
 zone_stands size zone is_full blocks log z is = log_stands size zone 0 [] log is.tail blocks z is.front.batches refl is.front.spelled
 
 -- ---- on the drive

@@ -6,8 +6,8 @@ use Rattle.std.proofs.lemmas.List.{map-set, length-map, set-get_or}
 use Rattle.std.proofs.Math.ListN.{get_or-map}
 use Rattle.zone_states.specs.declared.geometry.Geometry.{Geometry}
 use Rattle.drive_port.specs.Contents.{Content, Usage, empty, active, full, unusable, content_at, filled, finished, is_writable, nothing, is_full}
-use Rattle.batch_log.specs.Log.{Batch, IsBatch, IsLog, batch_blocks, log_of, zero_block}
-use Rattle.batch_log.proofs.LogLaws.{one_log, append_batch, finish}
+use Rattle.batch_log.specs.Log.{Batch, IsBatch, IsUntornLog, IsWhole, batch_blocks, log_of, zero_block}
+use Rattle.batch_log.proofs.LogLaws.{append_batch, finish, one_log, untorn_log}
 use Rattle.zone_choice.specs.Records.{array, records, shown}
 use Rattle.zone_choice.specs.ZoneLogs.{HasLog, padding, readable, spelled_array, zone_log, zone_logs}
 use Rattle.zone_choice.specs.Laws.{AppendLogs, AppendSpells, FinishLogs}
@@ -34,7 +34,7 @@ readable-filled geometry blocks = at (eqb (length blocks) geometry.capacity) ref
     at false e = append-nil blocks
 
 -- so the log of a zone that isn't full is one of its blocks
-pub has_log-blocks : (geometry : Geometry) (content : Content) → is_full content.usage ≡ false → HasLog geometry content → IsLog geometry.block false content.blocks (zone_log geometry content)
+pub has_log-blocks : (geometry : Geometry) (content : Content) → is_full content.usage ≡ false → HasLog geometry content → IsUntornLog geometry.block false content.blocks (zone_log geometry content)
 has_log-blocks geometry content e has = rw (e, append-nil content.blocks) at has
 
 -- a zone with these readable blocks has the log that they are read as
@@ -51,10 +51,11 @@ zone_log-append geometry was batch small is has writable =
     let all = was.blocks ++ batch_blocks size batch in
     let new = filled geometry.capacity all in
     let not_full = writable-not_full was.usage writable in
-    let old : IsLog size false was.blocks log = has_log-blocks geometry was not_full has in
-    let grown : IsLog size (is_full new.usage) all (log ++ batch ∷ []) = append_batch size (is_full new.usage) was.blocks log batch old is in
+    let old : IsWhole size was.blocks log = (untorn_log size false was.blocks log).whole (has_log-blocks geometry was not_full has) in
+    let after = untorn_log size (is_full new.usage) all (log ++ batch ∷ []) in
+    let grown : IsUntornLog size (is_full new.usage) all (log ++ batch ∷ []) = after.of_whole (append_batch size was.blocks log batch old is) in
     let same = readable-filled geometry all in
-    let read : zone_log geometry new ≡ log ++ batch ∷ [] = zone_log-read geometry new all same ∙ one_log size (is_full new.usage) all (log ++ batch ∷ []) small grown in
+    let read : zone_log geometry new ≡ log ++ batch ∷ [] = zone_log-read geometry new all same ∙ one_log size (is_full new.usage) all (log ++ batch ∷ []) small (after.log_of_it grown) in
     (read, rw (same, read) grown)
 
 all-set : (P : Content → Type 0) (xs : List Content) (i : ℕ) (x : Content) → AllByRecursion P xs → P x → AllByRecursion P (set xs i x)
@@ -89,9 +90,10 @@ zone_log-finish geometry was small has writable =
     let size = geometry.block in
     let log = zone_log geometry was in
     let rest = geometry.capacity - length was.blocks in
-    let old : IsLog size false was.blocks log = has_log-blocks geometry was (writable-not_full was.usage writable) has in
-    let grown : IsLog size true (was.blocks ++ replicate rest (zero_block size)) log = finish size rest was.blocks log old in
-    let read : zone_log geometry (finished was) ≡ log = zone_log-read geometry (finished was) (was.blocks ++ replicate rest (zero_block size)) refl ∙ one_log size true (was.blocks ++ replicate rest (zero_block size)) log small grown in
+    let old : IsWhole size was.blocks log = (untorn_log size false was.blocks log).whole (has_log-blocks geometry was (writable-not_full was.usage writable) has) in
+    let filled = finish size rest was.blocks log old in
+    let grown : IsUntornLog size true (was.blocks ++ replicate rest (zero_block size)) log = (untorn_log size true (was.blocks ++ replicate rest (zero_block size)) log).of_full filled in
+    let read : zone_log geometry (finished was) ≡ log = zone_log-read geometry (finished was) (was.blocks ++ replicate rest (zero_block size)) refl ∙ one_log size true (was.blocks ++ replicate rest (zero_block size)) log small filled in
     (read, rw read grown)
 
 pub finish_logs : FinishLogs

@@ -2,7 +2,7 @@
 use Rattle.std.specs.Prelude.{ℕ, ◌-◌, Bool, true, false, List, [], ◌++◌, map, length, replicate, slice_index_or}
 use Rattle.zone_states.specs.declared.geometry.Geometry.{Geometry}
 use Rattle.drive_port.specs.Contents.{Content, is_full}
-use Rattle.batch_log.specs.Log.{Batch, IsLog, log_of, zero_block}
+use Rattle.batch_log.specs.Log.{Batch, IsUntornLog, log_of, zero_block}
 use Rattle.zone_choice.specs.Records.{array_of}
 
 -- what follows the written blocks of a zone, as a host can tell: in a full zone zero blocks up to the capacity, since a report doesn't tell how far a finished zone was written
@@ -19,7 +19,7 @@ unfoldable pub zone_log : Geometry → Content → List Batch
 zone_log geometry content = log_of (readable geometry content)
 
 abbrev pub HasLog : Geometry → Content → Type 0
-HasLog geometry content = IsLog geometry.block (is_full content.usage) (readable geometry content) (zone_log geometry content)
+HasLog geometry content = IsUntornLog geometry.block (is_full content.usage) (readable geometry content) (zone_log geometry content)
 
 abbrev pub zone_logs : Geometry → List Content → List (List Batch)
 zone_logs geometry zones = map (zone_log geometry) zones

@@ -44,6 +44,7 @@ host-heading size sequence first count room short le = record {
   sequence = short;
   source = omega arith;
   host = λ e. refl;
+  size = tt;
   blocks = entries-below first count (2 ^ 63) le;
   distinct = entries-distinct first count;
 }

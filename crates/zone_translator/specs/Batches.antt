@@ -1,5 +1,5 @@
 -- The batches that a disk writes: data of blocks that follow one another.
-use Rattle.std.specs.Prelude.{◌≡◌, ℕ, ◌-◌, ◌*◌, ◌++◌, min, replicate}
+use Rattle.std.specs.Prelude.{◌≡◌, ℕ, ◌-◌, ◌*◌, ◌++◌, min, replicate, None}
 use Rattle.zone_states.specs.declared.geometry.Geometry.{Geometry}
 use Rattle.zone_choice.specs.declared.roles.Filling.{Filling}
 use Rattle.zone_choice.specs.Builder.{BuilderView, data_entries}
@@ -9,7 +9,7 @@ use Rattle.batch_log.specs.declared.header.Kind.TheVariants.{Host}
 use Rattle.batch_log.specs.Header.{Heading, header_block}
 
 abbrev pub host_heading : ℕ → ℕ → ℕ → Heading
-host_heading sequence first count = record { kind = Host; sequence = sequence; source = 0; entries = data_entries first count }
+host_heading sequence first count = record { kind = Host; sequence = sequence; source = 0; size = None; entries = data_entries first count }
 
 -- how many of the blocks left a batch takes: no more than an Append moves and a header names, and than the host zone has room for after the header
 abbrev pub batch_count : Geometry → Filling → ℕ → ℕ

@@ -1,5 +1,5 @@
 use Rattle.std.proofs.Common.{◌≡◌, length, arith}
-use Rattle.batch_log.specs.Log.{heading_in}
+use Rattle.batch_log.specs.Reading.{heading_in}
 use Rattle.yardsticks.proofs.HeaderReading.{count_read, heading_read}
 use Rattle.yardsticks.proofs.batches.claimed_header.Goals as goal
 
@@ -10,4 +10,4 @@ returns-then-count-block-clause-none c =
 
 pub returns-clause-some : goal.returns-clause-some
 returns-clause-some c =
-    heading_read c.args.block.now _ _ _ _ _ c.read_u32-count.ensures c.kind_at.ensures c.read_u64.ensures c.read_u32.ensures c.in_ok-entries_at.ensures
+    heading_read c.args.block.now _ _ _ _ _ _ c.read_u32-count.ensures c.kind_at.ensures c.read_u64.ensures c.read_u32.ensures c.size_at.ensures c.in_ok-entries_at.ensures

@@ -1,7 +1,7 @@
 use Rattle.std.proofs.Common.{ℕ, ◌*◌, List, ap, ◌∙◌}
 use Rattle.std.proofs.lemmas.List.{take_rest}
 use Rattle.byteorder.specs.Endian.{little_from}
-use Rattle.batch_log.specs.Log.{entry_of}
+use Rattle.batch_log.specs.Reading.{entry_of}
 use Rattle.yardsticks.proofs.HeaderReading.{one_more_read}
 use Rattle.yardsticks.proofs.batches.entries_at.Goals as goal
 

@@ -1,5 +1,5 @@
 use Rattle.std.proofs.Common.{◌≡◌, ◌-◌, ◌*◌, ◌++◌, drop}
-use Rattle.batch_log.specs.Log.{entries_in}
+use Rattle.batch_log.specs.Reading.{entries_in}
 use Rattle.yardsticks.proofs.batches.entries_at.Given as goal
 
 abbrev pub invariant-loop-i : goal.invariant-loop-i

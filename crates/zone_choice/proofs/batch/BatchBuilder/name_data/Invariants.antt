@@ -7,4 +7,5 @@ invariant-loop-i l =
     (l.self-inside.header.kind ≡ l.fn.self.heading.kind)
     × (l.self-inside.header.sequence ≡ l.fn.self.heading.sequence)
     × (l.self-inside.header.source ≡ l.fn.self.heading.source)
+    × (l.self-inside.header.size ≡ l.fn.self.heading.size)
     × (l.self-inside.header.entries.items ≡ l.fn.self.heading.entries ++ data_entries l.fn.first l.i)

@@ -1,7 +1,7 @@
 use Rattle.std.proofs.Common.{ℕ, refl, ap, arith}
 use Rattle.byteorder.specs.Endian.{little_bytes}
 use Rattle.batch_log.proofs.Writing.{one_more}
-use Rattle.batch_log.proofs.spelling.write_entries.Goals as goal
+use Rattle.batch_log.proofs.encode.write_entries.Goals as goal
 
 pub loop-i-preserved : goal.loop-i-preserved
 loop-i-preserved c =
