@@ -1,4 +1,4 @@
-use crate::{Entry, Header, Kind, header_bytes, read_header};
+use crate::{Entry, FaultAt, Header, Kind, LogFault, header_bytes, read_header};
 use std::test::Fail;
 
 const FRONT: [u8; 40] = [
@@ -33,5 +33,16 @@ fn writes_and_reads_version_2(rt: HostRuntime) -> Result<(), Fail> {
         }
         Err(fault) => assert!(rt; false, "{fault}"),
     }
+    Ok(())
+}
+
+#[test]
+fn tells_a_fault_with_its_block(rt: HostRuntime) -> Result<(), Fail> {
+    let fault = FaultAt {
+        offset: 4,
+        fault: LogFault::Version,
+    };
+    let text = format!(in rt.alloc(); "{fault}")?;
+    assert_eq!(rt; text.as_str(), "block 4: the version is neither 1 nor 2");
     Ok(())
 }
