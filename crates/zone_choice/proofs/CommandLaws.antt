@@ -17,7 +17,7 @@ use Rattle.drive_port.specs.Contents.{Content, full, content_at, content_of, con
 use Rattle.drive_port.specs.Step.{nowhere, zone_at}
 use Rattle.batch_log.specs.Log.{Batch}
 use Rattle.zone_choice.specs.declared.roles.Filling.{Filling}
-use Rattle.zone_choice.specs.Agreement.{Agrees, IsFilled, RolesAgree, drive_logs, mounted}
+use Rattle.zone_choice.specs.Agreement.{Agrees, HoldsFilling, RolesAgree, drive_logs, mounted}
 use Rattle.zone_choice.specs.Roles.{IsOccupied, RolesView, fillings, is_at, is_filling_at}
 use Rattle.zone_choice.specs.Tables.{TablesView}
 use Rattle.zone_choice.proofs.AllLaws.{all-at}
@@ -188,11 +188,11 @@ zone-few drive zone lawful lt =
     let one = all-at (IsLawfulZone drive.geometry) drive.zones zone nowhere lawful.zones lt in
     rw (content-zone drive.zones zone) (may-hold (zone_at drive.zones zone).state drive.geometry.capacity (length (zone_at drive.zones zone).blocks) one.written)
 
-pub filling-few : (drive : DriveState) (tables : TablesView) (f : Filling) → Agrees (mounted drive tables) → f.zone < length drive.zones → IsFilled drive.geometry.capacity (contents drive.zones) (drive_logs drive) f → f.written ≤ drive.geometry.capacity
+pub filling-few : (drive : DriveState) (tables : TablesView) (f : Filling) → Agrees (mounted drive tables) → f.zone < length drive.zones → HoldsFilling drive.geometry.capacity (contents drive.zones) (drive_logs drive) f → f.written ≤ drive.geometry.capacity
 filling-few drive tables f agrees lt is = omega (arith, zone-few drive f.zone agrees.lawful lt, is.written)
 
 -- a zone that is written up to its capacity is full
-pub filling-full : (drive : DriveState) (tables : TablesView) (f : Filling) → Agrees (mounted drive tables) → f.zone < length drive.zones → IsFilled drive.geometry.capacity (contents drive.zones) (drive_logs drive) f → f.written ≡ drive.geometry.capacity
+pub filling-full : (drive : DriveState) (tables : TablesView) (f : Filling) → Agrees (mounted drive tables) → f.zone < length drive.zones → HoldsFilling drive.geometry.capacity (contents drive.zones) (drive_logs drive) f → f.written ≡ drive.geometry.capacity
     → (content_at (contents drive.zones) f.zone).usage ≡ full
 filling-full drive tables f agrees lt is e =
     let one = all-at (IsLawfulZone drive.geometry) drive.zones f.zone nowhere agrees.lawful.zones lt in
@@ -207,7 +207,7 @@ filling-full drive tables f agrees lt is e =
 pub fillings-few : (drive : DriveState) (tables : TablesView) → Agrees (mounted drive tables) → AllByRecursion (λ f. f.written ≤ drive.geometry.capacity) (fillings tables.roles)
 fillings-few drive tables agrees = go (fillings tables.roles) agrees.roles.apart.occupied agrees.roles.fillings_are
   where
-    go : (fs : List Filling) → AllByRecursion (IsOccupied tables.roles.empty) fs → AllByRecursion (IsFilled drive.geometry.capacity (contents drive.zones) (drive_logs drive)) fs → AllByRecursion (λ f. f.written ≤ drive.geometry.capacity) fs
+    go : (fs : List Filling) → AllByRecursion (IsOccupied tables.roles.empty) fs → AllByRecursion (HoldsFilling drive.geometry.capacity (contents drive.zones) (drive_logs drive)) fs → AllByRecursion (λ f. f.written ≤ drive.geometry.capacity) fs
     go [] occupied are = tt
     go (f ∷ fs) occupied are =
         (filling-few drive tables f agrees (omega (arith, occupied.0.in_range, agrees.roles.count, length-map drive.zones content_of)) are.0, go fs occupied.1 are.1)

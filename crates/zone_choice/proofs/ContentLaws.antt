@@ -8,7 +8,7 @@ use Rattle.drive_port.specs.Contents.{Content, Usage, empty, active, full, unusa
 use Rattle.batch_log.specs.Log.{Batch, batch_size, log_size}
 use Rattle.zone_choice.specs.declared.roles.Filling.{Filling}
 use Rattle.zone_choice.specs.declared.roles.Second.{Second}
-use Rattle.zone_choice.specs.Agreement.{IsFilled, IsSealed, RolesAgree}
+use Rattle.zone_choice.specs.Agreement.{HoldsFilling, IsSealed, RolesAgree}
 use Rattle.zone_choice.specs.Records.{append_log}
 use Rattle.zone_choice.specs.Roles.{Differ, RolesView, filling_of, fillings, grown, is_at, is_empty_at, is_filling_at, taken, wrote}
 use Rattle.zone_choice.specs.ZoneLogs.{log_at}
@@ -41,14 +41,14 @@ filled-usage capacity written blocks long = at (eqb (length blocks) capacity) re
     at false e = inl refl
 
 -- a zone whose content and log are the same
-same-filled : (capacity : ℕ) (old new : List Content) (logs logs' : List (List Batch)) (f : Filling) → content_at new f.zone ≡ content_at old f.zone → log_at logs' f.zone ≡ log_at logs f.zone → IsFilled capacity old logs f → IsFilled capacity new logs' f
+same-filled : (capacity : ℕ) (old new : List Content) (logs logs' : List (List Batch)) (f : Filling) → content_at new f.zone ≡ content_at old f.zone → log_at logs' f.zone ≡ log_at logs f.zone → HoldsFilling capacity old logs f → HoldsFilling capacity new logs' f
 same-filled capacity old new logs logs' f content log is = record { written = rw content is.written; usage = rw content is.usage; batches = rw log is.batches }
 
 grown-filled : (capacity : ℕ) (old new : List Content) (logs : List (List Batch)) (zone : ℕ) (blocks : List (List ℕ)) (batch : Batch) → Appends old new capacity zone blocks → length blocks ≡ batch_size batch → zone < length logs
-    → (f : Filling) → IsFilled capacity old logs f → IsFilled capacity new (append_log logs zone batch) (grown zone (batch_size batch) f)
+    → (f : Filling) → HoldsFilling capacity old logs f → HoldsFilling capacity new (append_log logs zone batch) (grown zone (batch_size batch) f)
 grown-filled capacity old new logs zone blocks batch appends size lt f is = at (eqb f.zone zone) refl
   where
-    at : (b : Bool) → eqb f.zone zone ≡ b → IsFilled capacity new (append_log logs zone batch) (cond b (record { zone = f.zone; written = f.written + batch_size batch; may_open = true }) f)
+    at : (b : Bool) → eqb f.zone zone ≡ b → HoldsFilling capacity new (append_log logs zone batch) (cond b (record { zone = f.zone; written = f.written + batch_size batch; may_open = true }) f)
     at true e =
         let made = filled capacity ((content_at old zone).blocks ++ blocks) in
         let same : f.zone ≡ zone = eqb-true f.zone zone e in
@@ -75,9 +75,9 @@ roles-write capacity old new logs roles zone blocks batch agree here appends siz
     record {
       count = rw appends.zones (agree.count ∙ sym (length-set old zone made));
       apart = apart-wrote roles zone (batch_size batch) agree.apart;
-      fillings_are = subst (AllByRecursion (IsFilled capacity new (append_log logs zone batch))) (sym (fillings-wrote roles zone (batch_size batch)))
-          (all-map (IsFilled capacity new (append_log logs zone batch)) (grown zone (batch_size batch)) (fillings roles)
-          (all-weaker (IsFilled capacity old logs) (λ f. IsFilled capacity new (append_log logs zone batch) (grown zone (batch_size batch) f)) (fillings roles) (grown-filled capacity old new logs zone blocks batch appends size lt) agree.fillings_are));
+      fillings_are = subst (AllByRecursion (HoldsFilling capacity new (append_log logs zone batch))) (sym (fillings-wrote roles zone (batch_size batch)))
+          (all-map (HoldsFilling capacity new (append_log logs zone batch)) (grown zone (batch_size batch)) (fillings roles)
+          (all-weaker (HoldsFilling capacity old logs) (λ f. HoldsFilling capacity new (append_log logs zone batch) (grown zone (batch_size batch) f)) (fillings roles) (grown-filled capacity old new logs zone blocks batch appends size lt) agree.fillings_are));
       empty = λ k is_empty. other k (λ same. let no = there.1 in let yes = rw same at is_empty in absurd (cc)) ∙ agree.empty k is_empty;
       sealed_are = λ k below not_empty not_filling.
           let was : is_filling_at roles k ≡ false = sym (filling_at-wrote roles zone (batch_size batch) k) ∙ not_filling in
@@ -106,7 +106,7 @@ roles-seal capacity zones logs empties host second agree is_full some = record {
 
 -- the host zone is finished, and sealed
 other-filled : (capacity : ℕ) (old new : List Content) (logs : List (List Batch)) (host : Filling) (second : Option Second) → Differ (Some host) second → ((k : ℕ) → k ≢ host.zone → content_at new k ≡ content_at old k)
-    → AllByRecursion (IsFilled capacity old logs) (second_list second) → AllByRecursion (IsFilled capacity new logs) (second_list second)
+    → AllByRecursion (HoldsFilling capacity old logs) (second_list second) → AllByRecursion (HoldsFilling capacity new logs) (second_list second)
 other-filled capacity old new logs host None differ same all = tt
 other-filled capacity old new logs host (Some s) differ same all = (same-filled capacity old new logs logs (filling_of s) (same (filling_of s).zone (λ e. differ (sym e))) refl all.0, tt)
 
@@ -176,14 +176,14 @@ writable-usable active h = refl
 writable-usable full h = refl
 writable-usable unusable h = absurd (cc)
 
-pub filled-usable : (capacity : ℕ) (zones : List Content) (logs : List (List Batch)) (f : Filling) → IsFilled capacity zones logs f → is_usable (content_at zones f.zone).usage ≡ true
+pub filled-usable : (capacity : ℕ) (zones : List Content) (logs : List (List Batch)) (f : Filling) → HoldsFilling capacity zones logs f → is_usable (content_at zones f.zone).usage ≡ true
 filled-usable capacity zones logs f is = elim is.usage as (λ _. is_usable (content_at zones f.zone).usage ≡ true) [ inl w ↦ writable-usable (content_at zones f.zone).usage w | inr h ↦ rw h.0 refl ]
 
 zone-usable : (capacity : ℕ) (zones : List Content) (logs : List (List Batch)) (roles : RolesView) (zone : ℕ) → RolesAgree capacity zones logs roles → zone < length zones → (b : Bool) → is_filling_at roles zone ≡ b → is_usable (content_at zones zone).usage ≡ true
 zone-usable capacity zones logs roles zone agree lt false e = settled-usable (content_at zones zone).usage (roles-settled capacity zones logs roles zone agree lt e)
 zone-usable capacity zones logs roles zone agree lt true e =
     all-filling (λ z. is_usable (content_at zones z).usage ≡ true) (fillings roles) zone
-    (all-weaker (IsFilled capacity zones logs) (λ f. is_usable (content_at zones f.zone).usage ≡ true) (fillings roles) (filled-usable capacity zones logs) agree.fillings_are) e
+    (all-weaker (HoldsFilling capacity zones logs) (λ f. is_usable (content_at zones f.zone).usage ≡ true) (fillings roles) (filled-usable capacity zones logs) agree.fillings_are) e
 
 pub all-usable : (capacity : ℕ) (zones : List Content) (logs : List (List Batch)) (roles : RolesView) → RolesAgree capacity zones logs roles → AllByRecursion (λ (zone : Content). is_usable zone.usage ≡ true) zones
 all-usable capacity zones logs roles agree =
@@ -194,9 +194,9 @@ pub filling-writable : (capacity : ℕ) (zones : List Content) (logs : List (Lis
     → is_writable (content_at zones zone).usage ≡ true
 filling-writable capacity zones logs roles zone agree here room =
     all-filling (λ z. length (content_at zones z).blocks < capacity → is_writable (content_at zones z).usage ≡ true) (fillings roles) zone
-    (all-weaker (IsFilled capacity zones logs) (λ f. length (content_at zones f.zone).blocks < capacity → is_writable (content_at zones f.zone).usage ≡ true) (fillings roles) one agree.fillings_are) here room
+    (all-weaker (HoldsFilling capacity zones logs) (λ f. length (content_at zones f.zone).blocks < capacity → is_writable (content_at zones f.zone).usage ≡ true) (fillings roles) one agree.fillings_are) here room
   where
-    one : (f : Filling) → IsFilled capacity zones logs f → length (content_at zones f.zone).blocks < capacity → is_writable (content_at zones f.zone).usage ≡ true
+    one : (f : Filling) → HoldsFilling capacity zones logs f → length (content_at zones f.zone).blocks < capacity → is_writable (content_at zones f.zone).usage ≡ true
     one f is lt = elim is.usage as (λ _. is_writable (content_at zones f.zone).usage ≡ true) [ inl w ↦ w | inr h ↦ absurd (omega (arith, is.written, h.1, lt)) ]
 
 -- ---- counts of zones that are not settled

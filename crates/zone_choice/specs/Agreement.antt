@@ -24,7 +24,7 @@ mounted drive tables = record { drive = drive; tables = tables }
 -- ---- roles and contents
 
 -- A zone that is being filled can be written, or is full already, up to its capacity. Its written blocks are counted, and all of them belong to batches.
-pub record IsFilled (capacity : ℕ) (zones : List Content) (logs : List (List Batch)) (filling : Filling) : Type 0 where
+pub record HoldsFilling (capacity : ℕ) (zones : List Content) (logs : List (List Batch)) (filling : Filling) : Type 0 where
   pub written : length (content_at zones filling.zone).blocks ≡ filling.written
   pub usage : (is_writable (content_at zones filling.zone).usage ≡ true) ⊎ (((content_at zones filling.zone).usage ≡ full) × (filling.written ≡ capacity))
   pub batches : log_size (log_at logs filling.zone) ≡ filling.written
@@ -38,7 +38,7 @@ pub record IsSealed (zones : List Content) (logs : List (List Batch)) (zone : �
 pub record RolesAgree (capacity : ℕ) (zones : List Content) (logs : List (List Batch)) (roles : RolesView) : Type 0 where
   pub count : length roles.empty ≡ length zones
   pub apart : AreApart roles
-  pub fillings_are : AllByRecursion (IsFilled capacity zones logs) (fillings roles)
+  pub fillings_are : AllByRecursion (HoldsFilling capacity zones logs) (fillings roles)
   pub empty : (zone : ℕ) → is_empty_at roles zone ≡ true → content_at zones zone ≡ emptied
   pub sealed_are : (zone : ℕ) → zone < length zones → is_empty_at roles zone ≡ false → is_filling_at roles zone ≡ false → IsSealed zones logs zone
 

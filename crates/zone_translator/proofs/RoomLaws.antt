@@ -12,7 +12,7 @@ use Rattle.drive_port.specs.declared.calls.PortFault.{PortFault}
 use Rattle.drive_port.specs.declared.device.Halt.{Halt}
 use Rattle.drive_port.specs.declared.device.Halt.TheVariants as halt
 use Rattle.zone_choice.specs.declared.roles.Filling.{Filling}
-use Rattle.zone_choice.specs.Agreement.{Agrees, IsFilled, drive_logs, mounted}
+use Rattle.zone_choice.specs.Agreement.{Agrees, HoldsFilling, drive_logs, mounted}
 use Rattle.zone_choice.specs.Changes.{HasHalted, KeepsArray}
 use Rattle.zone_choice.specs.Roles.{IsLowestEmpty, RolesView, empty_count, fillings, is_at, is_filling_at, listed, sealed, taken}
 use Rattle.zone_choice.specs.Tables.{TablesView}
@@ -42,7 +42,7 @@ pub with-host : (drive : DriveState) (tables : TablesView) (host : Option Fillin
 with-host drive tables host e agrees =
     let P : Option Filling → Type 0 = λ h. Agrees (mounted drive (tables_with tables.map (roles_with tables.roles.empty h tables.roles.second) tables.next)) in subst P e agrees
 
-pub host-filled : (drive : DriveState) (tables : TablesView) (host : Filling) → tables.roles.host ≡ Some host → Agrees (mounted drive tables) → IsFilled drive.geometry.capacity (contents drive.zones) (drive_logs drive) host
+pub host-filled : (drive : DriveState) (tables : TablesView) (host : Filling) → tables.roles.host ≡ Some host → Agrees (mounted drive tables) → HoldsFilling drive.geometry.capacity (contents drive.zones) (drive_logs drive) host
 host-filled drive tables host is agrees = (with-host drive tables (Some host) is agrees).roles.fillings_are.0
 
 pub host-few : (drive : DriveState) (tables : TablesView) (host : Filling) → tables.roles.host ≡ Some host → Agrees (mounted drive tables) → host.written ≤ drive.geometry.capacity

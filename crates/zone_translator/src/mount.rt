@@ -4,7 +4,7 @@ ghost use Rattle.zone_translator.specs.Mount.{IsFreshDisk, KeepsDrive, MountRefu
 
 use drive_port::{Device, PortFault, count_zones};
 use nvme_wire::{ReportingOptions, ZoneState};
-use std::alloc::Global;
+use std::alloc::{AllocError, Global};
 use thiserror::Error;
 use zone_choice::{Tables, fits_reserve};
 
@@ -27,6 +27,17 @@ pub enum MountFault {
     /// A zone of the drive is not Empty.
     #[error("a zone of the drive is not Empty")]
     NotFresh,
+}
+
+impl From<AllocError> for MountFault {
+    ghost use Rattle.std.specs.Prelude.{◌≡◌};
+    ghost use Rattle.zone_translator.specs.declared.mount.MountFault.TheVariants.{OutOfMemory};
+
+    ghost from_gives = { λ _ fault. fault ≡ OutOfMemory };
+
+    fn from(_error: AllocError) -> MountFault {
+        MountFault::OutOfMemory
+    }
 }
 
 /// What a halt of the drive is to a mount. The drive refuses no command of a mount.
@@ -60,15 +71,17 @@ pub(crate) fn fresh_tables<D: Device>(
         return Err(MountFault::Reserve);
     }
     let mut head = Vec::new(alloc);
-    let empty = match count_zones(device, ReportingOptions::InState(ZoneState::Empty), &mut head) {
+    let empty = match count_zones(
+        device,
+        ReportingOptions::InState(ZoneState::Empty),
+        &mut head,
+    ) {
         Ok(empty) => empty,
         Err(fault) => return Err(fault_of(fault)),
     };
     if empty != geometry.zones as u64 {
         return Err(MountFault::NotFresh);
     }
-    let Ok(tables) = Tables::new(alloc, geometry.zones, geometry.size, blocks as u32) else {
-        return Err(MountFault::OutOfMemory);
-    };
+    let tables = Tables::new(alloc, geometry.zones, geometry.size, blocks as u32)?;
     Ok(tables)
 }

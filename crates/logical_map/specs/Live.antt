@@ -1,0 +1,32 @@
+-- Which blocks lie in a zone.
+use Rattle.std.specs.Prelude.{ℕ, ◌+◌, ◌/◌, ◌==◌, if◌then◌else◌, Bool, false, List, [], ◌∷◌, drop, count_by, Option, Some, None}
+use Rattle.logical_map.specs.declared.place.Place.{Place}
+use Rattle.logical_map.specs.declared.place.Place.TheVariants as places
+use Rattle.logical_map.specs.Places.{MapView}
+
+-- the zone that a place lies in
+abbrev pub zone_of : ℕ → Place → Option ℕ
+zone_of zone_size places.None = None
+zone_of zone_size (places.Trimmed address) = Some (address / zone_size)
+zone_of zone_size (places.At address) = Some (address / zone_size)
+
+abbrev pub is_zone : Option ℕ → ℕ → Bool
+is_zone None zone = false
+is_zone (Some other) zone = other == zone
+
+abbrev pub lies_in : ℕ → ℕ → Place → Bool
+lies_in zone_size zone place = is_zone (zone_of zone_size place) zone
+
+-- how many live records a zone has: one for each block that lies in it
+abbrev pub live : MapView → ℕ → ℕ
+live map zone = count_by (lies_in map.zone_size zone) map.places
+
+-- the blocks of these places that lie in a zone, where the first place is that of the block `first`
+abbrev pub blocks_in : ℕ → ℕ → ℕ → List Place → List ℕ
+blocks_in zone_size zone first [] = []
+blocks_in zone_size zone first (place ∷ all) =
+    if lies_in zone_size zone place then first ∷ blocks_in zone_size zone (first + 1) all else blocks_in zone_size zone (first + 1) all
+
+-- the blocks from one on that lie in a zone
+abbrev pub records_of : MapView → ℕ → ℕ → List ℕ
+records_of map zone from = blocks_in map.zone_size zone from (drop from map.places)
