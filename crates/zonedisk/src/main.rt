@@ -1,19 +1,12 @@
 //! An array of logical blocks above a zoned drive: lines of calls go in, lines of replies come out.
 #![tactic(auto)]
 
-mod fault;
-mod fault_line;
 mod job;
 mod program;
-mod raw;
-mod trace;
 
-pub use fault::RunFault;
-pub use fault_line::write_fault;
+pub use disk_runs::{RunFault, run_raw, run_trace, write_fault};
 pub use job::{Job, job_of};
 pub use program::run_job;
-pub use raw::run_raw;
-pub use trace::run_trace;
 
 #[cfg(test)]
 mod fakes;

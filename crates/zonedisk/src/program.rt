@@ -1,8 +1,6 @@
-use crate::fault::RunFault;
 use crate::job::Job;
-use crate::raw::run_raw;
-use crate::trace::run_trace;
 use disk_files::write_out;
+use disk_runs::{RunFault, run_raw, run_trace};
 use drive_port::Device;
 use nvme_wire::Choice;
 use std::alloc::Global;

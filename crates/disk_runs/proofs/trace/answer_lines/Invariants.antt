@@ -1,8 +1,8 @@
 use Rattle.zone_translator.specs.View.{KeepsDisk, array_of}
-use Rattle.zonedisk.specs.FlatLines.{flat}
-use Rattle.zonedisk.specs.Run.{SoFar, WhereKnown}
-use Rattle.zonedisk.specs.Trace.{GoesOn}
-use Rattle.zonedisk.proofs.trace.answer_lines.Given as goal
+use Rattle.disk_runs.specs.FlatLines.{flat}
+use Rattle.disk_runs.specs.Run.{SoFar, WhereKnown}
+use Rattle.disk_runs.specs.Trace.{GoesOn}
+use Rattle.disk_runs.proofs.trace.answer_lines.Given as goal
 
 abbrev pub invariant-loop-number : goal.invariant-loop-number
 invariant-loop-number g l =

@@ -14,14 +14,14 @@ use Rattle.zone_choice.specs.Mountable.{IsMountable}
 use Rattle.zone_choice.proofs.AgreementLaws.{spelled_same}
 use Rattle.zone_translator.specs.Mount.{KeepsDrive}
 use Rattle.zone_translator.specs.View.{DiskView, KeepsDisk, array_of}
-use Rattle.zonedisk.specs.FlatLines.{IsAfterFront, RepliesTo, call_of, flat, is_legal}
-use Rattle.zonedisk.specs.Run.{IsLine, Ran, Stopped, StopsAt, WhereKnown}
-use Rattle.zonedisk.specs.Trace.{LineStops, RunCause, RunGives, RunKeeps, RunLeaves, line_fault}
-use Rattle.zonedisk.specs.declared.fault.RunFault.{RunFault}
-use Rattle.zonedisk.specs.declared.fault.RunFault.TheVariants as runs
-use Rattle.zonedisk.specs.declared.fault.RunFault.TheVariants.{Line, Long, Disk, Mount, Input, Output, Memory}
-use Rattle.zonedisk.proofs.LineLaws.{none-front}
-use Rattle.zonedisk.proofs.RunLaws.{taken_line, too_long}
+use Rattle.disk_runs.specs.FlatLines.{IsAfterFront, RepliesTo, call_of, flat, is_legal}
+use Rattle.disk_runs.specs.Run.{IsLine, Ran, Stopped, StopsAt, WhereKnown}
+use Rattle.disk_runs.specs.Trace.{LineStops, RunCause, RunGives, RunKeeps, RunLeaves, line_fault}
+use Rattle.disk_runs.specs.declared.fault.RunFault.{RunFault}
+use Rattle.disk_runs.specs.declared.fault.RunFault.TheVariants as runs
+use Rattle.disk_runs.specs.declared.fault.RunFault.TheVariants.{Line, Long, Disk, Mount, Input, Output, Memory}
+use Rattle.disk_runs.proofs.LineLaws.{none-front}
+use Rattle.disk_runs.proofs.RunLaws.{taken_line, too_long}
 
 -- why a run stops where no line was read
 pub not_read : (size : ℕ) (array : List (List ℕ)) (left left' : Option (List ℕ)) (line : List ℕ) (number : ℕ) (fault : LineFault) (ends : RunFault)

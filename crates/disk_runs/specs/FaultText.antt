@@ -8,8 +8,8 @@ use Rattle.zone_translator.specs.declared.fault.DiskFault.{DiskFault}
 use Rattle.zone_translator.specs.declared.fault.DiskFault.TheVariants as disk
 use Rattle.zone_translator.specs.declared.mount.MountFault.{MountFault}
 use Rattle.zone_translator.specs.declared.mount.MountFault.TheVariants as mount
-use Rattle.zonedisk.specs.declared.fault.RunFault.{RunFault}
-use Rattle.zonedisk.specs.declared.fault.RunFault.TheVariants.{Line, Long, Disk, Mount, Geometry, Input, Output, Memory}
+use Rattle.disk_runs.specs.declared.fault.RunFault.{RunFault}
+use Rattle.disk_runs.specs.declared.fault.RunFault.TheVariants.{Line, Long, Disk, Mount, Geometry, Input, Output, Memory}
 
 -- a refusal: its number in its list, and its name
 pub record Refusal : Type 0 where

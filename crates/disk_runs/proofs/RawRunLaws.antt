@@ -5,13 +5,13 @@ use Rattle.disk_files.specs.Line.{ReadsLine, first_line}
 use Rattle.disk_files.specs.declared.line_reader.TheConstants.{LONGEST_LINE}
 use Rattle.disk_files.specs.declared.line_reader.LineFault.{LineFault}
 use Rattle.disk_files.specs.declared.line_reader.LineFault.TheVariants as lines
-use Rattle.zonedisk.specs.RawLines.{MaySubmit, RawStops, entry_of, is_raw, raw}
-use Rattle.zonedisk.specs.Run.{IsLine, StopsAt}
-use Rattle.zonedisk.specs.Trace.{line_fault}
-use Rattle.zonedisk.specs.declared.fault.RunFault.{RunFault}
-use Rattle.zonedisk.specs.declared.fault.RunFault.TheVariants as runs
-use Rattle.zonedisk.specs.declared.fault.RunFault.TheVariants.{Line, Long, Disk, Mount, Input, Output, Memory}
-use Rattle.zonedisk.proofs.RunLaws.{taken_line, too_long}
+use Rattle.disk_runs.specs.RawLines.{MaySubmit, RawStops, entry_of, is_raw, raw}
+use Rattle.disk_runs.specs.Run.{IsLine, StopsAt}
+use Rattle.disk_runs.specs.Trace.{line_fault}
+use Rattle.disk_runs.specs.declared.fault.RunFault.{RunFault}
+use Rattle.disk_runs.specs.declared.fault.RunFault.TheVariants as runs
+use Rattle.disk_runs.specs.declared.fault.RunFault.TheVariants.{Line, Long, Disk, Mount, Input, Output, Memory}
+use Rattle.disk_runs.proofs.RunLaws.{taken_line, too_long}
 
 -- no entry was submitted
 pub not_submitted : (drive : DriveState) (call : Option (List ℕ × List ℕ)) → MaySubmit drive call drive

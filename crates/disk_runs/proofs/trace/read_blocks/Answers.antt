@@ -1,6 +1,6 @@
 use Rattle.std.proofs.Common.{rules, arith}
-use Rattle.zonedisk.proofs.LineLaws.{ok-so, read_replies, read_told, reads}
-use Rattle.zonedisk.proofs.trace.read_blocks.Goals as goal
+use Rattle.disk_runs.proofs.LineLaws.{ok-so, read_replies, read_told, reads}
+use Rattle.disk_runs.proofs.trace.read_blocks.Goals as goal
 
 pub returns-in-Err-clause-ok : goal.returns-in-Err-clause-ok
 returns-in-Err-clause-ok g c =

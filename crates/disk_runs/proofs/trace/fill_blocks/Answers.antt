@@ -1,5 +1,5 @@
-use Rattle.zonedisk.proofs.LineLaws.{err-so, fill_done, fill_refused, fill_replies, fill_told, if-memory, no_memory, ok-so}
-use Rattle.zonedisk.proofs.trace.fill_blocks.Goals as goal
+use Rattle.disk_runs.proofs.LineLaws.{err-so, fill_done, fill_refused, fill_replies, fill_told, if-memory, no_memory, ok-so}
+use Rattle.disk_runs.proofs.trace.fill_blocks.Goals as goal
 
 pub returns-in-Err-clause-ok : goal.returns-in-Err-clause-ok
 returns-in-Err-clause-ok g c =

@@ -6,7 +6,7 @@ use Rattle.disk_files.specs.declared.trace_line.TraceLine.{TraceLine}
 use Rattle.disk_files.specs.declared.trace_line.TraceLine.TheVariants.{Read, Fill}
 use Rattle.zone_translator.specs.declared.fault.DiskFault.TheVariants.{OutOfRange}
 use Rattle.zone_translator.specs.Flat.{IsFront, blocks_from, replaced}
-use Rattle.zonedisk.specs.Run.{Language}
+use Rattle.disk_runs.specs.Run.{Language}
 
 -- the call that a line asks for; a line that is skipped asks for none
 abbrev pub call_of : List ℕ → Option TraceLine

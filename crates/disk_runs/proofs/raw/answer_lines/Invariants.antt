@@ -1,6 +1,6 @@
-use Rattle.zonedisk.specs.RawLines.{raw}
-use Rattle.zonedisk.specs.Run.{SoFar, WhereKnown}
-use Rattle.zonedisk.proofs.raw.answer_lines.Given as goal
+use Rattle.disk_runs.specs.RawLines.{raw}
+use Rattle.disk_runs.specs.Run.{SoFar, WhereKnown}
+use Rattle.disk_runs.proofs.raw.answer_lines.Given as goal
 
 abbrev pub invariant-loop-number : goal.invariant-loop-number
 invariant-loop-number g l =

@@ -6,9 +6,9 @@ use Rattle.disk_files.specs.Line.{ReadsLine, TakesLine, behind_line, first_line}
 use Rattle.disk_files.specs.Output.{AppendsFront}
 use Rattle.disk_files.specs.declared.line_reader.TheConstants.{LONGEST_LINE}
 use Rattle.disk_files.specs.declared.line_reader.LineFault.TheVariants as lines
-use Rattle.zonedisk.specs.Run.{AnswersAll, IsLine, Language, Ran, SoFar, Stopped, StopsAt, TakesLines, WhereKnown}
-use Rattle.zonedisk.specs.declared.fault.RunFault.{RunFault}
-use Rattle.zonedisk.specs.declared.fault.RunFault.TheVariants.{Output}
+use Rattle.disk_runs.specs.Run.{AnswersAll, IsLine, Language, Ran, SoFar, Stopped, StopsAt, TakesLines, WhereKnown}
+use Rattle.disk_runs.specs.declared.fault.RunFault.{RunFault}
+use Rattle.disk_runs.specs.declared.fault.RunFault.TheVariants.{Output}
 
 -- ---- one line more
 

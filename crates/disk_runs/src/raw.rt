@@ -1,6 +1,6 @@
 ghost use Rattle.std.specs.Prelude.{◌≡◌, IfErr, OnOk, true};
-ghost use Rattle.zonedisk.specs.RawLines.{RawAnswers, RawStops, entry_of, is_raw, raw};
-ghost use Rattle.zonedisk.specs.Run.{Ran, Stopped, WhereKnown};
+ghost use Rattle.disk_runs.specs.RawLines.{RawAnswers, RawStops, entry_of, is_raw, raw};
+ghost use Rattle.disk_runs.specs.Run.{Ran, Stopped, WhereKnown};
 
 use crate::fault::RunFault;
 use disk_files::{LineReader, RawFault, is_skipped, parse_raw_line, raw_reply, write_out};

@@ -6,9 +6,9 @@ use Rattle.disk_files.specs.RawLine.{raw_line, raw_reply_text}
 use Rattle.disk_files.specs.TraceLine.{is_skipped}
 use Rattle.zone_translator.specs.declared.fault.DiskFault.{DiskFault}
 use Rattle.zone_translator.specs.declared.fault.DiskFault.TheVariants.{OutOfMemory, Stopped}
-use Rattle.zonedisk.specs.Run.{Language}
-use Rattle.zonedisk.specs.declared.fault.RunFault.{RunFault}
-use Rattle.zonedisk.specs.declared.fault.RunFault.TheVariants.{Line, Disk, Memory}
+use Rattle.disk_runs.specs.Run.{Language}
+use Rattle.disk_runs.specs.declared.fault.RunFault.{RunFault}
+use Rattle.disk_runs.specs.declared.fault.RunFault.TheVariants.{Line, Disk, Memory}
 
 -- the entry that a line asks to submit, and the data beside it; a line that is skipped asks for none
 abbrev pub entry_of : List ℕ → Option (List ℕ × List ℕ)

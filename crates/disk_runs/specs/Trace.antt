@@ -13,10 +13,10 @@ use Rattle.zone_translator.specs.Mount.{KeepsDrive, MountRefuses}
 use Rattle.zone_translator.specs.View.{DiskView, array_of}
 use Rattle.zone_translator.specs.declared.fault.DiskFault.{DiskFault}
 use Rattle.zone_translator.specs.declared.fault.DiskFault.TheVariants.{OutOfRange}
-use Rattle.zonedisk.specs.FlatLines.{IsAfterFront, call_of, flat, is_legal}
-use Rattle.zonedisk.specs.Run.{Ran, Stopped, WhereKnown}
-use Rattle.zonedisk.specs.declared.fault.RunFault.{RunFault}
-use Rattle.zonedisk.specs.declared.fault.RunFault.TheVariants.{Line, Long, Disk, Mount, Geometry, Input, Memory}
+use Rattle.disk_runs.specs.FlatLines.{IsAfterFront, call_of, flat, is_legal}
+use Rattle.disk_runs.specs.Run.{Ran, Stopped, WhereKnown}
+use Rattle.disk_runs.specs.declared.fault.RunFault.{RunFault}
+use Rattle.disk_runs.specs.declared.fault.RunFault.TheVariants.{Line, Long, Disk, Mount, Geometry, Input, Memory}
 
 -- ---- one line
 

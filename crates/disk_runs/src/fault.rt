@@ -1,6 +1,6 @@
 ghost use Rattle.std.specs.Prelude.{◌≡◌};
-ghost use Rattle.zonedisk.specs.Trace.{line_fault};
-ghost use Rattle.zonedisk.specs.declared.fault.RunFault.TheVariants.{Memory, Output};
+ghost use Rattle.disk_runs.specs.Trace.{line_fault};
+ghost use Rattle.disk_runs.specs.declared.fault.RunFault.TheVariants.{Memory, Output};
 
 use disk_files::{LineFault, WriteFault};
 use std::alloc::AllocError;

@@ -2,11 +2,11 @@ use Rattle.std.proofs.Common.{refl, sym, ap, ◌∙◌}
 use Rattle.zone_states.specs.declared.geometry.Geometry.{Geometry}
 use Rattle.zone_translator.specs.View.{array_of}
 use Rattle.zone_translator.proofs.DiskLaws.{kept-join}
-use Rattle.zonedisk.specs.FlatLines.{flat}
-use Rattle.zonedisk.proofs.LineLaws.{if-fault}
-use Rattle.zonedisk.proofs.RunLaws.{ends, goes_on, stops, stops_writing}
-use Rattle.zonedisk.proofs.TraceLaws.{answers_line, legal_line, not_answered, not_read, short_line}
-use Rattle.zonedisk.proofs.trace.answer_lines.Goals as goal
+use Rattle.disk_runs.specs.FlatLines.{flat}
+use Rattle.disk_runs.proofs.LineLaws.{if-fault}
+use Rattle.disk_runs.proofs.RunLaws.{ends, goes_on, stops, stops_writing}
+use Rattle.disk_runs.proofs.TraceLaws.{answers_line, legal_line, not_answered, not_read, short_line}
+use Rattle.disk_runs.proofs.trace.answer_lines.Goals as goal
 
 pub returns-in-Ok-false-clause-ok : goal.returns-in-Ok-false-clause-ok
 returns-in-Ok-false-clause-ok g c =

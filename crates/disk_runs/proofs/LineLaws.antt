@@ -21,11 +21,11 @@ use Rattle.zone_translator.specs.declared.fault.DiskFault.{DiskFault}
 use Rattle.zone_translator.specs.declared.fault.DiskFault.TheVariants.{OutOfRange, OutOfMemory, Stopped, Spent, NoRoom}
 use Rattle.zone_translator.proofs.DiskLaws.{whole-array}
 use Rattle.zone_translator.proofs.FlatLaws.{replaced-none}
-use Rattle.zonedisk.specs.FlatLines.{IsAfterFront, RepliesTo, after, blocks_of, is_past_end}
-use Rattle.zonedisk.specs.Trace.{CallStops, GoesOn, Refuses}
-use Rattle.zonedisk.specs.declared.fault.RunFault.{RunFault}
-use Rattle.zonedisk.specs.declared.fault.RunFault.TheVariants as runs
-use Rattle.zonedisk.specs.declared.fault.RunFault.TheVariants.{Line, Long, Disk, Mount, Input, Output, Memory}
+use Rattle.disk_runs.specs.FlatLines.{IsAfterFront, RepliesTo, after, blocks_of, is_past_end}
+use Rattle.disk_runs.specs.Trace.{CallStops, GoesOn, Refuses}
+use Rattle.disk_runs.specs.declared.fault.RunFault.{RunFault}
+use Rattle.disk_runs.specs.declared.fault.RunFault.TheVariants as runs
+use Rattle.disk_runs.specs.declared.fault.RunFault.TheVariants.{Line, Long, Disk, Mount, Input, Output, Memory}
 
 -- ---- what is known of a call before it begins
 

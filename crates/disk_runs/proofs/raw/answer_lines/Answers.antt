@@ -1,10 +1,10 @@
 use Rattle.std.proofs.Common.{refl}
-use Rattle.zonedisk.specs.RawLines.{raw}
-use Rattle.zonedisk.proofs.LineLaws.{if-fault}
-use Rattle.zonedisk.proofs.RunLaws.{ends, goes_on, stops, stops_writing}
-use Rattle.zonedisk.proofs.RawRunLaws.{raw_legal, raw_not_answered, raw_not_read}
-use Rattle.zonedisk.proofs.TraceLaws.{short_line}
-use Rattle.zonedisk.proofs.raw.answer_lines.Goals as goal
+use Rattle.disk_runs.specs.RawLines.{raw}
+use Rattle.disk_runs.proofs.LineLaws.{if-fault}
+use Rattle.disk_runs.proofs.RunLaws.{ends, goes_on, stops, stops_writing}
+use Rattle.disk_runs.proofs.RawRunLaws.{raw_legal, raw_not_answered, raw_not_read}
+use Rattle.disk_runs.proofs.TraceLaws.{short_line}
+use Rattle.disk_runs.proofs.raw.answer_lines.Goals as goal
 
 pub returns-in-Ok-false-clause-ok : goal.returns-in-Ok-false-clause-ok
 returns-in-Ok-false-clause-ok g c =

@@ -3,9 +3,9 @@ ghost use Rattle.disk_files.specs.declared.trace_line.TraceLine.TheVariants.{Rea
 ghost use Rattle.disk_files.specs.Reply.{out_of_range_text};
 ghost use Rattle.zone_translator.specs.declared.fault.DiskFault.TheVariants.{OutOfRange};
 ghost use Rattle.zone_translator.specs.View.{KeepsDisk, array_of};
-ghost use Rattle.zonedisk.specs.FlatLines.{RepliesTo, call_of, flat, is_legal};
-ghost use Rattle.zonedisk.specs.Run.{Ran, Stopped, WhereKnown};
-ghost use Rattle.zonedisk.specs.Trace.{CallStops, GoesOn, LineStops, Refuses, RunCause, RunGives, RunLeaves};
+ghost use Rattle.disk_runs.specs.FlatLines.{RepliesTo, call_of, flat, is_legal};
+ghost use Rattle.disk_runs.specs.Run.{Ran, Stopped, WhereKnown};
+ghost use Rattle.disk_runs.specs.Trace.{CallStops, GoesOn, LineStops, Refuses, RunCause, RunGives, RunLeaves};
 
 use crate::fault::RunFault;
 use disk_files::{

@@ -1,6 +1,6 @@
 ghost use Rattle.std.specs.Prelude.{◌≡◌, ◌++◌, IfErr, OnOk, codes};
 ghost use Rattle.std.specs.Io.KnownBytes.{Appends};
-ghost use Rattle.zonedisk.specs.FaultText.{NotWritten, disk_refusal, fault_text, geometry_refusal, line_text, mount_refusal, refusal_text};
+ghost use Rattle.disk_runs.specs.FaultText.{NotWritten, disk_refusal, fault_text, geometry_refusal, line_text, mount_refusal, refusal_text};
 
 use crate::fault::RunFault;
 use disk_files::write_out;
