@@ -1,4 +1,4 @@
-// A reader and a writer over memory that fail after so many bytes.
+// A reader and a writer over memory that fail after that many bytes.
 
 use std::io;
 use std::io::{ErrorKind, Read, Write};

@@ -6,8 +6,6 @@ mod laws;
 mod reserve;
 mod roles;
 mod tables;
-#[cfg(test)]
-mod tests;
 
 pub use laws::{
     append_first, append_logs, append_spells, append_writes, finish_logs, newest_is_live,

@@ -17,6 +17,3 @@ mod shape;
 mod write;
 
 pub use drive::{Drive, DriveFault};
-
-#[cfg(test)]
-mod tests;

@@ -13,6 +13,3 @@ mod room;
 pub use disk::Disk;
 pub use fault::DiskFault;
 pub use mount::MountFault;
-
-#[cfg(test)]
-mod tests;
