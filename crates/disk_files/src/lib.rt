@@ -42,6 +42,4 @@ pub use trace_line::{TraceLine, is_skipped};
 #[cfg(test)]
 mod fakes;
 #[cfg(test)]
-mod raw_tests;
-#[cfg(test)]
 mod tests;

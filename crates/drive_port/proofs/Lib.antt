@@ -7,4 +7,3 @@ pub mod FinishLaws
 pub mod SendLaws
 pub mod ReportLaws
 pub mod CountLaws
-pub mod BlankLaws

@@ -5,7 +5,6 @@ pub mod Contents
 pub mod Calls
 pub mod Stop
 pub mod Record
-pub mod Blank
 pub use Rattle.zone_states.specs.Zone
 pub use Rattle.zone_states.specs.Geometry
 pub use Rattle.zone_states.specs.Transition

@@ -39,6 +39,3 @@ pub use laws::{
 pub use recorder::Recorder;
 pub use stop::StopAfter;
 pub use zone_states::Geometry;
-
-#[cfg(test)]
-mod tests;

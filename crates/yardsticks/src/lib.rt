@@ -14,13 +14,9 @@
 
 mod array;
 mod batches;
-#[cfg(test)]
-mod log_tests;
 mod logs;
 mod mountable;
 mod reserve;
-#[cfg(test)]
-mod tests;
 
 pub use array::spelled_array;
 pub use batches::{Batch, is_heading, log};

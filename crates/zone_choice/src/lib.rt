@@ -28,8 +28,6 @@ mod laws;
 mod reserve;
 mod roles;
 mod tables;
-#[cfg(test)]
-mod tests;
 
 pub use append::{append_batch, halt_of};
 pub use batch::BatchBuilder;

@@ -37,6 +37,3 @@ mod shape;
 mod write;
 
 pub use drive::{Drive, DriveFault};
-
-#[cfg(test)]
-mod tests;

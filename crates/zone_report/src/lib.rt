@@ -31,6 +31,3 @@ pub use report::report_bytes;
 pub use status::ZoneStatus;
 pub use text::report_text;
 pub use zones::ReportedZones;
-
-#[cfg(test)]
-mod tests;

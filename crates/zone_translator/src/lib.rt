@@ -33,6 +33,3 @@ pub use fault::DiskFault;
 pub use laws::{write_keeps_others, written_reads_back};
 pub use mount::MountFault;
 pub use status::DiskStatus;
-
-#[cfg(test)]
-mod tests;

@@ -1,0 +1,109 @@
+//! Batches in words, as the blocks that they take in a zone.
+
+use crate::fault::ScriptFault;
+use crate::words::{byte, number, part};
+use batch_log::{Entry, Header, Kind, header_bytes};
+use std::alloc::Global;
+use yardsticks::is_heading;
+
+/// A batch, whose data blocks all consist of one byte.
+#[derive(Drop)]
+pub struct Batch {
+    kind: Kind,
+    sequence: u64,
+    source: u32,
+    entries: Vec<Entry>,
+    data: u8,
+}
+
+fn entries(alloc: Global, numbers: &[&str], trim: bool) -> Result<Vec<Entry>, ScriptFault> {
+    let mut entries = Vec::new(alloc);
+    for block in numbers {
+        entries.push(Entry {
+            block: number(block)?,
+            trim,
+        })?;
+    }
+    Ok(entries)
+}
+
+// The entries of a batch, and the byte of its data blocks.
+fn contents(alloc: Global, words: &[&str]) -> Result<(Vec<Entry>, u8), ScriptFault> {
+    match words {
+        [] => Ok((Vec::new(alloc), 0)),
+        ["trims", numbers @ ..] => Ok((entries(alloc, numbers, true)?, 0)),
+        ["blocks", numbers @ .., "data", data] => {
+            Ok((entries(alloc, numbers, false)?, byte(data.as_bytes())?))
+        }
+        _ => Err(ScriptFault::Words),
+    }
+}
+
+/// The batch of these words: `1 host blocks 0 1 data aa`, `4 host trims 3`, `5 move from 0`.
+pub fn parse_batch(alloc: Global, words: &[&str]) -> Result<Batch, ScriptFault> {
+    let (kind, sequence, source, rest) = match words {
+        [sequence, "host", rest @ ..] => (Kind::Host, number(sequence)?, 0, rest),
+        [sequence, "move", "from", zone, rest @ ..] => {
+            (Kind::Move, number(sequence)?, part(zone)?, rest)
+        }
+        _ => return Err(ScriptFault::Words),
+    };
+    let (entries, data) = contents(alloc, rest)?;
+    Ok(Batch {
+        kind,
+        sequence,
+        source,
+        entries,
+        data,
+    })
+}
+
+impl Batch {
+    /// The bytes of the header, without the zeros that follow the entries, put together by hand.
+    pub fn front(&self, alloc: Global) -> Result<Vec<u8>, ScriptFault> {
+        let kind: u16 = match self.kind {
+            Kind::Host => 1,
+            Kind::Move => 2,
+        };
+        let count = u32::try_from(self.entries.len()).or(Err(ScriptFault::Words))?;
+        let mut bytes = Vec::from_slice(alloc, b"ZLOGBAT1")?;
+        bytes.extend_from_slice(&1u16.to_le_bytes())?;
+        bytes.extend_from_slice(&kind.to_le_bytes())?;
+        bytes.extend_from_slice(&count.to_le_bytes())?;
+        bytes.extend_from_slice(&self.sequence.to_le_bytes())?;
+        bytes.extend_from_slice(&self.source.to_le_bytes())?;
+        bytes.extend_from_slice(&[0; 4])?;
+        for entry in &self.entries {
+            let trim_bit: u64 = if entry.trim { 1 << 63 } else { 0 };
+            bytes.extend_from_slice(&(entry.block | trim_bit).to_le_bytes())?;
+        }
+        Ok(bytes)
+    }
+
+    /// The byte of each data block that follows the header.
+    pub fn data(&self, alloc: Global) -> Result<Vec<u8>, ScriptFault> {
+        let mut data = Vec::new(alloc);
+        for entry in &self.entries {
+            if !entry.trim {
+                data.push(self.data)?;
+            }
+        }
+        Ok(data)
+    }
+
+    /// The header block that `batch_log` writes, of 512 bytes, if such a block can hold the header.
+    pub fn header_block(self, alloc: Global) -> Result<Vec<u8>, ScriptFault> {
+        let header = Header {
+            kind: self.kind,
+            sequence: self.sequence,
+            source: self.source,
+            entries: self.entries,
+        };
+        if !is_heading(&header, 512) {
+            return Err(ScriptFault::Words);
+        }
+        let mut block = vec![in alloc; 0xff; 512]?;
+        header_bytes(&header, &mut block);
+        Ok(block)
+    }
+}

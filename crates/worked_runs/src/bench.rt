@@ -1,0 +1,84 @@
+//! The device over which a script runs: a drive in memory that can be made to stop, or to be once out of
+//! memory, and whose commands are recorded.
+
+use crate::fault::ScriptFault;
+use crate::world::World;
+use drive_port::{Device, Geometry, Halt, Recorder, StopAfter};
+use std::alloc::Global;
+use zone_drive::Drive;
+
+/// A device that has no memory for one submit, after `others` of them.
+#[derive(Drop)]
+pub struct OnceWithoutMemory<D: Device + Drop> {
+    pub device: D,
+    pub others: u64,
+}
+
+impl<D: Device + Drop> Device for OnceWithoutMemory<D> {
+    ghost drive = { λ s. D.drive s.device };
+
+    fn geometry(&self) -> Geometry {
+        self.device.geometry()
+    }
+
+    fn completed(&self) -> u64 {
+        self.device.completed()
+    }
+
+    fn stopped(&self) -> bool {
+        self.device.stopped()
+    }
+
+    fn submit(
+        &mut self,
+        entry: &[u8; 64],
+        bytes: &[u8],
+        into: &mut Vec<u8>,
+    ) -> Result<[u8; 16], Halt> {
+        if self.others == 0 && !self.device.stopped() {
+            self.others = u64::MAX;
+            into.clear();
+            return Err(Halt::Memory);
+        }
+        self.others = self.others.saturating_sub(1);
+        self.device.submit(entry, bytes, into)
+    }
+}
+
+/// How a run is made and shown: after how many commands the device stops or is out of memory, if ever,
+/// and whether the bytes of the entries are shown.
+#[derive(Clone, Copy)]
+pub struct Setting {
+    pub stop_after: Option<u64>,
+    pub no_memory_after: Option<u64>,
+    pub shows_entries: bool,
+}
+
+impl Setting {
+    pub const PLAIN: Setting = Setting {
+        stop_after: None,
+        no_memory_after: None,
+        shows_entries: false,
+    };
+}
+
+pub type Bench = Recorder<StopAfter<OnceWithoutMemory<Drive>>>;
+
+/// A device over a drive that holds what `world` says.
+pub fn bench_of(alloc: Global, world: &World, setting: Setting) -> Result<Bench, ScriptFault> {
+    let Ok(drive) = world.drive(alloc)? else {
+        return Err(ScriptFault::Words);
+    };
+    let device = OnceWithoutMemory {
+        device: drive,
+        others: setting.no_memory_after.unwrap_or(u64::MAX),
+    };
+    let stopping = StopAfter::new(device, setting.stop_after.unwrap_or(u64::MAX));
+    Ok(Recorder::new(alloc, stopping))
+}
+
+/// What the drive within holds.
+pub fn world_of(alloc: Global, geometry: Geometry, bench: Bench) -> Result<World, ScriptFault> {
+    let drive = bench.into_inner().into_inner().device;
+    Ok(World::of(alloc, geometry, &drive)?)
+}

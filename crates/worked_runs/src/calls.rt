@@ -1,0 +1,252 @@
+//! Calls of the libraries: those of a disk, and the typed calls to a drive.
+
+use crate::bench::{Bench, Setting, bench_of, world_of};
+use crate::fault::ScriptFault;
+use crate::requests::{Request, parse_request};
+use crate::runs::show_unreached;
+use crate::show::{show_answer_bytes, show_line, show_sent};
+use crate::world::World;
+use disk_files::TraceLine;
+use drive_port::{Device, PortFault, append, close, count_zones, finish, read, report, reset};
+use nvme_wire::{Action, Command};
+use std::alloc::{AllocError, Global};
+use zone_translator::{Disk, DiskFault, MountFault};
+
+// Shows the commands that are recorded after the first `sent`, and says how many there are.
+fn show_new(
+    alloc: Global,
+    entries: &[[u8; 64]],
+    sent: usize,
+    out: &mut String,
+) -> Result<usize, ScriptFault> {
+    show_sent(alloc, entries.get(sent..).unwrap_or(&[]), false, out)?;
+    Ok(entries.len())
+}
+
+fn show_data(data: &[u8], out: &mut String) -> Result<(), AllocError> {
+    if data.is_empty() {
+        return Ok(());
+    }
+    show_answer_bytes("", data, out)
+}
+
+fn disk_call(
+    disk: &mut Disk<Bench>,
+    line: &str,
+    data: &mut Vec<u8>,
+) -> Result<Result<(), DiskFault>, ScriptFault> {
+    data.clear();
+    match TraceLine::parse(line.as_bytes()) {
+        Some(TraceLine::Read { first, blocks }) => Ok(disk.read(first, blocks, data)),
+        Some(
+            TraceLine::Fill {
+                first,
+                blocks,
+                byte,
+            },
+        ) => Ok(disk.fill(first, blocks, byte)),
+        None => Err(ScriptFault::Words),
+    }
+}
+
+// Makes a call of a disk, and shows the commands that it sent and its answer.
+fn show_disk_call(
+    alloc: Global,
+    disk: &mut Disk<Bench>,
+    line: &str,
+    data: &mut Vec<u8>,
+    sent: usize,
+    out: &mut String,
+) -> Result<usize, ScriptFault> {
+    show_line(line, out)?;
+    let answer = disk_call(disk, line, data)?;
+    let now = show_new(alloc, disk.device().entries(), sent, out)?;
+    show_data(data, out)?;
+    match answer {
+        Ok(()) => writeln!(out, "    done")?,
+        Err(fault) => writeln!(out, "    refused {fault:?}")?,
+    }
+    Ok(now)
+}
+
+fn show_disk_calls(
+    alloc: Global,
+    mut disk: Disk<Bench>,
+    lines: &[&str],
+    out: &mut String,
+) -> Result<Bench, ScriptFault> {
+    let mut sent = show_new(alloc, disk.device().entries(), 0, out)?;
+    let blocks = disk.blocks();
+    writeln!(out, "    mounted, {blocks} blocks")?;
+    let mut data = Vec::new(alloc);
+    for line in lines {
+        sent = show_disk_call(alloc, &mut disk, line, &mut data, sent, out)?;
+    }
+    Ok(disk.into_device())
+}
+
+fn show_refused_mount(
+    alloc: Global,
+    fault: MountFault,
+    bench: &Bench,
+    lines: &[&str],
+    out: &mut String,
+) -> Result<(), ScriptFault> {
+    show_new(alloc, bench.entries(), 0, out)?;
+    writeln!(out, "    refused {fault:?}")?;
+    show_unreached(lines, out)
+}
+
+/// Mounts the drive as a disk, and makes a call of it for each line, also after a refusal.
+pub fn show_disk(
+    alloc: Global,
+    world: &World,
+    setting: Setting,
+    blocks: u64,
+    lines: &[&str],
+    out: &mut String,
+) -> Result<World, ScriptFault> {
+    let bench = bench_of(alloc, world, setting)?;
+    match Disk::mount(alloc, bench, blocks) {
+        Ok(disk) => {
+            let bench = show_disk_calls(alloc, disk, lines, out)?;
+            world_of(alloc, world.geometry, bench)
+        }
+        Err((fault, bench)) => {
+            show_refused_mount(alloc, fault, &bench, lines, out)?;
+            world_of(alloc, world.geometry, bench)
+        }
+    }
+}
+
+// What a typed call answers.
+#[derive(Clone, Copy)]
+enum Answer {
+    Done,
+    Number(u64),
+    Fault(PortFault),
+    // It is none that a caller may make.
+    None,
+}
+
+fn done(answer: Result<(), PortFault>) -> Answer {
+    match answer {
+        Ok(()) => Answer::Done,
+        Err(fault) => Answer::Fault(fault),
+    }
+}
+
+fn numbered(answer: Result<u64, PortFault>) -> Answer {
+    match answer {
+        Ok(number) => Answer::Number(number),
+        Err(fault) => Answer::Fault(fault),
+    }
+}
+
+fn append_call(alloc: Global, bench: &mut Bench, start: u64, bytes: &[u8]) -> Answer {
+    let block = bench.geometry().block as usize;
+    if block == 0 || bytes.is_empty() || bytes.len() % block != 0 || bytes.len() / block > 65536 {
+        return Answer::None;
+    }
+    numbered(append(alloc, bench, start, bytes))
+}
+
+fn read_call(bench: &mut Bench, slba: u64, blocks: u32, data: &mut Vec<u8>) -> Answer {
+    if blocks < 1 || blocks > 65536 {
+        return Answer::None;
+    }
+    done(read(bench, slba, blocks, data))
+}
+
+fn send_call(alloc: Global, bench: &mut Bench, start: u64, action: Action) -> Answer {
+    match action {
+        Action::Close => done(close(alloc, bench, start)),
+        Action::Finish => done(finish(alloc, bench, start)),
+        Action::Reset => done(reset(alloc, bench, start)),
+        Action::Open | Action::Offline => Answer::None,
+    }
+}
+
+fn typed_call(
+    alloc: Global,
+    bench: &mut Bench,
+    request: &Request,
+    is_count: bool,
+    data: &mut Vec<u8>,
+) -> Answer {
+    data.clear();
+    match Command::decode(&request.entry) {
+        Ok(Command::Append { zslba, .. }) => append_call(alloc, bench, zslba, &request.bytes),
+        Ok(Command::Read { slba, blocks }) => read_call(bench, slba, blocks, data),
+        Ok(Command::Send { slba, action, .. }) => send_call(alloc, bench, slba, action),
+        Ok(Command::Receive { choice, .. }) if is_count => {
+            numbered(count_zones(bench, choice, data))
+        }
+        Ok(
+            Command::Receive {
+                slba,
+                dwords,
+                choice,
+                partial,
+            },
+        ) => {
+            if dwords < 16 || dwords > 1 << 32 {
+                return Answer::None;
+            }
+            done(report(bench, slba, choice, partial, dwords, data))
+        }
+        _ => Answer::None,
+    }
+}
+
+fn show_answer(answer: Answer, out: &mut String) -> Result<(), ScriptFault> {
+    match answer {
+        Answer::Done => writeln!(out, "    done")?,
+        Answer::Number(number) => writeln!(out, "    answered {number}")?,
+        Answer::Fault(PortFault::Refused(status)) => writeln!(out, "    refused {status:?}")?,
+        Answer::Fault(PortFault::Memory) => writeln!(out, "    out of memory")?,
+        Answer::Fault(PortFault::Stopped) => writeln!(out, "    stopped")?,
+        Answer::None => return Err(ScriptFault::Words),
+    }
+    Ok(())
+}
+
+// Makes the typed call of a line, and shows what it answers.
+fn show_call(
+    alloc: Global,
+    bench: &mut Bench,
+    line: &str,
+    data: &mut Vec<u8>,
+    out: &mut String,
+) -> Result<(), ScriptFault> {
+    let block = bench.geometry().block;
+    let (request, is_count) = match line.strip_prefix("Count") {
+        Some(rest) => {
+            let words = format!(in alloc; "Report{rest}")?;
+            (parse_request(alloc, &words, 0, block)?, true)
+        }
+        None => (parse_request(alloc, line, 0, block)?, false),
+    };
+    let answer = typed_call(alloc, bench, &request, is_count, data);
+    show_data(data, out)?;
+    show_answer(answer, out)
+}
+
+/// Makes a typed call to the drive for each line. `Count` in place of `Report` asks for the number alone.
+pub fn show_calls(
+    alloc: Global,
+    world: &World,
+    setting: Setting,
+    lines: &[&str],
+    out: &mut String,
+) -> Result<World, ScriptFault> {
+    let mut bench = bench_of(alloc, world, setting)?;
+    let mut data = Vec::new(alloc);
+    for line in lines {
+        show_line(line, out)?;
+        show_call(alloc, &mut bench, line, &mut data, out)?;
+    }
+    let completed = bench.completed();
+    writeln!(out, "    commands completed: {completed}")?;
+    world_of(alloc, world.geometry, bench)
+}

@@ -1,0 +1,66 @@
+//! Which lines are in the grammars, whatever a drive would answer.
+
+use crate::fault::ScriptFault;
+use crate::show::{show_bytes, show_line};
+use crate::words::meant;
+use disk_files::{RawFault, TraceLine, is_skipped, parse_raw_line};
+use std::alloc::{AllocError, Global};
+
+fn show_call(line: &[u8], out: &mut String) -> Result<(), AllocError> {
+    if is_skipped(line) {
+        return writeln!(out, "    skipped");
+    }
+    match TraceLine::parse(line) {
+        Some(TraceLine::Read { first, blocks }) => writeln!(out, "    read {first} {blocks}"),
+        Some(
+            TraceLine::Fill {
+                first,
+                blocks,
+                byte,
+            },
+        ) => { writeln!(out, "    fill {first} {blocks} {byte:02x}") }
+        None => writeln!(out, "    not in the grammar"),
+    }
+}
+
+/// Says what each line is in a trace.
+pub fn show_trace_lines(
+    alloc: Global,
+    lines: &[&str],
+    out: &mut String,
+) -> Result<(), ScriptFault> {
+    for line in lines {
+        show_line(line, out)?;
+        show_call(&meant(alloc, line)?, out)?;
+    }
+    Ok(())
+}
+
+fn show_entry(entry: &[u8], data: &[u8], out: &mut String) -> Result<(), AllocError> {
+    write!(out, "    entry")?;
+    show_bytes(entry, out)?;
+    if !data.is_empty() {
+        write!(out, " data")?;
+        show_bytes(data, out)?;
+    }
+    writeln!(out)
+}
+
+fn show_raw_line(line: &[u8], data: &mut Vec<u8>, out: &mut String) -> Result<(), ScriptFault> {
+    match parse_raw_line(line, data) {
+        Ok(entry) => show_entry(&entry, data, out)?,
+        Err(RawFault::Grammar) => writeln!(out, "    not in the grammar")?,
+        Err(RawFault::Memory) => return Err(ScriptFault::Memory),
+    }
+    Ok(())
+}
+
+/// Says what each line is among raw lines: the bytes of the entry, and those beside it.
+pub fn show_raw_lines(alloc: Global, lines: &[&str], out: &mut String) -> Result<(), ScriptFault> {
+    let mut data = Vec::new(alloc);
+    for line in lines {
+        show_line(line, out)?;
+        show_raw_line(&meant(alloc, line)?, &mut data, out)?;
+    }
+    Ok(())
+}

@@ -1,0 +1,45 @@
+//! Runs a script of worked examples, and writes down what the drive and the disk do.
+//!
+//! The script comes on standard input. Each of its lines is repeated on standard output, with what it
+//! did below it, four spaces further in. `docs/scripts.md` describes the lines.
+//!
+//! ```text
+//! drive wide
+//! trace 9
+//! > fill 0 2 aa
+//!     sent Append of 3 blocks at 0
+//!     ok
+//! ```
+#![tactic(auto)]
+
+mod batches;
+mod bench;
+mod calls;
+mod fault;
+mod flat;
+mod grammar;
+mod questions;
+mod requests;
+mod runs;
+mod script;
+mod show;
+mod stops;
+mod words;
+mod world;
+
+use std::io;
+use std::process::ExitCode;
+
+fn main(rt: HostRuntime) -> io::Result<ExitCode> {
+    let text = io::read_to_string(rt.alloc(), rt.reader())?;
+    let mut out = String::new(rt.alloc());
+    let ended = script::run_script(rt.alloc(), &text, &mut out);
+    print!(rt; "{out}")?;
+    match ended {
+        Ok(()) => Ok(ExitCode::SUCCESS),
+        Err(fault) => {
+            eprintln!(rt; "the script ends here: {fault}")?;
+            Ok(ExitCode::FAILURE)
+        }
+    }
+}
