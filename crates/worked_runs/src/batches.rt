@@ -97,6 +97,7 @@ impl Batch {
             kind: self.kind,
             sequence: self.sequence,
             source: self.source,
+            size: None,
             entries: self.entries,
         };
         if !is_heading(&header, 512) {
