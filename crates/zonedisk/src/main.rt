@@ -9,12 +9,6 @@ pub use job::{Job, job_of};
 pub use program::run_job;
 
 #[cfg(test)]
-mod fakes;
-#[cfg(test)]
-mod program_tests;
-#[cfg(test)]
-mod raw_tests;
-#[cfg(test)]
 mod tests;
 
 use clap::error::ErrorKind;
