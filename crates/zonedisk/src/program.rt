@@ -21,7 +21,15 @@ fn fresh_drive(alloc: Global, geometry: Geometry) -> Result<Drive, RunFault> {
 fn show_zones<W: Write>(alloc: Global, drive: &Drive, output: &mut W) -> Result<(), RunFault> {
     let geometry = drive.geometry();
     let dwords = 16 * (geometry.zones as u64 + 1);
-    let Ok(report) = report_bytes(alloc, drive, geometry, 0, ReportingOptions::AnyState, false, dwords) else {
+    let Ok(report) = report_bytes(
+        alloc,
+        drive,
+        geometry,
+        0,
+        ReportingOptions::AnyState,
+        false,
+        dwords,
+    ) else {
         return Err(RunFault::Memory);
     };
     let Ok(text) = report_text(alloc, &report) else {
