@@ -40,17 +40,3 @@ impl ReportHead {
         }
     }
 }
-
-#[cfg(test)]
-mod tests {
-    use super::*;
-
-    #[test]
-    fn head_of_four_zones(rt: HostRuntime) {
-        let head = ReportHead { zones: 4 };
-        let mut want = [0; 64];
-        want[0] = 4;
-        assert_eq!(rt; head.encode(), want);
-        assert_eq!(rt; ReportHead::decode(&want), Ok(head));
-    }
-}
