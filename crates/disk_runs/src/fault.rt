@@ -8,32 +8,33 @@ use thiserror::Error;
 use zone_states::GeometryFault;
 use zone_translator::{DiskFault, MountFault};
 
-/// Why a run ended before its lines did.
+/// Why a run ended before its lines did. As text it is the name of its variant; `write_fault` writes the
+/// line that a program shows.
 #[derive(Clone, Copy, Debug, PartialEq, Eq, Error)]
 pub enum RunFault {
     /// The line of this number, counted from 1, is not in the grammar.
-    #[error("line {0} is not in the grammar")]
+    #[error("Line")]
     Line(u64),
     /// The line of this number has more than `LONGEST_LINE` bytes.
-    #[error("line {0} is too long")]
+    #[error("Long")]
     Long(u64),
     /// The disk refused a call, or the drive halted.
-    #[error("the disk refused a call: {0:?}")]
+    #[error("Disk")]
     Disk(DiskFault),
     /// The drive was not mounted.
-    #[error("the drive was not mounted: {0:?}")]
+    #[error("Mount")]
     Mount(MountFault),
     /// The geometry of the drive is out of range.
-    #[error("the geometry is out of range: {0:?}")]
+    #[error("Geometry")]
     Geometry(GeometryFault),
     /// The reader failed, or did not end.
-    #[error("the input failed")]
+    #[error("Input")]
     Input,
     /// The writer failed, or took no byte.
-    #[error("the output failed")]
+    #[error("Output")]
     Output,
     /// Memory ran out for a line or a reply. Nothing came of the line.
-    #[error("out of memory")]
+    #[error("Memory")]
     Memory,
 }
 

@@ -179,21 +179,21 @@ fn typed_call(
         Ok(Command::Append { zslba, .. }) => append_call(alloc, bench, zslba, &request.bytes),
         Ok(Command::Read { slba, blocks }) => read_call(bench, slba, blocks, data),
         Ok(Command::Send { slba, action, .. }) => send_call(alloc, bench, slba, action),
-        Ok(Command::Receive { choice, .. }) if is_count => {
-            numbered(count_zones(bench, choice, data))
+        Ok(Command::Receive { options, .. }) if is_count => {
+            numbered(count_zones(bench, options, data))
         }
         Ok(
             Command::Receive {
                 slba,
                 dwords,
-                choice,
+                options,
                 partial,
             },
         ) => {
             if dwords < 16 || dwords > 1 << 32 {
                 return Answer::None;
             }
-            done(report(bench, slba, choice, partial, dwords, data))
+            done(report(bench, slba, options, partial, dwords, data))
         }
         _ => Answer::None,
     }
