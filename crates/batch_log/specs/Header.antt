@@ -22,7 +22,7 @@ heading_of header = record { kind = header.kind; sequence = header.sequence; sou
 abbrev pub head_size : ℕ
 head_size = 32
 
--- how many entries a header block of so many bytes can hold
+-- how many entries a header block can hold, by its size in bytes
 abbrev pub entry_room : ℕ → ℕ
 entry_room block_bytes = (block_bytes - head_size) / 8
 

@@ -14,7 +14,7 @@ pub(crate) const TRIM_BIT: u64 = 1 << 63;
 /// How a header begins.
 pub(crate) const MAGIC: [u8; 8] = *b"ZLOGBAT1";
 
-/// How many entries a header block of so many bytes has room for.
+/// How many entries a header block has room for, by its size in bytes.
 pub fn entry_room(block_bytes: u32) -> u32
     ensures { result ≡ entry_room block_bytes }
 {

@@ -52,7 +52,7 @@ fn ends_where_the_reader_fails(rt: HostRuntime) {
     }
 }
 
-// The writer takes so many bytes of the replies to a trace, and to two raw lines without a command.
+// The writer takes the first bytes of the replies to a trace, and to two raw lines without a command.
 #[test]
 fn ends_where_the_writer_fails(rt: HostRuntime) -> Result<(), Fail> {
     let mut lines = Vec::from_slice(rt.alloc(), b"0f00070001000000")?;

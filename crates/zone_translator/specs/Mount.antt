@@ -15,7 +15,7 @@ use Rattle.zone_translator.specs.declared.mount.MountFault.TheVariants.{Reserve,
 abbrev pub IsFresh : DriveState → Type 0
 IsFresh drive = AreEmpty (contents drive.zones)
 
--- why a drive isn't mounted as so many blocks, in the order of the refusals
+-- why a drive isn't mounted as that many blocks, in the order of the refusals
 abbrev pub MountRefuses : DriveState → ℕ → MountFault → Type 0
 MountRefuses drive blocks Limits = IsInRange drive.geometry → ⊥
 MountRefuses drive blocks Reserve = IsInRange drive.geometry × (FitsReserve drive.geometry blocks → ⊥)
