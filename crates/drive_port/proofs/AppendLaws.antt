@@ -1,22 +1,25 @@
--- What an Append that succeeded did, and which Append a drive can't refuse.
-use Rattle.std.proofs.Common.{◌≡◌, ℕ, zero, suc, ◌+◌, ◌/◌, ◌%◌, ◌<◌, Bool, true, false, not, eqb, cond, List, ◌++◌, length, drop, Result, Ok, Err, refl, ap, ◌∙◌, inl, inr, arith}
-use Rattle.std.specs.Prelude.{IfOk, OnErr, nat_lt, ◌==◌}
+-- What an Append left, and which Append a drive can't refuse.
+use Rattle.std.proofs.Common.{◌≡◌, ℕ, zero, suc, ◌+◌, ◌/◌, ◌%◌, ◌*◌, ◌<◌, ◌⊎◌, Bool, true, false, not, eqb, cond, List, ◌++◌, length, drop, take, Result, Ok, Err, refl, ap, ◌∙◌, inl, inr, arith}
+use Rattle.std.specs.Prelude.{IfOk, nat_lt, slice_set, ◌==◌}
 use Rattle.std.proofs.lemmas.Bool.{eq-eqb, leb-false, le-ltb, lt-leb, ltb-false}
-use Rattle.std.proofs.lemmas.List.{length-map, map-set}
+use Rattle.std.proofs.lemmas.List.{length-map, map-set, take_all}
 use Rattle.std.proofs.Math.Nat.{div-lt_iff_lt-mul}
 use Rattle.nvme_wire.specs.declared.command.Command.TheVariants.{Append}
 use Rattle.nvme_wire.specs.declared.status.Status.TheVariants.{Success}
 use Rattle.nvme_wire.specs.declared.zone_state.ZoneState.{ZoneState}
 use Rattle.nvme_wire.specs.declared.zone_state.ZoneState.TheVariants.{Empty, ImplicitlyOpened, ExplicitlyOpened, Closed, ReadOnly, Full, Offline}
+use Rattle.zone_states.specs.declared.geometry.Geometry.{Geometry}
 use Rattle.zone_states.specs.Zone.{Zone, cut_blocks, opened_by_write, written_zone}
 use Rattle.drive_port.specs.declared.calls.PortFault.{PortFault}
 use Rattle.drive_port.specs.declared.calls.PortFault.TheVariants.{Refused, Memory, Stopped}
 use Rattle.drive_port.specs.Drive.{ClosesOne, DriveState, IsClosing, IsLawful}
-use Rattle.drive_port.specs.Step.{Performs, append_checks, end_of, zone_at}
-use Rattle.drive_port.specs.Contents.{Content, SameContents, content_at, content_of, contents, filled, full, active, is_writable, usage_of}
-use Rattle.drive_port.specs.Calls.{Appended, AppendGives, AppendLeaves, CanAppend, IsNotRefused, IsWholeBlocks, block_count}
+use Rattle.drive_port.specs.Step.{Effect, Performs, append_checks, end_of, zone_at}
+use Rattle.drive_port.specs.Contents.{Appends, Content, content_at, content_of, contents, filled, full, active, is_writable, usage_of}
+use Rattle.drive_port.specs.Halting.{LeftBy, TornAppend}
+use Rattle.drive_port.specs.Calls.{Appended, AppendGives, AppendKeeps, AppendLeaves, CanAppend, IsNotRefused, IsWholeBlocks, block_count}
 use Rattle.drive_port.proofs.ClosingLaws.{IsClosing-set_after, content_at-closing, content_of-closes, zone_at-closing}
-use Rattle.drive_port.proofs.StepLaws.{call-same, counts-success, leaves-err, outcome-passes, succeeded, succeeds}
+use Rattle.drive_port.proofs.StepLaws.{counts-success, outcome-passes, refused-closing, same_contents-closing, same_contents-same, succeeded, succeeds}
+use Rattle.drive_port.proofs.HaltLaws.{cut-front, left-front}
 use Rattle.drive_port.proofs.CheckLaws.{AllPass, data-pass, resource-pass, state-pass, state-passed}
 
 -- ---- one zone
@@ -48,29 +51,40 @@ zone-in_range drive start lawful lt =
     let below : start / drive.geometry.size < drive.geometry.zones = (div-lt_iff_lt-mul some).1 lt in
     omega (arith, below, lawful.count)
 
-pub append-succeeded : (old new : DriveState) (start : ℕ) (bytes returned : List ℕ) (value : ℕ) → IsLawful old
-    → Performs old (Ok (Append start (block_count old.geometry bytes))) bytes Success value returned new → Appended old new start bytes value
-append-succeeded old new start bytes returned value lawful step =
-    let s = succeeded old.geometry old.zones new.zones (Ok (Append start (block_count old.geometry bytes))) bytes returned value step.effect in
+-- the contents that it leaves
+pub effect-appends : (old : DriveState) (new : List Zone) (start blocks : ℕ) (bytes returned : List ℕ) (value : ℕ) → IsLawful old
+    → Effect old.geometry old.zones (Ok (Append start blocks)) bytes Success value returned new
+    → Appends (contents old.zones) (contents new) old.geometry.capacity (start / old.geometry.size) (cut_blocks old.geometry.block blocks bytes)
+effect-appends old new start blocks bytes returned value lawful effect =
+    let s = succeeded old.geometry old.zones new (Ok (Append start blocks)) bytes returned value effect in
     let index = start / old.geometry.size in
-    let zone = zone_at step.effect.middle index in
-    let blocks = cut_blocks old.geometry.block (block_count old.geometry bytes) bytes in
+    let zone = zone_at effect.middle index in
+    let cut = cut_blocks old.geometry.block blocks bytes in
     let p = s.passed in
-    let at : content_at (contents old.zones) index ≡ content_of zone = content_at-closing old.zones step.effect.middle index step.effect.before in
+    let at : content_at (contents old.zones) index ≡ content_of zone = content_at-closing old.zones effect.middle index effect.before in
     let index_low = zone-in_range old start lawful (leb-false _ _ p.1.1.1.0) in
     let writable = state-passed zone (p.1.1.1.1.0, (p.1.1.1.1.1.0, (p.1.1.1.1.1.1.0, tt))) in
     let room = ltb-false _ _ p.1.1.1.1.1.1.1.0 in
     record {
+      in_range = omega (arith, index_low, length-map old.zones content_of);
+      writable = rw at writable;
+      room = rw (at, length-cut old.geometry.block blocks bytes) room;
+      zones = s.after ∙ map-set content_of effect.middle index (written_zone old.geometry.capacity zone cut)
+          ∙ rw (s.before, content_of-written old.geometry.capacity zone cut writable, at) refl;
+    }
+
+pub append-succeeded : (old new : DriveState) (start : ℕ) (bytes returned : List ℕ) (value : ℕ) → IsLawful old
+    → Performs old (Ok (Append start (block_count old.geometry bytes))) bytes Success value returned new → Appended old new start bytes value
+append-succeeded old new start bytes returned value lawful step =
+    let blocks = block_count old.geometry bytes in
+    let s = succeeded old.geometry old.zones new.zones (Ok (Append start blocks)) bytes returned value step.effect in
+    let index = start / old.geometry.size in
+    let at : content_at (contents old.zones) index ≡ content_of (zone_at step.effect.middle index) = content_at-closing old.zones step.effect.middle index step.effect.before in
+    record {
       geometry = step.geometry;
-      counts = counts-success old new (Ok (Append start (block_count old.geometry bytes))) bytes returned value step;
+      counts = counts-success old new (Ok (Append start blocks)) bytes returned value step;
       address_is = s.value_is ∙ rw at refl;
-      contents = record {
-        in_range = omega (arith, index_low, length-map old.zones content_of);
-        writable = rw at writable;
-        room = rw (at, length-cut old.geometry.block (block_count old.geometry bytes) bytes) room;
-        zones = s.after ∙ map-set content_of step.effect.middle index (written_zone old.geometry.capacity zone blocks)
-            ∙ rw (s.before, content_of-written old.geometry.capacity zone blocks writable, at) refl;
-      };
+      contents = effect-appends old new.zones start blocks bytes returned value lawful step.effect;
     }
 
 -- ---- the zones that an Append leaves
@@ -83,19 +97,62 @@ written-closes capacity zone closed blocks one =
       | inr closing ↦ rw (closing.0, closing.1, one.blocks) refl
     ]
 
-pub append-leaves : (old new : DriveState) (start : ℕ) (bytes : List ℕ) (result : Result ℕ PortFault) → AppendGives old start bytes result new → AppendLeaves old start bytes result new
-append-leaves old new start bytes (Ok value) gives =
-    let command = Append start (block_count old.geometry bytes) in
-    let effect = gives.1.1.effect in
-    let index = start / old.geometry.size in
-    let blocks = cut_blocks old.geometry.block (block_count old.geometry bytes) bytes in
-    let s = succeeded old.geometry old.zones new.zones (Ok command) bytes gives.0 value effect in
-    let same = written-closes old.geometry.capacity (zone_at old.zones index) (zone_at effect.middle index) blocks (zone_at-closing old.zones effect.middle index effect.before) in
-    IsClosing-set_after old.zones effect.middle new.zones index (written_zone old.geometry.capacity (zone_at old.zones index) blocks) effect.before
-    (rw (outcome-passes old.geometry effect.middle (Ok command) bytes s.passed, same) at effect.after)
-append-leaves old new start bytes (Err fault) gives =
-    leaves-err ℕ old new start (written_zone old.geometry.capacity (zone_at old.zones (start / old.geometry.size)) (cut_blocks old.geometry.block (block_count old.geometry bytes) bytes))
-    (Append start (block_count old.geometry bytes)) bytes gives.0 fault gives.1
+pub effect-written : (geometry : Geometry) (old new : List Zone) (start blocks : ℕ) (bytes returned : List ℕ) (value : ℕ)
+    → Effect geometry old (Ok (Append start blocks)) bytes Success value returned new
+    → IsClosing (slice_set old (start / geometry.size) (written_zone geometry.capacity (zone_at old (start / geometry.size)) (cut_blocks geometry.block blocks bytes))) new
+effect-written geometry old new start blocks bytes returned value effect =
+    let index = start / geometry.size in
+    let cut = cut_blocks geometry.block blocks bytes in
+    let s = succeeded geometry old new (Ok (Append start blocks)) bytes returned value effect in
+    let same = written-closes geometry.capacity (zone_at old index) (zone_at effect.middle index) cut (zone_at-closing old effect.middle index effect.before) in
+    IsClosing-set_after old effect.middle new index (written_zone geometry.capacity (zone_at old index) cut) effect.before
+    (rw (outcome-passes geometry effect.middle (Ok (Append start blocks)) bytes s.passed, same) at effect.after)
+
+-- where the device stopped, a front may be written
+front-of : (old : DriveState) (new : List Zone) (start : ℕ) (bytes : List ℕ) → IsWholeBlocks old.geometry.block bytes
+    → LeftBy old.geometry old.zones (Ok (Append start (block_count old.geometry bytes))) bytes new
+    → IsClosing old.zones new ⊎ TornAppend old.geometry old.zones start (block_count old.geometry bytes) bytes new
+front-of old new start bytes whole left =
+    left-front old.geometry old.zones new start (block_count old.geometry bytes) bytes whole.some (take_all _ bytes (omega (arith, whole.whole))) left
+
+pub append-leaves : (old new : DriveState) (start : ℕ) (bytes : List ℕ) (result : Result ℕ PortFault) → IsWholeBlocks old.geometry.block bytes
+    → AppendGives old start bytes result new → AppendLeaves old start bytes result new
+append-leaves old new start bytes (Ok value) whole gives =
+    effect-written old.geometry old.zones new.zones start (block_count old.geometry bytes) bytes gives.0 value gives.1.1.effect
+append-leaves old new start bytes (Err (Refused status)) whole gives = refused-closing old new (Append start (block_count old.geometry bytes)) bytes gives.0 status gives.1
+append-leaves old new start bytes (Err Memory) whole gives = gives.1.1.1
+append-leaves old new start bytes (Err Stopped) whole gives =
+    let n = block_count old.geometry bytes in
+    elim (front-of old new.zones start bytes whole gives.1.1.left) [
+      | inl closing ↦ inl closing
+      | inr torn ↦ inr (record {
+        j = torn.j;
+        some = torn.some;
+        few = omega (arith, torn.few, length-cut old.geometry.block n bytes);
+        zones = rw (← cut-front old.geometry.block n torn.j bytes torn.few)
+            (effect-written old.geometry old.zones new.zones start torn.j (take (torn.j * old.geometry.block) bytes) torn.returned torn.value torn.effect);
+      })
+    ]
+
+pub append-keeps : (old new : DriveState) (start : ℕ) (bytes : List ℕ) (result : Result ℕ PortFault) → IsLawful old → new.geometry ≡ old.geometry
+    → IsWholeBlocks old.geometry.block bytes → AppendGives old start bytes result new → AppendKeeps old start bytes result new
+append-keeps old new start bytes (Ok value) lawful geometry whole gives = tt
+append-keeps old new start bytes (Err (Refused status)) lawful geometry whole gives =
+    same_contents-closing old new geometry (refused-closing old new (Append start (block_count old.geometry bytes)) bytes gives.0 status gives.1)
+append-keeps old new start bytes (Err Memory) lawful geometry whole gives = same_contents-same old new gives.1.1.1
+append-keeps old new start bytes (Err Stopped) lawful geometry whole gives =
+    let n = block_count old.geometry bytes in
+    elim (front-of old new.zones start bytes whole gives.1.1.left) [
+      | inl closing ↦ inl (same_contents-closing old new geometry closing)
+      | inr torn ↦ inr (record {
+        geometry = geometry;
+        j = torn.j;
+        some = torn.some;
+        few = omega (arith, torn.few, length-cut old.geometry.block n bytes);
+        contents = rw (← cut-front old.geometry.block n torn.j bytes torn.few)
+            (effect-appends old new.zones start torn.j (take (torn.j * old.geometry.block) bytes) torn.returned torn.value lawful torn.effect);
+      })
+    ]
 
 -- ---- an Append that isn't refused
 
@@ -129,7 +186,3 @@ append-is_taken old new start bytes (Err (Refused status)) lawful whole gives ca
     gives.1.1 (succeeds old.geometry old.zones new.zones (Ok (Append start (block_count old.geometry bytes))) bytes gives.0 status gives.1.2 step.effect (append-passes old start bytes step.effect.middle lawful step.effect.before whole can))
 append-is_taken old new start bytes (Err Memory) lawful whole gives can = tt
 append-is_taken old new start bytes (Err Stopped) lawful whole gives can = tt
-
-pub append-if_err : (old new : DriveState) (start : ℕ) (bytes : List ℕ) (result : Result ℕ PortFault) → AppendGives old start bytes result new → OnErr result (SameContents old new)
-append-if_err old new start bytes (Ok value) gives = tt
-append-if_err old new start bytes (Err fault) gives = (call-same old new (Append start (block_count old.geometry bytes)) bytes gives.0 (Err fault) gives.1).0

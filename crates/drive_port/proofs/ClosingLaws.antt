@@ -1,15 +1,17 @@
 -- What a closing and a restart leave of the zones.
-use Rattle.std.proofs.Common.{◌≡◌, ℕ, zero, suc, ◌≤◌, Bool, cond, List, [], ◌∷◌, map, length, refl, sym, ap, ◌∙◌, inl, inr, arith}
+use Rattle.std.proofs.Common.{◌≡◌, ℕ, zero, suc, ◌≤◌, Bool, false, cond, List, [], ◌∷◌, map, length, refl, sym, ap, ◌∙◌, inl, inr, arith}
 use Rattle.std.specs.Prelude.{slice_set}
-use Rattle.std.specs.List.{remove}
+use Rattle.std.specs.List.{AllByRecursion, remove}
 use Rattle.std.proofs.Math.ListN.{get_or-map}
+use Rattle.std.proofs.lemmas.List.{length-map}
 use Rattle.std.proofs.lemmas.List.Sums.{sum_by-cons}
 use Rattle.nvme_wire.specs.declared.zone_state.ZoneState.{ZoneState}
 use Rattle.nvme_wire.specs.declared.zone_state.ZoneState.TheVariants.{Empty, ImplicitlyOpened, ExplicitlyOpened, Closed, ReadOnly, Full, Offline}
 use Rattle.zone_states.specs.Transition.{is_active, is_open}
-use Rattle.zone_states.specs.Zone.{Zone}
-use Rattle.drive_port.specs.Drive.{ClosesOne, IsClosing, active_count, open_count}
-use Rattle.drive_port.specs.Run.{restarted_state, restarted_zone}
+use Rattle.zone_states.specs.declared.geometry.Geometry.{Geometry}
+use Rattle.zone_states.specs.Zone.{IsLawfulZone, MayHold, Zone}
+use Rattle.drive_port.specs.Drive.{ClosesOne, DriveState, IsClosing, IsLawful, active_count, open_count}
+use Rattle.drive_port.specs.Run.{restarted, restarted_state, restarted_zone}
 use Rattle.drive_port.specs.Contents.{content_of, contents, content_at, usage_of}
 use Rattle.drive_port.specs.Step.{zone_at, nowhere}
 
@@ -127,6 +129,62 @@ open_count-closing (z ∷ zs) (y ∷ ys) h =
     omega (arith, one, rest, was, is)
 open_count-closing [] (y ∷ ys) h = absurd h
 open_count-closing (z ∷ zs) [] h = absurd h
+
+-- ---- a restart keeps a drive lawful
+
+may_hold-restarted : (state : ZoneState) (capacity written : ℕ) → MayHold state capacity written → MayHold (restarted_state state) capacity written
+may_hold-restarted Empty capacity written h = h
+may_hold-restarted ImplicitlyOpened capacity written h = h
+may_hold-restarted ExplicitlyOpened capacity written h = h
+may_hold-restarted Closed capacity written h = h
+may_hold-restarted ReadOnly capacity written h = h
+may_hold-restarted Full capacity written h = h
+may_hold-restarted Offline capacity written h = h
+
+active-restarted : (state : ZoneState) → is_active (restarted_state state) ≡ is_active state
+active-restarted Empty = refl
+active-restarted ImplicitlyOpened = refl
+active-restarted ExplicitlyOpened = refl
+active-restarted Closed = refl
+active-restarted ReadOnly = refl
+active-restarted Full = refl
+active-restarted Offline = refl
+
+open-restarted : (state : ZoneState) → is_open (restarted_state state) ≡ false
+open-restarted Empty = refl
+open-restarted ImplicitlyOpened = refl
+open-restarted ExplicitlyOpened = refl
+open-restarted Closed = refl
+open-restarted ReadOnly = refl
+open-restarted Full = refl
+open-restarted Offline = refl
+
+zones-restarted : (geometry : Geometry) (zones : List Zone) → AllByRecursion (IsLawfulZone geometry) zones → AllByRecursion (IsLawfulZone geometry) (map restarted_zone zones)
+zones-restarted geometry [] all = tt
+zones-restarted geometry (z ∷ zs) all = (record { written = may_hold-restarted z.state geometry.capacity (length z.blocks) all.0.written; whole = all.0.whole }, zones-restarted geometry zs all.1)
+
+active_count-restarted : (zones : List Zone) → active_count (map restarted_zone zones) ≡ active_count zones
+active_count-restarted [] = refl
+active_count-restarted (z ∷ zs) =
+    let one = ap {B = ℕ} (λ (b : Bool). cond b 1 0) (active-restarted z.state) in
+    omega (arith, one, active_count-restarted zs, sum_by-cons (λ (zone : Zone). cond (is_active zone.state) 1 0) z zs, sum_by-cons (λ (zone : Zone). cond (is_active zone.state) 1 0) (restarted_zone z) (map restarted_zone zs))
+
+open_count-restarted : (zones : List Zone) → open_count (map restarted_zone zones) ≡ 0
+open_count-restarted [] = refl
+open_count-restarted (z ∷ zs) =
+    let one = ap {B = ℕ} (λ (b : Bool). cond b 1 0) (open-restarted z.state) in
+    omega (arith, one, open_count-restarted zs, sum_by-cons (λ (zone : Zone). cond (is_open zone.state) 1 0) (restarted_zone z) (map restarted_zone zs))
+
+pub lawful-restarted : (drive : DriveState) → IsLawful drive → IsLawful (restarted drive)
+lawful-restarted drive lawful = record {
+  geometry = lawful.geometry;
+  count = length-map drive.zones restarted_zone ∙ lawful.count;
+  zones = zones-restarted drive.geometry drive.zones lawful.zones;
+  active = omega (arith, active_count-restarted drive.zones, lawful.active);
+  open_zones = omega (arith, open_count-restarted drive.zones);
+  completed = omega arith;
+  stopped = λ e. absurd (omega arith);
+}
 
 -- ---- one zone
 

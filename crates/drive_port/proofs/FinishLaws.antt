@@ -1,5 +1,5 @@
--- What a Finish that succeeded did, and which Finish a drive can't refuse.
-use Rattle.std.proofs.Common.{◌≡◌, ℕ, ◌/◌, true, false, List, [], Result, Ok, Err, refl, sym, ap, ◌∙◌, arith}
+-- What a Finish left, and which Finish a drive can't refuse.
+use Rattle.std.proofs.Common.{◌≡◌, ℕ, ◌/◌, true, false, List, [], Result, Ok, Err, refl, sym, ap, ◌∙◌, inl, inr, arith}
 use Rattle.std.specs.Prelude.{OnOk}
 use Rattle.std.proofs.lemmas.Bool.{eq-eqb, leb-false, lt-leb}
 use Rattle.std.proofs.lemmas.List.{length-map, map-set}
@@ -13,14 +13,15 @@ use Rattle.zone_states.specs.Zone.{Zone}
 use Rattle.drive_port.specs.declared.calls.PortFault.{PortFault}
 use Rattle.drive_port.specs.declared.calls.PortFault.TheVariants.{Refused, Memory, Stopped}
 use Rattle.drive_port.specs.Drive.{DriveState, IsClosing, IsLawful}
-use Rattle.drive_port.specs.Step.{Performs, is_refusal, send_checks, zone_after, zone_at}
-use Rattle.drive_port.specs.Contents.{Content, content_at, content_of, contents, finished, is_usable, usage_of}
-use Rattle.drive_port.specs.Calls.{CanFinish, Finished, FinishGives, FinishLeaves, IsNotRefused}
+use Rattle.drive_port.specs.Step.{Effect, is_refusal, send_checks, zone_after, zone_at}
+use Rattle.drive_port.specs.Contents.{Content, Finishes, content_at, content_of, contents, finished, is_usable, usage_of}
+use Rattle.drive_port.specs.Calls.{CanFinish, Finished, FinishGives, FinishKeeps, FinishLeaves, IsNotRefused}
 use Rattle.drive_port.proofs.ClosingLaws.{content_at-closing, content_of-closes, zone_at-closing}
-use Rattle.drive_port.proofs.StepLaws.{counts-success, leaves-err, succeeded, succeeds}
+use Rattle.drive_port.proofs.StepLaws.{counts-success, refused-closing, same_contents-closing, same_contents-same, succeeded, succeeds}
+use Rattle.drive_port.proofs.HaltLaws.{left-done}
 use Rattle.drive_port.proofs.CheckLaws.{AllPass}
 use Rattle.drive_port.proofs.AppendLaws.{zone-in_range}
-use Rattle.drive_port.proofs.SendLaws.{sent-zones}
+use Rattle.drive_port.proofs.SendLaws.{Gives, send-leaves}
 
 -- ---- one zone
 
@@ -45,41 +46,53 @@ usable-passes Offline u = absurd (cc u)
 content_of-finished : (zone : Zone) → is_usable (usage_of zone.state) ≡ true → content_of (zone_after actions.Finish zone (state_after zone.state actions.Finish)) ≡ finished (content_of zone)
 content_of-finished zone u = rw (usable-passes zone.state u) refl
 
--- ---- a Finish that succeeded
+finishes : Gives actions.Finish Full
+finishes state e = usable-passes state (usable-passed state e)
 
-pub finish-succeeded : (old new : DriveState) (start : ℕ) (bytes returned : List ℕ) (value : ℕ) → IsLawful old
-    → Performs old (Ok (Send start actions.Finish false)) bytes Success value returned new → Finished old new start
-finish-succeeded old new start bytes returned value lawful step =
-    let s = succeeded old.geometry old.zones new.zones (Ok (Send start actions.Finish false)) bytes returned value step.effect in
+-- ---- what a Finish leaves
+
+effect-finishes : (old : DriveState) (new : List Zone) (start : ℕ) (bytes returned : List ℕ) (value : ℕ) → IsLawful old
+    → Effect old.geometry old.zones (Ok (Send start actions.Finish false)) bytes Success value returned new
+    → Finishes (contents old.zones) (contents new) (start / old.geometry.size)
+effect-finishes old new start bytes returned value lawful effect =
+    let s = succeeded old.geometry old.zones new (Ok (Send start actions.Finish false)) bytes returned value effect in
     let index = start / old.geometry.size in
-    let zone = zone_at step.effect.middle index in
-    let at : content_at (contents old.zones) index ≡ content_of zone = content_at-closing old.zones step.effect.middle index step.effect.before in
+    let zone = zone_at effect.middle index in
+    let at : content_at (contents old.zones) index ≡ content_of zone = content_at-closing old.zones effect.middle index effect.before in
     let index_low = zone-in_range old start lawful (leb-false _ _ s.passed.1.0) in
     let usable = usable-passed zone.state s.passed.1.1.0 in
     record {
-      geometry = step.geometry;
-      counts = counts-success old new (Ok (Send start actions.Finish false)) bytes returned value step;
-      contents = record {
-        in_range = omega (arith, index_low, length-map old.zones content_of);
-        usable = rw at usable;
-        zones = s.after ∙ map-set content_of step.effect.middle index (zone_after actions.Finish zone (state_after zone.state actions.Finish))
-            ∙ rw (s.before, content_of-finished zone usable, at) refl;
-      };
+      in_range = omega (arith, index_low, length-map old.zones content_of);
+      usable = rw at usable;
+      zones = s.after ∙ map-set content_of effect.middle index (zone_after actions.Finish zone (state_after zone.state actions.Finish))
+          ∙ rw (s.before, content_of-finished zone usable, at) refl;
     }
 
 pub finish-if_ok : {V : Type 0} (old new : DriveState) (start : ℕ) (result : Result V PortFault) → IsLawful old
     → FinishGives old start result new → OnOk result (Finished old new start)
-finish-if_ok old new start (Ok value) lawful gives = finish-succeeded old new start [] gives.0 0 lawful gives.1.1
+finish-if_ok old new start (Ok value) lawful gives =
+    let step = gives.1.1 in
+    record {
+      geometry = step.geometry;
+      counts = counts-success old new (Ok (Send start actions.Finish false)) [] gives.0 0 step;
+      contents = effect-finishes old new.zones start [] gives.0 0 lawful step.effect;
+    }
 finish-if_ok old new start (Err fault) lawful gives = tt
 
+pub finish-keeps : {V : Type 0} (old new : DriveState) (start : ℕ) (result : Result V PortFault) → IsLawful old → new.geometry ≡ old.geometry
+    → FinishGives old start result new → FinishKeeps old start result new
+finish-keeps old new start (Ok value) lawful geometry gives = tt
+finish-keeps old new start (Err (Refused status)) lawful geometry gives =
+    same_contents-closing old new geometry (refused-closing old new (Send start actions.Finish false) [] gives.0 status gives.1)
+finish-keeps old new start (Err Memory) lawful geometry gives = same_contents-same old new gives.1.1.1
+finish-keeps old new start (Err Stopped) lawful geometry gives =
+    elim (left-done old.geometry old.zones new.zones (Send start actions.Finish false) [] refl gives.1.1.left) [
+      | inl closing ↦ inl (same_contents-closing old new geometry closing)
+      | inr done ↦ inr (record { geometry = geometry; contents = effect-finishes old new.zones start [] done.returned done.value lawful done.effect })
+    ]
+
 pub finish-leaves : {V : Type 0} (old new : DriveState) (start : ℕ) (result : Result V PortFault) → FinishGives old start result new → FinishLeaves old start result new
-finish-leaves old new start (Ok value) gives =
-    let step = gives.1.1 in
-    let s = succeeded old.geometry old.zones new.zones (Ok (Send start actions.Finish false)) [] gives.0 0 step.effect in
-    let state = (zone_at step.effect.middle (start / old.geometry.size)).state in
-    sent-zones old new start actions.Finish Full [] gives.0 0 step (usable-passes state (usable-passed state s.passed.1.1.0))
-finish-leaves {V = V} old new start (Err fault) gives =
-    leaves-err V old new start (record { state = Full; blocks = (zone_at old.zones (start / old.geometry.size)).blocks }) (Send start actions.Finish false) [] gives.0 fault gives.1
+finish-leaves {V = V} old new start result gives = send-leaves {V = V} old new start actions.Finish Full result finishes gives
 
 -- ---- a Finish that isn't refused
 

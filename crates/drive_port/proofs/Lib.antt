@@ -1,6 +1,8 @@
 pub mod ClosingLaws
 pub mod CheckLaws
 pub mod StepLaws
+pub mod HaltLaws
+pub mod StopLaws
 pub mod AppendLaws
 pub mod ReadLaws
 pub mod FinishLaws

@@ -12,10 +12,10 @@ use Rattle.drive_port.specs.declared.calls.PortFault.{PortFault}
 use Rattle.drive_port.specs.declared.calls.PortFault.TheVariants.{Refused, Memory, Stopped}
 use Rattle.drive_port.specs.Drive.{DriveState, ClosesOne, IsClosing, IsLawful}
 use Rattle.drive_port.specs.Step.{Performs, block_in, bytes_from, is_state, read_checks, zone_at}
-use Rattle.drive_port.specs.Contents.{Counts, SameContents, bytes_at, contents}
+use Rattle.drive_port.specs.Contents.{Counts, bytes_at, contents}
 use Rattle.drive_port.specs.Calls.{CanRead, IsNotRefused, ReadGives}
-use Rattle.drive_port.proofs.ClosingLaws.{IsClosing-trans, content_at-closing, content_at-contents, zone_at-closing}
-use Rattle.drive_port.proofs.StepLaws.{call-closing, counts-success, outcome-passes, succeeded, succeeds}
+use Rattle.drive_port.proofs.ClosingLaws.{content_at-closing, content_at-contents, zone_at-closing}
+use Rattle.drive_port.proofs.StepLaws.{counts-success, succeeded, succeeds}
 use Rattle.drive_port.proofs.CheckLaws.{AllPass}
 
 -- ---- lengths
@@ -45,11 +45,10 @@ length-bytes_at drive address count lawful =
 
 -- ---- a Read that succeeded
 
--- the bytes of these blocks, and the contents as they were
+-- the bytes of these blocks
 pub record Showed (old new : DriveState) (address blocks : ℕ) (returned : List ℕ) : Type 0 where
   pub bytes : returned ≡ bytes_at old.geometry (contents old.zones) address blocks
   pub counts : Counts old new 0
-  pub kept : SameContents old new
 
 pub read-succeeded : (old new : DriveState) (address blocks : ℕ) (bytes returned : List ℕ) (value : ℕ)
     → Performs old (Ok (Read address blocks)) bytes Success value returned new → Showed old new address blocks returned
@@ -58,15 +57,7 @@ read-succeeded old new address blocks bytes returned value step =
     record {
       bytes = s.returned_is ∙ rw (content_at-closing old.zones step.effect.middle (address / old.geometry.size) step.effect.before) refl;
       counts = counts-success old new (Ok (Read address blocks)) bytes returned value step;
-      kept = record { geometry = step.geometry; contents = s.after ∙ s.before };
     }
-
-pub read-closing : {V : Type 0} (old new : DriveState) (address blocks : ℕ) (returned : List ℕ) (result : Result V PortFault) → ReadGives old address blocks result returned new → IsClosing old.zones new.zones
-read-closing old new address blocks returned (Ok value) gives =
-    let effect = gives.1.effect in
-    let s = succeeded old.geometry old.zones new.zones (Ok (Read address blocks)) [] returned 0 effect in
-    IsClosing-trans old.zones effect.middle new.zones effect.before (rw (outcome-passes old.geometry effect.middle (Ok (Read address blocks)) [] s.passed) at effect.after)
-read-closing old new address blocks returned (Err fault) gives = call-closing old new (Read address blocks) [] returned fault gives
 
 -- ---- a Read that isn't refused
 

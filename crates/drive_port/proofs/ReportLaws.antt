@@ -14,12 +14,10 @@ use Rattle.zone_report.specs.Report.{descriptor_room, matching, report}
 use Rattle.zone_report.proofs.ReportLaws.{length-descriptors}
 use Rattle.drive_port.specs.declared.calls.PortFault.{PortFault}
 use Rattle.drive_port.specs.declared.calls.PortFault.TheVariants.{Refused, Memory, Stopped}
-use Rattle.drive_port.specs.Drive.{DriveState, IsClosing}
+use Rattle.drive_port.specs.Drive.{DriveState}
 use Rattle.drive_port.specs.Step.{Performs, end_of}
-use Rattle.drive_port.specs.Contents.{SameContents}
 use Rattle.drive_port.specs.Calls.{IsNotRefused, ReportGives, Reported}
-use Rattle.drive_port.proofs.ClosingLaws.{IsClosing-trans, contents-closing}
-use Rattle.drive_port.proofs.StepLaws.{call-closing, counts-success, outcome-passes, succeeded, succeeds}
+use Rattle.drive_port.proofs.StepLaws.{counts-success, outcome-passes, succeeded, succeeds}
 
 -- ---- a report that succeeded
 
@@ -37,21 +35,6 @@ report-succeeded old new address options partial dwords bytes returned value ste
       bytes_are = s.returned_is;
       after = rw gives at step.effect.after;
     }
-
--- it left the contents
-pub reported-kept : (old new : DriveState) (address : ℕ) (options : ReportingOptions) (partial : Bool) (dwords : ℕ) (bytes : List ℕ)
-    → Reported old new address options partial dwords bytes → SameContents old new
-reported-kept old new address options partial dwords bytes r = record {
-  geometry = r.geometry;
-  contents = contents-closing r.zones new.zones r.after ∙ contents-closing old.zones r.zones r.before;
-}
-
-pub report-closing : {V : Type 0} (old new : DriveState) (address : ℕ) (options : ReportingOptions) (partial : Bool) (dwords : ℕ) (returned : List ℕ) (result : Result V PortFault)
-    → ReportGives old address options partial dwords result returned new → IsClosing old.zones new.zones
-report-closing old new address options partial dwords returned (Ok value) gives =
-    let r = report-succeeded old new address options partial dwords [] returned 0 gives.1 in
-    IsClosing-trans old.zones r.zones new.zones r.before r.after
-report-closing old new address options partial dwords returned (Err fault) gives = call-closing old new (Receive address dwords options partial) [] returned fault gives
 
 -- ---- its length
 

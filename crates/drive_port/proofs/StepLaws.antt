@@ -19,7 +19,7 @@ use Rattle.drive_port.specs.declared.calls.PortFault.TheVariants.{Refused, Memor
 use Rattle.drive_port.specs.Drive.{DriveState, IsClosing}
 use Rattle.drive_port.specs.Step.{Effect, Outcome, Performs, append_checks, bytes_from, decode_status, done, is_append, is_success, one_if, outcome, read_checks, receive_checks, send_checks, sent_zone, unless_refused, write_checks, write_effect, zone_after, zone_at}
 use Rattle.drive_port.specs.Contents.{Counts, SameContents, contents}
-use Rattle.drive_port.specs.Calls.{CallGives, Leaves}
+use Rattle.drive_port.specs.Calls.{CallGives}
 use Rattle.drive_port.proofs.CheckLaws.{AllPass}
 use Rattle.drive_port.proofs.ClosingLaws.{IsClosing-refl, IsClosing-trans, contents-closing}
 
@@ -188,28 +188,23 @@ same_contents-closing old new geometry closing = record { geometry = geometry; c
 
 -- ---- calls
 
--- a call that isn't Ok returned no bytes, and left the contents
-pub call-same : (old new : DriveState) (command : Command) (bytes returned : List ℕ) (result : Result ℕ PortFault)
-    → CallGives old command bytes result returned new → OnErr result (SameContents old new × (returned ≡ []))
-call-same old new command bytes returned (Ok value) gives = tt
-call-same old new command bytes returned (Err (Refused status)) gives =
-    let step = gives.3 in
-    let refused = effect-refused old.geometry old.zones new.zones (Ok command) bytes returned status gives.2 gives.1 step.effect in
-    (same_contents-closing old new step.geometry refused.0, refused.1)
-call-same old new command bytes returned (Err Memory) gives = (rw gives.1.1 (record { geometry = refl; contents = refl }), gives.0)
-call-same old new command bytes returned (Err Stopped) gives = (rw gives.1.1 (record { geometry = refl; contents = refl }), gives.0)
+-- a call that isn't Ok returned no bytes
+pub call-none : (old new : DriveState) (command : Command) (bytes returned : List ℕ) (result : Result ℕ PortFault)
+    → CallGives old command bytes result returned new → OnErr result (returned ≡ [])
+call-none old new command bytes returned (Ok value) gives = tt
+call-none old new command bytes returned (Err (Refused status)) gives =
+    (effect-refused old.geometry old.zones new.zones (Ok command) bytes returned status gives.2 gives.1 gives.3.effect).1
+call-none old new command bytes returned (Err Memory) gives = gives.0
+call-none old new command bytes returned (Err Stopped) gives = gives.0
 
--- a call that isn't Ok did no more to the zones than the controller may by itself
-pub call-closing : (old new : DriveState) (command : Command) (bytes returned : List ℕ) (fault : PortFault) → CallGives old command bytes (Err fault) returned new → IsClosing old.zones new.zones
-call-closing old new command bytes returned (Refused status) gives = (effect-refused old.geometry old.zones new.zones (Ok command) bytes returned status gives.2 gives.1 gives.3.effect).0
-call-closing old new command bytes returned Memory gives = rw gives.1.1 (IsClosing-refl old.zones)
-call-closing old new command bytes returned Stopped gives = rw gives.1.1 (IsClosing-refl old.zones)
+-- a call that was refused did no more to the zones than the controller may by itself
+pub refused-closing : (old new : DriveState) (command : Command) (bytes returned : List ℕ) (status : Status)
+    → CallGives old command bytes (Err (Refused status)) returned new → IsClosing old.zones new.zones
+refused-closing old new command bytes returned status gives =
+    (effect-refused old.geometry old.zones new.zones (Ok command) bytes returned status gives.2 gives.1 gives.3.effect).0
 
-pub leaves-err : (V : Type 0) (old new : DriveState) (start : ℕ) (zone : Zone) (command : Command) (bytes returned : List ℕ) (fault : PortFault)
-    → CallGives old command bytes (Err fault) returned new → Leaves {V = V} old start zone (Err fault) new
-leaves-err V old new start zone command bytes returned (Refused status) gives = call-closing old new command bytes returned (Refused status) gives
-leaves-err V old new start zone command bytes returned Memory gives = gives.1.1
-leaves-err V old new start zone command bytes returned Stopped gives = gives.1.1
+pub same_contents-same : (old new : DriveState) → new ≡ old → SameContents old new
+same_contents-same old new same = rw same (record { geometry = refl; contents = refl })
 
 -- no command but an Append has a result
 effect-value : (geometry : Geometry) (zones : List Zone) (command : Command) (bytes : List ℕ) → is_append (Ok command) ≡ false → (effect_of geometry zones (Ok command) bytes).value ≡ 0

@@ -1,5 +1,5 @@
 -- What the typed calls answer: each is one submit of its command.
-use Rattle.std.specs.Prelude.{◌≡◌, ◌≢◌, ℕ, ◌+◌, ◌-◌, ◌/◌, ◌*◌, ◌%◌, ◌≤◌, ◌<◌, Bool, true, false, List, [], length, count_by, slice_set, Result, Ok, Err}
+use Rattle.std.specs.Prelude.{◌≡◌, ◌≢◌, ◌⊎◌, ℕ, ◌+◌, ◌-◌, ◌/◌, ◌*◌, ◌%◌, ◌≤◌, ◌<◌, Bool, true, false, List, [], length, take, count_by, slice_set, Result, Ok, Err}
 use Rattle.std.specs.List.{remove}
 use Rattle.nvme_wire.specs.declared.command.Action.{Action}
 use Rattle.nvme_wire.specs.declared.command.Action.TheVariants.{Close, Finish, Reset}
@@ -16,23 +16,25 @@ use Rattle.drive_port.specs.declared.calls.PortFault.{PortFault}
 use Rattle.drive_port.specs.declared.calls.PortFault.TheVariants.{Refused, Memory, Stopped}
 use Rattle.drive_port.specs.declared.device.Halt.TheVariants as halts
 use Rattle.drive_port.specs.Drive.{DriveState, IsClosing, IsLawful, active_count, open_count}
-use Rattle.drive_port.specs.Step.{Halts, Performs, end_of, is_state, zone_at}
-use Rattle.drive_port.specs.Contents.{Appends, Counts, Finishes, Resets, content_at, contents, is_usable, is_writable, usage_of}
+use Rattle.drive_port.specs.Step.{Performs, end_of, is_state, zone_at}
+use Rattle.drive_port.specs.Halting.{Halts}
+use Rattle.drive_port.specs.Contents.{Appends, Counts, Finishes, Resets, SameContents, SameCounts, content_at, contents, is_usable, is_writable, usage_of}
 
 -- One submit of this command: it succeeded, or was refused with a status, or the device halted and returned no bytes.
 abbrev pub CallGives : DriveState → Command → List ℕ → Result ℕ PortFault → List ℕ → DriveState → Type 0
 CallGives old command bytes (Ok value) returned new = (old.stopped ≡ false) × Performs old (Ok command) bytes Success value returned new
 CallGives old command bytes (Err (Refused status)) returned new = (old.stopped ≡ false) × (status ≢ Success) × (value : ℕ) × Performs old (Ok command) bytes status value returned new
-CallGives old command bytes (Err Memory) returned new = (returned ≡ []) × Halts old halts.Memory new
-CallGives old command bytes (Err Stopped) returned new = (returned ≡ []) × Halts old halts.Stopped new
+CallGives old command bytes (Err Memory) returned new = (returned ≡ []) × Halts old (Ok command) bytes halts.Memory new
+CallGives old command bytes (Err Stopped) returned new = (returned ≡ []) × Halts old (Ok command) bytes halts.Stopped new
 
--- What each call keeps, whatever it answers: the drive stays lawful and has its geometry; a drive that had stopped answers just that and does not change; and `Stopped` is answered by a drive that has stopped alone.
+-- What each call keeps, whatever it answers: the drive stays lawful and has its geometry; a drive that had stopped answers just that and does not change; and a drive that answers `Stopped` has stopped, and its counts are the same.
 pub record Obeys {V : Type 0} (old : DriveState) (result : Result V PortFault) (new : DriveState) : Type 0 where
   pub was_lawful : IsLawful old
   pub lawful : IsLawful new
   pub geometry : new.geometry ≡ old.geometry
   pub already : old.stopped ≡ true → (result ≡ Err Stopped) × (new ≡ old)
   pub stops : result ≡ Err Stopped → new.stopped ≡ true
+  pub counts : result ≡ Err Stopped → SameCounts old new
 
 -- the answer of a call whose command has no result: that is 0
 abbrev pub with_zero : {V : Type 0} → Result V PortFault → Result ℕ PortFault
@@ -48,6 +50,10 @@ pub record IsWholeBlocks (block : ℕ) (bytes : List ℕ) : Type 0 where
 -- how many blocks these are
 abbrev pub block_count : Geometry → List ℕ → ℕ
 block_count geometry bytes = length bytes / geometry.block
+
+-- these blocks
+abbrev pub data_blocks : Geometry → List ℕ → List (List ℕ)
+data_blocks geometry bytes = cut_blocks geometry.block (block_count geometry bytes) bytes
 
 -- the zone that starts there
 abbrev pub zone_from : DriveState → ℕ → Zone
@@ -89,7 +95,7 @@ pub record Appended (old new : DriveState) (start : ℕ) (bytes : List ℕ) (add
   pub geometry : new.geometry ≡ old.geometry
   pub counts : Counts old new 1
   pub address_is : address ≡ start + length (content_at (contents old.zones) (start / old.geometry.size)).blocks
-  pub contents : Appends (contents old.zones) (contents new.zones) old.geometry.capacity (start / old.geometry.size) (cut_blocks old.geometry.block (block_count old.geometry bytes) bytes)
+  pub contents : Appends (contents old.zones) (contents new.zones) old.geometry.capacity (start / old.geometry.size) (data_blocks old.geometry bytes)
 
 -- The zone that starts there is full.
 pub record Finished (old new : DriveState) (start : ℕ) : Type 0 where
@@ -172,17 +178,28 @@ pub record CanReset (drive : DriveState) (start : ℕ) : Type 0 where
 
 -- ---- what a call leaves of the zones
 
--- A call that changes one zone. Where it succeeded, this zone starts there, and the controller may have closed zones before it and after it; where it was refused, the controller may have closed zones; where the device halted, nothing changed.
+-- A call that changes one zone. Where it succeeded, this zone starts there, and the controller may have closed zones before it and after it; where it was refused, the controller may have closed zones; where the device was out of memory, nothing changed; and where it stopped, either may be.
 abbrev pub Leaves : {V : Type 0} → DriveState → ℕ → Zone → Result V PortFault → DriveState → Type 0
 Leaves old start zone (Ok value) new = IsClosing (slice_set old.zones (start / old.geometry.size) zone) new.zones
 Leaves old start zone (Err (Refused status)) new = IsClosing old.zones new.zones
 Leaves old start zone (Err Memory) new = new ≡ old
-Leaves old start zone (Err Stopped) new = new ≡ old
+Leaves old start zone (Err Stopped) new = IsClosing old.zones new.zones ⊎ IsClosing (slice_set old.zones (start / old.geometry.size) zone) new.zones
 
--- the zone has these blocks after its own, and is Full where they reach its capacity
+-- the zone that starts there, with these blocks after its own: it is Full where they reach its capacity
+abbrev pub written_from : DriveState → ℕ → List (List ℕ) → Zone
+written_from old start blocks = written_zone old.geometry.capacity (zone_from old start) blocks
+
+-- The zone that starts there has the first j of these blocks after its own, one at least.
+pub record WrittenFront (old new : DriveState) (start : ℕ) (bytes : List ℕ) : Type 0 where
+  pub j : ℕ
+  pub some : 1 ≤ j
+  pub few : j ≤ length (data_blocks old.geometry bytes)
+  pub zones : IsClosing (slice_set old.zones (start / old.geometry.size) (written_from old start (take j (data_blocks old.geometry bytes)))) new.zones
+
+-- the zone has these blocks after its own; where the device stopped, none of them, or a front
 abbrev pub AppendLeaves : DriveState → ℕ → List ℕ → Result ℕ PortFault → DriveState → Type 0
-AppendLeaves old start bytes result new =
-    Leaves old start (written_zone old.geometry.capacity (zone_from old start) (cut_blocks old.geometry.block (block_count old.geometry bytes) bytes)) result new
+AppendLeaves old start bytes (Err Stopped) new = IsClosing old.zones new.zones ⊎ WrittenFront old new start bytes
+AppendLeaves old start bytes result new = Leaves old start (written_from old start (data_blocks old.geometry bytes)) result new
 
 -- the zone has its blocks, and is Full
 abbrev pub FinishLeaves : {V : Type 0} → DriveState → ℕ → Result V PortFault → DriveState → Type 0
@@ -195,6 +212,46 @@ CloseLeaves old start result new = Leaves old start (record { state = Closed; bl
 -- the zone is Empty
 abbrev pub ResetLeaves : {V : Type 0} → DriveState → ℕ → Result V PortFault → DriveState → Type 0
 ResetLeaves old start result new = Leaves old start (record { state = Empty; blocks = [] }) result new
+
+-- ---- what a call that did not succeed leaves of the contents
+
+-- The first j of these blocks were appended to the zone that starts there, one at least. There was room for these, if not for all.
+pub record AppendedFront (old new : DriveState) (start : ℕ) (bytes : List ℕ) : Type 0 where
+  pub geometry : new.geometry ≡ old.geometry
+  pub j : ℕ
+  pub some : 1 ≤ j
+  pub few : j ≤ length (data_blocks old.geometry bytes)
+  pub contents : Appends (contents old.zones) (contents new.zones) old.geometry.capacity (start / old.geometry.size) (take j (data_blocks old.geometry bytes))
+
+-- the zone that starts there is full
+pub record FinishedContents (old new : DriveState) (start : ℕ) : Type 0 where
+  pub geometry : new.geometry ≡ old.geometry
+  pub contents : Finishes (contents old.zones) (contents new.zones) (start / old.geometry.size)
+
+-- the zone that starts there is empty
+pub record ResetContents (old new : DriveState) (start : ℕ) : Type 0 where
+  pub geometry : new.geometry ≡ old.geometry
+  pub contents : Resets (contents old.zones) (contents new.zones) (start / old.geometry.size)
+
+-- an Append that did not succeed leaves the contents; or, where the device stopped, those with a front of the blocks
+abbrev pub AppendKeeps : DriveState → ℕ → List ℕ → Result ℕ PortFault → DriveState → Type 0
+AppendKeeps old start bytes (Ok address) new = Unit {0}
+AppendKeeps old start bytes (Err Stopped) new = SameContents old new ⊎ AppendedFront old new start bytes
+AppendKeeps old start bytes (Err fault) new = SameContents old new
+
+-- a Finish that did not succeed leaves the contents; or, where the device stopped, the zone may be full
+abbrev pub FinishKeeps : {V : Type 0} → DriveState → ℕ → Result V PortFault → DriveState → Type 0
+FinishKeeps old start (Ok value) new = Unit {0}
+FinishKeeps old start (Err Stopped) new = SameContents old new ⊎ FinishedContents old new start
+FinishKeeps old start (Err fault) new = SameContents old new
+
+-- a Reset that did not succeed leaves the contents; or, where the device stopped, the zone may be empty
+abbrev pub ResetKeeps : {V : Type 0} → DriveState → ℕ → Result V PortFault → DriveState → Type 0
+ResetKeeps old start (Ok value) new = Unit {0}
+ResetKeeps old start (Err Stopped) new = SameContents old new ⊎ ResetContents old new start
+ResetKeeps old start (Err fault) new = SameContents old new
+
+-- ---- refusals
 
 -- a call that was not refused: it succeeded, or the device halted
 abbrev pub IsNotRefused : {V : Type 0} → Result V PortFault → Type 0

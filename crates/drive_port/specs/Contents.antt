@@ -105,6 +105,12 @@ pub record Counts (old new : DriveState) (appends : ℕ) : Type 0 where
   pub refused : new.refused ≡ old.refused
   pub appended : new.appended ≡ old.appended + appends
 
+-- the same counts
+pub record SameCounts (old new : DriveState) : Type 0 where
+  pub completed : new.completed ≡ old.completed
+  pub refused : new.refused ≡ old.refused
+  pub appended : new.appended ≡ old.appended
+
 -- the block at an address
 abbrev pub block_at : Geometry → List Content → ℕ → List ℕ
 block_at geometry contents address = block_in geometry.block (content_at contents (address / geometry.size)).blocks (address % geometry.size)

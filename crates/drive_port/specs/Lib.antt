@@ -2,6 +2,7 @@ pub mod Drive
 pub mod Step
 pub mod Run
 pub mod Contents
+pub mod Halting
 pub mod Calls
 pub mod Stop
 pub mod Record

@@ -20,8 +20,6 @@ pub use Rattle.zone_states.specs.Transition.{is_state}
 pub use Rattle.zone_states.specs.Writing.{data_checks, state_checks}
 pub use Rattle.zone_states.specs.Sending.{blocks_after, zone_after}
 use Rattle.zone_report.specs.Report.{report}
-use Rattle.drive_port.specs.declared.device.Halt.{Halt}
-use Rattle.drive_port.specs.declared.device.Halt.TheVariants.{Memory, Stopped}
 use Rattle.drive_port.specs.Drive.{DriveState, IsClosing, active_count, open_count}
 
 -- what a command gives: its status and result, the bytes that it returns, and the zones that it leaves
@@ -203,13 +201,3 @@ pub record Completes (old : DriveState) (entry bytes completion returned : List 
   pub fits : value < 2 ^ 64
   pub encoded : completion ≡ completion_bytes (record { result = value; id = id_of entry; status = status })
   pub performs : Performs old (decode_of entry) bytes status value returned new
-
--- A drive that completed no command: it was out of memory and had not stopped, or it had stopped before. Nothing changed.
-abbrev pub Halts : DriveState → Halt → DriveState → Type 0
-Halts old Memory new = (old.stopped ≡ false) × (new ≡ old)
-Halts old Stopped new = (old.stopped ≡ true) × (new ≡ old)
-
--- What a device answers to a submit: the completion of a step where it had not stopped, and else a halt, with no bytes.
-abbrev pub SubmitGives : DriveState → List ℕ → List ℕ → Result (List ℕ) Halt → List ℕ → DriveState → Type 0
-SubmitGives old entry bytes (Ok completion) returned new = (old.stopped ≡ false) × Completes old entry bytes completion returned new
-SubmitGives old entry bytes (Err halt) returned new = (returned ≡ []) × Halts old halt new

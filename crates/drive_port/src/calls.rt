@@ -3,7 +3,7 @@ ghost use Rattle.nvme_wire.specs.Entry.{IsAdmitted};
 ghost use Rattle.drive_port.specs.Drive.{IsClosing};
 ghost use Rattle.drive_port.specs.Step.{end_of};
 ghost use Rattle.drive_port.specs.Contents.{AreEmpty, Counts, SameContents, bytes_at, contents};
-ghost use Rattle.drive_port.specs.Calls.{Appended, AppendGives, AppendLeaves, CallGives, CanAppend, CanClose, CanFinish, CanRead, CanReset, CloseGives, CloseLeaves, ClosedZone, Counted, Finished, FinishGives, FinishLeaves, IsNotRefused, IsWholeBlocks, Obeys, ReadGives, ReportGives, Reported, ResetGives, ResetLeaves, ResetZone, SendGives, block_count};
+ghost use Rattle.drive_port.specs.Calls.{Appended, AppendGives, AppendKeeps, AppendLeaves, CallGives, CanAppend, CanClose, CanFinish, CanRead, CanReset, CloseGives, CloseLeaves, ClosedZone, Counted, Finished, FinishGives, FinishKeeps, FinishLeaves, IsNotRefused, IsWholeBlocks, Obeys, ReadGives, ReportGives, Reported, ResetGives, ResetKeeps, ResetLeaves, ResetZone, SendGives, block_count};
 
 use crate::device::{Device, Halt};
 use nvme_wire::{Action, Command, Completion, ReportHead, ReportingOptions, Status, ZoneState};
@@ -19,13 +19,14 @@ pub enum PortFault {
     /// An allocation failed. Nothing changed.
     #[error("out of memory")]
     Memory,
-    /// The device has stopped. Nothing changed.
+    /// The device has stopped, before this command or inside it: the command may be done, and of an Append
+    /// a front may be written.
     #[error("the device has stopped")]
     Stopped,
 }
 
 // One submit of this command, with command identifier 0.
-fn call<D: Device>(
+pub(crate) fn call<D: Device>(
     device: &mut D,
     command: &Command,
     bytes: &[u8],
@@ -60,7 +61,7 @@ pub fn append<D: Device>(
     requires whole { IsWholeBlocks (D.drive device.old).geometry.block bytes.now }
     ensures gives { AppendGives (D.drive device.old) zone_start bytes.now result (D.drive device.new) }
     ensures appended { IfOk result (λ address. Appended (D.drive device.old) (D.drive device.new) zone_start bytes.now address) }
-    ensures err { OnErr result (SameContents (D.drive device.old) (D.drive device.new)) }
+    ensures kept { AppendKeeps (D.drive device.old) zone_start bytes.now result (D.drive device.new) }
     ensures leaves { AppendLeaves (D.drive device.old) zone_start bytes.now result (D.drive device.new) }
     ensures taken { CanAppend (D.drive device.old) zone_start (block_count (D.drive device.old).geometry bytes.now) → IsNotRefused result }
     ensures obeys { Obeys (D.drive device.old) result (D.drive device.new) }
@@ -124,7 +125,7 @@ fn send<D: Device>(
 pub fn finish<D: Device>(alloc: Global, device: &mut D, zone_start: u64) -> Result<(), PortFault>
     ensures gives { FinishGives (D.drive device.old) zone_start result (D.drive device.new) }
     ensures finished { OnOk result (Finished (D.drive device.old) (D.drive device.new) zone_start) }
-    ensures err { OnErr result (SameContents (D.drive device.old) (D.drive device.new)) }
+    ensures kept { FinishKeeps (D.drive device.old) zone_start result (D.drive device.new) }
     ensures leaves { FinishLeaves (D.drive device.old) zone_start result (D.drive device.new) }
     ensures taken { CanFinish (D.drive device.old) zone_start → IsNotRefused result }
     ensures obeys { Obeys (D.drive device.old) result (D.drive device.new) }
@@ -149,7 +150,7 @@ pub fn close<D: Device>(alloc: Global, device: &mut D, zone_start: u64) -> Resul
 pub fn reset<D: Device>(alloc: Global, device: &mut D, zone_start: u64) -> Result<(), PortFault>
     ensures gives { ResetGives (D.drive device.old) zone_start result (D.drive device.new) }
     ensures reset { OnOk result (ResetZone (D.drive device.old) (D.drive device.new) zone_start) }
-    ensures err { OnErr result (SameContents (D.drive device.old) (D.drive device.new)) }
+    ensures kept { ResetKeeps (D.drive device.old) zone_start result (D.drive device.new) }
     ensures leaves { ResetLeaves (D.drive device.old) zone_start result (D.drive device.new) }
     ensures taken { CanReset (D.drive device.old) zone_start → IsNotRefused result }
     ensures obeys { Obeys (D.drive device.old) result (D.drive device.new) }

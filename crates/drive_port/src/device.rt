@@ -1,19 +1,20 @@
 ghost use Rattle.std.specs.Prelude.{◌≡◌};
 ghost use Rattle.drive_port.specs.Drive.{DriveState, IsLawful};
-ghost use Rattle.drive_port.specs.Step.{SubmitGives};
+ghost use Rattle.drive_port.specs.Halting.{SubmitGives};
 ghost use Rattle.drive_port.specs.declared.device.Halt.TheVariants.{Memory};
 
 use std::alloc::AllocError;
 use thiserror::Error;
 use zone_states::Geometry;
 
-/// Why a device completed no command. The device is as it was.
+/// Why a device completed no command.
 #[derive(Clone, Copy, Debug, PartialEq, Eq, Error)]
 pub enum Halt {
-    /// An allocation failed.
+    /// An allocation failed. Nothing changed.
     #[error("out of memory")]
     Memory,
-    /// The device has stopped: it completes no command any more.
+    /// The device has stopped, before this command or inside it, and completes no command any more. Of the
+    /// command it may have done nothing or all, and of an Append a front.
     #[error("the device has stopped")]
     Stopped,
 }

@@ -1,6 +1,6 @@
 ghost use Rattle.std.specs.Prelude.{◌≡◌, ◌≤◌, List};
 ghost use Rattle.zone_states.specs.Zone.{Zone};
-ghost use Rattle.drive_port.specs.Drive.{DriveState, IsClosing, active_count, open_count};
+ghost use Rattle.drive_port.specs.Drive.{DriveState, IsClosing, IsLawful, active_count, open_count};
 ghost use Rattle.drive_port.specs.Contents.{contents};
 ghost use Rattle.drive_port.specs.Run.{restarted};
 
@@ -21,7 +21,8 @@ pub fn closing_takes_no_resource()
     ensures open_zones { (old new : List Zone) → IsClosing old new → open_count new ≤ open_count old }
 {}
 
-/// A restart keeps the contents of a drive.
+/// A restart keeps the contents of a drive, and a lawful drive lawful.
 pub fn restart_keeps_contents()
-    ensures { (drive : DriveState) → contents (restarted drive).zones ≡ contents drive.zones }
+    ensures contents { (drive : DriveState) → contents (restarted drive).zones ≡ contents drive.zones }
+    ensures lawful { (drive : DriveState) → IsLawful drive → IsLawful (restarted drive) }
 {}

@@ -14,20 +14,24 @@
 //! # What is promised
 //!
 //! * A `Device` answers an entry by its completion, and has then done what the command says
-//!   (`specs/Step.antt`); or it halts, for memory or because it has stopped, and nothing changed
-//!   (`Halts`). Before a command and after it a controller may close implicitly opened zones, as the
-//!   standard allows: such a *closing* changes no content of a zone (`specs/Drive.antt`).
+//!   (`specs/Step.antt`); or it halts (`specs/Halting.antt`). Out of memory, nothing changed. It may
+//!   have stopped before, and nothing changed; or it stops inside the command, which then counts for
+//!   nothing: it has had no effect or all of it, or of an Append only the first blocks were written.
+//!   Before a command and after it a controller may close implicitly opened zones, as the standard
+//!   allows: such a *closing* changes no content of a zone (`specs/Drive.antt`).
 //! * Each call is one submit of its command. It says what it leaves of the zones, up to closings
-//!   (`Leaves`), and of their contents (`specs/Contents.antt`); when a drive has to take it
-//!   (`CanAppend` and its kin); and what every call keeps (`Obeys`). All of these stand in
-//!   `specs/Calls.antt`.
-//! * `StopAfter` stops a device after a number of commands, and `Recorder` keeps the entries of those
-//!   that were completed. Both are devices again.
+//!   (`Leaves`), and of their contents (`AppendKeeps` and its kin), also where the device stopped; when a
+//!   drive has to take it (`CanAppend` and its kin); and what every call keeps (`Obeys`). All of these
+//!   stand in `specs/Calls.antt`.
+//! * `StopAfter` stops a device after a number of commands, or inside the Append that follows them
+//!   (`specs/Stop.antt`), and `Recorder` keeps the entries of those that were completed. Both are
+//!   devices again.
 #![tactic(auto)]
 
 mod calls;
 mod device;
 mod laws;
+mod progress;
 mod recorder;
 mod stop;
 

@@ -1,6 +1,6 @@
 ghost use Rattle.std.specs.Prelude.{◌≡◌, ◌++◌, [], ◌∷◌, OnOk, OnErr};
 ghost use Rattle.drive_port.specs.Drive.{IsLawful};
-ghost use Rattle.drive_port.specs.Step.{SubmitGives};
+ghost use Rattle.drive_port.specs.Halting.{SubmitGives};
 
 use crate::device::{Device, Halt};
 use std::alloc::Global;

@@ -1,0 +1,191 @@
+-- What a device that stops leaves, by what the device within did.
+use Rattle.std.proofs.Common.{◌≡◌, ◌≢◌, ℕ, ◌+◌, ◌-◌, ◌*◌, ◌≤◌, Bool, true, false, not, ◌||◌, ◌&&◌, ltb, leb, cond, List, take, Some, None, Result, Ok, Err, refl, ap, ◌∙◌, inl, inr, arith}
+use Rattle.std.specs.Prelude.{IfOk, nat_eq, nat_le}
+use Rattle.std.proofs.lemmas.Bool.{leb-true}
+use Rattle.std.proofs.lemmas.List.{take-take}
+use Rattle.std.proofs.Math.Nat.{mul-le-mul_right}
+use Rattle.nvme_wire.specs.Entry.{IsAdmitted}
+use Rattle.nvme_wire.specs.declared.command.Command.{Command}
+use Rattle.nvme_wire.specs.declared.command.Command.TheVariants.{Flush, Read, Write, Append, Send, Receive}
+use Rattle.nvme_wire.specs.declared.command.DecodeFault.{DecodeFault}
+use Rattle.nvme_wire.specs.declared.status.Status.{Status}
+use Rattle.nvme_wire.specs.declared.status.Status.TheVariants.{Success}
+use Rattle.zone_states.specs.declared.geometry.Geometry.{Geometry}
+use Rattle.zone_states.specs.Zone.{Zone}
+use Rattle.drive_port.specs.declared.calls.PortFault.TheVariants.{Refused, Stopped}
+use Rattle.drive_port.specs.declared.device.Halt.{Halt}
+use Rattle.drive_port.specs.declared.device.Halt.TheVariants as halts
+use Rattle.drive_port.specs.declared.progress.Progress.{Progress}
+use Rattle.drive_port.specs.declared.progress.Progress.TheVariants.{Going, Over, OverAppended, OverRefused}
+use Rattle.drive_port.specs.Drive.{DriveState}
+use Rattle.drive_port.specs.Step.{is_success, one_if}
+use Rattle.drive_port.specs.Halting.{LeftBy, Stops, SubmitGives}
+use Rattle.drive_port.specs.Calls.{CallGives}
+use Rattle.drive_port.specs.Stop.{Stopping, appended_here, drive_of, is_over, refused_here, torn_at}
+use Rattle.drive_port.proofs.ClosingLaws.{IsClosing-refl}
+use Rattle.drive_port.proofs.StepLaws.{effect-refused, refused-closing}
+use Rattle.drive_port.proofs.HaltLaws.{success_or}
+
+-- a device that had stopped
+pub stops-already : (old : DriveState) (command : Result Command DecodeFault) (bytes : List ℕ) → old.stopped ≡ true → Stops old command bytes old
+stops-already old command bytes stopped = record {
+  already = λ e. refl;
+  stopped = stopped;
+  geometry = refl;
+  counts = record { completed = refl; refused = refl; appended = refl };
+  left = inl (IsClosing-refl old.zones);
+}
+
+going-if : (b : Bool) (p : Progress) (c : Bool) → (b || (is_over p || c)) ≡ false → p ≡ Going
+going-if false Going c e = refl
+going-if false Over c e = absurd (cc e)
+going-if false OverAppended c e = absurd (cc e)
+going-if false OverRefused c e = absurd (cc e)
+going-if true p c e = absurd (cc e)
+
+or_true : (b c : Bool) → (b || (true || c)) ≡ true
+or_true true c = refl
+or_true false c = refl
+
+-- the device stops here, with what the device within has left
+pub stops-here : (old new : Stopping) (command : Result Command DecodeFault) (bytes : List ℕ)
+    → (drive_of old).stopped ≡ false → is_over new.progress ≡ true → new.inner.geometry ≡ old.inner.geometry → new.completed ≡ old.completed
+    → refused_here new.progress new.inner.refused ≡ old.inner.refused → appended_here new.progress new.inner.appended ≡ old.inner.appended
+    → LeftBy old.inner.geometry old.inner.zones command bytes new.inner.zones
+    → Stops (drive_of old) command bytes (drive_of new)
+stops-here old new command bytes running over geometry completed refused appended left =
+    let is = going-if old.inner.stopped old.progress (nat_eq old.tear 0 && nat_le old.limit old.completed) running in
+    record {
+      already = λ e. absurd (cc (e, running));
+      stopped = rw over (or_true new.inner.stopped (nat_eq new.tear 0 && nat_le new.limit new.completed));
+      geometry = geometry;
+      counts = record { completed = completed; refused = rw is refused; appended = rw is appended };
+      left = left;
+    }
+
+-- ---- a command that is passed on
+
+-- the device, and what the device within has completed and is not counted
+abbrev pub stopping : DriveState → ℕ → ℕ → ℕ → Progress → Stopping
+stopping inner limit tear uncounted progress = record { inner = inner; limit = limit; tear = tear; completed = inner.completed - uncounted; progress = progress }
+
+pub passed-on : (old new : DriveState) (limit tear uncounted : ℕ) (progress : Progress) (entry bytes : List ℕ) (result : Result (List ℕ) Halt) (returned : List ℕ)
+    → uncounted ≤ old.completed → (drive_of (stopping old limit tear uncounted progress)).stopped ≡ false → SubmitGives old entry bytes result returned new
+    → SubmitGives (drive_of (stopping old limit tear uncounted progress)) entry bytes result returned (drive_of (stopping new limit tear uncounted progress))
+passed-on old new limit tear uncounted progress entry bytes (Ok completion) returned low running gives =
+    let p = gives.1.performs in
+    let is = going-if old.stopped progress (nat_eq tear 0 && nat_le limit (old.completed - uncounted)) running in (
+      running,
+      record {
+        status = gives.1.status;
+        value = gives.1.value;
+        fits = gives.1.fits;
+        encoded = gives.1.encoded;
+        performs = record {
+          effect = p.effect;
+          geometry = p.geometry;
+          completed = omega (arith, p.completed, low);
+          refused = rw is p.refused;
+          appended = rw is p.appended;
+        };
+      },
+    )
+passed-on old new limit tear uncounted progress entry bytes (Err halts.Memory) returned low running gives = (gives.0, (running, rw gives.1.1 refl))
+passed-on old new limit tear uncounted progress entry bytes (Err halts.Stopped) returned low running gives =
+    let s = gives.1 in
+    let is = going-if old.stopped progress (nat_eq tear 0 && nat_le limit (old.completed - uncounted)) running in (
+      gives.0,
+      record {
+        already = λ e. absurd (cc (e, running));
+        stopped = rw s.stopped refl;
+        geometry = s.geometry;
+        counts = record { completed = omega (arith, s.counts.completed); refused = rw is s.counts.refused; appended = rw is s.counts.appended };
+        left = s.left;
+      },
+    )
+
+-- ---- the torn Append
+
+-- the command is an Append of enough blocks
+pub record IsTorn (command : Result Command DecodeFault) (start j : ℕ) : Type 0 where
+  pub blocks : ℕ
+  pub command_is : command ≡ Ok (Append start blocks)
+  pub some : 1 ≤ j
+  pub few : j ≤ blocks
+
+torn-if : (a b c : Bool) (start found : ℕ) → cond (a && (b && c)) (Some start) None ≡ Some found → (a ≡ true) × (b ≡ true) × (start ≡ found)
+torn-if true true true start found e = (refl, refl, cc e)
+torn-if true true false start found e = absurd (cc e)
+torn-if true false c start found e = absurd (cc e)
+torn-if false b c start found e = absurd (cc e)
+
+pub torn_at-some : (block j : ℕ) (command : Result Command DecodeFault) (len found : ℕ) → torn_at block j command len ≡ Some found → IsTorn command found j
+torn_at-some block j (Err fault) len found e = absurd (cc e)
+torn_at-some block j (Ok Flush) len found e = absurd (cc e)
+torn_at-some block j (Ok (Read slba blocks)) len found e = absurd (cc e)
+torn_at-some block j (Ok (Write slba blocks)) len found e = absurd (cc e)
+torn_at-some block j (Ok (Append start blocks)) len found e =
+    let is = torn-if (ltb 0 j) (leb j blocks) (leb (j * block) len) start found e in
+    record { blocks = blocks; command_is = rw is.2 refl; some = leb-true _ _ is.0; few = leb-true _ _ is.1 }
+torn_at-some block j (Ok (Send start action all)) len found e = absurd (cc e)
+torn_at-some block j (Ok (Receive slba dwords options partial)) len found e = absurd (cc e)
+
+-- the shorter Append is admitted where the longer one is
+pub torn-admitted : (command : Result Command DecodeFault) (start j : ℕ) → IsTorn command start j → IfOk command IsAdmitted → IsAdmitted (Append start j)
+torn-admitted command start j torn admitted =
+    let whole : IsAdmitted (Append start torn.blocks) = rw torn.command_is at admitted in
+    (whole.0, torn.some, omega (arith, torn.few, whole.2))
+
+-- what an Append of the first j blocks leaves, whole or torn, is what a torn Append of all leaves
+pub left-torn : (geometry : Geometry) (old new : List Zone) (start j blocks : ℕ) (bytes : List ℕ) → 1 ≤ j → j ≤ blocks
+    → LeftBy geometry old (Ok (Append start j)) (take (j * geometry.block) bytes) new → LeftBy geometry old (Ok (Append start blocks)) bytes new
+left-torn geometry old new start j blocks bytes some few left =
+    elim left [
+      | inl closing ↦ inl closing
+      | inr (inl whole) ↦ elim (success_or whole.status) [
+        | inl done ↦ inr (inr (record { j = j; some = some; few = few; value = whole.value; returned = whole.returned; effect = rw done at whole.effect }))
+        | inr bad ↦ inl (effect-refused geometry old new (Ok (Append start j)) (take (j * geometry.block) bytes) whole.returned whole.status whole.value bad.0 whole.effect).0
+      ]
+      | inr (inr torn) ↦
+          let less : torn.j * geometry.block ≤ j * geometry.block = mul-le-mul_right geometry.block torn.few in
+          let same : take (torn.j * geometry.block) (take (j * geometry.block) bytes) ≡ take (torn.j * geometry.block) bytes = take-take (torn.j * geometry.block) (j * geometry.block) bytes less in
+          inr (inr (record { j = torn.j; some = torn.some; few = omega (arith, torn.few, few); value = torn.value; returned = torn.returned; effect = rw same at torn.effect }))
+    ]
+
+bad_is : (status : Status) → status ≢ Success → is_success status ≡ false
+bad_is status bad = elim (success_or status) [
+  | inl done ↦ absurd (bad done)
+  | inr is ↦ is.1
+]
+
+pub stops-appended : (old : Stopping) (inner : DriveState) (uncounted : ℕ) (command : Result Command DecodeFault) (start block : ℕ) (bytes returned : List ℕ) (value : ℕ)
+    → old.completed ≡ old.inner.completed - uncounted → (drive_of old).stopped ≡ false → IsTorn command start old.tear → block ≡ old.inner.geometry.block
+    → CallGives old.inner (Append start old.tear) (take (old.tear * block) bytes) (Ok value) returned inner
+    → Stops (drive_of old) command bytes (drive_of (record old { inner = inner; completed = inner.completed - (uncounted + 1); progress = OverAppended }))
+stops-appended old inner uncounted command start block bytes returned value counted running torn block_is gives =
+    let p = gives.1 in
+    stops-here old (record old { inner = inner; completed = inner.completed - (uncounted + 1); progress = OverAppended }) command bytes running refl p.geometry
+    (omega (arith, p.completed, counted)) (omega (arith, p.refused)) (omega (arith, p.appended))
+    (rw torn.command_is (inr (inr (record { j = old.tear; some = torn.some; few = torn.few; value = value; returned = returned; effect = rw block_is at p.effect }))))
+
+pub stops-refused : (old : Stopping) (inner : DriveState) (uncounted : ℕ) (command : Result Command DecodeFault) (start block : ℕ) (bytes returned : List ℕ) (status : Status)
+    → old.completed ≡ old.inner.completed - uncounted → (drive_of old).stopped ≡ false
+    → CallGives old.inner (Append start old.tear) (take (old.tear * block) bytes) (Err (Refused status)) returned inner
+    → Stops (drive_of old) command bytes (drive_of (record old { inner = inner; completed = inner.completed - (uncounted + 1); progress = OverRefused }))
+stops-refused old inner uncounted command start block bytes returned status counted running gives =
+    let p = gives.3 in
+    let refused = p.refused ∙ ap (λ (b : Bool). old.inner.refused + one_if (not b)) (bad_is status gives.1) in
+    let appended = p.appended ∙ ap (λ (b : Bool). old.inner.appended + one_if b) (bad_is status gives.1) in
+    let closing = refused-closing old.inner inner (Append start old.tear) (take (old.tear * block) bytes) returned status gives in
+    stops-here old (record old { inner = inner; completed = inner.completed - (uncounted + 1); progress = OverRefused }) command bytes running refl p.geometry
+    (omega (arith, p.completed, counted)) (omega (arith, refused)) (omega (arith, appended)) (inl closing)
+
+pub stops-stopped : (old : Stopping) (inner : DriveState) (uncounted : ℕ) (command : Result Command DecodeFault) (start block : ℕ) (bytes returned : List ℕ)
+    → old.completed ≡ old.inner.completed - uncounted → (drive_of old).stopped ≡ false → IsTorn command start old.tear → block ≡ old.inner.geometry.block
+    → CallGives old.inner (Append start old.tear) (take (old.tear * block) bytes) (Err Stopped) returned inner
+    → Stops (drive_of old) command bytes (drive_of (record old { inner = inner; completed = inner.completed - uncounted; progress = Over }))
+stops-stopped old inner uncounted command start block bytes returned counted running torn block_is gives =
+    let s = gives.1 in
+    stops-here old (record old { inner = inner; completed = inner.completed - uncounted; progress = Over }) command bytes running refl s.geometry
+    (omega (arith, s.counts.completed, counted)) s.counts.refused s.counts.appended
+    (rw torn.command_is (left-torn old.inner.geometry old.inner.zones inner.zones start old.tear torn.blocks bytes torn.some torn.few (rw block_is at s.left)))
