@@ -1,30 +1,25 @@
 -- The counts of groups of zones where a zone changes, and the lowest implicitly opened zone by them.
-use Rattle.std.proofs.Common.{◌≡◌, ◌≢◌, ℕ, zero, suc, ◌+◌, ◌-◌, ◌*◌, ◌/◌, ◌<◌, ◌≤◌, Bool, true, false, cond, ltb, get_or, List, [], ◌∷◌, ◌++◌, length, set, take, drop, replicate, Some, None, refl, sym, ap, ◌∙◌, inl, inr, arith}
+use Rattle.std.proofs.Common.{◌≡◌, ◌≢◌, ℕ, zero, suc, ◌+◌, ◌-◌, ◌*◌, ◌/◌, ◌<◌, ◌≤◌, Bool, true, false, cond, ltb, get_or, List, [], ◌∷◌, length, set, take, drop, replicate, Some, None, refl, sym, ap, ◌∙◌, inl, inr, arith}
 use Rattle.std.specs.List.{count_by, position, position_or_len}
 use Rattle.std.proofs.lemmas.Bool.{cases_lt, le-ltb, lt-ltb, ltb-false, ltb-true}
-use Rattle.std.proofs.lemmas.List.{get_or-drop, get_or-set_other, get_or-set_same, length-append, length-drop, length-replicate, length-set, set-get_or, take-append-le, take_all}
+use Rattle.std.proofs.lemmas.List.{get_or-drop, get_or-set_other, get_or-set_same, length-drop, length-replicate, length-set, take_all}
 use Rattle.std.proofs.lemmas.List.Quantifiers.{position-Some}
-use Rattle.std.proofs.lemmas.List.Sums.{fails_before_first, position_or_len_is, sum_by-cons}
-use Rattle.nvme_wire.specs.declared.zone_state.ZoneState.{ZoneState}
-use Rattle.nvme_wire.specs.declared.zone_state.ZoneState.TheVariants.{Empty, ImplicitlyOpened}
+use Rattle.std.proofs.lemmas.List.Sums.{fails_before_first, position_or_len_is}
+use Rattle.nvme_wire.specs.declared.zone_state.ZoneState.TheVariants.{Empty}
 use Rattle.drive_port.specs.Step.{one_if}
 use Rattle.zone_states.specs.Stored.{StoredZone}
-use Rattle.zone_states.specs.Transition.{is_state}
 use Rattle.zone_drive.specs.Groups.{IsGrouped, implicit_below, is_implicit}
-use Rattle.zone_drive.proofs.CountLaws.{one_if-is}
+use Rattle.zone_drive.proofs.CountLaws.{count-cons}
 
 -- ---- how many of the first elements pass a test
 
-count-cons : {X : Type 0} (p : X → Bool) (x : X) (xs : List X) → count_by p (x ∷ xs) ≡ one_if (p x) + count_by p xs
-count-cons {X = X} p x xs = rw (one_if-is (p x)) (sum_by-cons (λ (y : X). cond (p y) 1 0) x xs)
-
-count-set : {X : Type 0} (p : X → Bool) (xs : List X) (n i : ℕ) (y d : X) → i < n → i < length xs
+count-take_set : {X : Type 0} (p : X → Bool) (xs : List X) (n i : ℕ) (y d : X) → i < n → i < length xs
     → count_by p (take n (set xs i y)) + one_if (p (get_or xs i d)) ≡ count_by p (take n xs) + one_if (p y)
-count-set p [] n i y d lt low = absurd (omega arith)
-count-set p (x ∷ xs) zero i y d lt low = absurd (omega arith)
-count-set p (x ∷ xs) (suc n) zero y d lt low = omega (arith, count-cons p y (take n xs), count-cons p x (take n xs))
-count-set p (x ∷ xs) (suc n) (suc i) y d lt low =
-    omega (arith, count-set p xs n i y d (omega arith) (omega arith), count-cons p x (take n (set xs i y)), count-cons p x (take n xs))
+count-take_set p [] n i y d lt low = absurd (omega arith)
+count-take_set p (x ∷ xs) zero i y d lt low = absurd (omega arith)
+count-take_set p (x ∷ xs) (suc n) zero y d lt low = omega (arith, count-cons p y (take n xs), count-cons p x (take n xs))
+count-take_set p (x ∷ xs) (suc n) (suc i) y d lt low =
+    omega (arith, count-take_set p xs n i y d (omega arith) (omega arith), count-cons p x (take n (set xs i y)), count-cons p x (take n xs))
 
 take-set_past : {X : Type 0} (xs : List X) (n i : ℕ) (y : X) → n ≤ i → take n (set xs i y) ≡ take n xs
 take-set_past [] n i y le = refl
@@ -32,27 +27,11 @@ take-set_past (x ∷ xs) zero i y le = refl
 take-set_past (x ∷ xs) (suc n) zero y le = absurd (omega arith)
 take-set_past {X = X} (x ∷ xs) (suc n) (suc i) y le = ap (λ (rest : List X). x ∷ rest) (take-set_past xs n i y (omega arith))
 
-count-push : {X : Type 0} (p : X → Bool) (xs : List X) (n : ℕ) (y : X) → length xs < n → count_by p (take n (xs ++ y ∷ [])) ≡ count_by p (take n xs) + one_if (p y)
-count-push p xs zero y lt = absurd (omega arith)
-count-push p [] (suc zero) y lt = omega (arith, count-cons p y [])
-count-push p [] (suc (suc n)) y lt = omega (arith, count-cons p y [])
-count-push p (x ∷ xs) (suc n) y lt =
-    omega (arith, count-push p xs n y (omega arith), count-cons p x (take n (xs ++ y ∷ [])), count-cons p x (take n xs))
-
 count-mono : {X : Type 0} (p : X → Bool) (xs : List X) (n m : ℕ) → n ≤ m → count_by p (take n xs) ≤ count_by p (take m xs)
 count-mono p xs zero m le = omega arith
 count-mono p xs (suc n) zero le = absurd (omega arith)
 count-mono p [] (suc n) (suc m) le = omega arith
 count-mono p (x ∷ xs) (suc n) (suc m) le = omega (arith, count-mono p xs n m (omega arith), count-cons p x (take n xs), count-cons p x (take m xs))
-
-count-most : {X : Type 0} (p : X → Bool) (xs : List X) (n : ℕ) → count_by p (take n xs) ≤ length xs
-count-most p xs zero = omega arith
-count-most p [] (suc n) = omega arith
-count-most p (x ∷ xs) (suc n) = omega (arith, count-most p xs n, count-cons p x (take n xs), one_if-most (p x))
-  where
-    one_if-most : (b : Bool) → one_if b ≤ 1
-    one_if-most true = omega arith
-    one_if-most false = omega arith
 
 -- where none is counted, none passes
 none-passes : {X : Type 0} (p : X → Bool) (xs : List X) (n k : ℕ) (d : X) → count_by p (take n xs) ≡ 0 → k < n → k < length xs → p (get_or xs k d) ≡ false
@@ -77,14 +56,9 @@ grouped-counts zones counts index d grouped low =
     let group = index / 256 in
     let less = take-set_past zones (256 * group) index empty_stored (omega arith) in
     let same = ap (count_by is_implicit) less in
-    let end = count-set is_implicit zones (256 * group + 256) index empty_stored d (omega arith) low in
+    let end = count-take_set is_implicit zones (256 * group + 256) index empty_stored d (omega arith) low in
     let mono = count-mono is_implicit (set zones index empty_stored) (256 * group) (256 * group + 256) (omega arith) in
     omega (arith, grouped.each group (omega (arith, grouped.few)), same, end, mono)
-
-pub grouped-small : (zones : List StoredZone) (counts : List ℕ) (index : ℕ) → IsGrouped zones counts → index < length zones → get_or counts (index / 256) 0 ≤ 65536
-grouped-small zones counts index grouped low =
-    let group = index / 256 in
-    omega (arith, grouped.each group (omega (arith, grouped.few)), count-most is_implicit zones (256 * group + 256), grouped.few)
 
 pub grouped-set : (zones : List StoredZone) (counts : List ℕ) (index : ℕ) (d new : StoredZone) → IsGrouped zones counts → index < length zones
     → IsGrouped (set zones index new) (set counts (index / 256) (get_or counts (index / 256) 0 + one_if (is_implicit new) - one_if (is_implicit (get_or zones index d))))
@@ -114,8 +88,8 @@ grouped-set zones counts index d new grouped low = record {
                 arith,
                 apart group (λ (e : group ≡ index / 256). absurd (omega arith)),
                 grouped.each group lt,
-                count-set is_implicit zones (256 * group) index new d before low,
-                count-set is_implicit zones (256 * group + 256) index new d (omega arith) low,
+                count-take_set is_implicit zones (256 * group) index new d before low,
+                count-take_set is_implicit zones (256 * group + 256) index new d (omega arith) low,
               )
           | inr from ↦ elim (cases_lt index (256 * group + 256)) [
             | inl inside ↦
@@ -123,21 +97,13 @@ grouped-set zones counts index d new grouped low = record {
                 let value : get_or (set counts (index / 256) count) group 0 ≡ count = rw here (get_or-set_same counts (index / 256) count 0 (omega (arith, grouped.groups, lt))) in
                 let same = ap (count_by is_implicit) (take-set_past zones (256 * group) index new from) in
                 let counts_is : get_or counts group 0 ≡ get_or counts (index / 256) 0 = ap (λ (k : ℕ). get_or counts k 0) here in
-                omega (arith, value, held, counts_is, same, grouped.each group lt, count-set is_implicit zones (256 * group + 256) index new d inside low)
+                omega (arith, value, held, counts_is, same, grouped.each group lt, count-take_set is_implicit zones (256 * group + 256) index new d inside low)
             | inr past ↦
                 let start = ap (count_by is_implicit) (take-set_past zones (256 * group) index new from) in
                 let end = ap (count_by is_implicit) (take-set_past zones (256 * group + 256) index new past) in
                 omega (arith, apart group (λ (e : group ≡ index / 256). absurd (omega arith)), grouped.each group lt, start, end)
           ]
         ]
-
--- a zone that keeps its state
-pub grouped-same : (zones : List StoredZone) (counts : List ℕ) (index : ℕ) (d new : StoredZone) → IsGrouped zones counts → index < length zones
-    → new.state ≡ (get_or zones index d).state → IsGrouped (set zones index new) counts
-grouped-same zones counts index d new grouped low e =
-    let flag = ap (λ (state : ZoneState). one_if (is_state ImplicitlyOpened state)) e in
-    let value : get_or counts (index / 256) 0 + one_if (is_implicit new) - one_if (is_implicit (get_or zones index d)) ≡ get_or counts (index / 256) 0 = omega (arith, flag) in
-    rw (value, set-get_or counts (index / 256) 0) at (grouped-set zones counts index d new grouped low)
 
 -- ---- the zones counted one after the other
 
@@ -158,48 +124,6 @@ grouped-fresh n few = record {
   groups = length-replicate {A = ℕ} 256 0;
   each = λ group lt. rw (count-empty n (256 * group), count-empty n (256 * group + 256), get_or-zeros 256 group) refl;
 }
-
-pub grouped-push : (zones : List StoredZone) (counts : List ℕ) (zone : StoredZone) → IsGrouped zones counts → length zones < 65536
-    → IsGrouped (zones ++ zone ∷ []) (set counts (length zones / 256) (get_or counts (length zones / 256) 0 + one_if (is_implicit zone)))
-grouped-push zones counts zone grouped room = record {
-  few = omega (arith, length-append zones (zone ∷ []));
-  groups = length-set counts (length zones / 256) _ ∙ grouped.groups;
-  each = each;
-}
-  where
-    index : ℕ
-    index = length zones
-
-    count : ℕ
-    count = get_or counts (index / 256) 0 + one_if (is_implicit zone)
-
-    apart : (group : ℕ) → group ≢ index / 256 → get_or (set counts (index / 256) count) group 0 ≡ get_or counts group 0
-    apart group away = get_or-set_other counts (index / 256) group count 0 away
-
-    each : (group : ℕ) → group < 256 → implicit_below (zones ++ zone ∷ []) (256 * group) + get_or (set counts (index / 256) count) group 0 ≡ implicit_below (zones ++ zone ∷ []) (256 * group + 256)
-    each group lt =
-        elim (cases_lt index (256 * group)) [
-          | inl before ↦
-              omega (
-                arith,
-                apart group (λ (e : group ≡ index / 256). absurd (omega arith)),
-                grouped.each group lt,
-                count-push is_implicit zones (256 * group) zone before,
-                count-push is_implicit zones (256 * group + 256) zone (omega arith),
-              )
-          | inr from ↦ elim (cases_lt index (256 * group + 256)) [
-            | inl inside ↦
-                let here : group ≡ index / 256 = omega arith in
-                let value : get_or (set counts (index / 256) count) group 0 ≡ count = rw here (get_or-set_same counts (index / 256) count 0 (omega (arith, grouped.groups, lt))) in
-                let same = ap (count_by is_implicit) (take-append-le (256 * group) zones (zone ∷ []) from) in
-                let counts_is : get_or counts group 0 ≡ get_or counts (index / 256) 0 = ap (λ (k : ℕ). get_or counts k 0) here in
-                omega (arith, value, counts_is, same, grouped.each group lt, count-push is_implicit zones (256 * group + 256) zone inside)
-            | inr past ↦
-                let start = ap (count_by is_implicit) (take-append-le (256 * group) zones (zone ∷ []) from) in
-                let end = ap (count_by is_implicit) (take-append-le (256 * group + 256) zones (zone ∷ []) past) in
-                omega (arith, apart group (λ (e : group ≡ index / 256). absurd (omega arith)), grouped.each group lt, start, end)
-          ]
-        ]
 
 -- ---- the lowest implicitly opened zone
 

@@ -10,3 +10,5 @@ pub mod SubmitLaws
 pub mod ReceiveLaws
 pub mod ZonesLaws
 pub mod GroupLaws
+pub mod TableLaws
+pub mod ChangeLaws

@@ -79,7 +79,7 @@ and-false true b e = e
 and-false false b e = refl
 
 -- once the lowest implicitly opened zone is closed, there is an open resource
-closing-passes : (geometry : Geometry) (zones : List Zone) (zone : Zone) (low : ℕ) → open_count zones ≤ geometry.open
+pub closing-passes : (geometry : Geometry) (zones : List Zone) (zone : Zone) (low : ℕ) → open_count zones ≤ geometry.open
     → Some TooManyOpenZones ≡ first_failing (resource_checks geometry zones zone) → IsLowest zones low → None ≡ first_failing (resource_checks geometry (close_lowest zones) zone)
 closing-passes geometry zones zone low most needs lowest =
     let after : Zone = record { state = Closed; blocks = (zone_at zones low).blocks } in

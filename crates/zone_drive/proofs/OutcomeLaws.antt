@@ -10,7 +10,7 @@ use Rattle.nvme_wire.specs.declared.status.Status.{Status}
 use Rattle.nvme_wire.specs.declared.status.Status.TheVariants.{Success}
 use Rattle.zone_states.specs.declared.geometry.Geometry.{Geometry}
 use Rattle.zone_states.specs.Checks.{first_failing}
-use Rattle.zone_states.specs.Stored.{IsWhole, zone_of}
+use Rattle.zone_states.specs.Stored.{IsWhole, StoredZone, zone_of}
 use Rattle.zone_states.specs.Zone.{Zone}
 use Rattle.drive_port.specs.Drive.{DriveState, open_count}
 use Rattle.drive_port.specs.Step.{Outcome, bytes_from, decode_status, done, outcome, read_checks, sent_zone, unless_refused, write_effect, zone_at}
@@ -220,14 +220,15 @@ read-refused old slba blocks bytes status e =
     (performed-plain old.geometry old.zones (Ok (Read slba blocks)) bytes _ is (other (read_checks old.geometry zone slba blocks) status (read-other old.geometry zone slba blocks) e))
 
 -- a Read that is done returns what is copied of the bytes that are stored
-pub read-copied : (old : DriveState) (slba blocks : ℕ) (bytes written returned : List ℕ) (from long : ℕ)
+pub read-copied : (old : DriveState) (slba blocks : ℕ) (bytes : List ℕ) (zone : StoredZone) (returned : List ℕ)
     → None ≡ first_failing (read_checks old.geometry (zone_at old.zones (slba / old.geometry.size)) slba blocks)
-    → zone_of old.geometry.block (record { state = (zone_at old.zones (slba / old.geometry.size)).state; bytes = written }) ≡ zone_at old.zones (slba / old.geometry.size)
-    → IsWhole old.geometry.block written → from ≡ slba % old.geometry.size * old.geometry.block → long ≡ blocks * old.geometry.block
-    → returned ≡ take long (drop from written) ++ replicate (long - length (drop from written)) 0
+    → zone_of old.geometry.block zone ≡ zone_at old.zones (slba / old.geometry.size) → IsWhole old.geometry.block zone.bytes
+    → (let long = blocks * old.geometry.block in
+    let written = drop (slba % old.geometry.size * old.geometry.block) zone.bytes in
+    returned ≡ take long written ++ replicate (long - length written) 0)
     → Gives old (Ok (Read slba blocks)) bytes (record { status = Success; value = 0 }) returned old
-read-copied old slba blocks bytes written returned from long passed stored whole from_is long_is copied =
-    let shown = copied ∙ read-copies old.geometry.block (length written / old.geometry.block) (slba % old.geometry.size) blocks from long written whole from_is long_is in
+read-copied old slba blocks bytes zone returned passed stored whole copied =
+    let shown = copied ∙ read-copies old.geometry.block (length zone.bytes / old.geometry.block) (slba % old.geometry.size) blocks _ _ zone.bytes whole refl refl in
     let blocks_are = ap (λ (zone : Zone). zone.blocks) stored in
     let is : outcome old.geometry old.zones (Ok (Read slba blocks)) bytes ≡ done returned old.zones = outcome-Read old.geometry old.zones slba blocks bytes None passed ∙ rw (shown, blocks_are) refl in
     record { outcome = performed-plain old.geometry old.zones (Ok (Read slba blocks)) bytes _ is refl; others = refl }

@@ -1,40 +1,34 @@
 -- What a report shows of the zones.
-use Rattle.std.proofs.Common.{◌≡◌, ℕ, ◌/◌, ◌^◌, ◌<◌, ◌≤◌, Bool, List, [], length, get_or, Option, Some, None, Ok, refl, sym, ap, ◌∙◌, arith}
+use Rattle.std.proofs.Common.{◌≡◌, ℕ, ◌^◌, ◌<◌, ◌≤◌, Bool, List, [], length, get_or, Option, Some, None, Ok, refl, sym, ap, ◌∙◌, arith}
 use Rattle.std.proofs.lemmas.Bool.{le-leb, lt-leb}
-use Rattle.std.proofs.lemmas.List.{get_or-map}
+use Rattle.std.proofs.lemmas.List.{length-map}
 use Rattle.nvme_wire.specs.declared.command.ReportingOptions.{ReportingOptions}
 use Rattle.nvme_wire.specs.declared.command.Command.TheVariants.{Receive}
 use Rattle.nvme_wire.specs.declared.status.Status.{Status}
 use Rattle.nvme_wire.specs.declared.status.Status.TheVariants.{LbaOutOfRange, Success}
 use Rattle.zone_states.specs.declared.geometry.Geometry.{Geometry}
 use Rattle.zone_states.specs.Checks.{first_failing}
+use Rattle.zone_states.specs.Geometry.{IsInRange}
 use Rattle.zone_states.specs.Stored.{StoredZone, zone_of}
 use Rattle.zone_states.specs.Zone.{Zone}
-use Rattle.zone_states.proofs.Cutting.{length-cut}
-use Rattle.zone_report.specs.Report.{report, status_of}
+use Rattle.zone_report.specs.Report.{report}
 use Rattle.drive_port.specs.Drive.{DriveState}
 use Rattle.drive_port.specs.Step.{done, end_of, outcome, receive_checks, unless_refused}
 use Rattle.zone_drive.specs.Choice.{Gives}
-use Rattle.zone_drive.specs.Stored.{IsCounted, zones_of}
+use Rattle.zone_drive.specs.Stored.{AreZones, zones_of}
 use Rattle.zone_drive.proofs.OutcomeLaws.{gives-same, performed-plain}
 use Rattle.zone_drive.proofs.WriteLaws.{lawful-at, may_hold-le, zone_at-stored}
 
 -- ---- zones
 
-pub stored-status : (block : ℕ) (zones : List StoredZone) (index : ℕ) (zone : StoredZone) → index < length zones → zone ≡ get_or zones index zone → (none : Zone)
-    → record { state = zone.state; written = length zone.bytes / block } ≡ status_of (get_or (zones_of block zones) index none)
-stored-status block zones index zone lt read none =
-    let here : get_or (zones_of block zones) index none ≡ zone_of block zone = get_or-map (zone_of block) zones index zone none lt ∙ ap (zone_of block) (sym read) in
-    rw (here, length-cut block (length zone.bytes / block) zone.bytes) refl
-
-pub written-fits : (geometry : Geometry) (zones : List StoredZone) (active open_zones index : ℕ) (zone : StoredZone) → IsCounted geometry zones active open_zones
-    → index < length zones → zone ≡ get_or zones index zone → length zone.bytes / geometry.block ≤ 2 ^ 20
-written-fits geometry zones active open_zones index zone counted lt read =
-    let b = geometry.block in
-    let lawful = lawful-at geometry zones active open_zones index counted lt in
-    let few = may_hold-le _ geometry.capacity _ lawful.written in
-    let here = ap (λ (z : Zone). length z.blocks) (zone_at-stored b zones index zone lt ∙ ap (zone_of b) (sym read)) in
-    omega (arith, few, here, length-cut b (length zone.bytes / b) zone.bytes, counted.in_range.capacity.1, counted.in_range.size.1)
+-- a zone has no more blocks than the size of a zone
+pub written-fits : (geometry : Geometry) (zones : List StoredZone) (index : ℕ) (zone : StoredZone) → IsInRange geometry → AreZones geometry zones → index < length (zones_of geometry.block zones)
+    → zone ≡ get_or zones index zone → length (zone_of geometry.block zone).blocks ≤ 2 ^ 20
+written-fits geometry zones index zone in_range are below read =
+    let lt : index < length zones = omega (arith, below, length-map zones (zone_of geometry.block)) in
+    let lawful = lawful-at geometry zones index are lt in
+    let here = ap (λ (z : Zone). length z.blocks) (zone_at-stored geometry.block zones index zone lt ∙ ap (zone_of geometry.block) (sym read)) in
+    omega (arith, here, may_hold-le _ geometry.capacity _ lawful.written, in_range.capacity.1, in_range.size.1)
 
 -- ---- the command
 

@@ -1,27 +1,23 @@
 -- The lowest implicitly opened zone, and what it is to close it.
-use Rattle.std.proofs.Common.{◌≡◌, ◌≢◌, ℕ, suc, ◌+◌, ◌≤◌, Bool, true, false, cond, not, ltb, get_or, List, [], ◌∷◌, length, set, Some, None, Ok, refl, sym, ap, ◌∙◌, arith}
+use Rattle.std.proofs.Common.{◌≡◌, ◌≢◌, ℕ, suc, ◌+◌, ◌≤◌, Bool, true, false, cond, not, ltb, get_or, List, [], ◌∷◌, length, set, Some, None, refl, sym, ◌∙◌, arith}
 use Rattle.std.specs.List.{position, position_or_len}
 use Rattle.std.proofs.lemmas.Bool.{ltb-false}
-use Rattle.std.proofs.lemmas.List.{length-map, set_comm, set_past, get_or-map, get_or-set_other}
+use Rattle.std.proofs.lemmas.List.{length-map, set_past, get_or-map, get_or-set_other}
 use Rattle.std.proofs.lemmas.List.Quantifiers.{position-Some}
 use Rattle.nvme_wire.specs.declared.zone_state.ZoneState.{ZoneState}
 use Rattle.nvme_wire.specs.declared.zone_state.ZoneState.TheVariants.{Empty, ImplicitlyOpened, ExplicitlyOpened, Closed, ReadOnly, Full, Offline}
-use Rattle.nvme_wire.specs.declared.command.Action.TheVariants.{Close, Open}
+use Rattle.nvme_wire.specs.declared.command.Action.TheVariants.{Close}
 use Rattle.nvme_wire.specs.declared.status.Status.TheVariants.{TooManyOpenZones}
 use Rattle.zone_states.specs.declared.geometry.Geometry.{Geometry}
 use Rattle.zone_states.specs.Transition.{is_state, state_after}
-use Rattle.zone_states.specs.Zone.{Zone, cut_blocks, written_zone}
+use Rattle.zone_states.specs.Zone.{Zone}
 use Rattle.zone_states.specs.Stored.{StoredZone, zone_of}
 use Rattle.zone_states.specs.Checks.{first_failing}
 use Rattle.zone_states.specs.Sending.{zone_after}
-use Rattle.drive_port.specs.Step.{nowhere, resource_checks, write_effect, zone_at}
-use Rattle.zone_drive.specs.Choice.{IsLowest, RoomGives, close_lowest, closed}
-use Rattle.zone_drive.specs.Sending.{sent_to}
+use Rattle.drive_port.specs.Step.{nowhere, resource_checks, zone_at}
+use Rattle.zone_drive.specs.Choice.{IsLowest, close_lowest, closed}
+use Rattle.zone_drive.specs.Groups.{is_implicit}
 use Rattle.zone_drive.specs.Stored.{zones_of}
-
--- the same test on a stored zone
-abbrev pub is_implicit : StoredZone → Bool
-is_implicit zone = is_state ImplicitlyOpened zone.state
 
 is_state-implicit : (state : ZoneState) → is_state ImplicitlyOpened state ≡ true → state ≡ ImplicitlyOpened
 is_state-implicit ImplicitlyOpened e = refl
@@ -69,7 +65,7 @@ lowest-None block zones e =
     let past : length zones ≤ position_or_len is_implicit zones = ltb-false _ _ (none_found (ltb (position_or_len is_implicit zones) (length zones)) _ e) in
     closes-at block zones ∙ set_past (zones_of block zones) (position_or_len is_implicit zones) _ (omega (arith, past, length-map zones (zone_of block)))
 
--- ---- a write that gets the resource of the zone that is closed
+-- ---- a zone that gets the resource of the one that is closed
 
 -- a zone for which another one is closed is not open itself
 pub apart : (geometry : Geometry) (zones : List Zone) (index low : ℕ) → Some TooManyOpenZones ≡ first_failing (resource_checks geometry zones (zone_at zones index)) → IsLowest zones low → index ≢ low
@@ -77,26 +73,9 @@ apart geometry zones index low wants lowest = λ same.
     let opened : (zone_at zones index).state ≡ ImplicitlyOpened = rw same lowest.opened in
     cc (rw opened at wants)
 
-closes-one : (zone : Zone) → zone.state ≡ ImplicitlyOpened → zone_after Close zone (state_after zone.state Close) ≡ closed zone
+pub closes-one : (zone : Zone) → zone.state ≡ ImplicitlyOpened → zone_after Close zone (state_after zone.state Close) ≡ closed zone
 closes-one zone e = rw e refl
-
--- a zone that is changed, and then another one closed
-pub changes-then_closes : (zones : List Zone) (index low : ℕ) (zone : Zone) → index ≢ low → IsLowest zones low
-    → set (set zones index zone) low (zone_after Close (zone_at (set zones index zone) low) (state_after (zone_at (set zones index zone) low).state Close)) ≡ set (close_lowest zones) index zone
-changes-then_closes zones index low zone away lowest =
-    let other : zone_at (set zones index zone) low ≡ zone_at zones low = get_or-set_other zones index low zone nowhere (λ (e : low ≡ index). away (sym e)) in
-    let state : (zone_at (set zones index zone) low).state ≡ ImplicitlyOpened = ap (λ (z : Zone). z.state) other ∙ lowest.opened in
-    let ends = closes-one (zone_at (set zones index zone) low) state in
-    rw (ends, other, lowest.closes) (set_comm zones index low zone (closed (zone_at zones low)) away)
 
 -- a zone that is not closed
 pub zone_at-closing : (zones : List Zone) (index low : ℕ) → index ≢ low → IsLowest zones low → zone_at (close_lowest zones) index ≡ zone_at zones index
 zone_at-closing zones index low away lowest = rw lowest.closes (get_or-set_other zones low index (closed (zone_at zones low)) nowhere away)
-
-pub write-closing : (geometry : Geometry) (zones : List Zone) (index low n : ℕ) (bytes : List ℕ) → RoomGives geometry zones (zone_at zones index) (Ok (Some low))
-    → set (close_lowest zones) index (written_zone geometry.capacity (zone_at zones index) (cut_blocks geometry.block n bytes)) ≡ write_effect geometry (close_lowest zones) index n bytes
-write-closing geometry zones index low n bytes (wants, lowest) = rw (zone_at-closing zones index low (apart geometry zones index low wants lowest) lowest) refl
-
-pub open-closing : (geometry : Geometry) (zones : List Zone) (index low : ℕ) → RoomGives geometry zones (zone_at zones index) (Ok (Some low))
-    → set (close_lowest zones) index (zone_after Open (zone_at zones index) (state_after (zone_at zones index).state Open)) ≡ sent_to (close_lowest zones) index Open
-open-closing geometry zones index low (wants, lowest) = rw (zone_at-closing zones index low (apart geometry zones index low wants lowest) lowest) refl

@@ -1,16 +1,17 @@
 -- What is stored, and what a change of one zone keeps of it.
-use Rattle.std.proofs.Common.{◌≡◌, ℕ, zero, suc, [], replicate, refl, sym, ◌∙◌, arith}
+use Rattle.std.proofs.Common.{Bool, false, ◌≡◌, ℕ, zero, suc, [], replicate, refl, ◌∙◌, arith}
 use Rattle.std.specs.List.{AllByRecursion}
 use Rattle.std.proofs.Math.Nat.{zero-div}
 use Rattle.std.proofs.lemmas.List.{length-replicate}
 use Rattle.nvme_wire.specs.declared.zone_state.ZoneState.TheVariants.{Empty}
 use Rattle.zone_states.specs.declared.geometry.Geometry.{Geometry}
 use Rattle.zone_states.specs.Geometry.{IsInRange}
+use Rattle.nvme_wire.specs.declared.zone_state.ZoneState.{ZoneState}
+use Rattle.zone_states.specs.Transition.{is_active, is_open}
 use Rattle.zone_states.specs.Zone.{Zone, IsLawfulZone}
 use Rattle.zone_states.specs.Stored.{StoredZone, IsWhole, zone_of}
-use Rattle.drive_port.specs.Drive.{active_count, open_count}
-use Rattle.zone_drive.specs.Stored.{IsStored, zones_of}
-use Rattle.zone_drive.proofs.CountLaws.{active-cons, open-cons}
+use Rattle.zone_drive.specs.Stored.{AreZones, zones_of}
+use Rattle.zone_drive.proofs.CountLaws.{count-cons, state_count}
 
 -- ---- a fresh drive
 
@@ -35,24 +36,15 @@ all_whole : (block n : ℕ) → AllByRecursion (λ (zone : StoredZone). IsWhole 
 all_whole block zero = tt
 all_whole block (suc n) = (rw (zero-div block) (omega arith), all_whole block n)
 
-none_active : (n : ℕ) → active_count (replicate n empty_zone) ≡ 0
-none_active zero = refl
-none_active (suc n) = active-cons empty_zone (replicate n empty_zone) ∙ omega (arith, none_active n)
+none_counted : (p : ZoneState → Bool) (n : ℕ) → p Empty ≡ false → state_count p (replicate n empty_zone) ≡ 0
+none_counted p zero none = refl
+none_counted p (suc n) none = count-cons (λ (z : Zone). p z.state) empty_zone (replicate n empty_zone) ∙ rw none (omega (arith, none_counted p n none))
 
-none_open : (n : ℕ) → open_count (replicate n empty_zone) ≡ 0
-none_open zero = refl
-none_open (suc n) = open-cons empty_zone (replicate n empty_zone) ∙ omega (arith, none_open n)
-
-pub stored-fresh : (geometry : Geometry) → IsInRange geometry → IsStored geometry (replicate geometry.zones empty_stored) 0 0
-stored-fresh geometry in_range = record {
-  counted = record {
-    in_range = in_range;
-    count = length-replicate geometry.zones empty_stored;
-    lawful = rw (zones_of-empty geometry.block geometry.zones) (all_lawful geometry geometry.zones);
-    whole = all_whole geometry.block geometry.zones;
-    active_is = rw (zones_of-empty geometry.block geometry.zones) (sym (none_active geometry.zones));
-    open_is = rw (zones_of-empty geometry.block geometry.zones) (sym (none_open geometry.zones));
-  };
-  active_most = omega arith;
-  open_most = omega arith;
+pub are-fresh : (geometry : Geometry) → IsInRange geometry → AreZones geometry (replicate geometry.zones empty_stored)
+are-fresh geometry in_range = record {
+  count = length-replicate geometry.zones empty_stored;
+  whole = all_whole geometry.block geometry.zones;
+  lawful = rw (zones_of-empty geometry.block geometry.zones) (all_lawful geometry geometry.zones);
+  active = rw (zones_of-empty geometry.block geometry.zones, none_counted is_active geometry.zones refl) (omega arith);
+  open_zones = rw (zones_of-empty geometry.block geometry.zones, none_counted is_open geometry.zones refl) (omega arith);
 }

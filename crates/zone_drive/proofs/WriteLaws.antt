@@ -1,19 +1,22 @@
 -- What a Write or an Append keeps and leaves of what is stored.
-use Rattle.std.proofs.Common.{◌≡◌, ◌≢◌, ℕ, zero, suc, ◌+◌, ◌*◌, ◌/◌, ◌^◌, ◌<◌, ◌≤◌, Bool, true, false, cond, not, eqb, List, [], ◌∷◌, ◌++◌, length, drop, set, get_or, None, refl, ap, ◌∙◌, arith}
+use Rattle.std.proofs.Common.{◌≡◌, ◌≢◌, ℕ, zero, suc, ◌+◌, ◌*◌, ◌/◌, ◌<◌, ◌≤◌, Bool, true, false, cond, not, eqb, List, [], ◌∷◌, ◌++◌, length, drop, set, get_or, None, refl, ap, ◌∙◌, arith}
 use Rattle.std.specs.List.{AllByRecursion}
-use Rattle.std.proofs.Math.Nat.{div-lt_iff_lt-mul, mul-le-mul}
+use Rattle.std.proofs.Math.Nat.{div-lt_iff_lt-mul}
 use Rattle.std.proofs.lemmas.Bool.{eqb-false, eqb-true, ltb-false}
 use Rattle.std.proofs.lemmas.List.{get_or-map, length-append, length-drop, length-map, length-take-le, length-set, map-set}
 use Rattle.nvme_wire.specs.declared.zone_state.ZoneState.{ZoneState}
 use Rattle.nvme_wire.specs.declared.zone_state.ZoneState.TheVariants.{Empty, ImplicitlyOpened, ExplicitlyOpened, Closed, ReadOnly, Full, Offline}
 use Rattle.zone_states.specs.declared.geometry.Geometry.{Geometry}
 use Rattle.zone_states.specs.Checks.{first_failing}
+use Rattle.zone_states.specs.Geometry.{IsInRange}
 use Rattle.zone_states.specs.Transition.{is_active, is_open}
 use Rattle.zone_states.specs.Zone.{Zone, IsLawfulZone, MayHold, cut_blocks, opened_by_write, written_zone}
 use Rattle.zone_states.specs.Writing.{append_bytes_checks}
 use Rattle.zone_states.specs.Stored.{StoredZone, IsWhole, zone_of}
+use Rattle.drive_port.specs.Drive.{active_count, open_count}
 use Rattle.drive_port.specs.Step.{end_of, nowhere, one_if, zone_at}
-use Rattle.zone_drive.specs.Stored.{IsCounted, Replaces, zones_of}
+use Rattle.zone_drive.specs.Stored.{AreZones, zones_of}
+use Rattle.zone_drive.specs.Table.{stored_at}
 use Rattle.zone_states.proofs.Cutting.{length-cut}
 use Rattle.zone_drive.proofs.CountLaws.{active-set, open-set}
 
@@ -33,62 +36,39 @@ all-at P (x ∷ xs) (suc i) d all lt = all-at P xs i d all.1 (omega arith)
 pub zone_at-stored : (block : ℕ) (zones : List StoredZone) (index : ℕ) (d : StoredZone) → index < length zones → zone_at (zones_of block zones) index ≡ zone_of block (get_or zones index d)
 zone_at-stored block zones index d lt = get_or-map (zone_of block) zones index d nowhere lt
 
-pub lawful-at : (geometry : Geometry) (zones : List StoredZone) (active open_zones index : ℕ) → IsCounted geometry zones active open_zones → index < length zones
-    → IsLawfulZone geometry (zone_at (zones_of geometry.block zones) index)
-lawful-at geometry zones active open_zones index counted lt =
-    all-at (IsLawfulZone geometry) (zones_of geometry.block zones) index nowhere counted.lawful (omega (arith, lt, length-map zones (zone_of geometry.block)))
-
 -- ---- one zone changed
 
-pub counted-set : (geometry : Geometry) (zones : List StoredZone) (active open_zones : ℕ) (index : ℕ) (new : StoredZone) (active' open' : ℕ)
-    → IsCounted geometry zones active open_zones → index < length zones
-    → IsLawfulZone geometry (zone_of geometry.block new) → IsWhole geometry.block new.bytes
-    → active' + one_if (is_active (zone_at (zones_of geometry.block zones) index).state) ≡ active + one_if (is_active new.state)
-    → open' + one_if (is_open (zone_at (zones_of geometry.block zones) index).state) ≡ open_zones + one_if (is_open new.state)
-    → IsCounted geometry (set zones index new) active' open'
-counted-set geometry zones active open_zones index new active' open' old lt lawful whole a o =
+-- a zone in blocks is the stored one
+pub zone_at-is : (block : ℕ) (zones : List StoredZone) (index : ℕ) → index < length zones → zone_at (zones_of block zones) index ≡ zone_of block (stored_at zones index)
+zone_at-is block zones index lt = zone_at-stored block zones index (record { state = Offline; bytes = [] }) lt
+
+pub lawful-at : (geometry : Geometry) (zones : List StoredZone) (index : ℕ) → AreZones geometry zones → index < length zones → IsLawfulZone geometry (zone_at (zones_of geometry.block zones) index)
+lawful-at geometry zones index are lt =
+    all-at (IsLawfulZone geometry) (zones_of geometry.block zones) index nowhere are.lawful (omega (arith, lt, length-map zones (zone_of geometry.block)))
+
+pub whole-at : (geometry : Geometry) (zones : List StoredZone) (index : ℕ) → AreZones geometry zones → index < length zones → IsWhole geometry.block (stored_at zones index).bytes
+whole-at geometry zones index are lt = all-at (λ (zone : StoredZone). IsWhole geometry.block zone.bytes) zones index (record { state = Offline; bytes = [] }) are.whole lt
+
+-- a change of a state takes no resource that is not left
+pub record Takes (geometry : Geometry) (zones : List Zone) (old new : ZoneState) : Type 0 where
+  pub active : active_count zones + one_if (is_active new) ≤ geometry.active + one_if (is_active old)
+  pub open_zones : open_count zones + one_if (is_open new) ≤ geometry.open + one_if (is_open old)
+
+pub are-set : (geometry : Geometry) (zones : List StoredZone) (index : ℕ) (new : StoredZone) → AreZones geometry zones → index < length zones
+    → IsWhole geometry.block new.bytes → IsLawfulZone geometry (zone_of geometry.block new)
+    → Takes geometry (zones_of geometry.block zones) (stored_at zones index).state new.state → AreZones geometry (set zones index new)
+are-set geometry zones index new are lt whole lawful takes =
     let b = geometry.block in
     let same : zones_of b (set zones index new) ≡ set (zones_of b zones) index (zone_of b new) = map-set (zone_of b) zones index new in
     let below : index < length (zones_of b zones) = omega (arith, lt, length-map zones (zone_of b)) in
+    let state = ap (λ (z : Zone). z.state) (zone_at-is b zones index lt) in
     record {
-      in_range = old.in_range;
-      count = length-set zones index new ∙ old.count;
-      lawful = rw same (all-set (IsLawfulZone geometry) (zones_of b zones) index (zone_of b new) old.lawful lawful);
-      whole = all-set (λ (zone : StoredZone). IsWhole b zone.bytes) zones index new old.whole whole;
-      active_is = rw same (omega (arith, a, old.active_is, active-set (zones_of b zones) index (zone_of b new) below));
-      open_is = rw same (omega (arith, o, old.open_is, open-set (zones_of b zones) index (zone_of b new) below));
+      count = length-set zones index new ∙ are.count;
+      whole = all-set (λ (zone : StoredZone). IsWhole b zone.bytes) zones index new are.whole whole;
+      lawful = rw same (all-set (IsLawfulZone geometry) (zones_of b zones) index (zone_of b new) are.lawful lawful);
+      active = rw same (omega (arith, takes.active, rw state at (active-set (zones_of b zones) index (zone_of b new) below)));
+      open_zones = rw same (omega (arith, takes.open_zones, rw state at (open-set (zones_of b zones) index (zone_of b new) below)));
     }
-
-pub replaces : (geometry : Geometry) (zones : List StoredZone) (active open_zones : ℕ) (index : ℕ) (d new : StoredZone) (zone : Zone) (active' open' : ℕ)
-    → IsCounted geometry zones active open_zones → index < length zones
-    → zone_of geometry.block new ≡ zone → IsLawfulZone geometry zone → IsWhole geometry.block new.bytes
-    → active' + one_if (is_active (get_or zones index d).state) ≡ active + one_if (is_active new.state)
-    → open' + one_if (is_open (get_or zones index d).state) ≡ open_zones + one_if (is_open new.state)
-    → Replaces geometry zones index zone (set zones index new) active' open'
-replaces geometry zones active open_zones index d new zone active' open' counted lt is lawful whole a o =
-    let b = geometry.block in
-    let state : (zone_at (zones_of b zones) index).state ≡ (get_or zones index d).state = ap (λ (z : Zone). z.state) (zone_at-stored b zones index d lt) in
-    record {
-      counted = counted-set geometry zones active open_zones index new active' open' counted lt (rw is lawful) whole (rw state a) (rw state o);
-      zones = map-set (zone_of b) zones index new ∙ rw is refl;
-    }
-
--- a zone takes no resource that is not counted
-pub active-counted : (geometry : Geometry) (zones : List StoredZone) (active open_zones : ℕ) (index : ℕ) (d : StoredZone)
-    → IsCounted geometry zones active open_zones → index < length zones → one_if (is_active (get_or zones index d).state) ≤ active
-active-counted geometry zones active open_zones index d counted lt =
-    let b = geometry.block in
-    let state = ap (λ (z : Zone). one_if (is_active z.state)) (zone_at-stored b zones index d lt) in
-    let below : index < length (zones_of b zones) = omega (arith, lt, length-map zones (zone_of b)) in
-    omega (arith, counted.active_is, active-set (zones_of b zones) index nowhere below, state)
-
-pub open-counted : (geometry : Geometry) (zones : List StoredZone) (active open_zones : ℕ) (index : ℕ) (d : StoredZone)
-    → IsCounted geometry zones active open_zones → index < length zones → one_if (is_open (get_or zones index d).state) ≤ open_zones
-open-counted geometry zones active open_zones index d counted lt =
-    let b = geometry.block in
-    let state = ap (λ (z : Zone). one_if (is_open z.state)) (zone_at-stored b zones index d lt) in
-    let below : index < length (zones_of b zones) = omega (arith, lt, length-map zones (zone_of b)) in
-    omega (arith, counted.open_is, open-set (zones_of b zones) index nowhere below, state)
 
 -- ---- checks
 
@@ -159,18 +139,8 @@ may_hold-le ReadOnly capacity n h = h
 may_hold-le Full capacity n h = h
 may_hold-le Offline capacity n h = h
 
-pub zone-in_range : (geometry : Geometry) (zones : List StoredZone) (active open_zones address : ℕ) → IsCounted geometry zones active open_zones → address < end_of geometry
-    → address / geometry.size < length zones
-zone-in_range geometry zones active open_zones address counted lt =
-    let some : 0 < geometry.size = omega (arith, counted.in_range.size.0) in
+pub zone-in_range : (geometry : Geometry) (zones : List StoredZone) (address : ℕ) → IsInRange geometry → AreZones geometry zones → address < end_of geometry → address / geometry.size < length zones
+zone-in_range geometry zones address in_range are lt =
+    let some : 0 < geometry.size = omega (arith, in_range.size.0) in
     let below : address / geometry.size < geometry.zones = (div-lt_iff_lt-mul some).1 lt in
-    omega (arith, below, counted.count)
-
-pub written-most : (geometry : Geometry) (zones : List StoredZone) (active open_zones address : ℕ) → IsCounted geometry zones active open_zones → address < end_of geometry
-    → address + length (zone_at (zones_of geometry.block zones) (address / geometry.size)).blocks ≤ 2 ^ 37
-written-most geometry zones active open_zones address counted lt =
-    let index = address / geometry.size in
-    let lawful = lawful-at geometry zones active open_zones index counted (zone-in_range geometry zones active open_zones address counted lt) in
-    let few = may_hold-le (zone_at (zones_of geometry.block zones) index).state geometry.capacity _ lawful.written in
-    let small : end_of geometry ≤ 65536 * 2 ^ 20 = mul-le-mul counted.in_range.zones.1 counted.in_range.size.1 in
-    omega (arith, few, small, lt, counted.in_range.capacity.1, counted.in_range.size.1)
+    omega (arith, below, are.count)

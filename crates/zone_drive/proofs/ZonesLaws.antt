@@ -1,5 +1,5 @@
 -- Zones that a drive can have, and the tests of them.
-use Rattle.std.proofs.Common.{◌≡◌, ℕ, ◌/◌, ◌%◌, ◌≤◌, Bool, true, false, eqb, ◌&&◌, List, [], ◌∷◌, length, refl, ◌∙◌, inl, inr, arith}
+use Rattle.std.proofs.Common.{◌≡◌, ℕ, ◌/◌, ◌%◌, ◌≤◌, Bool, true, false, eqb, ◌&&◌, List, [], ◌∷◌, length, refl, inl, inr, arith}
 use Rattle.std.specs.List.{AllByRecursion, count_by, list_all}
 use Rattle.std.proofs.lemmas.Bool.{eq-eqb, eqb-false, eqb-true, leb-false, leb-true, ltb-false, ltb-true}
 use Rattle.nvme_wire.specs.declared.zone_state.ZoneState.{ZoneState}
@@ -10,8 +10,8 @@ use Rattle.zone_states.specs.Stored.{IsWhole, StoredZone, zone_of}
 use Rattle.zone_states.specs.Transition.{is_active, is_open}
 use Rattle.zone_states.specs.Zone.{IsLawfulZone, MayHold}
 use Rattle.zone_states.proofs.Cutting.{length-cut}
-use Rattle.zone_drive.specs.Stored.{AreZones, IsStored, is_lawful, may_hold, zones_of}
-use Rattle.zone_drive.proofs.SendLaws.{active-stored, open-stored}
+use Rattle.zone_drive.specs.Stored.{AreZones, is_lawful, may_hold, zones_of}
+use Rattle.zone_drive.proofs.CountLaws.{count-stored}
 use Rattle.zone_drive.proofs.WriteLaws.{cut-whole}
 
 may_hold-true : (state : ZoneState) (capacity written : ℕ) → may_hold state capacity written ≡ true → MayHold state capacity written
@@ -88,18 +88,6 @@ are-zones geometry zones active open_zones in_range count all a o active_most op
       count = count;
       whole = parts.0;
       lawful = parts.1;
-      active = omega (arith, a, active-stored geometry.block zones, active_most);
-      open_zones = omega (arith, o, open-stored geometry.block zones, open_most);
-    }
-
-pub zones-stored : (geometry : Geometry) (zones : List StoredZone) (active open_zones : ℕ) → IsInRange geometry → AreZones geometry zones
-    → active ≡ count_by (λ (zone : StoredZone). is_active zone.state) zones → open_zones ≡ count_by (λ (zone : StoredZone). is_open zone.state) zones
-    → IsStored geometry zones active open_zones
-zones-stored geometry zones active open_zones in_range are a o =
-    let active_is = a ∙ active-stored geometry.block zones in
-    let open_is = o ∙ open-stored geometry.block zones in
-    record {
-      counted = record { in_range = in_range; count = are.count; lawful = are.lawful; whole = are.whole; active_is = active_is; open_is = open_is };
-      active_most = omega (arith, active_is, are.active);
-      open_most = omega (arith, open_is, are.open_zones);
+      active = omega (arith, a, count-stored is_active geometry.block zones, active_most);
+      open_zones = omega (arith, o, count-stored is_open geometry.block zones, open_most);
     }

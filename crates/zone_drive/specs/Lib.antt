@@ -1,5 +1,6 @@
 pub mod Stored
 pub mod Groups
+pub mod Table
 pub mod Choice
 pub mod Faults
 pub mod Writing

@@ -1,16 +1,15 @@
 -- What a Zone Management Send to one zone meets before its resources are looked at, and what an Open does.
-use Rattle.std.specs.Prelude.{◌≡◌, ℕ, ◌%◌, ◌==◌, nat_le, not, if◌then◌else◌, Bool, List, [], ◌∷◌, slice_set, Option, Some, None, Ok, Err}
+use Rattle.std.specs.Prelude.{◌≡◌, ℕ, ◌%◌, ◌==◌, nat_le, not, Bool, List, [], ◌∷◌, slice_set, Option, Some, None, Ok, Err}
 use Rattle.nvme_wire.specs.declared.command.Action.{Action}
 use Rattle.nvme_wire.specs.declared.command.Action.TheVariants.{Open}
 use Rattle.nvme_wire.specs.declared.status.Status.{Status}
 use Rattle.nvme_wire.specs.declared.status.Status.TheVariants.{InvalidField, InvalidZoneStateTransition, LbaOutOfRange}
 use Rattle.zone_states.specs.declared.geometry.Geometry.{Geometry}
 use Rattle.zone_states.specs.Sending.{zone_after}
-use Rattle.zone_states.specs.Stored.{StoredZone, stored_after}
 use Rattle.zone_states.specs.Transition.{state_after}
 use Rattle.zone_states.specs.Zone.{Zone}
 use Rattle.drive_port.specs.Drive.{DriveState}
-use Rattle.drive_port.specs.Step.{end_of, is_refusal, is_selected, zone_at}
+use Rattle.drive_port.specs.Step.{end_of, is_refusal, zone_at}
 use Rattle.zone_drive.specs.Choice.{RoomGives, with_room}
 
 -- the checks of an action on one zone, those of its resources left out
@@ -34,7 +33,3 @@ Opens old index None new =
     (closing : Option ℕ)
     × RoomGives old.geometry old.zones (zone_at old.zones index) (Ok closing)
     × (new ≡ record old { zones = sent_to (with_room old.zones closing) index Open })
-
--- a stored zone after an action on all zones
-abbrev pub sent_stored : Action → StoredZone → StoredZone
-sent_stored action zone = if is_selected action zone.state then stored_after action zone (state_after zone.state action) else zone

@@ -1,10 +1,9 @@
 -- How a drive is stored, and what a fresh one holds.
-use Rattle.std.specs.Prelude.{◌≡◌, ℕ, ◌/◌, ◌%◌, ◌≤◌, ◌==◌, nat_lt, nat_le, ◌&&◌, Bool, false, List, [], map, length, replicate, slice_set}
+use Rattle.std.specs.Prelude.{◌≡◌, ℕ, ◌/◌, ◌%◌, ◌≤◌, ◌==◌, nat_lt, nat_le, ◌&&◌, Bool, false, List, [], map, length, replicate}
 use Rattle.std.specs.List.{AllByRecursion}
 use Rattle.nvme_wire.specs.declared.zone_state.ZoneState.{ZoneState}
 use Rattle.nvme_wire.specs.declared.zone_state.ZoneState.TheVariants.{Empty, ImplicitlyOpened, ExplicitlyOpened, Closed}
 use Rattle.zone_states.specs.declared.geometry.Geometry.{Geometry}
-use Rattle.zone_states.specs.Geometry.{IsInRange}
 use Rattle.zone_states.specs.Zone.{Zone, IsLawfulZone}
 use Rattle.zone_states.specs.Stored.{StoredZone, IsWhole, zone_of}
 use Rattle.drive_port.specs.Drive.{DriveState, active_count, open_count}
@@ -12,26 +11,6 @@ use Rattle.drive_port.specs.Drive.{DriveState, active_count, open_count}
 -- the zones that are stored, in blocks of a size
 abbrev pub zones_of : ℕ → List StoredZone → List Zone
 zones_of block zones = map (zone_of block) zones
-
--- Each zone holds whole blocks, as many as its state allows, and the counts of active and open zones are right.
-pub record IsCounted (geometry : Geometry) (zones : List StoredZone) (active open_zones : ℕ) : Type 0 where
-  pub in_range : IsInRange geometry
-  pub count : length zones ≡ geometry.zones
-  pub lawful : AllByRecursion (IsLawfulZone geometry) (zones_of geometry.block zones)
-  pub whole : AllByRecursion (λ zone. IsWhole geometry.block zone.bytes) zones
-  pub active_is : active ≡ active_count (zones_of geometry.block zones)
-  pub open_is : open_zones ≡ open_count (zones_of geometry.block zones)
-
--- one zone has become another, and all are counted
-pub record Replaces (geometry : Geometry) (old : List StoredZone) (index : ℕ) (zone : Zone) (new : List StoredZone) (active open_zones : ℕ) : Type 0 where
-  pub counted : IsCounted geometry new active open_zones
-  pub zones : zones_of geometry.block new ≡ slice_set (zones_of geometry.block old) index zone
-
--- no more than may be
-pub record IsStored (geometry : Geometry) (zones : List StoredZone) (active open_zones : ℕ) : Type 0 where
-  pub counted : IsCounted geometry zones active open_zones
-  pub active_most : active ≤ geometry.active
-  pub open_most : open_zones ≤ geometry.open
 
 -- a drive of these zones, which has completed no command
 abbrev pub unused : Geometry → List Zone → DriveState

@@ -1,7 +1,8 @@
 ghost use Rattle.std.specs.Prelude.{◌≡◌, ◌<◌, ◌^◌, [], true, IfOk, IfErr, IsErrOf, OnErr, Ok, nat_le};
 ghost use Rattle.nvme_wire.specs.Entry.{IsAdmitted, decode_of};
 ghost use Rattle.drive_port.specs.Drive.{IsLawful};
-ghost use Rattle.drive_port.specs.Step.{SubmitGives, decode_status};
+ghost use Rattle.drive_port.specs.Halting.{SubmitGives};
+ghost use Rattle.drive_port.specs.Step.{decode_status};
 ghost use Rattle.zone_drive.specs.Choice.{AnswersByChoice, Gives};
 ghost use Rattle.zone_drive.specs.Memory.{may_allocate};
 ghost use Rattle.zone_drive.specs.Counts.{counted};

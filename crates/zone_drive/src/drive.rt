@@ -8,7 +8,7 @@ ghost use Rattle.zone_drive.specs.Faults.{IsFault, IsFreshFault};
 ghost use Rattle.zone_drive.specs.Stored.{AreZones, fresh, is_lawful, unused, zones_of};
 ghost use Rattle.zone_drive.specs.declared.drive.DriveFault.TheVariants.{OutOfMemory};
 
-use crate::resources::Resources;
+use crate::zones::Zones;
 use std::alloc::{AllocError, Global};
 use std::marker::Model;
 use thiserror::Error;
@@ -41,8 +41,7 @@ impl From<AllocError> for DriveFault {
 #[derive(Drop)]
 pub struct Drive {
     pub(crate) geometry: Geometry,
-    pub(crate) zones: Vec<Zone>,
-    pub(crate) resources: Resources,
+    pub(crate) zones: Zones,
     pub(crate) completed: u64,
     // Of the completed commands, those that were refused, and the Appends that succeeded.
     pub(crate) refused: u64,
@@ -56,20 +55,19 @@ impl Model for Drive {
 
     ghost Value = { DriveState };
 
-    ghost use Rattle.zone_drive.specs.Stored.{zones_of, IsStored};
-    ghost use Rattle.zone_drive.specs.Groups.{IsGrouped};
+    ghost use Rattle.zone_states.specs.Geometry.{IsInRange};
+    ghost use Rattle.zone_drive.specs.Stored.{AreZones, zones_of};
 
     ghost view = { λ d. record {
       geometry = d.geometry;
-      zones = zones_of d.geometry.block d.zones.items;
+      zones = zones_of d.geometry.block d.zones;
       completed = d.completed;
       refused = d.refused;
       appended = d.appended;
       stopped = nat_le (2 ^ 63) d.completed;
     } };
 
-    ghost invariant = { λ d. IsStored d.geometry d.zones.items d.resources.active_zones d.resources.open_zones
-        × IsGrouped d.zones.items d.resources.implicit
+    ghost invariant = { λ d. IsInRange d.geometry × AreZones d.geometry d.zones
         × (d.completed ≤ 2 ^ 63) × (d.refused ≤ d.completed) × (d.appended ≤ d.completed) };
 }
 
@@ -78,11 +76,10 @@ fn is_lawful(geometry: &Geometry, zone: &Zone) -> bool
     requires { 1 ≤ geometry.now.block }
     ensures { result ≡ is_lawful geometry.now zone.now }
 {
-    let block = geometry.block as usize;
-    if zone.written().len() % block != 0 {
+    if zone.written().len() % geometry.block as usize != 0 {
         return false;
     }
-    let written = zone.written().len() / block;
+    let written = zone.blocks(geometry);
     let capacity = geometry.capacity as usize;
     match zone.state() {
         ZoneState::Empty => written == 0,
@@ -111,6 +108,22 @@ fn empty_zones(alloc: Global, count: u32) -> Result<Vec<Zone>, AllocError>
     Ok(zones)
 }
 
+// A drive of these zones, which has completed no command.
+fn unused(alloc: Global, geometry: Geometry, zones: Zones) -> Drive
+    requires in_range { IsInRange geometry }
+    requires zones { AreZones geometry zones }
+    ensures { result ≡ unused geometry (zones_of geometry.block zones) }
+{
+    Drive {
+        geometry,
+        zones,
+        completed: 0,
+        refused: 0,
+        appended: 0,
+        alloc,
+    }
+}
+
 impl Drive {
     /// A drive of this shape, all of whose zones are Empty.
     pub fn new(alloc: Global, geometry: Geometry) -> Result<Drive, DriveFault>
@@ -122,19 +135,7 @@ impl Drive {
             return Err(DriveFault::Geometry(fault));
         }
         let zones = empty_zones(alloc, geometry.zones)?;
-        Ok(Drive {
-            geometry,
-            zones,
-            resources: Resources {
-                active_zones: 0,
-                open_zones: 0,
-                implicit: [0; 256],
-            },
-            completed: 0,
-            refused: 0,
-            appended: 0,
-            alloc,
-        })
+        Ok(unused(alloc, geometry, Zones::new(zones)))
     }
 
     /// A drive of this shape with these zones, which has completed no command. It allocates nothing.
@@ -157,19 +158,11 @@ impl Drive {
         if !all_lawful(&geometry, &zones) {
             return Err(DriveFault::Zones);
         }
-        let resources = Resources::of(&zones);
-        if resources.active_zones > geometry.active || resources.open_zones > geometry.open {
+        let zones = Zones::new(zones);
+        if zones.active_zones() > geometry.active || zones.open_zones() > geometry.open {
             return Err(DriveFault::Zones);
         }
-        Ok(Drive {
-            geometry,
-            zones,
-            resources,
-            completed: 0,
-            refused: 0,
-            appended: 0,
-            alloc,
-        })
+        Ok(unused(alloc, geometry, zones))
     }
 
     /// The zone with a number.
@@ -179,7 +172,7 @@ impl Drive {
         ensures whole { IfSome result (λ zone. IsWhole self.now.geometry.block zone.now.bytes) }
         ensures in_range { IsSome result ↔ (index < length self.now.zones) }
     {
-        self.zones.get(index)
+        self.zones.as_slice().get(index)
     }
 
     /// All zones, in ascending order.
@@ -187,7 +180,7 @@ impl Drive {
         ensures zones { zones_of self.now.geometry.block result.now ≡ self.now.zones }
         ensures whole { AllByRecursion (λ zone. IsWhole self.now.geometry.block zone.bytes) result.now }
     {
-        &self.zones
+        self.zones.as_slice()
     }
 
     /// Makes open zones Closed, and begins all counts again. It allocates nothing.

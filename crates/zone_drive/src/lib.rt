@@ -24,7 +24,6 @@
 //! Each command has a file of its own.
 #![tactic(auto)]
 
-mod changes;
 mod device;
 mod drive;
 mod opening;
@@ -35,5 +34,6 @@ mod resources;
 mod send;
 mod shape;
 mod write;
+mod zones;
 
 pub use drive::{Drive, DriveFault};

@@ -1,6 +1,6 @@
-ghost use Rattle.std.specs.Prelude.{◌≡◌};
+ghost use Rattle.std.specs.Prelude.{◌≡◌, ◌/◌, ◌<◌};
 ghost use Rattle.zone_states.specs.Checks.{first_failing};
-ghost use Rattle.drive_port.specs.Step.{resource_checks, zone_at};
+ghost use Rattle.drive_port.specs.Step.{end_of, resource_checks, zone_at};
 ghost use Rattle.zone_drive.specs.Choice.{RoomGives};
 
 use crate::drive::Drive;
@@ -8,32 +8,35 @@ use nvme_wire::Status;
 use zone_states::ZoneState;
 
 impl Drive {
-    // Whether there are the resources that the zone with a number needs to be opened.
-    fn resource_refusal(&self, index: u64) -> Option<Status>
-        ensures { result ≡ first_failing
-            (resource_checks self.now.geometry self.now.zones (zone_at self.now.zones index)) }
+    // Whether there are the resources that the zone that holds an address needs to be opened.
+    fn resource_refusal(&self, address: u64) -> Option<Status>
+        requires { address < end_of self.now.geometry }
+        ensures { result ≡ first_failing (resource_checks self.now.geometry self.now.zones
+            (zone_at self.now.zones (address / self.now.geometry.size))) }
     {
-        let state = self.state_at(index);
-        if state == ZoneState::Empty && self.resources.active_zones >= self.geometry.active {
+        let state = self.zone_holding(address).state();
+        if state == ZoneState::Empty && self.zones.active_zones() >= self.geometry.active {
             return Some(Status::TooManyActiveZones);
         }
         if state != ZoneState::Empty && state != ZoneState::Closed {
             return None;
         }
-        if self.resources.open_zones >= self.geometry.open {
+        if self.zones.open_zones() >= self.geometry.open {
             return Some(Status::TooManyOpenZones);
         }
         None
     }
 
-    /// Makes sure of the resources that the zone with a number needs to be opened. Where the limit on open
-    /// zones is met, `Some` is the zone that is to be closed: the lowest implicitly opened one.
-    pub(crate) fn room_for(&self, index: u64) -> Result<Option<usize>, Status>
-        ensures { RoomGives self.now.geometry self.now.zones (zone_at self.now.zones index) result }
+    /// Makes sure of the resources that the zone that holds an address needs to be opened. Where the limit
+    /// on open zones is met, `Some` is the zone that is to be closed: the lowest implicitly opened one.
+    pub(crate) fn room_for(&self, address: u64) -> Result<Option<usize>, Status>
+        requires { address < end_of self.now.geometry }
+        ensures { RoomGives self.now.geometry self.now.zones
+            (zone_at self.now.zones (address / self.now.geometry.size)) result }
     {
-        match self.resource_refusal(index) {
+        match self.resource_refusal(address) {
             None => Ok(None),
-            Some(Status::TooManyOpenZones) => match self.resources.lowest_implicit(&self.zones) {
+            Some(Status::TooManyOpenZones) => match self.zones.lowest_implicit() {
                 Some(low) => Ok(Some(low)),
                 None => Err(Status::TooManyOpenZones),
             },

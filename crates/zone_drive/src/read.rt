@@ -1,6 +1,5 @@
-ghost use Rattle.std.specs.Prelude.{◌≡◌, ℕ, ◌+◌, ◌-◌, ◌/◌, List, [], ◌++◌, length, take, drop, replicate, Ok, IfOk, OnOk, IfErr, OnErr};
+ghost use Rattle.std.specs.Prelude.{◌≡◌, ℕ, ◌-◌, ◌/◌, ◌≤◌, List, [], ◌++◌, length, take, drop, replicate, Ok, IfOk, OnOk, IfErr, OnErr};
 ghost use Rattle.zone_states.specs.Checks.{first_failing};
-ghost use Rattle.zone_states.specs.Stored.{IsWhole, zone_of};
 ghost use Rattle.drive_port.specs.Step.{read_checks, zone_at};
 ghost use Rattle.zone_drive.specs.Choice.{Gives};
 
@@ -14,6 +13,7 @@ use zone_states::ZoneState;
 impl Drive {
     // The status of the first check that a Read fails.
     fn read_refusal(&self, slba: u64, blocks: u32) -> Option<Status>
+        requires { 1 ≤ blocks }
         ensures { result ≡ first_failing
             (read_checks self.now.geometry
             (zone_at self.now.zones (slba / self.now.geometry.size)) slba blocks) }
@@ -23,33 +23,22 @@ impl Drive {
         if blocks > self.geometry.transfer {
             return Some(Status::InvalidField);
         }
-        if end > self.end() {
+        if end > self.geometry.end() {
             return Some(Status::LbaOutOfRange);
         }
         if slba / size != end.saturating_sub(1) / size {
             return Some(Status::ZoneBoundaryError);
         }
-        if self.state_at(slba / size) == ZoneState::Offline {
+        if self.zone_holding(slba).state() == ZoneState::Offline {
             return Some(Status::ZoneIsOffline);
         }
         None
     }
 
-    // The bytes that are written in the zone with a number. There are none past the last zone.
-    fn written_at(&self, index: u64) -> &[u8]
-        ensures zone { (let zone = zone_at self.now.zones index in
-            zone_of self.now.geometry.block (record { state = zone.state; bytes = result.now }) ≡ zone) }
-        ensures whole { IsWhole self.now.geometry.block result.now }
-    {
-        match self.zones.get(index as usize) {
-            Some(zone) => zone.written(),
-            None => &[],
-        }
-    }
-
     /// A Read: `into` gets the bytes of the blocks, zeros for those that are not written.
     pub(crate) fn read(&self, slba: u64, blocks: u32, into: &mut Vec<u8>) -> Result<Reply, Halt>
-        requires { into.old.items ≡ [] }
+        requires some { 1 ≤ blocks }
+        requires nothing { into.old.items ≡ [] }
         ensures ok { (bytes : List ℕ) → IfOk result (λ reply.
             Gives self.now (Ok (Command.Read slba blocks)) bytes reply into.new.items self.now) }
         ensures err { IfErr result (λ halt. halt ≡ Halt.Memory) }
@@ -58,11 +47,10 @@ impl Drive {
         if let Some(status) = self.read_refusal(slba, blocks) {
             return Ok(Reply::refused(status));
         }
-        let size = self.size();
-        let written = self.written_at(slba / size);
-        let from = (slba % size) as usize * self.block();
-        let len = blocks as usize * self.block();
-        match copy(bytes_from(written, from), len, into) {
+        let block = self.geometry.block as usize;
+        let from = (slba % u64::from(self.geometry.size)) as usize * block;
+        let written = self.zone_holding(slba).written();
+        match copy(bytes_from(written, from), blocks as usize * block, into) {
             Ok(()) => Ok(Reply::done(0)),
             Err(_) => {
                 into.clear();

@@ -11,10 +11,10 @@ impl ReportedZones for Drive {
     ghost zones = { λ d. d.zones };
 
     fn status(&self, number: u32) -> ZoneStatus {
-        let zone = &self.zones[number as usize];
+        let zone = &self.zones.as_slice()[number as usize];
         ZoneStatus {
             state: zone.state(),
-            written: (zone.written().len() / self.geometry.block as usize) as u32,
+            written: zone.blocks(&self.geometry) as u32,
         }
     }
 }

@@ -1,7 +1,8 @@
-ghost use Rattle.std.specs.Prelude.{◌≡◌, ◌+◌, ◌-◌, ◌/◌, ◌<◌, ◌≤◌, ◌^◌, count_by, length, nat_lt, position, slice_index, slice_set};
-ghost use Rattle.zone_states.specs.Transition.{is_active, is_open, is_state};
+ghost use Rattle.std.specs.Prelude.{◌≡◌, ◌+◌, ◌-◌, ◌^◌, ◌<◌, ◌≤◌, length, nat_lt, position, slice_set};
+ghost use Rattle.zone_states.specs.Stored.{StoredZone};
+ghost use Rattle.zone_states.specs.Transition.{is_state};
 ghost use Rattle.drive_port.specs.Step.{one_if};
-ghost use Rattle.zone_drive.specs.Groups.{IsGrouped, is_implicit};
+ghost use Rattle.zone_drive.specs.Groups.{IsCounted, IsGrouped, is_implicit};
 
 use zone_states::{Zone, ZoneState, is_active, is_open};
 
@@ -21,9 +22,7 @@ impl Resources {
     /// Those of these zones.
     pub fn of(zones: &[Zone]) -> Resources
         requires { length zones.now ≤ 65536 }
-        ensures active { result.active_zones ≡ count_by (λ zone. is_active zone.state) zones.now }
-        ensures open_zones { result.open_zones ≡ count_by (λ zone. is_open zone.state) zones.now }
-        ensures grouped { IsGrouped zones.now result.implicit }
+        ensures { IsCounted zones.now result }
     {
         let active_zones = zones.iter().filter(|zone| is_active(zone.state()));
         let open_zones = zones.iter().filter(|zone| is_open(zone.state()));
@@ -34,28 +33,22 @@ impl Resources {
         }
     }
 
-    /// Accounts for a zone that has gone from a state to another.
-    pub fn move_zone(&mut self, index: usize, from: ZoneState, to: ZoneState)
-        requires in_range { index < 65536 }
-        requires active { one_if (is_active from) ≤ self.old.active_zones }
-        requires open_zones { one_if (is_open from) ≤ self.old.open_zones }
-        requires implicit { one_if (is_state ZoneState.ImplicitlyOpened from) ≤ slice_index self.old.implicit (index / 256) }
-        requires active_small { self.old.active_zones + 1 < 2 ^ 32 }
-        requires open_small { self.old.open_zones + 1 < 2 ^ 32 }
-        requires implicit_small { slice_index self.old.implicit (index / 256) + 1 < 2 ^ 32 }
-        ensures active { self.new.active_zones + one_if (is_active from)
-            ≡ self.old.active_zones + one_if (is_active to) }
-        ensures open_zones { self.new.open_zones + one_if (is_open from)
-            ≡ self.old.open_zones + one_if (is_open to) }
-        ensures implicit { self.new.implicit ≡ slice_set self.old.implicit (index / 256)
-            (slice_index self.old.implicit (index / 256) + one_if (is_state ZoneState.ImplicitlyOpened to) - one_if (is_state ZoneState.ImplicitlyOpened from)) }
+    /// Accounts for a zone that was in another state before.
+    pub fn follow(&mut self, zones: &[Zone], index: usize, before: ZoneState)
+        requires in_range { index < length zones.now }
+        requires counted { (was : StoredZone) × (was.state ≡ before)
+            × IsCounted (slice_set zones.now index was) self.old }
+        ensures { IsCounted zones.now self.new }
     {
-        self.active_zones = self.active_zones + u32::from(is_active(to))
-            - u32::from(is_active(from));
-        self.open_zones = self.open_zones + u32::from(is_open(to)) - u32::from(is_open(from));
+        let after = zones[index].state();
+        self.active_zones = moved(self.active_zones, is_active(before), is_active(after));
+        self.open_zones = moved(self.open_zones, is_open(before), is_open(after));
         let group = index / GROUP;
-        self.implicit[group] = self.implicit[group] + u32::from(is_implicit(to))
-            - u32::from(is_implicit(from));
+        self.implicit[group] = moved(
+            self.implicit[group],
+            is_implicit(before),
+            is_implicit(after),
+        );
     }
 
     /// The number of the lowest implicitly opened zone. It looks at the counts of the groups, and at the
@@ -73,6 +66,15 @@ impl Resources {
         };
         Some(start + within)
     }
+}
+
+// How many zones are counted once one of them has changed, by whether it was counted and is now.
+fn moved(count: u32, before: bool, after: bool) -> u32
+    requires held { one_if before ≤ count }
+    requires small { count + 1 < 2 ^ 32 }
+    ensures { result ≡ count + one_if after - one_if before }
+{
+    count + u32::from(after) - u32::from(before)
 }
 
 // The first count that is not 0.

@@ -5,7 +5,6 @@ ghost use Rattle.drive_port.specs.Step.{end_of, sent_zone, zone_at};
 ghost use Rattle.zone_drive.specs.Choice.{Gives};
 ghost use Rattle.zone_drive.specs.Sending.{Opens, send_first, sent_to};
 
-use crate::changes::{apply_to_all, apply_to_zone, open_with_room};
 use crate::drive::Drive;
 use crate::reply::Reply;
 use nvme_wire::{Action, Command, Status};
@@ -17,14 +16,13 @@ impl Drive {
         ensures { result ≡ first_failing (send_first self.now.geometry
             (zone_at self.now.zones (slba / self.now.geometry.size)) slba action) }
     {
-        let size = u64::from(self.geometry.size);
-        if slba % size != 0 {
+        if slba % u64::from(self.geometry.size) != 0 {
             return Some(Status::InvalidField);
         }
-        if slba >= self.end() {
+        if slba >= self.geometry.end() {
             return Some(Status::LbaOutOfRange);
         }
-        match next_state(self.state_at(slba / size), action) {
+        match next_state(self.zone_holding(slba).state(), action) {
             Ok(_) => None,
             Err(_) => Some(Status::InvalidZoneStateTransition),
         }
@@ -36,19 +34,13 @@ impl Drive {
         ensures opens { Opens self.old (address / self.old.geometry.size) result self.new }
         ensures limit { open_count self.old.zones ≤ self.old.geometry.open }
     {
-        let index = address / self.size();
-        let closing = match self.room_for(index) {
+        let closing = match self.room_for(address) {
             Ok(closing) => closing,
             Err(status) => return Some(status),
         };
-        let geometry = self.geometry;
-        open_with_room(
-            &geometry,
-            &mut self.zones,
-            &mut self.resources,
-            index as usize,
-            closing,
-        );
+        let index = self.geometry.zone_of(address) as usize;
+        self.zones.apply(index, Action::Open);
+        self.zones.close(closing);
         None
     }
 
@@ -59,15 +51,8 @@ impl Drive {
         ensures { (let zones = sent_to self.old.zones (address / self.old.geometry.size) action in
             self.new ≡ record self.old { zones = zones }) }
     {
-        let geometry = self.geometry;
-        let index = (address / u64::from(geometry.size)) as usize;
-        let _ = apply_to_zone(
-            &geometry,
-            &mut self.zones,
-            &mut self.resources,
-            index,
-            action,
-        );
+        let index = self.geometry.zone_of(address) as usize;
+        self.zones.apply(index, action);
     }
 
     // A Zone Management Send to one zone.
@@ -94,8 +79,7 @@ impl Drive {
     pub(crate) fn send_to_all(&mut self, action: Action)
         ensures { self.new ≡ record self.old { zones = map (sent_zone action) self.old.zones } }
     {
-        let geometry = self.geometry;
-        apply_to_all(&geometry, &mut self.zones, &mut self.resources, action);
+        self.zones.apply_to_all(action);
     }
 
     /// A Zone Management Send, to one zone or to all. To all it always succeeds.

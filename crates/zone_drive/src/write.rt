@@ -6,7 +6,6 @@ ghost use Rattle.drive_port.specs.Step.{end_of, zone_at};
 ghost use Rattle.zone_drive.specs.Choice.{Gives};
 ghost use Rattle.zone_drive.specs.Writing.{WritesAfter, append_first, write_first};
 
-use crate::changes::write_with_room;
 use crate::drive::Drive;
 use crate::reply::Reply;
 use drive_port::Halt;
@@ -36,10 +35,10 @@ impl Drive {
         if let Some(status) = self.data_refusal(blocks, bytes) {
             return Some(status);
         }
-        if zslba % self.size() != 0 {
+        if zslba % u64::from(self.geometry.size) != 0 {
             return Some(Status::InvalidField);
         }
-        if zslba >= self.end() {
+        if zslba >= self.geometry.end() {
             return Some(Status::LbaOutOfRange);
         }
         let zone = self.zone_holding(zslba);
@@ -56,11 +55,12 @@ impl Drive {
         if let Some(status) = self.data_refusal(blocks, bytes) {
             return Some(status);
         }
-        if slba.saturating_add(u64::from(blocks)) > self.end() {
+        if slba.saturating_add(u64::from(blocks)) > self.geometry.end() {
             return Some(Status::LbaOutOfRange);
         }
+        let offset = slba % u64::from(self.geometry.size);
         let zone = self.zone_holding(slba);
-        zone.write_refusal(&self.geometry, slba % self.size(), u64::from(blocks))
+        zone.write_refusal(&self.geometry, offset, u64::from(blocks))
     }
 
     // Writes whole blocks after those of the zone that holds an address, which takes them. A status says
@@ -75,20 +75,13 @@ impl Drive {
         ensures err { IfErr result (λ halt. halt ≡ Halt.Memory) }
         ensures kept { OnErr result (self.new ≡ self.old) }
     {
-        let index = address / self.size();
-        let closing = match self.room_for(index) {
+        let closing = match self.room_for(address) {
             Ok(closing) => closing,
             Err(status) => return Ok(Some(status)),
         };
-        let geometry = self.geometry;
-        write_with_room(
-            &geometry,
-            &mut self.zones,
-            &mut self.resources,
-            index as usize,
-            bytes,
-            closing,
-        )?;
+        let index = self.geometry.zone_of(address) as usize;
+        self.zones.write(&self.geometry, index, bytes)?;
+        self.zones.close(closing);
         Ok(None)
     }
 

@@ -1,7 +1,14 @@
-use Rattle.std.proofs.Common.{rules, ◌≡◌, ◌<◌, ◌^◌, ℕ, false, ap, ◌∙◌}
+use Rattle.std.proofs.Common.{rules, ◌≡◌, ◌<◌, ◌^◌, ℕ, true, false, ap, ◌∙◌}
 use Rattle.nvme_wire.specs.Completion.{completion_bytes}
+use Rattle.nvme_wire.specs.Entry.{decode_of}
+use Rattle.drive_port.proofs.StopLaws.{stops-already}
 use Rattle.zone_drive.proofs.SubmitLaws.{completes}
 use Rattle.zone_drive.proofs.device.DriveDevice.submit.Goals as goal
+
+pub returns-then-stopped-clause-gives : goal.returns-then-stopped-clause-gives
+returns-then-stopped-clause-gives c =
+    let stopped : c.args.self.now.stopped ≡ true = search rules in
+    (c.clear.ensures.items, stops-already c.args.self.now (decode_of c.args.entry.now) c.args.bytes.now stopped)
 
 pub returns-clause-gives : goal.returns-clause-gives
 returns-clause-gives c =

@@ -1,5 +1,5 @@
-use Rattle.std.proofs.Common.{◌≡◌, ◌≤◌, ◌^◌, length, sym, arith}
-use Rattle.zone_drive.proofs.ZonesLaws.{are-zones, not-zones, zones-stored}
+use Rattle.std.proofs.Common.{◌≡◌, length, sym, arith}
+use Rattle.zone_drive.proofs.ZonesLaws.{are-zones, not-zones}
 use Rattle.zone_drive.proofs.drive.Drive.from_zones.Goals as goal
 
 pub returns-then-not-all_lawful-clause-err : goal.returns-then-not-all_lawful-clause-err
@@ -7,23 +7,13 @@ returns-then-not-all_lawful-clause-err c =
     let in_range = c.in_default.ensures.ok in
     (in_range, not-zones c.args.geometry c.args.zones.items in_range (sym (rw c.deref.ensures.value at c.if-not-all_lawful.ensures)))
 
-pub returns-clause-lawful : goal.returns-clause-lawful
-returns-clause-lawful c =
-    let in_range = c.in_default.ensures.ok in
+pub unused-requires-clause-zones : goal.unused-requires-clause-zones
+unused-requires-clause-zones c =
     let count : length c.args.zones.items ≡ c.args.geometry.zones = omega arith in
     let all = sym (rw c.deref.ensures.value at c.if-not-all_lawful.ensures) in
-    let active = rw c.deref-2.ensures.value at c.of-resources.ensures.active in
-    let open_zones = rw c.deref-2.ensures.value at c.of-resources.ensures.open_zones in
-    (in_range, are-zones c.args.geometry c.args.zones.items _ _ in_range count all active open_zones c.if-resources-geometry.false c.if-resources-geometry-2.false)
+    let same = c.new-zones.ensures in
+    rw same
+    (are-zones c.args.geometry c.args.zones.items _ _ c.in_default.ensures.ok count all (rw same at c.active_zones.ensures) (rw same at c.open_zones.ensures) c.if-active_zones-geometry.false c.if-open_zones-geometry.false)
 
-pub invariant_of-result : goal.invariant_of-result
-invariant_of-result c =
-    let in_range = c.in_default.ensures.ok in
-    let count : length c.args.zones.items ≡ c.args.geometry.zones = omega arith in
-    let all = sym (rw c.deref.ensures.value at c.if-not-all_lawful.ensures) in
-    let active = rw c.deref-2.ensures.value at c.of-resources.ensures.active in
-    let open_zones = rw c.deref-2.ensures.value at c.of-resources.ensures.open_zones in
-    let are = are-zones c.args.geometry c.args.zones.items _ _ in_range count all active open_zones c.if-resources-geometry.false c.if-resources-geometry-2.false in
-    let small : 0 ≤ 2 ^ 63 = omega arith in
-    let none : 0 ≤ 0 = omega arith in
-    (zones-stored c.args.geometry c.args.zones.items _ _ in_range are active open_zones, rw c.deref-2.ensures.value at c.of-resources.ensures.grouped, small, none, none)
+pub returns-clause-lawful : goal.returns-clause-lawful
+returns-clause-lawful c = (c.in_default.ensures.ok, rw c.new-zones.ensures at (unused-requires-clause-zones c.before))

@@ -1,0 +1,27 @@
+-- What an action leaves of the zones as they are stored.
+use Rattle.std.specs.Prelude.{ℕ, if◌then◌else◌, List, [], slice_index_or, slice_set, Option, Some, None}
+use Rattle.nvme_wire.specs.declared.command.Action.{Action}
+use Rattle.nvme_wire.specs.declared.command.Action.TheVariants.{Close}
+use Rattle.nvme_wire.specs.declared.zone_state.ZoneState.TheVariants.{Offline}
+use Rattle.zone_states.specs.Stored.{StoredZone, stored_after}
+use Rattle.zone_states.specs.Transition.{state_after}
+use Rattle.drive_port.specs.Step.{is_selected}
+
+-- a stored zone; past the last it is never reached
+abbrev pub stored_at : List StoredZone → ℕ → StoredZone
+stored_at zones index = slice_index_or zones index (record { state = Offline; bytes = [] })
+
+-- the zones after an action on one of them
+abbrev pub sent_in : List StoredZone → ℕ → Action → List StoredZone
+sent_in zones index action =
+    let zone = stored_at zones index in
+    slice_set zones index (stored_after action zone (state_after zone.state action))
+
+-- the zones once the one with this number is closed, if there is a number
+abbrev pub closed_in : List StoredZone → Option ℕ → List StoredZone
+closed_in zones None = zones
+closed_in zones (Some low) = sent_in zones low Close
+
+-- a zone after an action on all zones
+abbrev pub sent_stored : Action → StoredZone → StoredZone
+sent_stored action zone = if is_selected action zone.state then stored_after action zone (state_after zone.state action) else zone
