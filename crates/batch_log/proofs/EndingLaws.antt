@@ -18,9 +18,9 @@ use Rattle.batch_log.proofs.LogLaws.{one_tail}
 -- ---- one reading
 
 -- the batches in front, and what is left where no batch begins
-record SameFront (log log' : List Batch) (tail tail' : List (List ℕ)) : Type 0 where
-  log_is : log' ≡ log
-  tail_is : tail' ≡ tail
+pub record SameFront (log log' : List Batch) (tail tail' : List (List ℕ)) : Type 0 where
+  pub log_is : log' ≡ log
+  pub tail_is : tail' ≡ tail
 
 same_first : (b c : Batch) (bs cs : List Batch) → b.heading ≡ c.heading → b.body ≡ c.body → cs ≡ bs → c ∷ cs ≡ b ∷ bs
 same_first b c bs cs e1 e2 e3 =
@@ -28,7 +28,7 @@ same_first b c bs cs e1 e2 e3 =
     let head : c ≡ b = ap (λ (h : Heading). made h c.body) (sym e1) ∙ ap (made b.heading) (sym e2) in
     ap (λ (x : Batch). x ∷ cs) head ∙ ap (λ (xs : List Batch). b ∷ xs) e3
 
-one_front : (size : ℕ) (log log' : List Batch) (tail tail' : List (List ℕ)) → size < 2 ^ 32 → AllByRecursion (IsBatch size) log → AllByRecursion (IsBatch size) log'
+pub one_front : (size : ℕ) (log log' : List Batch) (tail tail' : List (List ℕ)) → size < 2 ^ 32 → AllByRecursion (IsBatch size) log → AllByRecursion (IsBatch size) log'
     → BeginsWithNoBatch size tail → BeginsWithNoBatch size tail' → flat_map (batch_blocks size) log ++ tail ≡ flat_map (batch_blocks size) log' ++ tail' → SameFront log log' tail tail'
 one_front size [] [] tail tail' small all all' none none' e = record { log_is = refl; tail_is = sym e }
 one_front size [] (c ∷ cs) tail tail' small all all' none none' e =
@@ -74,7 +74,7 @@ zeros_none : (size n : ℕ) (batch : Batch) (others : List (List ℕ)) → repli
 zeros_none size zero batch others e = absurd (cc)
 zeros_none size (suc n) batch others e = let first : zero_block size ≡ header_block size batch.heading = cc in not_zero size batch.heading (sym first)
 
-tail_none : (size : ℕ) (full : Bool) (tail : List (List ℕ)) → size < 2 ^ 32 → IsTail size full tail → BeginsWithNoBatch size tail
+pub tail_none : (size : ℕ) (full : Bool) (tail : List (List ℕ)) → size < 2 ^ 32 → IsTail size full tail → BeginsWithNoBatch size tail
 tail_none size false tail small (inl none) batch others fits e = let h : [] ≡ batch_blocks size batch ++ others = sym none ∙ e in absurd (cc)
 tail_none size false tail small (inr is) batch others fits e = torn_none size tail small is batch others fits e
 tail_none size true tail small end batch others fits e = zeros_none size (length tail) batch others (sym end ∙ e)

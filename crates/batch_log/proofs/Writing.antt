@@ -1,4 +1,4 @@
--- A write into a slice behind what was written.
+-- A write into a slice after what was written.
 use Rattle.std.proofs.Common.{◌≡◌, ℕ, ◌+◌, ◌-◌, ◌*◌, ◌<◌, ◌≤◌, List, [], ◌∷◌, ◌++◌, length, take, drop, get_or, refl, ap, ◌∙◌, append_assoc, arith}
 use Rattle.std.specs.List.{flat_map}
 use Rattle.std.proofs.lemmas.List.{append-nil, take_at, drop_at, take_all, drop_all, length-append, length-drop, length-take, flat_map_more, take_more, drop-drop}
@@ -6,7 +6,7 @@ use borrow.Rule.Slice.PartMut.{put_mid}
 use Rattle.batch_log.specs.declared.header.Entry.{Entry}
 use Rattle.batch_log.specs.Header.{entry_bytes}
 
--- the write goes behind `done`, over the first of what is left
+-- the write goes after `done`, over the first of what is left
 pub written_behind : (a k n : ℕ) (done more word ys : List ℕ) → length done ≡ a → length more ≡ k → n ≤ k → ys ≡ word ++ drop n (take k (drop a (done ++ more))) → put_mid a k (done ++ more) ys ≡ (done ++ word) ++ drop n more
 written_behind a k n done more word ys len all le e =
     let rest : take k (drop a (done ++ more)) ≡ more = rw (drop_at done more a len) (take_all k more (omega arith)) in

@@ -100,7 +100,7 @@ or_else (Some n) other = Some n
 abbrev pub torn_left : Batches → Option ℕ
 torn_left batches = or_else (torn_of (reading batches).offset (reading batches).ending) batches.torn
 
--- `next` has answered `None`
+-- no bytes are left: so it is once `next` has answered `None`
 abbrev pub IsDone : Batches → Type 0
 IsDone batches = batches.rest.now ≡ []
 

@@ -43,7 +43,7 @@ pub record UntornExactly (block_bytes : ℕ) (is_full : Bool) (blocks : List (Li
 abbrev pub UntornLog : Type 0
 UntornLog = (block_bytes : ℕ) (is_full : Bool) (blocks : List (List ℕ)) (log : List Batch) → UntornExactly block_bytes is_full blocks log
 
--- outside a full zone a log is its batches alone exactly where its blocks are no more than theirs; else the others are a torn tail
+-- outside a full zone: with no `has_tail` nothing stands after the batches, and with it a torn tail does
 pub record WholeExactly (block_bytes : ℕ) (blocks : List (List ℕ)) (log : List Batch) : Type 0 where
   pub whole : has_tail blocks ≡ false → IsWhole block_bytes blocks log
   pub back : IsWhole block_bytes blocks log → has_tail blocks ≡ false

@@ -34,7 +34,7 @@ impl Display for LogFault {
             LogFault::Magic => "the header does not begin with ZLOGBAT1",
             LogFault::Version => "the version is neither 1 nor 2",
             LogFault::Kind => "the kind is neither 1 nor 2",
-            LogFault::Count => "the header has no room for so many entries",
+            LogFault::Count => "the header has more entries than there is room for",
             LogFault::RestNotZero => "bytes of the header that must be zero are not",
             LogFault::BlockRepeated => "two entries name one block",
             LogFault::Torn => "the zone is full, and data blocks of its last batch are missing",
