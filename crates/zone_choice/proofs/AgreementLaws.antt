@@ -1,68 +1,50 @@
 -- How the agreement of tables and drive lasts, command by command.
-use Rattle.std.proofs.Common.{◌≡◌, ℕ, suc, ◌+◌, ◌<◌, ◌≤◌, ◌^◌, Bool, true, false, cond, List, [], ◌∷◌, ◌++◌, length, set, get_or, Option, Some, None, refl, sym, ap, ◌∙◌, inl, inr, arith, append-nil}
-use Rattle.std.specs.List.{AllByRecursion, count_by, flat_map}
-use Rattle.std.proofs.lemmas.List.{length-append, length-map, length-set}
+use Rattle.std.proofs.Common.{◌≡◌, ◌≢◌, ℕ, zero, suc, ◌+◌, ◌-◌, ◌<◌, ◌≤◌, ◌^◌, Bool, true, false, not, ◌&&◌, cond, List, [], ◌∷◌, ◌++◌, length, set, get_or, Option, Some, None, refl, sym, ap, ◌∙◌, inl, inr, arith, append-nil}
+use Rattle.std.specs.List.{AllByRecursion, count_by}
+use Rattle.std.proofs.lemmas.Bool.{cases_lt, le-ltb}
+use Rattle.std.proofs.lemmas.List.{get_or-set_other, length-map, length-set}
 use Rattle.std.proofs.lemmas.List.Sums.{sum_by-cons, sum_by-set}
-use Rattle.std.proofs.lemmas.List.FromFn.{length-map-range_with_len}
 use Rattle.zone_states.specs.declared.geometry.Geometry.{Geometry}
 use Rattle.drive_port.specs.Drive.{DriveState, IsLawful}
 use Rattle.drive_port.specs.Contents.{Content, SameContents, full, Appends, Finishes, content_at, contents, emptied, is_writable, nothing, is_full}
 use Rattle.batch_log.specs.declared.header.Entry.{Entry}
-use Rattle.batch_log.specs.Log.{Batch, IsBatch, batch_blocks, batch_size, log_size}
+use Rattle.batch_log.specs.Log.{Batch, IsBatch, batch_blocks, batch_size, has_tail, log_of, log_size}
 use Rattle.logical_map.specs.Places.{MapView}
 use Rattle.logical_map.specs.declared.place.Place.{Place}
 use Rattle.zone_choice.specs.declared.roles.Filling.{Filling}
 use Rattle.zone_choice.specs.declared.roles.Second.{Second}
-use Rattle.zone_choice.specs.Records.{AllBelow, Record, append_log, batch_records, map_of, new_records, newest, over, place, records, shown}
-use Rattle.zone_choice.specs.ZoneLogs.{HasLog, log_at, spelled_array, zone_log, zone_logs}
-use Rattle.zone_choice.specs.Mountable.{AreSound, IsMountable, IsNumbered, is_partly_written, log_sequences, sequences}
-use Rattle.zone_choice.specs.Roles.{RolesView, empty_count, fillings, is_filling_at, taken, wrote}
+use Rattle.zone_choice.specs.Records.{Record, append_log, batch_records, new_records, newest, over, place, records, shown}
+use Rattle.zone_choice.specs.Repair.{HasAtMost}
+use Rattle.zone_choice.specs.Reserve.{batch_most}
+use Rattle.zone_choice.specs.Sizes.{array_of, encoded_size, extended, map_of}
+use Rattle.zone_choice.specs.Spare.{HasSpare}
+use Rattle.zone_choice.specs.ZoneLogs.{HasLog, has_torn_tail, log_at, sequences, spelled_array, zone_log, zone_logs, zone_tails}
+use Rattle.zone_choice.specs.Mountable.{AreSound, HoldDisk, IsMountable, is_partly_written}
+use Rattle.zone_choice.specs.Roles.{RolesView, empty_count, fillings, is_empty_at, is_filling_at, taken, wrote}
 use Rattle.zone_choice.specs.Tables.{MakesRoom, TablesView, size_of}
-use Rattle.zone_choice.specs.Agreement.{Agrees, RolesAgree, drive_logs, mounted, spelled}
-use Rattle.zone_choice.specs.Laws.{SameLogs}
-use Rattle.zone_choice.proofs.AllLaws.{all-append, all-at, all-set, all-weaker}
-use Rattle.zone_choice.proofs.ContentLaws.{IsSettled, all-usable, count-fillings, roles-finish, roles-seal, roles-settled, roles-take, roles-write}
-use Rattle.zone_choice.proofs.NewestLaws.{told-append_log}
-use Rattle.zone_choice.proofs.RolesLaws.{few-fillings, roles_with}
-use Rattle.zone_choice.proofs.SequenceLaws.{distinct-append_log, records-below}
-use Rattle.zone_choice.proofs.ZoneLogLaws.{append_logs, append_spells, finish_logs, has_log-blocks, log_at-zone, writable-not_full}
+use Rattle.zone_choice.specs.Agreement.{Agrees, HoldsFilling, Mounted, RolesAgree, drive_logs, mounted, spelled}
+use Rattle.zone_choice.specs.Laws.{IsNext, Writes}
+use Rattle.zone_choice.proofs.AllLaws.{all-at, all-weaker}
+use Rattle.zone_choice.proofs.ContentLaws.{IsSettled, all-usable, count-fillings, few-write, filling-log, roles-finish, roles-seal, roles-settled, roles-take, roles-write, settled-whole}
+use Rattle.zone_choice.proofs.MountLaws.{NoTails, untorn_mounts}
+use Rattle.zone_choice.proofs.RolesLaws.{all-filling, few-fillings, filling-occupied, roles_with}
+use Rattle.zone_choice.proofs.SizeLaws.{append_writes, array_length, next_is_last, told-length}
+use Rattle.zone_choice.proofs.ZoneLogLaws.{append_logs, finish_logs, full-untorn, log_at-zone, readable-not_full, tail-at, zone_log-read}
 
-abbrev pub tables_with : MapView → RolesView → ℕ → TablesView
-tables_with places roles next = record { map = places; roles = roles; next = next }
-
--- ---- sound logs
-
-log-numbered : (limit n : ℕ) (log : List Batch) → AllByRecursion (IsNumbered limit n) log → AllByRecursion (λ s. s < limit) (log_sequences log)
-log-numbered limit n [] all = tt
-log-numbered limit n (b ∷ log) all = (all.0.0, log-numbered limit n log all.1)
-
--- all sequences are below the limit
-pub sequences-below : (limit n : ℕ) (logs : List (List Batch)) → AllByRecursion (AllByRecursion (IsNumbered limit n)) logs → AllByRecursion (λ s. s < limit) (sequences logs)
-sequences-below limit n [] all = tt
-sequences-below limit n (log ∷ logs) all = all-append (λ s. s < limit) (log_sequences log) (sequences logs) (log-numbered limit n log all.0) (sequences-below limit n logs all.1)
-
-numbered-weaker : (limit more n : ℕ) → limit ≤ more → (logs : List (List Batch)) → AllByRecursion (AllByRecursion (IsNumbered limit n)) logs → AllByRecursion (AllByRecursion (IsNumbered more n)) logs
-numbered-weaker limit more n le logs all =
-    all-weaker (AllByRecursion (IsNumbered limit n)) (AllByRecursion (IsNumbered more n)) logs (λ log. all-weaker (IsNumbered limit n) (IsNumbered more n) log (λ b h. (omega (arith, h.0), h.1))) all
+abbrev pub tables_with : MapView → RolesView → ℕ → ℕ → TablesView
+tables_with places roles next given = record { map = places; roles = roles; next = next; given = given }
 
 -- a greater limit
-pub sound-weaker : (geometry : Geometry) (zones : List Content) (limit more n : ℕ) → limit ≤ more → AreSound geometry zones limit n → AreSound geometry zones more n
-sound-weaker geometry zones limit more n le sound = record { logs = sound.logs; batches = numbered-weaker limit more n le (zone_logs geometry zones) sound.batches; distinct = sound.distinct }
+pub sound-weaker : (limit more n : ℕ) (logs : List (List Batch)) → limit ≤ more → AreSound limit n logs → AreSound more n logs
+sound-weaker limit more n logs le sound = record {
+  numbers = all-weaker (λ s. s < limit) (λ s. s < more) (sequences logs) (λ s lt. omega arith) sound.numbers;
+  inside = sound.inside;
+  distinct = sound.distinct;
+}
 
--- a batch more, with the limit as its sequence
-pub sound-append : (geometry : Geometry) (old new : List Content) (zone limit n : ℕ) (b : Batch) → AreSound geometry old limit n → zone < length (zone_logs geometry old) → b.heading.sequence ≡ limit
-    → AllByRecursion (λ (e : Entry). e.block < n) b.heading.entries → zone_logs geometry new ≡ append_log (zone_logs geometry old) zone b → AllByRecursion (HasLog geometry) new → AreSound geometry new (limit + 1) n
-sound-append geometry old new zone limit n b sound lt is blocks grown has =
-    let logs = zone_logs geometry old in
-    let below = sequences-below limit n logs sound.batches in
-    let weaker = numbered-weaker limit (limit + 1) n (omega arith) logs sound.batches in
-    let more : AllByRecursion (IsNumbered (limit + 1) n) (log_at logs zone ++ b ∷ []) =
-    all-append (IsNumbered (limit + 1) n) (log_at logs zone) (b ∷ []) (all-at (AllByRecursion (IsNumbered (limit + 1) n)) logs zone [] weaker lt) ((omega (arith, is), blocks), tt) in
-    record {
-      logs = has;
-      batches = rw grown (all-set (AllByRecursion (IsNumbered (limit + 1) n)) logs zone (log_at logs zone ++ b ∷ []) weaker more);
-      distinct = rw grown (distinct-append_log logs zone b lt (rw is below) sound.distinct);
-    }
+-- the tables have a place for each block of the array
+pub size-encoded : (disk : Mounted) → Agrees disk → size_of disk.tables ≡ encoded_size disk.tables.given (drive_logs disk.drive)
+size-encoded disk agrees = ap length agrees.places ∙ told-length (place disk.drive.geometry.size) disk.tables.given (drive_logs disk.drive)
 
 -- ---- commands that change no content
 
@@ -71,38 +53,70 @@ agrees_same old new tables same lawful agrees = record {
   geometry = rw same.geometry agrees.geometry;
   reserve = rw same.geometry agrees.reserve;
   lawful = lawful;
+  logs = rw (same.geometry, same.contents) agrees.logs;
   sound = rw (same.geometry, same.contents) agrees.sound;
   next = agrees.next;
   zones = rw same.geometry agrees.zones;
   zone_size = rw same.geometry agrees.zone_size;
   places = rw (same.geometry, same.contents) agrees.places;
   roles = rw (same.geometry, same.contents) agrees.roles;
+  few = rw (same.geometry, same.contents) agrees.few;
 }
 
 pub spelled_same : (old new : DriveState) (n : ℕ) → SameContents old new → spelled new n ≡ spelled old n
 spelled_same old new n same = rw (same.geometry, same.contents) refl
 
--- ---- the log of a zone takes as many blocks as it has
+-- ---- no Append was torn
 
-length-batches : (size : ℕ) (log : List Batch) → AllByRecursion (IsBatch size) log → length (flat_map (batch_blocks size) log) ≡ log_size log
-length-batches size [] all = refl
-length-batches size (b ∷ bs) all = omega (arith, length-append (batch_blocks size b) (flat_map (batch_blocks size) bs), length-batches size bs all.1, all.0.body)
+-- a zone whose blocks are as many as its batches take
+untorn-counted : (geometry : Geometry) (content : Content) → log_size (zone_log geometry content) ≡ length content.blocks → has_torn_tail content ≡ false
+unfolding has_torn_tail
+untorn-counted geometry content size = by (is_full content.usage) refl
+  where
+    by : (b : Bool) → is_full content.usage ≡ b → (not (is_full content.usage) && has_tail content.blocks) ≡ false
+    by true e = rw e refl
+    by false e =
+        let read : zone_log geometry content ≡ log_of content.blocks = zone_log-read geometry content content.blocks (readable-not_full geometry content e) in
+        rw e (le-ltb _ _ (omega (arith, size, ap log_size read)))
 
--- a zone that isn't full has no block after its log
-pub log_size-blocks : (geometry : Geometry) (content : Content) → is_full content.usage ≡ false → HasLog geometry content → log_size (zone_log geometry content) ≡ length content.blocks
-log_size-blocks geometry content not_full has =
-    let is = has_log-blocks geometry content not_full has in
-    let log = zone_log geometry content in
-    sym (ap length is.front.spelled ∙ rw (is.end, append-nil (flat_map (batch_blocks geometry.block) log)) (length-batches geometry.block log is.front.batches))
+tail-past : (zones : List Content) (zone : ℕ) → length zones ≤ zone → get_or (zone_tails zones) zone false ≡ false
+tail-past [] zone past = refl
+tail-past (z ∷ zs) zero past = absurd (omega arith)
+tail-past (z ∷ zs) (suc zone) past = tail-past zs zone (omega arith)
+
+emptied-untorn : has_torn_tail emptied ≡ false
+unfolding has_torn_tail
+emptied-untorn = refl
+
+pub zone-untorn : (geometry : Geometry) (zones : List Content) (roles : RolesView) (zone : ℕ) → RolesAgree geometry.capacity zones (zone_logs geometry zones) roles → zone < length zones → has_torn_tail (content_at zones zone) ≡ false
+zone-untorn geometry zones roles zone agree lt = by (is_filling_at roles zone) refl (is_empty_at roles zone) refl
+  where
+    filled : (f : Filling) → HoldsFilling geometry.capacity zones (zone_logs geometry zones) f → has_torn_tail (content_at zones f.zone) ≡ false
+    filled f is = untorn-counted geometry (content_at zones f.zone) (ap log_size (sym (log_at-zone geometry zones f.zone)) ∙ is.batches ∙ sym is.written)
+
+    by : (b : Bool) → is_filling_at roles zone ≡ b → (c : Bool) → is_empty_at roles zone ≡ c → has_torn_tail (content_at zones zone) ≡ false
+    by true e c e' =
+        all-filling (λ z. has_torn_tail (content_at zones z) ≡ false) (fillings roles) zone
+        (all-weaker (HoldsFilling geometry.capacity zones (zone_logs geometry zones)) (λ f. has_torn_tail (content_at zones f.zone) ≡ false) (fillings roles) filled agree.fillings_are) e
+    by false e true e' = rw (agree.empty zone e') emptied-untorn
+    by false e false e' = full-untorn (content_at zones zone) (rw (agree.sealed_are zone lt e' e).usage refl)
+
+pub no_tails : (geometry : Geometry) (zones : List Content) (roles : RolesView) → RolesAgree geometry.capacity zones (zone_logs geometry zones) roles → NoTails zones
+no_tails geometry zones roles agree zone = elim (cases_lt zone (length zones)) as (λ _. get_or (zone_tails zones) zone false ≡ false) [
+  | inl lt ↦ tail-at zones zone lt ∙ zone-untorn geometry zones roles zone agree lt
+  | inr past ↦ tail-past zones zone past
+]
 
 -- ---- a batch is appended to a zone
 
 -- what an Append of the next batch has to be
-pub record AppendsBatch (old new : DriveState) (zone next n : ℕ) (b : Batch) : Type 0 where
+pub record AppendsBatch (old new : DriveState) (tables : TablesView) (zone : ℕ) (b : Batch) : Type 0 where
   pub batch : IsBatch old.geometry.block b
-  pub sequence : b.heading.sequence ≡ next
-  pub room : next < 2 ^ 63
-  pub blocks : AllByRecursion (λ (e : Entry). e.block < n) b.heading.entries
+  pub size : b.heading.size ≡ Some (size_of tables)
+  pub sequence : b.heading.sequence ≡ tables.next
+  pub room : tables.next < 2 ^ 63
+  pub blocks : AllByRecursion (λ (e : Entry). e.block < size_of tables) b.heading.entries
+  pub few : HasAtMost (batch_most old.geometry) b
   pub geometry : new.geometry ≡ old.geometry
   pub lawful : IsLawful new
   pub appends : Appends (contents old.zones) (contents new.zones) old.geometry.capacity zone (batch_blocks old.geometry.block b)
@@ -111,32 +125,48 @@ pub record AppendsBatch (old new : DriveState) (zone next n : ℕ) (b : Batch) :
 abbrev pub written_in : DriveState → ℕ → ℕ
 written_in drive zone = length (content_at (contents drive.zones) zone).blocks
 
+-- the batch is the next one
+pub is_next : (disk : Mounted) (b : Batch) → Agrees disk → b.heading.size ≡ Some (size_of disk.tables) → b.heading.sequence ≡ disk.tables.next → AllByRecursion (λ (e : Entry). e.block < size_of disk.tables) b.heading.entries
+    → IsNext (disk.tables.next + 1) disk.tables.given (drive_logs disk.drive) (size_of disk.tables) b
+is_next disk b agrees size sequence blocks = record {
+  has = size;
+  grows = omega (arith, size-encoded disk agrees);
+  inside = blocks;
+  number = omega (arith, sequence);
+  greatest = rw sequence agrees.sound.numbers;
+}
+
 -- the logs, and what they encode and where
-record AfterAppend (old new : DriveState) (zone next n : ℕ) (b : Batch) : Type 0 where
+record AfterAppend (old new : DriveState) (tables : TablesView) (zone : ℕ) (b : Batch) : Type 0 where
   logs : drive_logs new ≡ append_log (drive_logs old) zone b
   all_logs : AllByRecursion (HasLog new.geometry) (contents new.zones)
-  below : AllBelow b.heading.sequence (records 0 (drive_logs old))
   in_range : zone < length (drive_logs old)
   brings : new_records (drive_logs old) zone b ≡ batch_records zone (written_in old zone) b
+  writes : Writes old.geometry.block old.geometry.size (tables.next + 1) tables.given (drive_logs old) zone (size_of tables) b
 
-after_append : (old new : DriveState) (tables : TablesView) (zone : ℕ) (b : Batch) → Agrees (mounted old tables) → AppendsBatch old new zone tables.next (size_of tables) b → AfterAppend old new zone tables.next (size_of tables) b
-after_append old new tables zone b agrees a =
+after_append : (old new : DriveState) (tables : TablesView) (zone : ℕ) (b : Batch) → Agrees (mounted old tables) → is_filling_at tables.roles zone ≡ true → AppendsBatch old new tables zone b → AfterAppend old new tables zone b
+after_append old new tables zone b agrees filling a =
     let g = old.geometry in
     let zones = contents old.zones in
     let was = content_at zones zone in
     let small = agrees.lawful.geometry.block in
-    let has : HasLog g was = all-at (HasLog g) zones zone nothing agrees.sound.logs a.appends.in_range in
-    let grown = append_logs g zones (contents new.zones) zone b small a.batch has a.appends in
-    let size : log_size (log_at (drive_logs old) zone) ≡ written_in old zone =
-    ap log_size (log_at-zone g zones zone) ∙ log_size-blocks g was (writable-not_full was.usage a.appends.writable) has in
-    let below = sequences-below tables.next (size_of tables) (drive_logs old) agrees.sound.batches in
+    let has : HasLog g was = all-at (HasLog g) zones zone nothing agrees.logs a.appends.in_range in
+    let untorn = zone-untorn g zones tables.roles zone agrees.roles a.appends.in_range in
+    let grown = append_logs g zones (contents new.zones) zone b small a.batch has untorn a.appends in
+    let size = filling-log g.capacity zones (drive_logs old) tables.roles zone agrees.roles filling in
+    let range : zone < length (drive_logs old) = omega (arith, a.appends.in_range, length-map zones (zone_log g)) in
+    let sound = sound-weaker tables.next (tables.next + 1) tables.given (drive_logs old) (omega arith) agrees.sound in
     record {
       logs = rw a.geometry grown.logs;
-      all_logs = rw a.geometry (grown.all_logs agrees.sound.logs);
-      below = rw a.sequence (records-below tables.next 0 (drive_logs old) below);
-      in_range = omega (arith, a.appends.in_range, length-map zones (zone_log g));
+      all_logs = rw a.geometry (grown.all_logs agrees.logs);
+      in_range = range;
       brings = ap (λ (offset : ℕ). batch_records zone offset b) size;
+      writes = append_writes g.block g.size (tables.next + 1) tables.given zone (size_of tables) (drive_logs old) b range sound (next_is_last (tables.next + 1) tables.given zone (size_of tables) (drive_logs old) b range (is_next (mounted old tables) b agrees a.size a.sequence a.blocks));
     }
+
+-- a list that has the length already
+extended-same : {X : Type 0} (x : X) (size : ℕ) (xs : List X) → length xs ≡ size → extended x size xs ≡ xs
+extended-same {X} x size xs e = let none : size - length xs ≡ 0 = omega (arith, e) in rw none (append-nil xs)
 
 length-over : {X : Type 0} (f : Option Record → X) (rs : List Record) (xs : List X) → length (over f rs xs) ≡ length xs
 length-over f [] xs = refl
@@ -144,7 +174,7 @@ length-over f (r ∷ rs) xs = length-set (over f rs xs) r.block (f (Some r)) ∙
 
 -- the tables after it
 abbrev pub tables_after : TablesView → MapView → ℕ → Batch → TablesView
-tables_after tables map zone b = record { map = map; roles = wrote tables.roles zone (batch_size b); next = tables.next + 1 }
+tables_after tables map zone b = record { map = map; roles = wrote tables.roles zone (batch_size b); next = tables.next + 1; given = tables.given }
 
 -- the map has the batch's places
 pub record IsPlaced (old : DriveState) (tables : TablesView) (map : MapView) (zone : ℕ) (b : Batch) : Type 0 where
@@ -156,87 +186,93 @@ pub size-placed : (old : DriveState) (tables : TablesView) (map : MapView) (zone
 size-placed old tables map zone b placed = ap length placed.places ∙ length-over (place old.geometry.size) (batch_records zone (written_in old zone) b) tables.map.places
 
 pub agrees_append : (old new : DriveState) (tables : TablesView) (map : MapView) (zone : ℕ) (b : Batch) → Agrees (mounted old tables) → is_filling_at tables.roles zone ≡ true
-    → AppendsBatch old new zone tables.next (size_of tables) b → IsPlaced old tables map zone b → Agrees (mounted new (tables_after tables map zone b))
+    → AppendsBatch old new tables zone b → IsPlaced old tables map zone b → Agrees (mounted new (tables_after tables map zone b))
 agrees_append old new tables map zone b agrees filling a placed =
     let g = old.geometry in
     let logs = drive_logs old in
-    let n = size_of tables in
-    let after = after_append old new tables zone b agrees a in
+    let after = after_append old new tables zone b agrees filling a in
     let long = size-placed old tables map zone b placed in
     let taken : length (batch_blocks g.block b) ≡ batch_size b = omega (arith, a.batch.body) in
-    let new_logs : zone_logs g (contents new.zones) ≡ append_log logs zone b = rw a.geometry at after.logs in
-    let new_has : AllByRecursion (HasLog g) (contents new.zones) = rw a.geometry at after.all_logs in
-    let sound = sound-append g (contents old.zones) (contents new.zones) zone tables.next n b agrees.sound after.in_range a.sequence a.blocks new_logs new_has in
-    let mapped : map.places ≡ map_of g.size n (append_log logs zone b) =
-    placed.places ∙ ap (λ (ps : List Place). over (place g.size) (batch_records zone (written_in old zone) b) ps) agrees.places
-    ∙ rw (← after.brings) (sym (told-append_log (place g.size) n zone logs b after.in_range after.below)) in
+    let same : extended (place g.size None) (size_of tables) (map_of g.size tables.given logs) ≡ tables.map.places =
+    rw (← agrees.places) (extended-same (place g.size None) (size_of tables) tables.map.places refl) in
+    let mapped : map.places ≡ map_of g.size tables.given (append_log logs zone b) =
+    placed.places ∙ rw (← after.brings, ← same) (sym after.writes.map_is) in
     record {
       geometry = rw a.geometry agrees.geometry;
       reserve = rw (a.geometry, long) agrees.reserve;
       lawful = a.lawful;
-      sound = rw (a.geometry, long) sound;
+      logs = after.all_logs;
+      sound = rw after.logs after.writes.sound;
       next = omega (arith, a.room);
       zones = rw a.geometry (placed.zones ∙ agrees.zones);
       zone_size = rw a.geometry (placed.zone_size ∙ agrees.zone_size);
-      places = rw (long, after.logs, a.geometry) mapped;
+      places = rw (after.logs, a.geometry) mapped;
       roles = rw (after.logs, a.geometry) (roles-write g.capacity (contents old.zones) (contents new.zones) logs tables.roles zone (batch_blocks g.block b) b agrees.roles filling a.appends taken after.in_range);
+      few = rw (after.logs, a.geometry) (few-write (batch_most g) logs tables.roles zone b after.in_range a.few agrees.few);
     }
 
-pub spelled_append : (old new : DriveState) (tables : TablesView) (zone : ℕ) (b : Batch) → Agrees (mounted old tables) → AppendsBatch old new zone tables.next (size_of tables) b
-    → spelled new (size_of tables) ≡ over (shown old.geometry.block) (batch_records zone (written_in old zone) b) (spelled old (size_of tables))
-spelled_append old new tables zone b agrees a =
+pub spelled_append : (old new : DriveState) (tables : TablesView) (zone : ℕ) (b : Batch) → Agrees (mounted old tables) → is_filling_at tables.roles zone ≡ true → AppendsBatch old new tables zone b
+    → (drive_logs new ≡ append_log (drive_logs old) zone b) × (spelled new tables.given ≡ over (shown old.geometry.block) (batch_records zone (written_in old zone) b) (spelled old tables.given))
+unfolding spelled_array
+spelled_append old new tables zone b agrees filling a =
     let g = old.geometry in
-    let zones = contents old.zones in
-    let after = after_append old new tables zone b agrees a in
-    let has : HasLog g (content_at zones zone) = all-at (HasLog g) zones zone nothing agrees.sound.logs a.appends.in_range in
-    rw (a.geometry, ← after.brings) (append_spells g zones (contents new.zones) zone (size_of tables) b agrees.lawful.geometry.block a.batch has after.below a.appends)
+    let after = after_append old new tables zone b agrees filling a in
+    let long : length (array_of g.block tables.given (drive_logs old)) ≡ size_of tables = array_length g.block tables.given (drive_logs old) ∙ sym (size-encoded (mounted old tables) agrees) in
+    let same = extended-same (shown g.block None) (size_of tables) (array_of g.block tables.given (drive_logs old)) long in
+    (after.logs, rw (after.logs, a.geometry, ← after.brings) (after.writes.array_is ∙ ap (over (shown g.block) (new_records (drive_logs old) zone b)) same))
 
 -- ---- the host zone is finished or sealed, and an empty zone is taken
 
-pub agrees_finish : (old new : DriveState) (map : MapView) (empties : List Bool) (host : Filling) (second : Option Second) (next : ℕ)
-    → Agrees (mounted old (tables_with map (roles_with empties (Some host) second) next)) → 1 ≤ host.written → host.written < old.geometry.capacity
+pub agrees_finish : (old new : DriveState) (map : MapView) (empties : List Bool) (host : Filling) (second : Option Second) (next given : ℕ)
+    → Agrees (mounted old (tables_with map (roles_with empties (Some host) second) next given)) → 1 ≤ host.written → host.written < old.geometry.capacity
     → new.geometry ≡ old.geometry → IsLawful new → Finishes (contents old.zones) (contents new.zones) host.zone
-    → Agrees (mounted new (tables_with map (roles_with empties None second) next)) × (spelled new (length map.places) ≡ spelled old (length map.places))
+    → Agrees (mounted new (tables_with map (roles_with empties None second) next given)) × (drive_logs new ≡ drive_logs old) × (spelled new given ≡ spelled old given)
 unfolding spelled_array
-agrees_finish old new map empties host second next agrees some room geometry lawful finishes =
+agrees_finish old new map empties host second next given agrees some room geometry lawful finishes =
     let g = old.geometry in
     let zones = contents old.zones in
-    let has : HasLog g (content_at zones host.zone) = all-at (HasLog g) zones host.zone nothing agrees.sound.logs finishes.in_range in
-    let writable = host-writable old map empties host second next agrees room in
-    let kept : SameLogs g zones (contents new.zones) = finish_logs g zones (contents new.zones) host.zone agrees.lawful.geometry.block has writable finishes in
+    let has : HasLog g (content_at zones host.zone) = all-at (HasLog g) zones host.zone nothing agrees.logs finishes.in_range in
+    let writable = host-writable old map empties host second next given agrees room in
+    let untorn = zone-untorn g zones (roles_with empties (Some host) second) host.zone agrees.roles finishes.in_range in
+    let kept = finish_logs g zones (contents new.zones) host.zone agrees.lawful.geometry.block has writable untorn finishes in
     let logs : drive_logs new ≡ drive_logs old = rw geometry kept.logs in (
       record {
         geometry = rw geometry agrees.geometry;
         reserve = rw geometry agrees.reserve;
         lawful = lawful;
-        sound = record { logs = rw geometry (kept.all_logs agrees.sound.logs); batches = rw logs agrees.sound.batches; distinct = rw logs agrees.sound.distinct };
+        logs = rw geometry (kept.all_logs agrees.logs);
+        sound = rw logs agrees.sound;
         next = agrees.next;
         zones = rw geometry agrees.zones;
         zone_size = rw geometry agrees.zone_size;
         places = rw (logs, geometry) agrees.places;
         roles = rw (logs, geometry) (roles-finish g.capacity zones (contents new.zones) (drive_logs old) empties host second agrees.roles finishes some);
+        few = rw (logs, geometry) agrees.few.1;
       },
+      logs,
       rw (logs, geometry) refl,
     )
   where
-    host-writable : (old : DriveState) (map : MapView) (empties : List Bool) (host : Filling) (second : Option Second) (next : ℕ) → Agrees (mounted old (tables_with map (roles_with empties (Some host) second) next)) → host.written < old.geometry.capacity
+    host-writable : (old : DriveState) (map : MapView) (empties : List Bool) (host : Filling) (second : Option Second) (next given : ℕ) → Agrees (mounted old (tables_with map (roles_with empties (Some host) second) next given)) → host.written < old.geometry.capacity
         → is_writable (content_at (contents old.zones) host.zone).usage ≡ true
-    host-writable old map empties host second next agrees room =
+    host-writable old map empties host second next given agrees room =
         elim agrees.roles.fillings_are.0.usage as (λ _. is_writable (content_at (contents old.zones) host.zone).usage ≡ true) [ inl w ↦ w | inr h ↦ absurd (omega (arith, h.1, room)) ]
 
-pub agrees_seal : (drive : DriveState) (map : MapView) (empties : List Bool) (host : Filling) (second : Option Second) (next : ℕ)
-    → Agrees (mounted drive (tables_with map (roles_with empties (Some host) second) next)) → 1 ≤ host.written → (content_at (contents drive.zones) host.zone).usage ≡ full
-    → Agrees (mounted drive (tables_with map (roles_with empties None second) next))
-agrees_seal drive map empties host second next agrees some is_full = record {
+pub agrees_seal : (drive : DriveState) (map : MapView) (empties : List Bool) (host : Filling) (second : Option Second) (next given : ℕ)
+    → Agrees (mounted drive (tables_with map (roles_with empties (Some host) second) next given)) → 1 ≤ host.written → (content_at (contents drive.zones) host.zone).usage ≡ full
+    → Agrees (mounted drive (tables_with map (roles_with empties None second) next given))
+agrees_seal drive map empties host second next given agrees some is_full = record {
   geometry = agrees.geometry;
   reserve = agrees.reserve;
   lawful = agrees.lawful;
+  logs = agrees.logs;
   sound = agrees.sound;
   next = agrees.next;
   zones = agrees.zones;
   zone_size = agrees.zone_size;
   places = agrees.places;
   roles = roles-seal drive.geometry.capacity (contents drive.zones) (drive_logs drive) empties host second agrees.roles is_full some;
+  few = agrees.few.1;
 }
 
 pub zone_log-emptied : (geometry : Geometry) → zone_log geometry emptied ≡ []
@@ -246,19 +282,21 @@ zone_log-emptied geometry = refl
 vacant-emptied : (geometry : Geometry) (zones : List Content) (zone : ℕ) → content_at zones zone ≡ emptied → log_at (zone_logs geometry zones) zone ≡ []
 vacant-emptied geometry zones zone e = log_at-zone geometry zones zone ∙ ap (zone_log geometry) e ∙ zone_log-emptied geometry
 
-pub agrees_take : (drive : DriveState) (map : MapView) (empties : List Bool) (second : Option Second) (zone next : ℕ)
-    → Agrees (mounted drive (tables_with map (roles_with empties None second) next)) → zone < length empties → get_or empties zone false ≡ true
-    → Agrees (mounted drive (tables_with map (taken (roles_with empties None second) zone) next))
-agrees_take drive map empties second zone next agrees lt here = record {
+pub agrees_take : (drive : DriveState) (map : MapView) (empties : List Bool) (second : Option Second) (zone next given : ℕ)
+    → Agrees (mounted drive (tables_with map (roles_with empties None second) next given)) → zone < length empties → get_or empties zone false ≡ true
+    → Agrees (mounted drive (tables_with map (taken (roles_with empties None second) zone) next given))
+agrees_take drive map empties second zone next given agrees lt here = record {
   geometry = agrees.geometry;
   reserve = agrees.reserve;
   lawful = agrees.lawful;
+  logs = agrees.logs;
   sound = agrees.sound;
   next = agrees.next;
   zones = agrees.zones;
   zone_size = agrees.zone_size;
   places = agrees.places;
   roles = roles-take drive.geometry.capacity (contents drive.zones) (drive_logs drive) empties second zone agrees.roles lt here (vacant-emptied drive.geometry (contents drive.zones) zone (agrees.roles.empty zone here));
+  few = (rw (vacant-emptied drive.geometry (contents drive.zones) zone (agrees.roles.empty zone here)) tt, agrees.few);
 }
 
 -- of two empty zones one is left
@@ -273,18 +311,17 @@ agrees_room drive old new room agrees = record {
   geometry = agrees.geometry;
   reserve = rw room.places agrees.reserve;
   lawful = agrees.lawful;
-  sound = rw (room.places, room.next) agrees.sound;
+  logs = agrees.logs;
+  sound = rw (room.next, room.given) agrees.sound;
   next = rw room.next agrees.next;
   zones = room.zones ∙ agrees.zones;
   zone_size = room.zone_size ∙ agrees.zone_size;
-  places = rw room.places agrees.places;
+  places = rw (room.places, room.given) agrees.places;
   roles = rw room.roles agrees.roles;
+  few = rw room.roles agrees.few;
 }
 
 -- ---- a disk's drive can be mounted again at any moment
-
-settled-whole : (content : Content) → IsSettled content.usage → is_partly_written content ≡ false
-settled-whole content h = elim h as (λ _. is_partly_written content ≡ false) [ inl e ↦ rw e refl | inr e ↦ rw e refl ]
 
 few_partial : (capacity : ℕ) (zones : List Content) (logs : List (List Batch)) (roles : RolesView) → RolesAgree capacity zones logs roles → count_by is_partly_written zones ≤ 2
 few_partial capacity zones logs roles agree =
@@ -303,25 +340,50 @@ counted-some (false ∷ xs) some =
     let rest = counted-some xs (omega (arith, sum_by-cons (λ (b : Bool). cond {A = ℕ} b 1 0) false xs)) in
     record { place = suc rest.place; below = omega (arith, rest.below); here = rest.here }
 
-pub agrees_mountable : (drive : DriveState) (tables : TablesView) → Agrees (mounted drive tables) → 1 ≤ empty_count tables.roles → IsMountable drive (size_of tables)
-agrees_mountable drive tables agrees some =
+-- a zone is vacant
+pub empty-spare : (drive : DriveState) (tables : TablesView) → Agrees (mounted drive tables) → 1 ≤ empty_count tables.roles → HasSpare drive.geometry.block tables.given (drive_logs drive)
+empty-spare drive tables agrees some =
     let zones = contents drive.zones in
     let spare = counted-some tables.roles.empty some in
     record {
-      lawful = agrees.lawful;
-      holds = record {
-        usable = all-usable drive.geometry.capacity zones (drive_logs drive) tables.roles agrees.roles;
-        few_partial = few_partial drive.geometry.capacity zones (drive_logs drive) tables.roles agrees.roles;
-        sound = sound-weaker drive.geometry zones tables.next (2 ^ 63) (size_of tables) agrees.next agrees.sound;
-        spare = record {
-          zone = spare.place;
-          in_range = omega (arith, spare.below, agrees.roles.count, length-map zones (zone_log drive.geometry));
-          spare = inl (vacant-emptied drive.geometry zones spare.place (agrees.roles.empty spare.place spare.here));
-        };
-      };
+      zone = spare.place;
+      in_range = omega (arith, spare.below, agrees.roles.count, length-map zones (zone_log drive.geometry));
+      spare = inl (vacant-emptied drive.geometry zones spare.place (agrees.roles.empty spare.place spare.here));
     }
 
--- the array has its number of blocks
-pub length-spelled : (drive : DriveState) (n : ℕ) → length (spelled drive n) ≡ n
+-- after an Append to a zone that is being filled too
+pub empty-spare_after : (drive : DriveState) (tables : TablesView) (zone : ℕ) (b : Batch) → Agrees (mounted drive tables) → 1 ≤ empty_count tables.roles → is_filling_at tables.roles zone ≡ true
+    → HasSpare drive.geometry.block tables.given (append_log (drive_logs drive) zone b)
+empty-spare_after drive tables zone b agrees some here =
+    let zones = contents drive.zones in
+    let logs = drive_logs drive in
+    let spare = counted-some tables.roles.empty some in
+    let occupied = filling-occupied tables.roles zone agrees.roles.apart here in
+    let other : spare.place ≢ zone = λ same. (let no = occupied.1 in let yes = rw same at spare.here in absurd (cc)) in
+    let vacant = vacant-emptied drive.geometry zones spare.place (agrees.roles.empty spare.place spare.here) in
+    record {
+      zone = spare.place;
+      in_range = omega (arith, spare.below, agrees.roles.count, length-map zones (zone_log drive.geometry), length-set logs zone (log_at logs zone ++ b ∷ []));
+      spare = inl (get_or-set_other logs zone spare.place (log_at logs zone ++ b ∷ []) [] other ∙ vacant);
+    }
+
+pub agrees_mountable : (drive : DriveState) (tables : TablesView) → Agrees (mounted drive tables) → HasSpare drive.geometry.block tables.given (drive_logs drive) → IsMountable drive tables.given
+agrees_mountable drive tables agrees spare =
+    let g = drive.geometry in
+    let zones = contents drive.zones in
+    record {
+      lawful = agrees.lawful;
+      holds = untorn_mounts g zones tables.given (no_tails g zones tables.roles agrees.roles) (record {
+        usable = all-usable g.capacity zones (drive_logs drive) tables.roles agrees.roles;
+        few_partial = few_partial g.capacity zones (drive_logs drive) tables.roles agrees.roles;
+        logs = agrees.logs;
+        sound = sound-weaker tables.next (2 ^ 63) tables.given (drive_logs drive) agrees.next agrees.sound;
+        reserve = rw (← size-encoded (mounted drive tables) agrees) agrees.reserve;
+        spare = spare;
+      });
+    }
+
+-- the array has the drive's size
+pub length-spelled : (drive : DriveState) (n : ℕ) → length (spelled drive n) ≡ encoded_size n (drive_logs drive)
 unfolding spelled_array
-length-spelled drive n = length-map-range_with_len (λ (block : ℕ). shown drive.geometry.block (newest block (records 0 (drive_logs drive)))) 0 n
+length-spelled drive n = array_length drive.geometry.block n (drive_logs drive)

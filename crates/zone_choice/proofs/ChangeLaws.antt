@@ -1,57 +1,62 @@
 -- What commands change of a mounted disk: a halt nothing, an Append of a batch what the batch says.
-use Rattle.std.proofs.Common.{◌≡◌, ℕ, zero, suc, ◌+◌, ◌*◌, ◌/◌, ◌<◌, ◌≤◌, ◌^◌, List, [], ◌∷◌, length, take, drop, set, Some, Err, refl, sym, ap, ◌∙◌, inl, inr, arith}
+use Rattle.std.proofs.Common.{◌≡◌, ◌⊎◌, ℕ, zero, suc, ◌+◌, ◌*◌, ◌/◌, ◌<◌, ◌≤◌, ◌^◌, List, [], ◌∷◌, length, take, drop, set, Some, Err, refl, sym, ap, ◌∙◌, inl, inr, arith}
 use Rattle.std.specs.List.{AllByRecursion}
-use Rattle.std.proofs.lemmas.List.{length-append, take_at}
+use Rattle.std.proofs.lemmas.Bool.{cases_lt}
+use Rattle.std.proofs.lemmas.List.{length-append, take_all, take_at}
 use Rattle.std.proofs.lemmas.Nat.{div-mul-add, mul-le}
 use Rattle.std.proofs.Math.Nat.{add-mul}
-use Rattle.nvme_wire.specs.declared.command.Command.{Command}
-use Rattle.nvme_wire.specs.declared.command.Command.TheVariants.{Append}
 use Rattle.zone_states.specs.declared.geometry.Geometry.{Geometry}
 use Rattle.zone_states.specs.Geometry.{IsInRange}
 use Rattle.zone_states.specs.Zone.{cut_blocks}
-use Rattle.drive_port.specs.Calls.{Appended, AppendGives, CallGives, CanAppend, IsNotRefused, IsWholeBlocks, block_count}
-use Rattle.drive_port.specs.Contents.{Counts, SameContents, content_at, contents}
+use Rattle.drive_port.specs.Calls.{Appended, AppendedFront, AppendGives, AppendKeeps, CanAppend, IsNotRefused, IsWholeBlocks, Obeys, block_count}
+use Rattle.drive_port.specs.Contents.{Appends, Counts, SameContents, content_at, contents}
 use Rattle.drive_port.specs.Drive.{DriveState, IsLawful}
 use Rattle.drive_port.specs.declared.calls.PortFault.{PortFault}
 use Rattle.drive_port.specs.declared.calls.PortFault.TheVariants as port
 use Rattle.batch_log.specs.declared.header.Entry.{Entry}
 use Rattle.batch_log.specs.Header.{IsHeading, header_block}
-use Rattle.batch_log.specs.Log.{batch_blocks, batch_size, data_count, one_unless}
+use Rattle.batch_log.specs.Log.{Batch, IsBatch, batch_blocks, batch_size, data_count, one_unless}
 use Rattle.batch_log.proofs.HeaderLaws.{header_length}
 use Rattle.logical_map.specs.Places.{MapView}
 use Rattle.logical_map.specs.declared.place.Place.{Place}
-use Rattle.zone_choice.specs.Agreement.{Agrees, Mounted, mounted, spelled}
+use Rattle.zone_choice.specs.Agreement.{Agrees, Mounted, drive_logs, mounted, mounted_array, spelled}
 use Rattle.zone_choice.specs.Builder.{BuilderView, IsBuilt, built, placed}
-use Rattle.zone_choice.specs.Changes.{CanPlace, HasHalted, IsHalt, KeepsArray, Places, halt_of, told_over}
-use Rattle.zone_choice.specs.Records.{entry_records, over, record_of, shown}
+use Rattle.zone_choice.specs.Changes.{AppendLeaves, CanPlace, IsHalt, KeepsArray, Places, StopsInside, halt_of, told_over}
+use Rattle.zone_choice.specs.Records.{append_log, batch_records, entry_records, over, record_of, shown}
 use Rattle.zone_choice.specs.Roles.{RolesView, fillings, wrote}
 use Rattle.zone_choice.specs.Tables.{MakesRoom, TablesView, size_of}
-use Rattle.zone_choice.proofs.AgreementLaws.{AppendsBatch, IsPlaced, agrees_append, agrees_room, agrees_same, size-placed, spelled_append, spelled_same, tables_after, written_in}
+use Rattle.zone_choice.proofs.AgreementLaws.{AppendsBatch, IsPlaced, agrees_append, agrees_mountable, agrees_room, agrees_same, size-placed, spelled_append, spelled_same, tables_after, written_in}
 use Rattle.zone_choice.proofs.AllLaws.{all-weaker}
 use Rattle.zone_choice.proofs.BuilderLaws.{placed-over, with_places}
 use Rattle.zone_choice.proofs.CommandLaws.{can_append, fillings-few, filling-in_range, zone-start}
+use Rattle.zone_choice.proofs.StopLaws.{Left, left-torn, left-whole}
 
 -- ---- nothing changes
 
 pub keeps-refl : (drive : DriveState) (tables : TablesView) → Agrees (mounted drive tables) → KeepsArray (mounted drive tables) (mounted drive tables)
-keeps-refl drive tables agrees = record { agrees = agrees; array = refl; places = refl; next = refl; spare = λ some. some; second = refl; geometry = refl; refused = refl; appended = refl }
+keeps-refl drive tables agrees = record { agrees = agrees; array = refl; places = refl; next = refl; given = refl; spare = λ some. some; second = refl; geometry = refl; refused = refl; appended = refl }
 
 pub keeps-halt : (old new : DriveState) (tables : TablesView) → new ≡ old → Agrees (mounted old tables) → KeepsArray (mounted old tables) (mounted new tables)
 keeps-halt old new tables same agrees = rw same (keeps-refl old tables agrees)
 
 -- a command that changes no content
-pub keeps-contents : (old new : DriveState) (tables : TablesView) → Agrees (mounted old tables) → SameContents old new → IsLawful new → Counts old new 0 → KeepsArray (mounted old tables) (mounted new tables)
-keeps-contents old new tables agrees same lawful counts = record {
+pub keeps-same : (old new : DriveState) (tables : TablesView) → Agrees (mounted old tables) → SameContents old new → IsLawful new → new.refused ≡ old.refused → new.appended ≡ old.appended → KeepsArray (mounted old tables) (mounted new tables)
+keeps-same old new tables agrees same lawful refused appended = record {
   agrees = agrees_same old new tables same lawful agrees;
-  array = spelled_same old new (size_of tables) same;
+  array = spelled_same old new tables.given same;
   places = refl;
   next = refl;
+  given = refl;
   spare = λ some. some;
   second = refl;
   geometry = same.geometry;
-  refused = counts.refused;
-  appended = omega (arith, counts.appended);
+  refused = refused;
+  appended = appended;
 }
+
+-- and was counted
+pub keeps-contents : (old new : DriveState) (tables : TablesView) → Agrees (mounted old tables) → SameContents old new → IsLawful new → Counts old new 0 → KeepsArray (mounted old tables) (mounted new tables)
+keeps-contents old new tables agrees same lawful counts = keeps-same old new tables agrees same lawful counts.refused (omega (arith, counts.appended))
 
 pub keeps-join : (a b c : Mounted) → KeepsArray a b → KeepsArray b c → KeepsArray a c
 keeps-join a b c p q = record {
@@ -59,6 +64,7 @@ keeps-join a b c p q = record {
   array = q.array ∙ p.array;
   places = q.places ∙ p.places;
   next = q.next ∙ p.next;
+  given = q.given ∙ p.given;
   spare = λ some. q.spare (p.spare some);
   second = q.second ∙ p.second;
   geometry = q.geometry ∙ p.geometry;
@@ -70,26 +76,16 @@ keeps-join a b c p q = record {
 pub keeps-room : (drive : DriveState) (old new : TablesView) → MakesRoom old new → Agrees (mounted drive old) → KeepsArray (mounted drive old) (mounted drive new)
 keeps-room drive old new room agrees = record {
   agrees = agrees_room drive old new room agrees;
-  array = ap (λ (ps : List Place). spelled drive (length ps)) room.places;
+  array = ap (λ (n : ℕ). spelled drive n) room.given;
   places = room.places;
   next = room.next;
+  given = room.given;
   spare = λ some. rw room.roles some;
   second = ap (λ (r : RolesView). r.second) room.roles;
   geometry = refl;
   refused = refl;
   appended = refl;
 }
-
--- a drive that halted is as it was
-pub record Halted (old new : DriveState) (fault : PortFault) : Type 0 where
-  pub halt : IsHalt fault
-  pub same : new ≡ old
-  pub cause : HasHalted new (halt_of fault)
-
-pub halted : (V : Type 0) (old new : DriveState) (command : Command) (bytes returned : List ℕ) (fault : PortFault) → CallGives old command bytes (Err fault) returned new → IsNotRefused {V = V} (Err fault) → Halted old new fault
-halted V old new command bytes returned (port.Refused status) gives passed = absurd passed
-halted V old new command bytes returned port.Memory gives passed = record { halt = tt; same = gives.1.1; cause = tt }
-halted V old new command bytes returned port.Stopped gives passed = record { halt = tt; same = gives.1.1; cause = rw gives.1.1 gives.1.0 }
 
 -- ---- the bytes of a batch
 
@@ -139,11 +135,6 @@ place_can old tables zone start builder is can start-is =
     let s = sized old.geometry builder can.agrees.geometry can.heading is in
     can_append old tables zone start (block_count old.geometry builder.bytes) can.agrees can.filling can.alone start-is (omega (arith, s.count_is)) (omega (arith, s.count_is, can.few)) (omega (arith, s.count_is, can.room))
 
-pub place_halts : (old new : DriveState) (tables : TablesView) (zone start : ℕ) (builder : BuilderView) (bytes : List ℕ) (fault : PortFault) → bytes ≡ builder.bytes → IsBuilt old.geometry.block builder → CanPlace (mounted old tables) zone (built old.geometry.block builder) → start ≡ zone * old.geometry.size
-    → AppendGives old start bytes (Err fault) new → (CanAppend old start (block_count old.geometry bytes) → IsNotRefused {V = ℕ} (Err fault)) → Halted old new fault
-place_halts old new tables zone start builder bytes fault bytes-are is can start-is gives passed =
-    halted ℕ old new (Append start (block_count old.geometry bytes)) bytes gives.0 fault gives.1 (passed (rw bytes-are (place_can old tables zone start builder is can start-is)))
-
 -- where a batch lies
 pub address-fits : (old new : DriveState) (tables : TablesView) (zone start address : ℕ) (builder : BuilderView) (bytes : List ℕ) → CanPlace (mounted old tables) zone (built old.geometry.block builder) → start ≡ zone * old.geometry.size
     → Appended old new start bytes address → address < 2 ^ 63
@@ -169,6 +160,7 @@ tables_placed tables zone builder address blocks = record {
   map = record tables.map { places = placed address (address + 1) builder.heading.entries tables.map.places };
   roles = wrote tables.roles zone blocks;
   next = tables.next + 1;
+  given = tables.given;
 }
 
 abbrev advanced : TablesView → ℕ → ℕ → TablesView
@@ -191,25 +183,26 @@ few-entries old tables zone builder can =
 
 -- ---- the batch is appended
 
-appends_batch : (old new : DriveState) (tables : TablesView) (zone start address : ℕ) (builder : BuilderView) → IsBuilt old.geometry.block builder → CanPlace (mounted old tables) zone (built old.geometry.block builder) → start ≡ zone * old.geometry.size
-    → Appended old new start builder.bytes address → IsLawful new → AppendsBatch old new zone tables.next (size_of tables) (built old.geometry.block builder)
-appends_batch old new tables zone start address builder is can start-is appended lawful =
-    let g = old.geometry in
-    let s = sized g builder can.agrees.geometry can.heading is in
-    let index = (zone-start zone g.size can.agrees.geometry.size.0).0 in
-    record {
-      batch = record { heading = can.heading; body = length-cut g.block (data_count builder.heading.entries) (drop g.block builder.bytes) };
-      sequence = can.sequence;
-      room = can.next;
-      blocks = can.in_range;
-      geometry = appended.geometry;
-      lawful = lawful;
-      appends = rw (start-is, index, s.cut) at appended.contents;
-    }
-  where
-    length-cut : (size n : ℕ) (xs : List ℕ) → length (cut_blocks size n xs) ≡ n
-    length-cut size zero xs = refl
-    length-cut size (suc n) xs = let rest = length-cut size n (drop size xs) in omega (arith, rest)
+length-cut : (size n : ℕ) (xs : List ℕ) → length (cut_blocks size n xs) ≡ n
+length-cut size zero xs = refl
+length-cut size (suc n) xs = let rest = length-cut size n (drop size xs) in omega (arith, rest)
+
+built-batch : (old : DriveState) (tables : TablesView) (zone : ℕ) (builder : BuilderView) → CanPlace (mounted old tables) zone (built old.geometry.block builder) → IsBatch old.geometry.block (built old.geometry.block builder)
+built-batch old tables zone builder can = record { heading = can.heading; body = length-cut old.geometry.block (data_count builder.heading.entries) (drop old.geometry.block builder.bytes) }
+
+appends_batch : (old new : DriveState) (tables : TablesView) (zone : ℕ) (builder : BuilderView) → CanPlace (mounted old tables) zone (built old.geometry.block builder) → new.geometry ≡ old.geometry → IsLawful new
+    → Appends (contents old.zones) (contents new.zones) old.geometry.capacity zone (batch_blocks old.geometry.block (built old.geometry.block builder)) → AppendsBatch old new tables zone (built old.geometry.block builder)
+appends_batch old new tables zone builder can geometry lawful appends = record {
+  batch = built-batch old tables zone builder can;
+  size = can.size;
+  sequence = can.sequence;
+  room = omega (arith, can.next);
+  blocks = can.in_range;
+  few = can.few_entries;
+  geometry = geometry;
+  lawful = lawful;
+  appends = appends;
+}
 
 -- what a batch says of the array does not depend on where it lies
 told_anywhere : (size sequence zone header k : ℕ) (body : List (List ℕ)) (es : List Entry) (array : List (List ℕ)) → over (shown size) (entry_records sequence body zone header k es) array ≡ over (shown size) (entry_records sequence body 0 0 k es) array
@@ -217,31 +210,102 @@ told_anywhere size sequence zone header k body [] array = refl
 told_anywhere size sequence zone header k body (e ∷ es) array =
     ap (λ (xs : List (List ℕ)). set xs e.block (shown size (Some (record_of sequence body zone header k e)))) (told_anywhere size sequence zone header (k + one_unless e.trim) body es array)
 
+-- what the drive encodes with the batch
+told-with : (old : DriveState) (tables : TablesView) (zone : ℕ) (b : Batch) → over (shown old.geometry.block) (batch_records zone (written_in old zone) b) (spelled old tables.given) ≡ told_over old.geometry.block b (mounted_array (mounted old tables))
+told-with old tables zone b = told_anywhere old.geometry.block b.heading.sequence zone (written_in old zone) 0 b.body b.heading.entries (spelled old tables.given)
+
 pub place_writes : (old new : DriveState) (tables after : TablesView) (zone start address blocks : ℕ) (builder : BuilderView) (bytes : List ℕ) → bytes ≡ builder.bytes → IsBuilt old.geometry.block builder → CanPlace (mounted old tables) zone (built old.geometry.block builder) → start ≡ zone * old.geometry.size
     → Appended old new start bytes address → IsLawful new → blocks ≡ batch_size (built old.geometry.block builder) → after ≡ tables_placed tables zone builder address blocks
     → Places (mounted old tables) (mounted new after) zone (built old.geometry.block builder)
 place_writes old new tables after zone start address blocks builder bytes bytes-are is can start-is appended lawful blocks-is after-is =
     let g = old.geometry in
-    let n = size_of tables in
     let b = built g.block builder in
-    let a = appends_batch old new tables zone start address builder is can start-is (rw bytes-are at appended) lawful in
+    let s = sized g builder can.agrees.geometry can.heading is in
     let index = (zone-start zone g.size can.agrees.geometry.size.0).0 in
+    let a = appends_batch old new tables zone builder can appended.geometry lawful (rw (bytes-are, start-is, index, s.cut) at appended.contents) in
     let here : length (content_at (contents old.zones) (start / g.size)).blocks ≡ written_in old zone = rw (start-is, index) refl in
     let header : address ≡ zone * g.size + written_in old zone = omega (arith, appended.address_is, here, start-is) in
     let map : MapView = record tables.map { places = placed address (address + 1) builder.heading.entries tables.map.places } in
     let is_placed : IsPlaced old tables map zone b =
     record { places = placed-over g.size b.heading.sequence zone (written_in old zone) 0 address (address + 1) b.body b.heading.entries tables.map.places header (omega (arith, header)); zones = refl; zone_size = refl } in
-    let long = size-placed old tables map zone b is_placed in
-    let array : spelled new n ≡ told_over g.block b (spelled old n) =
-    spelled_append old new tables zone b can.agrees a ∙ told_anywhere g.block b.heading.sequence zone (written_in old zone) 0 b.body b.heading.entries (spelled old n) in
     let same : after ≡ tables_after tables map zone b = after-is ∙ ap (λ (k : ℕ). tables_placed tables zone builder address k) blocks-is in
     rw same (record {
       agrees = agrees_append old new tables map zone b can.agrees can.filling a is_placed;
-      size = long;
-      array = rw long array;
+      logs = (spelled_append old new tables zone b can.agrees can.filling a).0;
+      size = size-placed old tables map zone b is_placed;
+      array = (spelled_append old new tables zone b can.agrees can.filling a).1 ∙ told-with old tables zone b;
       next = refl;
+      given = refl;
       roles = refl;
       geometry = appended.geometry;
       refused = appended.counts.refused;
       appended = appended.counts.appended;
     })
+
+-- ---- the device halts
+
+-- a halt that left the contents, or a front of the batch
+stops_inside : (old new : DriveState) (tables : TablesView) (zone start : ℕ) (builder : BuilderView) → IsBuilt old.geometry.block builder → CanPlace (mounted old tables) zone (built old.geometry.block builder) → start ≡ zone * old.geometry.size
+    → SameContents old new ⊎ AppendedFront old new start builder.bytes → Obeys {V = ℕ} old (Err port.Stopped) new → StopsInside (mounted old tables) (mounted new tables) zone (built old.geometry.block builder)
+stops_inside old new tables zone start builder is can start-is kept obeys = by kept
+  where
+    b : Batch
+    b = built old.geometry.block builder
+
+    made : (logs : List (List Batch)) (array : List (List ℕ)) → Left new tables.given logs array → (logs ≡ drive_logs old) × (array ≡ spelled old tables.given) ⊎ (logs ≡ append_log (drive_logs old) zone b) × (array ≡ told_over old.geometry.block b (spelled old tables.given))
+        → StopsInside (mounted old tables) (mounted new tables) zone b
+    made logs array left which = record {
+      stopped = obeys.stops refl;
+      tables = refl;
+      left = elim which [
+        | inl same ↦ inl (rw (← same.0, ← same.1) left.encodes)
+        | inr more ↦ inr (rw (← more.0, ← more.1) left.encodes)
+      ];
+      mountable = rw (← obeys.geometry) left.mountable;
+      geometry = obeys.geometry;
+      refused = (obeys.counts refl).refused;
+      appended = (obeys.counts refl).appended;
+    }
+
+    whole : Appends (contents old.zones) (contents new.zones) old.geometry.capacity zone (batch_blocks old.geometry.block b) → StopsInside (mounted old tables) (mounted new tables) zone b
+    whole appends = made _ _ (left-whole old new tables zone b can.agrees can.filling (appends_batch old new tables zone builder can obeys.geometry obeys.lawful appends)) (inr (refl, told-with old tables zone b))
+
+    front : (j : ℕ) → j ≤ length (batch_blocks old.geometry.block b) → Appends (contents old.zones) (contents new.zones) old.geometry.capacity zone (take j (batch_blocks old.geometry.block b)) → StopsInside (mounted old tables) (mounted new tables) zone b
+    front j few appends =
+        elim (cases_lt j (length (batch_blocks old.geometry.block b))) as (λ _. StopsInside (mounted old tables) (mounted new tables) zone b) [
+          | inl lt ↦ made _ _ (left-torn old new tables zone j b can.agrees (record {
+            batch = built-batch old tables zone builder can;
+            filling = can.filling;
+            next = can.next;
+            few = lt;
+            room = can.room;
+            geometry = obeys.geometry;
+            lawful = obeys.lawful;
+            appends = appends;
+          })) (inl (refl, refl))
+          | inr all ↦ whole (rw (take_all j (batch_blocks old.geometry.block b) (omega arith)) at appends)
+        ]
+
+    by : SameContents old new ⊎ AppendedFront old new start builder.bytes → StopsInside (mounted old tables) (mounted new tables) zone b
+    by (inl same) =
+        let agrees = agrees_same old new tables same obeys.lawful can.agrees in
+        made (drive_logs old) (spelled old tables.given)
+        (record { encodes = record { logs_are = rw (same.geometry, same.contents) refl; array_is = spelled_same old new tables.given same }; mountable = λ spare. agrees_mountable new tables agrees spare }) (inl (refl, refl))
+    by (inr some) =
+        let g = old.geometry in
+        let s = sized g builder can.agrees.geometry can.heading is in
+        let index = (zone-start zone g.size can.agrees.geometry.size.0).0 in
+        front some.j (rw s.cut at some.few) (rw (start-is, index, s.cut) at some.contents)
+
+-- an Append that did not succeed
+pub record Halted (old new : DriveState) (tables : TablesView) (zone : ℕ) (b : Batch) (fault : PortFault) : Type 0 where
+  pub halt : IsHalt fault
+  pub leaves : AppendLeaves (mounted old tables) (mounted new tables) zone b (Err (halt_of fault))
+
+pub place_halts : (old new : DriveState) (tables : TablesView) (zone start : ℕ) (builder : BuilderView) (bytes : List ℕ) (fault : PortFault) → bytes ≡ builder.bytes → IsBuilt old.geometry.block builder → CanPlace (mounted old tables) zone (built old.geometry.block builder) → start ≡ zone * old.geometry.size
+    → AppendGives old start bytes (Err fault) new → AppendKeeps old start bytes (Err fault) new → Obeys {V = ℕ} old (Err fault) new → (CanAppend old start (block_count old.geometry bytes) → IsNotRefused {V = ℕ} (Err fault))
+    → Halted old new tables zone (built old.geometry.block builder) fault
+place_halts old new tables zone start builder bytes (port.Refused status) bytes-are is can start-is gives kept obeys passed =
+    absurd (passed (rw bytes-are (place_can old tables zone start builder is can start-is)))
+place_halts old new tables zone start builder bytes port.Memory bytes-are is can start-is gives kept obeys passed = record { halt = tt; leaves = rw gives.1.1.1 refl }
+place_halts old new tables zone start builder bytes port.Stopped bytes-are is can start-is gives kept obeys passed = record { halt = tt; leaves = stops_inside old new tables zone start builder is can start-is (rw bytes-are at kept) obeys }

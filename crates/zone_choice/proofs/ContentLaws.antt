@@ -9,10 +9,12 @@ use Rattle.batch_log.specs.Log.{Batch, batch_size, log_size}
 use Rattle.zone_choice.specs.declared.roles.Filling.{Filling}
 use Rattle.zone_choice.specs.declared.roles.Second.{Second}
 use Rattle.zone_choice.specs.Agreement.{HoldsFilling, IsSealed, RolesAgree}
+use Rattle.zone_choice.specs.Mountable.{is_partly_written}
 use Rattle.zone_choice.specs.Records.{append_log}
 use Rattle.zone_choice.specs.Roles.{Differ, RolesView, filling_of, fillings, grown, is_at, is_empty_at, is_filling_at, taken, wrote}
 use Rattle.zone_choice.specs.ZoneLogs.{log_at}
-use Rattle.zone_choice.proofs.AllLaws.{all-from, all-weaker}
+use Rattle.zone_choice.specs.Repair.{HasAtMost}
+use Rattle.zone_choice.proofs.AllLaws.{all-append, all-from, all-weaker}
 use Rattle.zone_choice.proofs.RolesLaws.{all-filling, all-map, apart-seal, apart-take, apart-wrote, filling-occupied, filling_at-wrote, fillings-wrote, roles_with, second_list}
 
 -- ---- the log of a zone, with a batch more
@@ -151,6 +153,36 @@ roles-take capacity zones logs empties second zone agree lt here no_log =
           agree.sealed_are k below (rw (get_or-set_other empties zone k false false other) at not_empty) (rw (ne_eqb zone k apart) at not_filling);
     }
 
+-- ---- batches with few entries
+
+abbrev AtMost : ℕ → List (List Batch) → Filling → Type 0
+AtMost most logs f = AllByRecursion (HasAtMost most) (log_at logs f.zone)
+
+pub few-write : (most : ℕ) (logs : List (List Batch)) (roles : RolesView) (zone : ℕ) (b : Batch) → zone < length logs → HasAtMost most b
+    → AllByRecursion (λ (f : Filling). AllByRecursion (HasAtMost most) (log_at logs f.zone)) (fillings roles)
+    → AllByRecursion (λ (f : Filling). AllByRecursion (HasAtMost most) (log_at (append_log logs zone b) f.zone)) (fillings (wrote roles zone (batch_size b)))
+few-write most logs roles zone b lt few all =
+    subst (AllByRecursion (AtMost most (append_log logs zone b))) (sym (fillings-wrote roles zone (batch_size b)))
+    (all-map (AtMost most (append_log logs zone b)) (grown zone (batch_size b)) (fillings roles) (all-weaker (AtMost most logs) (λ f. AtMost most (append_log logs zone b) (grown zone (batch_size b) f)) (fillings roles) one all))
+  where
+    at : (k : ℕ) → (k ≡ zone) ⊎ (k ≢ zone) → AllByRecursion (HasAtMost most) (log_at logs k) → AllByRecursion (HasAtMost most) (log_at (append_log logs zone b) k)
+    at k (inl same) is = rw (same, log_at-same logs zone b lt) (all-append (HasAtMost most) (log_at logs zone) (b ∷ []) (rw same at is) (few, tt))
+    at k (inr other) is = rw (log_at-other logs zone k b other) is
+
+    grown_zone : (f : Filling) (c : Bool) → (cond c (record { zone = f.zone; written = f.written + batch_size b; may_open = true }) f).zone ≡ f.zone
+    grown_zone f true = refl
+    grown_zone f false = refl
+
+    one : (f : Filling) → AtMost most logs f → AtMost most (append_log logs zone b) (grown zone (batch_size b) f)
+    one f is = rw (grown_zone f (eqb f.zone zone)) (at f.zone (cases_eq f.zone zone) is)
+
+-- the log of a zone that is being filled takes all its blocks
+pub filling-log : (capacity : ℕ) (zones : List Content) (logs : List (List Batch)) (roles : RolesView) (zone : ℕ) → RolesAgree capacity zones logs roles → is_filling_at roles zone ≡ true
+    → log_size (log_at logs zone) ≡ length (content_at zones zone).blocks
+filling-log capacity zones logs roles zone agree here =
+    all-filling (λ z. log_size (log_at logs z) ≡ length (content_at zones z).blocks) (fillings roles) zone
+    (all-weaker (HoldsFilling capacity zones logs) (λ f. log_size (log_at logs f.zone) ≡ length (content_at zones f.zone).blocks) (fillings roles) (λ f is. is.batches ∙ sym is.written) agree.fillings_are) here
+
 -- ---- what follows for all zones
 
 abbrev pub IsSettled : Usage → Type 0
@@ -198,6 +230,9 @@ filling-writable capacity zones logs roles zone agree here room =
   where
     one : (f : Filling) → HoldsFilling capacity zones logs f → length (content_at zones f.zone).blocks < capacity → is_writable (content_at zones f.zone).usage ≡ true
     one f is lt = elim is.usage as (λ _. is_writable (content_at zones f.zone).usage ≡ true) [ inl w ↦ w | inr h ↦ absurd (omega (arith, is.written, h.1, lt)) ]
+
+pub settled-whole : (content : Content) → IsSettled content.usage → is_partly_written content ≡ false
+settled-whole content h = elim h as (λ _. is_partly_written content ≡ false) [ inl e ↦ rw e refl | inr e ↦ rw e refl ]
 
 -- ---- counts of zones that are not settled
 

@@ -13,27 +13,29 @@ use Rattle.batch_log.specs.Log.{Batch, zero_block}
 use Rattle.zone_choice.specs.Roles.{empty_count, unused}
 use Rattle.zone_choice.specs.Tables.{TablesView, size_of}
 use Rattle.zone_choice.specs.Records.{Record, place, records, shown}
-use Rattle.zone_choice.specs.ZoneLogs.{HasLog, spelled_array, zone_log, zone_logs}
-use Rattle.zone_choice.specs.Mountable.{IsNumbered, sequences}
+use Rattle.zone_choice.specs.ZoneLogs.{HasLog, sequences, spelled_array, zone_log, zone_logs}
+use Rattle.zone_choice.specs.Mountable.{IsInside}
+use Rattle.zone_choice.specs.Sizes.{encoded_size, greatest}
 use Rattle.zone_choice.specs.Reserve.{FitsReserve}
 use Rattle.zone_choice.specs.Agreement.{Agrees, RolesAgree, drive_logs, mounted, spelled}
 use Rattle.zone_choice.proofs.AgreementLaws.{zone_log-emptied}
+use Rattle.zone_choice.proofs.MountLaws.{emptied-log}
 
 abbrev pub AllEmptied : List Content → Type 0
 AllEmptied zones = AllByRecursion (λ zone. zone ≡ emptied) zones
-
--- an empty zone has a log of no batch
-emptied-log : (geometry : Geometry) → HasLog geometry emptied
-unfolding zone_log
-emptied-log geometry = record { tail = []; front = record { spelled = refl; batches = tt }; end = refl }
 
 fresh-logs : (geometry : Geometry) (zones : List Content) → AllEmptied zones → AllByRecursion (HasLog geometry) zones
 fresh-logs geometry [] all = tt
 fresh-logs geometry (z ∷ zs) all = (rw all.0 (emptied-log geometry), fresh-logs geometry zs all.1)
 
-fresh-batches : (geometry : Geometry) (limit n : ℕ) (zones : List Content) → AllEmptied zones → AllByRecursion (AllByRecursion (IsNumbered limit n)) (zone_logs geometry zones)
-fresh-batches geometry limit n [] all = tt
-fresh-batches geometry limit n (z ∷ zs) all = (rw (all.0, zone_log-emptied) tt, fresh-batches geometry limit n zs all.1)
+fresh-batches : (geometry : Geometry) (size : ℕ) (zones : List Content) → AllEmptied zones → AllByRecursion (AllByRecursion (IsInside size)) (zone_logs geometry zones)
+fresh-batches geometry size [] all = tt
+fresh-batches geometry size (z ∷ zs) all = (rw (all.0, zone_log-emptied) tt, fresh-batches geometry size zs all.1)
+
+-- no header has a size
+fresh-greatest : (geometry : Geometry) (zones : List Content) → AllEmptied zones → greatest (zone_logs geometry zones) ≡ None
+fresh-greatest geometry [] all = refl
+fresh-greatest geometry (z ∷ zs) all = rw (all.0, zone_log-emptied) (fresh-greatest geometry zs all.1)
 
 fresh-sequences : (geometry : Geometry) (zones : List Content) → AllEmptied zones → sequences (zone_logs geometry zones) ≡ []
 fresh-sequences geometry [] all = refl
@@ -87,6 +89,7 @@ pub record IsFreshTables (geometry : Geometry) (tables : TablesView) (n : ℕ) :
   pub zone_size : tables.map.zone_size ≡ geometry.size
   pub roles : tables.roles ≡ unused geometry.zones
   pub next : tables.next ≡ 1
+  pub given : tables.given ≡ n
 
 pub fresh_agrees : (drive : DriveState) (tables : TablesView) (n : ℕ) → IsInRange drive.geometry → FitsReserve drive.geometry n → IsLawful drive → AllEmptied (contents drive.zones)
     → IsFreshTables drive.geometry tables n → Agrees (mounted drive tables)
@@ -100,12 +103,14 @@ fresh_agrees drive tables n range reserve lawful all fresh =
       geometry = range;
       reserve = rw size reserve;
       lawful = lawful;
-      sound = record { logs = fresh-logs g zones all; batches = fresh-batches g tables.next (size_of tables) zones all; distinct = rw none distinct-none };
+      logs = fresh-logs g zones all;
+      sound = record { numbers = rw none tt; inside = fresh-batches g (encoded_size tables.given (drive_logs drive)) zones all; distinct = rw none distinct-none };
       next = omega (arith, fresh.next);
       zones = fresh.zones;
       zone_size = fresh.zone_size;
-      places = rw size (fresh.places ∙ rw (fresh-records g 0 zones all) (sym (told-none (place g.size) 0 n)));
+      places = rw (fresh.given, fresh-greatest g zones all) (fresh.places ∙ rw (fresh-records g 0 zones all) (sym (told-none (place g.size) 0 n)));
       roles = rw (fresh.roles ∙ ap unused count) (fresh-roles g.capacity zones (drive_logs drive) all);
+      few = rw fresh.roles tt;
     }
 
 -- all its zones are empty
@@ -115,4 +120,4 @@ fresh_spare geometry tables n range fresh = rw fresh.roles (omega (arith, count-
 -- and its array
 pub fresh_spelled : (drive : DriveState) (n : ℕ) → AllEmptied (contents drive.zones) → spelled drive n ≡ replicate n (zero_block drive.geometry.block)
 unfolding spelled_array
-fresh_spelled drive n all = rw (fresh-records drive.geometry 0 (contents drive.zones) all) (told-none (shown drive.geometry.block) 0 n)
+fresh_spelled drive n all = rw (fresh-greatest drive.geometry (contents drive.zones) all, fresh-records drive.geometry 0 (contents drive.zones) all) (told-none (shown drive.geometry.block) 0 n)

@@ -3,6 +3,12 @@ pub mod ReserveLaws
 pub mod ZoneLogLaws
 pub mod RolesLaws
 pub mod AllLaws
+pub mod SizeLaws
+pub mod ClearingLaws
+pub mod DecideLaws
+pub mod FitLaws
+pub mod MountLaws
+pub mod StopLaws
 pub mod SequenceLaws
 pub mod BuilderLaws
 pub mod ChangeLaws

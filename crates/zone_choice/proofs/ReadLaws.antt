@@ -15,13 +15,15 @@ use Rattle.drive_port.specs.Calls.{CanRead}
 use Rattle.drive_port.specs.Step.{block_in, end_of, is_state, zone_at}
 use Rattle.batch_log.specs.declared.header.Entry.{Entry}
 use Rattle.batch_log.specs.Header.{header_block}
-use Rattle.batch_log.specs.Log.{Batch, IsBatch, IsUntornLog, batch_blocks, batch_size, data_count, one_unless, zero_block}
+use Rattle.batch_log.specs.Log.{Batch, IsBatch, IsLog, batch_blocks, batch_size, data_count, one_unless, zero_block}
 use Rattle.logical_map.specs.declared.place.Place.{Place}
 use Rattle.logical_map.specs.declared.place.Place.TheVariants as places
-use Rattle.zone_choice.specs.Records.{IsNewest, Record, array_of, batch_records, entry_content, entry_offset, entry_records, log_records, newest, place, records, shown}
+use Rattle.zone_choice.specs.Records.{IsNewest, Record, batch_records, entry_content, entry_offset, entry_records, log_records, newest, place, records, shown}
+use Rattle.zone_choice.specs.Sizes.{array_of, encoded_size}
 use Rattle.zone_choice.specs.ZoneLogs.{HasLog, padding, readable, spelled_array, zone_log, zone_logs}
 use Rattle.zone_choice.specs.Agreement.{Agrees, drive_logs, mounted, spelled}
 use Rattle.zone_choice.specs.Tables.{TablesView, size_of}
+use Rattle.zone_choice.proofs.AgreementLaws.{size-encoded}
 use Rattle.zone_choice.proofs.AllLaws.{all-append, all-at, all-weaker}
 use Rattle.zone_choice.proofs.CommandLaws.{content-zone, zone-few}
 use Rattle.zone_choice.proofs.ContentLaws.{all-usable}
@@ -76,7 +78,7 @@ log_stands size zone offset front (b ∷ bs) tail blocks z fits e is =
         let total : length blocks ≡ length front + suc (length b.body + length rest) = ap length whole ∙ omega (arith, length-append front (header ∷ (b.body ++ rest)), length-append b.body rest) in
         (omega (arith, total), rw (spot, whole) (get_or-append-add front (header ∷ (b.body ++ rest)) (suc k) z ∙ get_or-left z b.body rest k lt))
 
-zone_stands : (size zone : ℕ) (is_full : Bool) (blocks : List (List ℕ)) (log : List Batch) (z : List ℕ) → IsUntornLog size is_full blocks log → AllByRecursion (StandsIn blocks z zone) (log_records zone 0 log)
+zone_stands : (size zone : ℕ) (is_full : Bool) (blocks : List (List ℕ)) (log : List Batch) (z : List ℕ) → IsLog size is_full blocks log → AllByRecursion (StandsIn blocks z zone) (log_records zone 0 log)
 zone_stands size zone is_full blocks log z is = log_stands size zone 0 [] log is.tail blocks z is.front.batches refl is.front.spelled
 
 -- ---- on the drive
@@ -176,23 +178,25 @@ record_holds drive tables array block r bytes agrees some says on =
     }
 
 pub holds_place : (drive : DriveState) (tables : TablesView) (block : ℕ) → Agrees (mounted drive tables) → block < size_of tables
-    → HoldsPlace drive (spelled drive (size_of tables)) block (get_or tables.map.places block places.None)
+    → HoldsPlace drive (spelled drive tables.given) block (get_or tables.map.places block places.None)
 unfolding spelled_array
 holds_place drive tables block agrees lt =
-    let n = size_of tables in
+    let n = tables.given in
+    let size = encoded_size n (drive_logs drive) in
+    let below : block < size = omega (arith, lt, size-encoded (mounted drive tables) agrees) in
     let g = drive.geometry in
     let logs = zone_logs g (contents drive.zones) in
     let rs = records 0 logs in
-    let mapped : get_or tables.map.places block places.None ≡ place g.size (newest block rs) = rw agrees.places (get_or-map-range_with_len (λ (l : ℕ). place g.size (newest l rs)) 0 n block block places.None lt (omega arith)) in
-    let says : get_or (array_of g.block n logs) block [] ≡ shown g.block (newest block rs) = get_or-map-range_with_len (λ (l : ℕ). shown g.block (newest l rs)) 0 n block block [] lt (omega arith) in
+    let mapped : get_or tables.map.places block places.None ≡ place g.size (newest block rs) = rw agrees.places (get_or-map-range_with_len (λ (l : ℕ). place g.size (newest l rs)) 0 size block block places.None below (omega arith)) in
+    let says : get_or (array_of g.block n logs) block [] ≡ shown g.block (newest block rs) = get_or-map-range_with_len (λ (l : ℕ). shown g.block (newest l rs)) 0 size block block [] below (omega arith) in
     rw mapped (at (newest block rs) (newest-is block rs) says)
   where
     found : (r : Record) → IsNewest (records 0 (zone_logs drive.geometry (contents drive.zones))) block (Some r) → (content : Option (List ℕ)) → r.content ≡ content
-        → get_or (spelled drive (size_of tables)) block [] ≡ shown drive.geometry.block (Some r) → HoldsPlace drive (spelled drive (size_of tables)) block (place drive.geometry.size (Some r))
+        → get_or (spelled drive tables.given) block [] ≡ shown drive.geometry.block (Some r) → HoldsPlace drive (spelled drive tables.given) block (place drive.geometry.size (Some r))
     found r live None is says = rw is (rw is at says)
     found r live (Some bytes) is says =
-        rw is (record_holds drive tables (spelled drive (size_of tables)) block r bytes agrees is (rw is at says) (all-among (StandsOn drive.geometry (contents drive.zones) 0) (records 0 (zone_logs drive.geometry (contents drive.zones))) r (records_stand drive.geometry (contents drive.zones) 0 agrees.sound.logs) live.1.among))
+        rw is (record_holds drive tables (spelled drive tables.given) block r bytes agrees is (rw is at says) (all-among (StandsOn drive.geometry (contents drive.zones) 0) (records 0 (zone_logs drive.geometry (contents drive.zones))) r (records_stand drive.geometry (contents drive.zones) 0 agrees.logs) live.1.among))
 
-    at : (o : Option Record) → IsNewest (records 0 (zone_logs drive.geometry (contents drive.zones))) block o → get_or (spelled drive (size_of tables)) block [] ≡ shown drive.geometry.block o → HoldsPlace drive (spelled drive (size_of tables)) block (place drive.geometry.size o)
+    at : (o : Option Record) → IsNewest (records 0 (zone_logs drive.geometry (contents drive.zones))) block o → get_or (spelled drive tables.given) block [] ≡ shown drive.geometry.block o → HoldsPlace drive (spelled drive tables.given) block (place drive.geometry.size o)
     at None none says = says
     at (Some r) live says = found r live r.content refl says

@@ -7,7 +7,7 @@ use Rattle.std.proofs.lemmas.List.{map-append}
 use Rattle.batch_log.specs.declared.header.Entry.{Entry}
 use Rattle.batch_log.specs.Log.{Batch, batch_size, one_unless}
 use Rattle.zone_choice.specs.Records.{AllBelow, append_log, batch_records, entry_records, log_records, records}
-use Rattle.zone_choice.specs.Mountable.{log_sequences, sequences}
+use Rattle.zone_choice.specs.ZoneLogs.{log_sequences, sequences}
 use Rattle.zone_choice.proofs.AllLaws.{all-append, all-parts, all-weaker}
 
 -- a list that is another one with one number put in

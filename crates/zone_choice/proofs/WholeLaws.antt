@@ -10,6 +10,7 @@ use Rattle.batch_log.specs.Log.{Batch, IsBatch, batch_blocks, batch_size, data_c
 use Rattle.zone_choice.specs.Records.{IsNewest, Record, batch_records, entry_content, entry_records, log_records, newest, records, shown, shown_content}
 use Rattle.zone_choice.specs.ZoneLogs.{HasLog, padding, readable, spelled_array, zone_log, zone_logs}
 use Rattle.zone_choice.specs.Agreement.{drive_logs}
+use Rattle.zone_choice.specs.Sizes.{encoded_size}
 use Rattle.zone_choice.specs.Laws.{SpelledWhole}
 use Rattle.zone_choice.proofs.AllLaws.{all-append, all-at, all-parts}
 use Rattle.zone_choice.proofs.NewestLaws.{newest-is}
@@ -79,5 +80,5 @@ unfolding spelled_array
 whole-spelled drive n mountable =
     let size = drive.geometry.block in
     let rs = records 0 (drive_logs drive) in
-    let all = records-whole drive.geometry 0 drive.zones mountable.lawful.zones mountable.holds.sound.logs in
-    all-mapped (λ block. length block ≡ size) (λ block. shown size (newest block rs)) (range_with_len 0 n) (λ block. shown-whole size block rs (newest block rs) all (newest-is block rs))
+    let all = records-whole drive.geometry 0 drive.zones mountable.lawful.zones mountable.holds.disk.logs in
+    all-mapped (λ block. length block ≡ size) (λ block. shown size (newest block rs)) (range_with_len 0 (encoded_size n (drive_logs drive))) (λ block. shown-whole size block rs (newest block rs) all (newest-is block rs))

@@ -6,10 +6,11 @@ use Rattle.drive_port.specs.Drive.{DriveState, IsLawful}
 use Rattle.drive_port.specs.Contents.{Content, full, content_at, contents, emptied, is_writable}
 use Rattle.batch_log.specs.Log.{Batch, log_size}
 use Rattle.zone_choice.specs.declared.roles.Filling.{Filling}
-use Rattle.zone_choice.specs.Reserve.{FitsReserve}
-use Rattle.zone_choice.specs.Records.{map_of}
-use Rattle.zone_choice.specs.ZoneLogs.{log_at, spelled_array, zone_logs}
+use Rattle.zone_choice.specs.Reserve.{FitsReserve, batch_most}
+use Rattle.zone_choice.specs.Sizes.{map_of}
+use Rattle.zone_choice.specs.ZoneLogs.{HasLog, log_at, spelled_array, zone_logs}
 use Rattle.zone_choice.specs.Mountable.{AreSound}
+use Rattle.zone_choice.specs.Repair.{HasAtMost}
 use Rattle.zone_choice.specs.Roles.{AreApart, RolesView, fillings, is_empty_at, is_filling_at}
 use Rattle.zone_choice.specs.Tables.{TablesView, size_of}
 
@@ -47,24 +48,26 @@ pub record RolesAgree (capacity : ℕ) (zones : List Content) (logs : List (List
 abbrev pub drive_logs : DriveState → List (List Batch)
 drive_logs drive = zone_logs drive.geometry (contents drive.zones)
 
--- the array of n blocks that a drive encodes
+-- the array that a drive encodes, of n blocks where no header has a size
 abbrev pub spelled : DriveState → ℕ → List (List ℕ)
 spelled drive n = spelled_array drive.geometry (contents drive.zones) n
 
 -- the array of a mounted disk
 abbrev pub mounted_array : Mounted → List (List ℕ)
-mounted_array disk = spelled disk.drive (size_of disk.tables)
+mounted_array disk = spelled disk.drive disk.tables.given
 
 -- ---- tables and drive
 
--- The tables describe the drive: its logs are sound, with sequences below the next one; the map has the place of each block's newest record; and each zone is what its role says.
+-- The tables describe the drive: every zone holds a log, the batches are sound, with sequences below the next one; the map has the place of each block's newest record; and each zone is what its role says. No zone that is being filled has a batch with more entries than ours have.
 pub record Agrees (disk : Mounted) : Type 0 where
   pub geometry : IsInRange disk.drive.geometry
   pub reserve : FitsReserve disk.drive.geometry (size_of disk.tables)
   pub lawful : IsLawful disk.drive
-  pub sound : AreSound disk.drive.geometry (contents disk.drive.zones) disk.tables.next (size_of disk.tables)
+  pub logs : AllByRecursion (HasLog disk.drive.geometry) (contents disk.drive.zones)
+  pub sound : AreSound disk.tables.next disk.tables.given (drive_logs disk.drive)
   pub next : disk.tables.next ≤ 2 ^ 63
   pub zones : disk.tables.map.zones ≡ disk.drive.geometry.zones
   pub zone_size : disk.tables.map.zone_size ≡ disk.drive.geometry.size
-  pub places : disk.tables.map.places ≡ map_of disk.drive.geometry.size (size_of disk.tables) (drive_logs disk.drive)
+  pub places : disk.tables.map.places ≡ map_of disk.drive.geometry.size disk.tables.given (drive_logs disk.drive)
   pub roles : RolesAgree disk.drive.geometry.capacity (contents disk.drive.zones) (drive_logs disk.drive) disk.tables.roles
+  pub few : AllByRecursion (λ (filling : Filling). AllByRecursion (HasAtMost (batch_most disk.drive.geometry)) (log_at (drive_logs disk.drive) filling.zone)) (fillings disk.tables.roles)

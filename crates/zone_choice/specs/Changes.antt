@@ -1,6 +1,7 @@
 -- What changes of a mounted disk: nothing that its array tells, or one batch more.
-use Rattle.std.specs.Prelude.{◌≡◌, ◌⊎◌, ℕ, ◌≤◌, ◌<◌, ◌+◌, ◌^◌, true, List, length, Result, Ok, Err}
+use Rattle.std.specs.Prelude.{◌≡◌, ◌⊎◌, ℕ, ◌≤◌, ◌<◌, ◌+◌, ◌-◌, ◌^◌, true, List, length, Some, Result, Ok, Err}
 use Rattle.std.specs.List.{AllByRecursion}
+use Rattle.zone_states.specs.declared.geometry.Geometry.{Geometry}
 use Rattle.drive_port.specs.Drive.{DriveState}
 use Rattle.drive_port.specs.Contents.{content_at, contents}
 use Rattle.drive_port.specs.declared.calls.PortFault.{PortFault}
@@ -11,8 +12,12 @@ use Rattle.batch_log.specs.declared.header.Entry.{Entry}
 use Rattle.batch_log.specs.Header.{IsHeading}
 use Rattle.batch_log.specs.Log.{Batch, batch_size}
 use Rattle.logical_map.specs.Places.{IsReady}
-use Rattle.zone_choice.specs.Agreement.{Agrees, Mounted, mounted_array}
-use Rattle.zone_choice.specs.Records.{batch_records, over, shown}
+use Rattle.zone_choice.specs.Agreement.{Agrees, Mounted, drive_logs, mounted_array, spelled}
+use Rattle.zone_choice.specs.Mountable.{IsMountable}
+use Rattle.zone_choice.specs.Repair.{HasAtMost}
+use Rattle.zone_choice.specs.Reserve.{batch_most}
+use Rattle.zone_choice.specs.Spare.{HasSpare}
+use Rattle.zone_choice.specs.Records.{append_log, batch_records, over, shown}
 use Rattle.zone_choice.specs.Roles.{empty_count, fillings, is_filling_at, wrote}
 use Rattle.zone_choice.specs.Tables.{size_of}
 
@@ -22,6 +27,7 @@ pub record KeepsArray (before after : Mounted) : Type 0 where
   pub array : mounted_array after ≡ mounted_array before
   pub places : after.tables.map.places ≡ before.tables.map.places
   pub next : after.tables.next ≡ before.tables.next
+  pub given : after.tables.given ≡ before.tables.given
   pub spare : 1 ≤ empty_count before.tables.roles → 1 ≤ empty_count after.tables.roles
   pub second : after.tables.roles.second ≡ before.tables.roles.second
   pub geometry : after.drive.geometry ≡ before.drive.geometry
@@ -32,39 +38,59 @@ pub record KeepsArray (before after : Mounted) : Type 0 where
 abbrev pub told_over : ℕ → Batch → List (List ℕ) → List (List ℕ)
 told_over block_bytes batch array = over (shown block_bytes) (batch_records 0 0 batch) array
 
--- One batch was appended to a zone: the tables agree with the drive, and the array is the old one with what the batch says; no command was refused.
+-- One batch was appended to a zone: it is the last of the zone's log, the tables agree with the drive, and the array is the old one with what the batch says; no command was refused.
 pub record Places (before after : Mounted) (zone : ℕ) (batch : Batch) : Type 0 where
   pub agrees : Agrees after
+  pub logs : drive_logs after.drive ≡ append_log (drive_logs before.drive) zone batch
   pub size : size_of after.tables ≡ size_of before.tables
   pub array : mounted_array after ≡ told_over before.drive.geometry.block batch (mounted_array before)
   pub next : after.tables.next ≡ before.tables.next + 1
+  pub given : after.tables.given ≡ before.tables.given
   pub roles : after.tables.roles ≡ wrote before.tables.roles zone (batch_size batch)
   pub geometry : after.drive.geometry ≡ before.drive.geometry
   pub refused : after.drive.refused ≡ before.drive.refused
   pub appended : after.drive.appended ≡ before.drive.appended + 1
 
--- What a batch needs to be appended to a zone. The zone is being filled and has room for it; the batch is the next one, its blocks are the disk's and are ready to be placed. Where one zone alone may be open, no other is being filled.
+-- Where the next sequence is this or greater, no batch is written any more: so sequences are left for the Moves that may repair a torn zone, at most as many as a zone has blocks.
+abbrev pub sequence_end : Geometry → ℕ
+sequence_end geometry = 2 ^ 63 - geometry.capacity
+
+-- What a batch needs to be appended to a zone. The zone is being filled and has room for it; the batch is the next one, with the disk's size, its blocks are the disk's and are ready to be placed. Where one zone alone may be open, no other is being filled.
 pub record CanPlace (before : Mounted) (zone : ℕ) (batch : Batch) : Type 0 where
   pub agrees : Agrees before
   pub filling : is_filling_at before.tables.roles zone ≡ true
   pub alone : (2 ≤ before.drive.geometry.open) ⊎ (length (fillings before.tables.roles) ≤ 1)
   pub heading : IsHeading before.drive.geometry.block batch.heading
+  pub size : batch.heading.size ≡ Some (size_of before.tables)
   pub few : batch_size batch ≤ before.drive.geometry.transfer
+  pub few_entries : HasAtMost (batch_most before.drive.geometry) batch
   pub room : length (content_at (contents before.drive.zones) zone).blocks + batch_size batch ≤ before.drive.geometry.capacity
   pub sequence : batch.heading.sequence ≡ before.tables.next
-  pub next : before.tables.next < 2 ^ 63
+  pub next : before.tables.next < sequence_end before.drive.geometry
   pub in_range : AllByRecursion (λ (e : Entry). e.block < size_of before.tables) batch.heading.entries
   pub ready : AllByRecursion (λ (e : Entry). IsReady before.tables.map e.block) batch.heading.entries
 
--- why a drive halted: it has stopped, or memory, of which nothing can be said
-abbrev pub HasHalted : DriveState → Halt → Type 0
-HasHalted drive halt.Memory = Unit {0}
-HasHalted drive halt.Stopped = drive.stopped ≡ true
+-- what a drive encodes: its logs, and the array
+pub record Encodes (drive : DriveState) (n : ℕ) (logs : List (List Batch)) (array : List (List ℕ)) : Type 0 where
+  pub logs_are : drive_logs drive ≡ logs
+  pub array_is : spelled drive n ≡ array
+
+-- The drive stopped inside the Append of a batch, or before it or after it: it encodes what it did, or that with the batch. If a zone is spare, it can be mounted.
+pub record StopsInside (before after : Mounted) (zone : ℕ) (batch : Batch) : Type 0 where
+  pub stopped : after.drive.stopped ≡ true
+  pub tables : after.tables ≡ before.tables
+  pub left : Encodes after.drive before.tables.given (drive_logs before.drive) (mounted_array before)
+      ⊎ Encodes after.drive before.tables.given (append_log (drive_logs before.drive) zone batch) (told_over before.drive.geometry.block batch (mounted_array before))
+  pub mountable : HasSpare before.drive.geometry.block before.tables.given (drive_logs after.drive) → IsMountable after.drive before.tables.given
+  pub geometry : after.drive.geometry ≡ before.drive.geometry
+  pub refused : after.drive.refused ≡ before.drive.refused
+  pub appended : after.drive.appended ≡ before.drive.appended
 
 -- what an Append of a batch leaves, by its answer
 abbrev pub AppendLeaves : Mounted → Mounted → ℕ → Batch → Result (Unit {0}) Halt → Type 0
 AppendLeaves before after zone batch (Ok done) = Places before after zone batch
-AppendLeaves before after zone batch (Err fault) = KeepsArray before after × HasHalted after.drive fault
+AppendLeaves before after zone batch (Err halt.Memory) = after ≡ before
+AppendLeaves before after zone batch (Err halt.Stopped) = StopsInside before after zone batch
 
 -- a fault of a command that was not refused
 abbrev pub IsHalt : PortFault → Type 0

@@ -1,6 +1,9 @@
 pub mod Reserve
 pub mod Records
+pub mod Sizes
 pub mod ZoneLogs
+pub mod Spare
+pub mod Repair
 pub mod Mountable
 pub mod Roles
 pub mod Tables

@@ -99,13 +99,6 @@ place zone_size (Some r) = if is_some r.content then places.At (r.zone * zone_si
 abbrev pub places_of : ℕ → ℕ → List Record → List Place
 places_of zone_size n rs = told (place zone_size) n rs
 
--- the array and the map that the logs of all zones encode
-abbrev pub array_of : ℕ → ℕ → List (List Batch) → List (List ℕ)
-array_of block_bytes n logs = array block_bytes n (records 0 logs)
-
-abbrev pub map_of : ℕ → ℕ → List (List Batch) → List Place
-map_of zone_size n logs = places_of zone_size n (records 0 logs)
-
 -- ---- changes of the logs
 
 -- a zone's log with a batch more

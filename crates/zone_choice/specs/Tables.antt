@@ -3,11 +3,12 @@ use Rattle.std.specs.Prelude.{◌≡◌, ℕ, ◌+◌, ◌≤◌, ◌<◌, lengt
 use Rattle.logical_map.specs.Places.{IsReady, MapView}
 use Rattle.zone_choice.specs.Roles.{RolesView}
 
--- where the newest record of each block lies, what the zones are for, and the sequence of the next batch
+-- where the newest record of each block lies, what the zones are for, the sequence of the next batch, and the number of logical blocks that the mount was given: the drive has as many where no header has a size
 pub record TablesView : Type 0 where
   pub map : MapView
   pub roles : RolesView
   pub next : ℕ
+  pub given : ℕ
 
 -- how many logical blocks there are
 abbrev pub size_of : TablesView → ℕ
@@ -28,3 +29,4 @@ pub record MakesRoom (old new : TablesView) : Type 0 where
   pub zone_size : new.map.zone_size ≡ old.map.zone_size
   pub roles : new.roles ≡ old.roles
   pub next : new.next ≡ old.next
+  pub given : new.given ≡ old.given

@@ -67,7 +67,8 @@ fn place_blocks(tables: &mut Tables, entries: &[Entry], header: u64) -> u32
 }
 
 /// Appends a batch to a zone that is being filled, and notes where its blocks lie. All that it needs was
-/// allocated before: where the drive halts, the disk is as it was.
+/// allocated before. If the drive is out of memory, nothing changed. If it stops, the batch may be there,
+/// or a torn tail, and the tables are as they were.
 pub fn append_batch<D: Device>(
     alloc: Global,
     tables: &mut Tables,

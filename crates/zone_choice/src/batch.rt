@@ -1,4 +1,4 @@
-ghost use Rattle.std.specs.Prelude.{◌≡◌, ◌⊎◌, ◌++◌, ◌+◌, ◌≤◌, ◌<◌, ◌^◌, ℕ, [], None, OnOk, length, replicate};
+ghost use Rattle.std.specs.Prelude.{◌≡◌, ◌⊎◌, ◌++◌, ◌+◌, ◌≤◌, ◌<◌, ◌^◌, ℕ, [], OnOk, length, replicate};
 ghost use Rattle.batch_log.specs.Header.{IsHeading, header_block};
 ghost use Rattle.zone_choice.specs.Builder.{data_entries};
 
@@ -41,15 +41,16 @@ impl BatchBuilder {
         }
     }
 
-    /// Starts a batch that names no block, with a header of version 1. `source` is the zone that a Move
-    /// empties, 0 for a Host batch.
-    pub fn start(&mut self, kind: Kind, sequence: u64, source: u32)
-        ensures { self.new.heading ≡ record { kind = kind; sequence = sequence; source = source; size = None; entries = [] } }
+    /// Starts a batch that names no block. `source` is the zone that a Move empties, 0 for a Host batch.
+    /// `size` is the number of logical blocks that the header says: it has version 2, or version 1 if it
+    /// says none.
+    pub fn start(&mut self, kind: Kind, sequence: u64, source: u32, size: Option<u32>)
+        ensures { self.new.heading ≡ record { kind = kind; sequence = sequence; source = source; size = size; entries = [] } }
     {
         self.header.kind = kind;
         self.header.sequence = sequence;
         self.header.source = source;
-        self.header.size = None;
+        self.header.size = size;
         self.header.entries.clear();
     }
 

@@ -6,7 +6,7 @@
 //! let mut tables = Tables::new(alloc, geometry.zones, geometry.size, 9)?;
 //! let zone = tables.take_empty()?;                       // the host zone
 //! let mut batch = BatchBuilder::new(alloc);
-//! batch.start(Kind::Host, tables.next(), 0);
+//! batch.start(Kind::Host, tables.next(), 0, Some(tables.blocks()));
 //! batch.name_data(2, 3)?;                                // blocks 2 to 4
 //! batch.encode(geometry.block)?;                         // the header block
 //! batch.fill(3 * geometry.block as usize, 0xaa)?;        // their data
@@ -16,7 +16,8 @@
 //!
 //! What is promised, of any drive that obeys its rules: a batch that is appended changes the array by
 //! what it says and by nothing else, and the tables name the place of each block's newest record again
-//! (`Places` in specs/Changes); where the drive halts, all is as before (`AppendLeaves`). The drive
+//! (`Places` in specs/Changes); out of memory, all is as before; where the drive stops, it encodes the
+//! old array or that with the batch, and can be mounted (`AppendLeaves`). The drive
 //! refuses no such Append (`CanPlace` says what it needs). While tables and drive agree (`Agrees` in
 //! specs/Agreement) and a zone is kept empty, the drive can be mounted (`IsMountable` in
 //! specs/Mountable). `laws` has what holds of all drives' contents.
@@ -32,8 +33,8 @@ mod tables;
 pub use append::{append_batch, halt_of};
 pub use batch::BatchBuilder;
 pub use laws::{
-    append_first, append_logs, append_spells, append_writes, finish_logs, newest_is_live,
-    spelled_blocks,
+    append_first, append_logs, append_writes, empty_spare, finish_logs, greatest_is,
+    newest_is_live, one_clearing, resets_mount, spelled_blocks, torn_mounts,
 };
 pub use reserve::{batch_most, fill, fits_reserve, most_blocks};
 pub use roles::{Filling, Roles, Second};

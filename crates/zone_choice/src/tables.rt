@@ -11,12 +11,13 @@ use std::alloc::{AllocError, Global};
 use std::marker::Model;
 
 /// What a mounted disk knows of its drive: where the newest record of each logical block lies, what the
-/// zones are for, and the sequence of the next batch.
+/// zones are for, the sequence of the next batch, and the number of logical blocks that the mount was given.
 #[derive(Drop)]
 pub struct Tables {
     map: Map,
     roles: Roles,
     next: u64,
+    given: u32,
 }
 
 impl Model for Tables {
@@ -24,7 +25,7 @@ impl Model for Tables {
 
     ghost Value = { TablesView };
 
-    ghost view = { λ t. record { map = t.map; roles = t.roles; next = t.next } };
+    ghost view = { λ t. record { map = t.map; roles = t.roles; next = t.next; given = t.given } };
 
     ghost invariant = { λ t. AreOfOneDrive t.map t.roles };
 }
@@ -38,12 +39,14 @@ impl Tables {
         ensures zone_size { IfOk result (λ tables. tables.map.zone_size ≡ zone_size) }
         ensures roles { IfOk result (λ tables. tables.roles ≡ unused zones) }
         ensures next { IfOk result (λ tables. tables.next ≡ 1) }
+        ensures given { IfOk result (λ tables. tables.given ≡ blocks) }
     {
         let roles = Roles::new(alloc, zones)?;
         Ok(Tables {
             map: Map::new(alloc, blocks, zones, zone_size),
             roles,
             next: 1,
+            given: blocks,
         })
     }
 
@@ -62,7 +65,7 @@ impl Tables {
         self.map.get(block)
     }
 
-    /// The sequence of the next batch: 2^63 after the last one that can be.
+    /// The sequence of the next batch, 2^63 at most.
     pub fn next(&self) -> u64
         ensures { result ≡ self.now.next }
     {

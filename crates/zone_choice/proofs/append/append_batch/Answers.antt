@@ -1,5 +1,5 @@
 use Rattle.std.proofs.Common.{refl}
-use Rattle.zone_choice.proofs.ChangeLaws.{address-fits, few-entries, keeps-halt, place_halts, place_writes, placed-tables, size-built, whole_blocks, written-fits}
+use Rattle.zone_choice.proofs.ChangeLaws.{address-fits, few-entries, place_halts, place_writes, placed-tables, size-built, whole_blocks, written-fits}
 use Rattle.zone_choice.proofs.append.append_batch.Goals as goal
 
 pub append-requires : goal.append-requires
@@ -27,7 +27,7 @@ appended-requires-clause-fits g c =
 
 pub halt_of-requires : goal.halt_of-requires
 halt_of-requires g c =
-    (place_halts _ _ c.args.tables.now c.args.zone _ c.args.batch.now c.bytes.result.now c.in-Err.fault c.bytes.ensures c.requires.built c.requires.can (rw c.geometry.ensures.value refl) c.in-Err.ensures.gives c.in-Err.ensures.taken).halt
+    (place_halts _ _ c.args.tables.now c.args.zone _ c.args.batch.now c.bytes.result.now c.in-Err.fault c.bytes.ensures c.requires.built c.requires.can (rw c.geometry.ensures.value refl) c.in-Err.ensures.gives c.in-Err.ensures.kept c.in-Err.ensures.obeys c.in-Err.ensures.taken).halt
 
 pub returns-in-Ok : goal.returns-in-Ok
 returns-in-Ok g c =
@@ -37,5 +37,4 @@ returns-in-Ok g c =
 
 pub returns-in-Err : goal.returns-in-Err
 returns-in-Err g c =
-    let h = place_halts _ _ c.args.tables.now c.args.zone _ c.args.batch.now c.bytes.result.now c.in-Err.fault c.bytes.ensures c.requires.built c.requires.can (rw c.geometry.ensures.value refl) c.in-Err.ensures.gives c.in-Err.ensures.taken in
-    (keeps-halt _ _ c.args.tables.now h.same c.requires.can.agrees, rw c.halt_of.ensures h.cause)
+    rw c.halt_of.ensures (place_halts _ _ c.args.tables.now c.args.zone _ c.args.batch.now c.bytes.result.now c.in-Err.fault c.bytes.ensures c.requires.built c.requires.can (rw c.geometry.ensures.value refl) c.in-Err.ensures.gives c.in-Err.ensures.kept c.in-Err.ensures.obeys c.in-Err.ensures.taken).leaves

@@ -1,5 +1,8 @@
-use Rattle.zone_choice.proofs.ZoneLogLaws.{append_logs}
+use Rattle.zone_choice.proofs.ZoneLogLaws.{append_logs, torn_logs}
 use Rattle.zone_choice.proofs.laws.append_logs.Goals as goal
 
-pub returns : goal.returns
-returns c = append_logs
+pub returns-clause-whole : goal.returns-clause-whole
+returns-clause-whole c = append_logs
+
+pub returns-clause-torn : goal.returns-clause-torn
+returns-clause-torn c = torn_logs

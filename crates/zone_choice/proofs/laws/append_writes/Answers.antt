@@ -1,9 +1,11 @@
-use Rattle.zone_choice.specs.Records.{place, shown}
-use Rattle.zone_choice.proofs.NewestLaws.{told-append_log}
+use Rattle.zone_choice.proofs.SizeLaws.{append_keeps_spare, append_writes, next_is_last}
 use Rattle.zone_choice.proofs.laws.append_writes.Goals as goal
 
-pub returns-clause-array : goal.returns-clause-array
-returns-clause-array c = λ size n zone logs batch. told-append_log (shown size) n zone logs batch
+pub returns-clause-writes : goal.returns-clause-writes
+returns-clause-writes c = append_writes
 
-pub returns-clause-places : goal.returns-clause-places
-returns-clause-places c = λ size n zone logs batch. told-append_log (place size) n zone logs batch
+pub returns-clause-next : goal.returns-clause-next
+returns-clause-next c = next_is_last
+
+pub returns-clause-spare : goal.returns-clause-spare
+returns-clause-spare c = append_keeps_spare

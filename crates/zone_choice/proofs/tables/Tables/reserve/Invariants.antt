@@ -9,4 +9,5 @@ invariant-loop-block l =
     × (l.self-inside.map.zone_size ≡ l.fn.self.map.zone_size)
     × (l.self-inside.roles ≡ l.fn.self.roles)
     × (l.self-inside.next ≡ l.fn.self.next)
+    × (l.self-inside.given ≡ l.fn.self.given)
     × ((k : ℕ) → l.fn.first ≤ k → k < l.block → IsReady l.self-inside.map k)
