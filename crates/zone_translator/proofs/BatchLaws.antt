@@ -5,7 +5,7 @@ use Rattle.std.specs.List.{AllByRecursion, IsDistinct}
 use Rattle.std.proofs.lemmas.Bool.{ne_eqb}
 use Rattle.std.proofs.lemmas.List.{drop_more, take_all}
 use Rattle.batch_log.specs.declared.header.Entry.{Entry}
-use Rattle.batch_log.specs.Header.{IsHeading, entry_room}
+use Rattle.batch_log.specs.Header.{IsHeading, IsSize, entry_room}
 use Rattle.batch_log.specs.Log.{Batch, data_count}
 use Rattle.logical_map.specs.Places.{IsReady, MapView}
 use Rattle.zone_choice.specs.Records.{Record, entry_records, over, record_of, shown}
@@ -38,19 +38,19 @@ entries-distinct first zero = tt
 entries-distinct first (suc count) = (entries-other first (first + 1) count (omega arith), entries-distinct (first + 1) count)
 
 -- a heading of ours can be encoded
-pub host-heading : (size sequence first count : ℕ) → count ≤ entry_room size → sequence < 2 ^ 64 → first + count ≤ 2 ^ 63 → IsHeading size (host_heading sequence first count)
-host-heading size sequence first count room short le = record {
+pub host-heading : (block_bytes size sequence first count : ℕ) → IsSize size → count ≤ entry_room block_bytes → sequence < 2 ^ 64 → first + count ≤ 2 ^ 63 → IsHeading block_bytes (host_heading size sequence first count)
+host-heading block_bytes size sequence first count is_size room short le = record {
   room = omega (arith, length-entries first count);
   sequence = short;
   source = omega arith;
   host = λ e. refl;
-  size = tt;
+  size = is_size;
   blocks = entries-below first count (2 ^ 63) le;
   distinct = entries-distinct first count;
 }
 
-abbrev pub host_batch : ℕ → ℕ → ℕ → List (List ℕ) → Batch
-host_batch sequence first count body = record { heading = host_heading sequence first count; body = body }
+abbrev pub host_batch : ℕ → ℕ → ℕ → ℕ → List (List ℕ) → Batch
+host_batch size sequence first count body = record { heading = host_heading size sequence first count; body = body }
 
 -- ---- what is told of the blocks of the batch
 
@@ -71,10 +71,10 @@ values-shown size sequence body zone header k first (suc count) le =
     rw (drop_more body k [] (omega arith)) (ap (λ (ys : List (List ℕ)). get_or body k [] ∷ ys) (values-shown size sequence body zone header (k + 1) (first + 1) count (omega arith)))
 
 -- the array has the batch's data
-pub told-data : (size sequence first count : ℕ) (body : List (List ℕ)) (xs : List (List ℕ)) → length body ≡ count → first + count ≤ length xs → told_over size (host_batch sequence first count body) xs ≡ replaced xs first body
-told-data size sequence first count body xs long le =
-    over-entries (shown size) sequence body 0 0 0 first count xs le
-    ∙ ap (λ (ys : List (List ℕ)). replaced xs first ys) (values-shown size sequence body 0 0 0 first count (omega arith) ∙ take_all count body (omega arith))
+pub told-data : (block_bytes size sequence first count : ℕ) (body : List (List ℕ)) (xs : List (List ℕ)) → length body ≡ count → first + count ≤ length xs → told_over block_bytes (host_batch size sequence first count body) xs ≡ replaced xs first body
+told-data block_bytes size sequence first count body xs long le =
+    over-entries (shown block_bytes) sequence body 0 0 0 first count xs le
+    ∙ ap (λ (ys : List (List ℕ)). replaced xs first ys) (values-shown block_bytes sequence body 0 0 0 first count (omega arith) ∙ take_all count body (omega arith))
 
 -- ---- each block that is named
 

@@ -6,10 +6,10 @@ use Rattle.std.specs.List.{AllByRecursion, concat}
 use Rattle.std.proofs.lemmas.Bool.Decides.{nat_tests}
 use Rattle.std.proofs.lemmas.List.{get_or-drop, length-drop, length-replicate, take_more}
 use Rattle.drive_port.specs.Drive.{DriveState}
-use Rattle.zone_choice.specs.Agreement.{mounted}
+use Rattle.zone_choice.specs.Agreement.{mounted, spelled}
 use Rattle.zone_choice.specs.Changes.{KeepsArray}
-use Rattle.zone_choice.specs.Tables.{TablesView}
-use Rattle.zone_choice.proofs.AgreementLaws.{agrees_mountable, length-spelled}
+use Rattle.zone_choice.specs.Tables.{TablesView, size_of}
+use Rattle.zone_choice.proofs.AgreementLaws.{length-spelled, size-encoded}
 use Rattle.zone_choice.proofs.WholeLaws.{whole-spelled}
 use Rattle.zone_choice.specs.Mountable.{IsMountable}
 use Rattle.zone_translator.specs.declared.fault.DiskFault.{DiskFault}
@@ -17,84 +17,131 @@ use Rattle.zone_translator.specs.declared.fault.DiskFault.TheVariants.{OutOfRang
 use Rattle.zone_translator.specs.declared.status.DiskStatus.{DiskStatus}
 use Rattle.zone_translator.specs.declared.status.DiskStatus.TheVariants as statuses
 use Rattle.zone_translator.specs.Calls.{Holds, Reads, answer_before, is_known, status_of}
-use Rattle.zone_translator.specs.Changes.{AgreesWith, IsCause, WritesBlocks}
+use Rattle.zone_translator.specs.Changes.{AgreesWith, FillLeaves, IsCause, StopKeeps, WritesBlocks}
 use Rattle.zone_translator.specs.Flat.{Begun, FlatCall, IsFront, blocks_from, known_answer, read, replaced, status_after, with_nothing, write}
 use Rattle.zone_translator.specs.Read.{IsReadFault}
+use Rattle.zone_translator.proofs.FillLaws.{front-none, take-less}
 use Rattle.zone_translator.proofs.FlatLaws.{replaced-append}
-use Rattle.zone_translator.specs.View.{DiskCause, DiskView, KeepsDisk, array_of, disk_size, flat_of, next_sequence}
+use Rattle.zone_translator.proofs.RoomLaws.{serves-kept, serves_mountable}
+use Rattle.zone_translator.specs.View.{DiskCause, DiskView, KeepsDisk, array_of, disk_size, flat_of, given_size, next_sequence}
 
 -- what a disk of these parts is seen as
 abbrev pub view_of : DriveState → TablesView → DiskStatus → DiskView
 view_of drive tables status = record { drive = drive; tables = tables; status = status }
 
 -- the array has the disk's number of blocks, and on a drive that can be mounted each is a whole block
-pub length-array : (disk : DiskView) → length (array_of disk) ≡ disk_size disk
-length-array disk = length-spelled disk.drive (disk_size disk)
+pub length-array : (drive : DriveState) (tables : TablesView) (status : DiskStatus) → Holds drive tables status → length (spelled drive tables.given) ≡ size_of tables
+length-array drive tables status holds = length-spelled drive tables.given ∙ holds.size
 
-pub whole-array : (disk : DiskView) → IsMountable disk.drive (disk_size disk) → AllByRecursion (λ block. length block ≡ disk.drive.geometry.block) (array_of disk)
-whole-array disk mountable = whole-spelled disk.drive (disk_size disk) mountable
+pub whole-array : (disk : DiskView) → IsMountable disk.drive (given_size disk) → AllByRecursion (λ block. length block ≡ disk.drive.geometry.block) (array_of disk)
+whole-array disk mountable = whole-spelled disk.drive (given_size disk) mountable
 
-pub kept-disk : (old new : DriveState) (tables tables' : TablesView) (was is : DiskStatus) → AgreesWith new tables' → KeepsArray (mounted old tables) (mounted new tables') → KeepsDisk (view_of old tables was) (view_of new tables' is)
+pub kept-disk : (old new : DriveState) (tables tables' : TablesView) (was is : DiskStatus) → AgreesWith old tables → KeepsArray (mounted old tables) (mounted new tables') → KeepsDisk (view_of old tables was) (view_of new tables' is)
 kept-disk old new tables tables' was is serves kept = record {
   size = ap length kept.places;
+  given = kept.given;
   geometry = kept.geometry;
-  mountable = agrees_mountable new tables' serves.agrees serves.spare;
+  mountable = serves_mountable new tables' (serves-kept old new tables tables' serves kept);
   refused = kept.refused;
   next = omega (arith, kept.next, kept.appended);
 }
 
-pub written-disk : (old new : DriveState) (tables tables' : TablesView) (first : ℕ) (blocks : List (List ℕ)) (was is : DiskStatus) → AgreesWith new tables' → WritesBlocks (mounted old tables) (mounted new tables') first blocks → KeepsDisk (view_of old tables was) (view_of new tables' is)
-written-disk old new tables tables' first blocks was is serves written = record {
+pub written-disk : (old new : DriveState) (tables tables' : TablesView) (first : ℕ) (blocks : List (List ℕ)) (was is : DiskStatus) → WritesBlocks (mounted old tables) (mounted new tables') first blocks → KeepsDisk (view_of old tables was) (view_of new tables' is)
+written-disk old new tables tables' first blocks was is written = record {
   size = written.size;
+  given = written.given;
   geometry = written.geometry;
-  mountable = agrees_mountable new tables' serves.agrees serves.spare;
+  mountable = serves_mountable new tables' written.serves;
   refused = written.refused;
   next = omega (arith, written.next, written.appended);
+}
+
+pub stopped-disk : (old new : DriveState) (tables tables' : TablesView) (was is : DiskStatus) → StopKeeps (mounted old tables) (mounted new tables') → KeepsDisk (view_of old tables was) (view_of new tables' is)
+stopped-disk old new tables tables' was is stops = record {
+  size = stops.size;
+  given = stops.given;
+  geometry = stops.geometry;
+  mountable = stops.mountable;
+  refused = stops.refused;
+  next = omega (arith, stops.next, stops.appended);
 }
 
 pub kept-join : (a b c : DiskView) → KeepsDisk a b → KeepsDisk b c → KeepsDisk a c
 kept-join a b c p q = record {
   size = q.size ∙ p.size;
+  given = q.given ∙ p.given;
   geometry = q.geometry ∙ p.geometry;
   mountable = q.mountable;
   refused = q.refused ∙ p.refused;
   next = omega (arith, p.next, q.next);
 }
 
-pub kept-refl : (a : DiskView) → IsMountable a.drive (disk_size a) → KeepsDisk a a
-kept-refl a mountable = record { size = refl; geometry = refl; mountable = mountable; refused = refl; next = refl }
+pub kept-refl : (a : DiskView) → IsMountable a.drive (given_size a) → KeepsDisk a a
+kept-refl a mountable = record { size = refl; given = refl; geometry = refl; mountable = mountable; refused = refl; next = refl }
 
 -- ---- the parts of a disk
 
 -- a disk that serves, by the agreement of its tables and its drive
 pub holds-serving : (drive : DriveState) (tables : TablesView) → AgreesWith drive tables → Holds drive tables statuses.Serving
-holds-serving drive tables agrees = record {
-  mountable = agrees_mountable drive tables agrees.agrees agrees.spare;
-  short = agrees.agrees.reserve.1;
-  agrees = agrees;
+holds-serving drive tables serves = record {
+  mountable = serves_mountable drive tables serves;
+  size = sym (size-encoded (mounted drive tables) serves.agrees);
+  short = serves.agrees.reserve.1;
+  agrees = serves;
   stopped = λ e. absurd (cc);
 }
 
--- a disk after a refusal
-pub holds-refused : (drive : DriveState) (tables : TablesView) (fault : DiskFault) → AgreesWith drive tables → IsCause drive tables.next fault → Holds drive tables (status_of fault)
-holds-refused drive tables OutOfRange agrees cause = absurd cause
-holds-refused drive tables OutOfMemory agrees cause = holds-serving drive tables agrees
-holds-refused drive tables Stopped agrees cause = record {
-  mountable = agrees_mountable drive tables agrees.agrees agrees.spare;
-  short = agrees.agrees.reserve.1;
+-- one whose drive stopped
+pub holds-stopped : (old new : DriveState) (tables tables' : TablesView) → AgreesWith old tables → StopKeeps (mounted old tables) (mounted new tables') → Holds new tables' statuses.Stopped
+holds-stopped old new tables tables' serves stops = record {
+  mountable = stops.mountable;
+  size = stops.encoded;
+  short = omega (arith, stops.size, serves.agrees.reserve.1);
+  agrees = tt;
+  stopped = λ e. stops.stopped;
+}
+
+-- one that was read, after a refusal
+pub holds-read : (drive : DriveState) (tables : TablesView) (fault : DiskFault) → AgreesWith drive tables → IsReadFault drive fault → Holds drive tables (status_of fault)
+holds-read drive tables OutOfRange serves cause = absurd cause
+holds-read drive tables OutOfMemory serves cause = holds-serving drive tables serves
+holds-read drive tables Stopped serves cause = record {
+  mountable = serves_mountable drive tables serves;
+  size = sym (size-encoded (mounted drive tables) serves.agrees);
+  short = serves.agrees.reserve.1;
   agrees = tt;
   stopped = λ e. cause;
 }
-holds-refused drive tables Spent agrees cause = holds-serving drive tables agrees
-holds-refused drive tables NoRoom agrees cause = holds-serving drive tables agrees
+holds-read drive tables Spent serves cause = absurd cause
+holds-read drive tables NoRoom serves cause = absurd cause
 
--- a read is refused for a cause of any call
-pub read-fault-cause : (drive : DriveState) (next : ℕ) (fault : DiskFault) → IsReadFault drive fault → IsCause drive next fault
-read-fault-cause drive next OutOfRange cause = cause
-read-fault-cause drive next OutOfMemory cause = tt
-read-fault-cause drive next Stopped cause = cause
-read-fault-cause drive next Spent cause = absurd cause
-read-fault-cause drive next NoRoom cause = absurd cause
+-- ---- a batch of a fill that was refused
+
+-- the parts of the disk, what it keeps, and the front that is written
+pub record RefusedFill (old new : DriveState) (tables tables' : TablesView) (first left : ℕ) (block : List ℕ) (fault : DiskFault) (was : DiskStatus) : Type 0 where
+  pub holds : Holds new tables' (status_of fault)
+  pub kept : KeepsDisk (view_of old tables was) (view_of new tables' (status_of fault))
+  pub front : IsFront (spelled old tables.given) first (replicate left block) (spelled new tables'.given)
+
+refused-kept : (old new : DriveState) (tables tables' : TablesView) (first left : ℕ) (block : List ℕ) (fault : DiskFault) (was : DiskStatus) → status_of fault ≡ statuses.Serving → AgreesWith old tables → KeepsArray (mounted old tables) (mounted new tables')
+    → RefusedFill old new tables tables' first left block fault was
+refused-kept old new tables tables' first left block fault was is serves kept = record {
+  holds = rw is (holds-serving new tables' (serves-kept old new tables tables' serves kept));
+  kept = kept-disk old new tables tables' was (status_of fault) serves kept;
+  front = front-none (spelled old tables.given) (spelled new tables'.given) first (replicate left block) kept.array;
+}
+
+pub refused-fill : (old new : DriveState) (tables tables' : TablesView) (first left : ℕ) (block : List ℕ) (fault : DiskFault) (was : DiskStatus) → AgreesWith old tables → FillLeaves (mounted old tables) (mounted new tables') first left block (Err fault)
+    → RefusedFill old new tables tables' first left block fault was
+refused-fill old new tables tables' first left block OutOfRange was serves leaves = refused-kept old new tables tables' first left block OutOfRange was refl serves leaves
+refused-fill old new tables tables' first left block OutOfMemory was serves leaves = refused-kept old new tables tables' first left block OutOfMemory was refl serves leaves
+refused-fill old new tables tables' first left block Stopped was serves leaves = record {
+  holds = holds-stopped old new tables tables' serves leaves.0;
+  kept = stopped-disk old new tables tables' was statuses.Stopped leaves.0;
+  front = leaves.1;
+}
+refused-fill old new tables tables' first left block Spent was serves leaves = refused-kept old new tables tables' first left block Spent was refl serves leaves
+refused-fill old new tables tables' first left block NoRoom was serves leaves = refused-kept old new tables tables' first left block NoRoom was refl serves leaves
 
 -- while it serves, its tables agree with its drive
 pub holds-agrees : (drive : DriveState) (tables : TablesView) (status : DiskStatus) → status ≡ statuses.Serving → Holds drive tables status → AgreesWith drive tables
@@ -107,11 +154,6 @@ pub replicate-append : {X : Type 0} (a b : ℕ) (x : X) → replicate a x ++ rep
 replicate-append zero b x = let e : 0 + b ≡ b = omega arith in rw e refl
 replicate-append {X} (suc a) b x = let e : suc a + b ≡ suc (a + b) = omega arith in rw e (ap (λ (xs : List X). x ∷ xs) (replicate-append a b x))
 
-take-less : {X : Type 0} (a n : ℕ) (x : X) → a ≤ n → take a (replicate n x) ≡ replicate a x
-take-less zero n x le = refl
-take-less (suc a) zero x le = absurd (omega arith)
-take-less {X} (suc a) (suc n) x le = ap (λ (xs : List X). x ∷ xs) (take-less a n x (omega arith))
-
 -- one batch more
 pub filled-more : (array now new : List (List ℕ)) (first done count next more : ℕ) (block same : List ℕ) → same ≡ block → now ≡ replaced array first (replicate done block) → next ≡ first + done → more ≡ done + count → new ≡ replaced now next (replicate count same)
     → new ≡ replaced array first (replicate more block)
@@ -121,33 +163,35 @@ filled-more array now new first done count next more block same same-is was next
     ∙ replaced-append array first next (replicate done block) (replicate count block) (omega (arith, next-is, length-replicate done block))
     ∙ rw more-is (ap (λ (xs : List (List ℕ)). replaced array first xs) (replicate-append done count block))
 
--- what was done when the next batch was refused
-pub fill-front : (array now : List (List ℕ)) (first done n : ℕ) (block : List ℕ) → done ≤ n → now ≡ replaced array first (replicate done block) → IsFront array first (replicate n block) now
-fill-front array now first done n block le is = record {
-  done = done;
-  within = omega (arith, length-replicate n block);
-  written = is ∙ ap (λ (xs : List (List ℕ)). replaced array first xs) (sym (take-less done n block le));
-}
+-- what was done, where the next batch was refused with a front of the blocks that were left
+pub fill-front : (array now new : List (List ℕ)) (first done n next left : ℕ) (block same : List ℕ) → same ≡ block → now ≡ replaced array first (replicate done block) → next ≡ first + done → n ≡ done + left → IsFront now next (replicate left same) new
+    → IsFront array first (replicate n block) new
+fill-front array now new first done n next left block same same-is was next-is all front =
+    let within : front.done ≤ left = omega (arith, front.within, length-replicate left same) in
+    let more : new ≡ replaced now next (replicate front.done same) = front.written ∙ ap (λ (xs : List (List ℕ)). replaced now next xs) (take-less front.done left same within) in
+    record {
+      done = done + front.done;
+      within = omega (arith, within, all, length-replicate n block);
+      written = filled-more array now new first done front.done next (done + front.done) block same same-is was next-is refl more
+          ∙ ap (λ (xs : List (List ℕ)). replaced array first xs) (sym (take-less (done + front.done) n block (omega (arith, within, all))));
+    }
 
 -- ---- what is known beforehand
 
-pub known-past : (disk : DiskView) (first n : ℕ) → 0 < n → disk_size disk < first + n → known_answer (flat_of disk) first n ≡ Some (Err OutOfRange)
-known-past disk first n some past =
-    let long = length-array disk in
+pub known-past : (disk : DiskView) (first n : ℕ) → length (array_of disk) ≡ disk_size disk → 0 < n → disk_size disk < first + n → known_answer (flat_of disk) first n ≡ Some (Err OutOfRange)
+known-past disk first n long some past =
     let none : (n == 0) ≡ false = grind (arith, nat_tests, some) in
     let lt : nat_lt (length (array_of disk)) (first + n) ≡ true = grind (arith, nat_tests, long, past) in
     rw (none, lt) refl
 
-pub known-stopped : (disk : DiskView) (first n : ℕ) → 0 < n → first + n ≤ disk_size disk → disk.status ≡ statuses.Stopped → known_answer (flat_of disk) first n ≡ Some (Err Stopped)
-known-stopped disk first n some within stopped =
-    let long = length-array disk in
+pub known-stopped : (disk : DiskView) (first n : ℕ) → length (array_of disk) ≡ disk_size disk → 0 < n → first + n ≤ disk_size disk → disk.status ≡ statuses.Stopped → known_answer (flat_of disk) first n ≡ Some (Err Stopped)
+known-stopped disk first n long some within stopped =
     let none : (n == 0) ≡ false = grind (arith, nat_tests, some) in
     let lt : nat_lt (length (array_of disk)) (first + n) ≡ false = grind (arith, nat_tests, long, within) in
     rw (none, lt, stopped) refl
 
-pub known-none : (disk : DiskView) (first n : ℕ) → 0 < n → first + n ≤ disk_size disk → disk.status ≡ statuses.Serving → known_answer (flat_of disk) first n ≡ None
-known-none disk first n some within serves =
-    let long = length-array disk in
+pub known-none : (disk : DiskView) (first n : ℕ) → length (array_of disk) ≡ disk_size disk → 0 < n → first + n ≤ disk_size disk → disk.status ≡ statuses.Serving → known_answer (flat_of disk) first n ≡ None
+known-none disk first n long some within serves =
     let none : (n == 0) ≡ false = grind (arith, nat_tests, some) in
     let lt : nat_lt (length (array_of disk)) (first + n) ≡ false = grind (arith, nat_tests, long, within) in
     rw (none, lt, serves) refl
@@ -221,13 +265,13 @@ shown-more array first count block shown more block-is lt is more-is =
     more-is ∙ rw (is, ← at) (sym (concat-append (blocks_from array first count) (get_or (drop first array) count [])) ∙ ap concat (sym (take_more (drop first array) count [] long)))
 
 -- a read of one block
-pub read-alone : (old new : DiskView) (first n : ℕ) (result : Result (Unit {0}) DiskFault) (bytes : List ℕ) → known_answer (flat_of old) first n ≡ None → n ≡ 1 → first < disk_size old → array_of new ≡ array_of old
+pub read-alone : (old new : DiskView) (first n : ℕ) (result : Result (Unit {0}) DiskFault) (bytes : List ℕ) → length (array_of old) ≡ disk_size old → known_answer (flat_of old) first n ≡ None → n ≡ 1 → first < disk_size old → array_of new ≡ array_of old
     → OnOk result (bytes ≡ get_or (array_of old) first []) → OnOk result (new.status ≡ statuses.Serving) → IfErr result (λ fault. new.status ≡ status_of fault) → IfErr result (IsReadFault new.drive) → OnErr result (bytes ≡ [])
     → Reads (flat_of old) first n result bytes (flat_of new)
-read-alone old new first n (Ok done) bytes known one lt same ok serves status err nothing =
-    let shown : bytes ≡ concat (blocks_from (array_of old) first 1) = shown-more (array_of old) first 0 first [] bytes (omega arith) (omega (arith, lt, length-array old)) refl ok in
+read-alone old new first n (Ok done) bytes long known one lt same ok serves status err nothing =
+    let shown : bytes ≡ concat (blocks_from (array_of old) first 1) = shown-more (array_of old) first 0 first [] bytes (omega arith) (omega (arith, lt, long)) refl ok in
     read-begun old new first n (Ok done) (blocks_from (array_of old) first n) bytes known (refl, same) serves (rw one shown)
-read-alone old new first n (Err fault) bytes known one lt same ok serves status err nothing =
+read-alone old new first n (Err fault) bytes long known one lt same ok serves status err nothing =
     read-begun old new first n (Err fault) [] bytes known (read-refused old new first n fault same err) (status ∙ status-refused fault) nothing
 
 -- a call that isn't done before it begins

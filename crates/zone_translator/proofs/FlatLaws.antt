@@ -20,7 +20,7 @@ set-replaced (x ∷ xs) zero next y ys e lt = let one : next ≡ suc zero = omeg
 set-replaced {X} (x ∷ xs) (suc first) zero y ys e lt = absurd (omega arith)
 set-replaced {X} (x ∷ xs) (suc first) (suc next) y ys e lt = ap (λ (zs : List X). x ∷ zs) (set-replaced xs first next y ys (omega arith) (omega arith))
 
--- two runs, one behind the other
+-- two runs, one after the other
 pub replaced-append : {X : Type 0} (xs : List X) (first next : ℕ) (ys zs : List X) → next ≡ first + length ys → replaced (replaced xs first ys) next zs ≡ replaced xs first (ys ++ zs)
 replaced-append [] first next ys zs e = refl
 replaced-append (x ∷ xs) (suc first) zero ys zs e = absurd (omega arith)
@@ -35,7 +35,7 @@ replaced-one (x ∷ []) zero y lt = refl
 replaced-one (x ∷ z ∷ xs) zero y lt = refl
 replaced-one {X} (x ∷ xs) (suc first) y lt = ap (λ (ws : List X). x ∷ ws) (replaced-one xs first y (omega arith))
 
--- one element behind those that are replaced
+-- one element after those that are replaced
 pub set-replaced_end : {X : Type 0} (xs : List X) (first next : ℕ) (ys : List X) (y : X) → next ≡ first + length ys → next < length xs → set (replaced xs first ys) next y ≡ replaced xs first (ys ++ y ∷ [])
 set-replaced_end xs first next ys y e lt =
     sym (replaced-one (replaced xs first ys) next y (omega (arith, length-replaced xs first ys))) ∙ replaced-append xs first next ys (y ∷ []) e

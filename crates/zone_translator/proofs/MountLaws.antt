@@ -16,8 +16,8 @@ use Rattle.zone_choice.proofs.FreshLaws.{IsFreshTables, fresh_agrees, fresh_spar
 use Rattle.zone_translator.specs.Mount.{IsFresh, IsFreshDisk, MountRefuses}
 use Rattle.zone_translator.specs.declared.mount.MountFault.TheVariants.{NotFresh}
 
-pub not-fresh : (drive : DriveState) (geometry : Geometry) (blocks number : ℕ) → geometry ≡ drive.geometry → IsInRange geometry → FitsReserve geometry blocks → (IsFresh drive → number ≡ drive.geometry.zones) → number ≢ geometry.zones → MountRefuses drive blocks NotFresh
-not-fresh drive geometry blocks number same range fits all other =
+pub not-fresh : (drive back : DriveState) (geometry : Geometry) (blocks number : ℕ) → geometry ≡ drive.geometry → IsInRange geometry → FitsReserve geometry blocks → (IsFresh drive → number ≡ drive.geometry.zones) → number ≢ geometry.zones → MountRefuses drive blocks NotFresh back
+not-fresh drive back geometry blocks number same range fits all other =
     (rw same at range, rw same at fits, λ fresh. other (all fresh ∙ sym (ap (λ (g : Geometry). g.zones) same)))
 
 pub fresh-disk : (old new : DriveState) (geometry : Geometry) (blocks number : ℕ) (tables : TablesView) → geometry ≡ old.geometry → IsInRange geometry → FitsReserve geometry blocks → (number ≡ old.geometry.zones → IsFresh old) → number ≡ geometry.zones
@@ -36,6 +36,7 @@ fresh-disk old new geometry blocks number tables same range fits all all_empty w
         alone = ap (λ (r : RolesView). r.second) tables-are.roles;
       };
       size = size;
+      given = tables-are.given;
       fresh = fresh;
       next = tables-are.next;
       same = contents_are;
@@ -44,5 +45,5 @@ fresh-disk old new geometry blocks number tables same range fits all all_empty w
     }
 
 -- the array of a disk over a fresh drive
-pub fresh-array : (old new : DriveState) (tables : TablesView) (blocks : ℕ) → IsFreshDisk old new tables blocks → spelled new (size_of tables) ≡ replicate blocks (zero_block old.geometry.block)
-fresh-array old new tables blocks is = spelled_same old new (size_of tables) is.same ∙ rw is.size (fresh_spelled old blocks is.fresh)
+pub fresh-array : (old new : DriveState) (tables : TablesView) (blocks : ℕ) → IsFreshDisk old new tables blocks → spelled new tables.given ≡ replicate blocks (zero_block old.geometry.block)
+fresh-array old new tables blocks is = spelled_same old new tables.given is.same ∙ rw is.given (fresh_spelled old blocks is.fresh)

@@ -1,25 +1,23 @@
 -- One block is read.
 use Rattle.std.proofs.Common.{◌≡◌, ℕ, ◌<◌, List, [], get_or, replicate, Err, refl, sym, ◌∙◌, append-nil}
-use Rattle.nvme_wire.specs.declared.command.Command.TheVariants.{Read}
-use Rattle.drive_port.specs.Calls.{CanRead, IsNotRefused, ReadGives}
-use Rattle.drive_port.specs.Contents.{block_at, bytes_at, contents}
-use Rattle.drive_port.specs.Drive.{DriveState}
+use Rattle.drive_port.specs.Calls.{CanRead, IsNotRefused, Obeys, ReadGives}
+use Rattle.drive_port.specs.Contents.{Counts, SameContents, block_at, bytes_at, contents}
+use Rattle.drive_port.specs.Drive.{DriveState, IsLawful}
 use Rattle.drive_port.specs.declared.calls.PortFault.{PortFault}
-use Rattle.drive_port.specs.declared.device.Halt.{Halt}
-use Rattle.drive_port.specs.declared.device.Halt.TheVariants as halt
+use Rattle.drive_port.specs.declared.calls.PortFault.TheVariants as port
 use Rattle.batch_log.specs.Log.{zero_block}
 use Rattle.logical_map.specs.declared.place.Place.{Place}
 use Rattle.logical_map.specs.declared.place.Place.TheVariants as places
-use Rattle.zone_choice.specs.Agreement.{spelled}
-use Rattle.zone_choice.specs.Changes.{HasHalted}
+use Rattle.zone_choice.specs.Agreement.{mounted, spelled}
+use Rattle.zone_choice.specs.Changes.{IsHalt, KeepsArray, halt_of}
 use Rattle.zone_choice.specs.Tables.{TablesView, size_of}
-use Rattle.zone_choice.proofs.ChangeLaws.{Halted, halted}
+use Rattle.zone_choice.proofs.ChangeLaws.{keeps-contents, keeps-halt, keeps-same}
 use Rattle.zone_choice.proofs.ReadLaws.{HoldsPlace, holds_place}
 use Rattle.zone_translator.specs.Changes.{AgreesWith, disk_fault}
 use Rattle.zone_translator.specs.Read.{IsReadFault}
 
 -- what stands at the place of a block
-pub holds : (drive : DriveState) (tables : TablesView) (block : ℕ) (p : Place) → AgreesWith drive tables → block < size_of tables → p ≡ get_or tables.map.places block places.None → HoldsPlace drive (spelled drive (size_of tables)) block p
+pub holds : (drive : DriveState) (tables : TablesView) (block : ℕ) (p : Place) → AgreesWith drive tables → block < size_of tables → p ≡ get_or tables.map.places block places.None → HoldsPlace drive (spelled drive tables.given) block p
 holds drive tables block p serves lt e = rw e (holds_place drive tables block serves.agrees lt)
 
 pub no-place : (drive : DriveState) (array : List (List ℕ)) (block : ℕ) (p : Place) → HoldsPlace drive array block p → ((address : ℕ) → p ≡ places.At address → ⊥) → get_or array block [] ≡ zero_block drive.geometry.block
@@ -27,25 +25,34 @@ no-place drive array block places.None h other = h
 no-place drive array block (places.Trimmed address) h other = h
 no-place drive array block (places.At address) h other = absurd (other address refl)
 
-pub read-fault : (drive : DriveState) (fault : Halt) → HasHalted drive fault → IsReadFault drive (disk_fault fault)
-read-fault drive halt.Memory cause = tt
-read-fault drive halt.Stopped cause = cause
-
 pub one-block : (drive : DriveState) (address : ℕ) (shown : List ℕ) → shown ≡ bytes_at drive.geometry (contents drive.zones) address 1 → shown ≡ block_at drive.geometry (contents drive.zones) address
 one-block drive address shown e = e ∙ append-nil (block_at drive.geometry (contents drive.zones) address)
 
 -- a read of a place that halted
+pub record ReadHalts (old new : DriveState) (tables : TablesView) (fault : PortFault) : Type 0 where
+  pub halt : IsHalt fault
+  pub kept : KeepsArray (mounted old tables) (mounted new tables)
+  pub cause : IsReadFault new (disk_fault (halt_of fault))
+
 pub place_halts : (old new : DriveState) (tables : TablesView) (block address : ℕ) (returned : List ℕ) (fault : PortFault) → AgreesWith old tables → block < size_of tables → places.At address ≡ get_or tables.map.places block places.None
-    → ReadGives {V = Unit {0}} old address 1 (Err fault) returned new → (CanRead old address 1 → IsNotRefused {V = Unit {0}} (Err fault)) → Halted old new fault
-place_halts old new tables block address returned fault serves lt at gives passed =
-    halted (Unit {0}) old new (Read address 1) [] returned fault gives (passed (holds old tables block (places.At address) serves lt at).can)
+    → ReadGives {V = Unit {0}} old address 1 (Err fault) returned new → SameContents old new → Obeys {V = Unit {0}} old (Err fault) new → (CanRead old address 1 → IsNotRefused {V = Unit {0}} (Err fault)) → ReadHalts old new tables fault
+place_halts old new tables block address returned (port.Refused status) serves lt at gives same obeys passed = absurd (passed (holds old tables block (places.At address) serves lt at).can)
+place_halts old new tables block address returned port.Memory serves lt at gives same obeys passed = record { halt = tt; kept = keeps-halt old new tables gives.1.1 serves.agrees; cause = tt }
+place_halts old new tables block address returned port.Stopped serves lt at gives same obeys passed = record {
+  halt = tt;
+  kept = keeps-same old new tables serves.agrees same obeys.lawful (obeys.counts refl).refused (obeys.counts refl).appended;
+  cause = obeys.stops refl;
+}
 
 -- and one that was done
+pub place_kept : (old new : DriveState) (tables : TablesView) → AgreesWith old tables → SameContents old new → IsLawful new → Counts old new 0 → KeepsArray (mounted old tables) (mounted new tables)
+place_kept old new tables serves same lawful counts = keeps-contents old new tables serves.agrees same lawful counts
+
 pub place_shown : (drive : DriveState) (tables : TablesView) (block address : ℕ) (shown : List ℕ) → AgreesWith drive tables → block < size_of tables → places.At address ≡ get_or tables.map.places block places.None
-    → shown ≡ bytes_at drive.geometry (contents drive.zones) address 1 → shown ≡ get_or (spelled drive (size_of tables)) block []
+    → shown ≡ bytes_at drive.geometry (contents drive.zones) address 1 → shown ≡ get_or (spelled drive tables.given) block []
 place_shown drive tables block address shown agrees lt at e = one-block drive address shown e ∙ (holds drive tables block (places.At address) agrees lt at).shown
 
 -- a block with no data
 pub zeros_shown : (drive : DriveState) (tables : TablesView) (block : ℕ) (p : Place) → AgreesWith drive tables → block < size_of tables → p ≡ get_or tables.map.places block places.None → ((address : ℕ) → p ≡ places.At address → ⊥)
-    → replicate drive.geometry.block 0 ≡ get_or (spelled drive (size_of tables)) block []
-zeros_shown drive tables block p agrees lt at other = sym (no-place drive (spelled drive (size_of tables)) block p (holds drive tables block p agrees lt at) other)
+    → replicate drive.geometry.block 0 ≡ get_or (spelled drive tables.given) block []
+zeros_shown drive tables block p agrees lt at other = sym (no-place drive (spelled drive tables.given) block p (holds drive tables block p agrees lt at) other)

@@ -1,35 +1,79 @@
 -- The host zone is sealed and taken, and the array stays.
-use Rattle.std.proofs.Common.{◌≡◌, ℕ, suc, ◌*◌, ◌<◌, ◌≤◌, Bool, true, false, ◌||◌, cond, List, [], ◌∷◌, ◌++◌, length, get_or, Option, Some, None, Err, refl, ap, subst, ◌∙◌, arith}
+use Rattle.std.proofs.Common.{◌≡◌, ◌⊎◌, ℕ, suc, ◌*◌, ◌/◌, ◌<◌, ◌≤◌, Bool, true, false, ◌||◌, cond, List, [], ◌∷◌, ◌++◌, length, get_or, Option, Some, None, Result, Ok, Err, refl, sym, ap, subst, ◌∙◌, inl, inr, arith}
 use Rattle.std.specs.List.{count_by, list_any}
 use Rattle.std.proofs.lemmas.Bool.{eq-eqb}
 use Rattle.std.proofs.lemmas.List.Sums.{sum_by-cons}
-use Rattle.nvme_wire.specs.declared.command.Action.TheVariants.{Finish}
-use Rattle.nvme_wire.specs.declared.command.Command.TheVariants.{Send}
-use Rattle.drive_port.specs.Calls.{CanFinish, Finished, FinishGives, IsNotRefused}
-use Rattle.drive_port.specs.Contents.{Content, contents, full, content_at, nothing}
+use Rattle.drive_port.specs.Calls.{CanFinish, Finished, FinishedContents, FinishGives, FinishKeeps, IsNotRefused, Obeys}
+use Rattle.drive_port.specs.Contents.{Content, Finishes, SameContents, contents, full, content_at, nothing}
 use Rattle.drive_port.specs.Drive.{DriveState, IsLawful}
 use Rattle.drive_port.specs.declared.calls.PortFault.{PortFault}
-use Rattle.drive_port.specs.declared.device.Halt.{Halt}
-use Rattle.drive_port.specs.declared.device.Halt.TheVariants as halt
+use Rattle.drive_port.specs.declared.calls.PortFault.TheVariants as port
 use Rattle.zone_choice.specs.declared.roles.Filling.{Filling}
-use Rattle.zone_choice.specs.Agreement.{Agrees, HoldsFilling, drive_logs, mounted}
-use Rattle.zone_choice.specs.Changes.{HasHalted, KeepsArray}
+use Rattle.zone_choice.specs.Agreement.{Agrees, HoldsFilling, Mounted, drive_logs, mounted, mounted_array, spelled}
+use Rattle.zone_choice.specs.Changes.{IsHalt, KeepsArray, halt_of}
+use Rattle.zone_choice.specs.Mountable.{IsMountable}
 use Rattle.zone_choice.specs.Roles.{IsLowestEmpty, RolesView, empty_count, fillings, is_at, is_filling_at, listed, sealed, taken}
-use Rattle.zone_choice.specs.Tables.{TablesView}
-use Rattle.zone_choice.proofs.AgreementLaws.{agrees_finish, agrees_seal, agrees_take, spare-taken, tables_with}
-use Rattle.zone_choice.proofs.ChangeLaws.{Halted, halted}
+use Rattle.zone_choice.specs.Tables.{TablesView, size_of}
+use Rattle.zone_choice.proofs.AgreementLaws.{agrees_finish, agrees_mountable, agrees_same, agrees_seal, agrees_take, empty-spare, size-encoded, spare-taken, spelled_same, tables_with}
+use Rattle.zone_choice.proofs.ChangeLaws.{keeps-halt, keeps-join}
 use Rattle.zone_choice.proofs.CommandLaws.{can_finish, filling-few, filling-full, filling-in_range, none-active, zone-start}
 use Rattle.zone_choice.proofs.RolesLaws.{roles_with, second_list}
-use Rattle.zone_translator.specs.Changes.{AgreesWith, IsFilledUp, IsCause, disk_fault, is_empty_usage}
+use Rattle.zone_translator.specs.declared.fault.DiskFault.{DiskFault}
+use Rattle.zone_translator.specs.declared.fault.DiskFault.TheVariants.{OutOfRange, OutOfMemory, Stopped, Spent, NoRoom}
+use Rattle.zone_translator.specs.Changes.{AgreesWith, IsFilledUp, IsCause, RoomLeaves, StopKeeps, disk_fault, is_empty_usage}
 
 -- ---- a disk that serves
 
 pub serves-kept : (old new : DriveState) (tables tables' : TablesView) → AgreesWith old tables → KeepsArray (mounted old tables) (mounted new tables') → AgreesWith new tables'
 serves-kept old new tables tables' serves kept = record { agrees = kept.agrees; spare = kept.spare serves.spare; alone = kept.second ∙ serves.alone }
 
-pub halt-cause : (drive : DriveState) (next : ℕ) (fault : Halt) → HasHalted drive fault → IsCause drive next (disk_fault fault)
-halt-cause drive next halt.Memory cause = tt
-halt-cause drive next halt.Stopped cause = cause
+-- its drive can be mounted
+pub serves_mountable : (drive : DriveState) (tables : TablesView) → AgreesWith drive tables → IsMountable drive tables.given
+serves_mountable drive tables serves = agrees_mountable drive tables serves.agrees (empty-spare drive tables serves.agrees serves.spare)
+
+-- ---- a drive that stopped
+
+-- where some tables of the same size would agree with it, and the array is the same
+pub stops-agreed : (V : Type 0) (old new : DriveState) (tables other : TablesView) → AgreesWith new other → other.given ≡ tables.given → size_of other ≡ size_of tables → Obeys {V = V} old (Err port.Stopped) new → StopKeeps (mounted old tables) (mounted new tables)
+stops-agreed V old new tables other serves given size obeys = record {
+  stopped = obeys.stops refl;
+  mountable = rw (← given) (serves_mountable new other serves);
+  encoded = rw (← given, ← size) (sym (size-encoded (mounted new other) serves.agrees));
+  size = refl;
+  given = refl;
+  next = refl;
+  geometry = obeys.geometry;
+  refused = (obeys.counts refl).refused;
+  appended = (obeys.counts refl).appended;
+}
+
+pub stops-join : (a b c : Mounted) → KeepsArray a b → StopKeeps b c → StopKeeps a c
+stops-join a b c kept stops = record {
+  stopped = stops.stopped;
+  mountable = stops.mountable;
+  encoded = stops.encoded;
+  size = stops.size ∙ ap length kept.places;
+  given = stops.given ∙ kept.given;
+  next = stops.next ∙ kept.next;
+  geometry = stops.geometry ∙ kept.geometry;
+  refused = stops.refused ∙ kept.refused;
+  appended = stops.appended ∙ kept.appended;
+}
+
+pub room-join : {V : Type 0} (a b c : Mounted) (result : Result V DiskFault) → KeepsArray a b → RoomLeaves b c result → RoomLeaves a c result
+room-join a b c (Ok done) kept leaves = keeps-join a b c kept leaves
+room-join a b c (Err OutOfRange) kept leaves = keeps-join a b c kept leaves
+room-join a b c (Err OutOfMemory) kept leaves = keeps-join a b c kept leaves
+room-join a b c (Err Stopped) kept leaves = (stops-join a b c kept leaves.0, leaves.1 ∙ kept.array)
+room-join a b c (Err Spent) kept leaves = keeps-join a b c kept leaves
+room-join a b c (Err NoRoom) kept leaves = keeps-join a b c kept leaves
+
+pub room-err : (V W : Type 0) (a b : Mounted) (fault : DiskFault) → RoomLeaves {V = V} a b (Err fault) → RoomLeaves {V = W} a b (Err fault)
+room-err V W a b OutOfRange leaves = leaves
+room-err V W a b OutOfMemory leaves = leaves
+room-err V W a b Stopped leaves = leaves
+room-err V W a b Spent leaves = leaves
+room-err V W a b NoRoom leaves = leaves
 
 -- ---- the host zone
 
@@ -38,9 +82,9 @@ filling-host roles host is =
     ap (λ (h : Option Filling). list_any (is_at host.zone) (listed h ++ second_list roles.second)) is ∙ ap (λ (b : Bool). b || list_any (is_at host.zone) (second_list roles.second)) (eq-eqb host.zone host.zone refl)
 
 -- tables with a known host zone
-pub with-host : (drive : DriveState) (tables : TablesView) (host : Option Filling) → tables.roles.host ≡ host → Agrees (mounted drive tables) → Agrees (mounted drive (tables_with tables.map (roles_with tables.roles.empty host tables.roles.second) tables.next))
+pub with-host : (drive : DriveState) (tables : TablesView) (host : Option Filling) → tables.roles.host ≡ host → Agrees (mounted drive tables) → Agrees (mounted drive (tables_with tables.map (roles_with tables.roles.empty host tables.roles.second) tables.next tables.given))
 with-host drive tables host e agrees =
-    let P : Option Filling → Type 0 = λ h. Agrees (mounted drive (tables_with tables.map (roles_with tables.roles.empty h tables.roles.second) tables.next)) in subst P e agrees
+    let P : Option Filling → Type 0 = λ h. Agrees (mounted drive (tables_with tables.map (roles_with tables.roles.empty h tables.roles.second) tables.next tables.given)) in subst P e agrees
 
 pub host-filled : (drive : DriveState) (tables : TablesView) (host : Filling) → tables.roles.host ≡ Some host → Agrees (mounted drive tables) → HoldsFilling drive.geometry.capacity (contents drive.zones) (drive_logs drive) host
 host-filled drive tables host is agrees = (with-host drive tables (Some host) is agrees).roles.fillings_are.0
@@ -51,20 +95,15 @@ host-few drive tables host is agrees = filling-few drive tables host agrees (fil
 pub host-full : (drive : DriveState) (tables : TablesView) (host : Filling) → tables.roles.host ≡ Some host → Agrees (mounted drive tables) → host.written ≡ drive.geometry.capacity → (content_at (contents drive.zones) host.zone).usage ≡ full
 host-full drive tables host is agrees e = filling-full drive tables host agrees (filling-in_range drive tables host.zone agrees (filling-host tables.roles host is)) (host-filled drive tables host is agrees) e
 
--- a Finish of the host zone that didn't succeed
-pub finish_halts : (V : Type 0) (old new : DriveState) (tables : TablesView) (host : Filling) (start : ℕ) (fault : PortFault) → Agrees (mounted old tables) → tables.roles.host ≡ Some host → start ≡ host.zone * old.geometry.size
-    → FinishGives {V = V} old start (Err fault) new → (CanFinish old start → IsNotRefused {V = V} (Err fault)) → Halted old new fault
-finish_halts V old new tables host start fault agrees is start-is gives passed =
-    halted V old new (Send start Finish false) [] gives.0 fault gives.1 (passed (can_finish old tables host.zone start agrees (filling-host tables.roles host is) start-is))
-
 pub keeps-seal : (drive : DriveState) (tables new : TablesView) (host : Filling) → Agrees (mounted drive tables) → tables.roles.host ≡ Some host → new ≡ record tables { roles = sealed tables.roles } → 1 ≤ host.written
     → (content_at (contents drive.zones) host.zone).usage ≡ full → KeepsArray (mounted drive tables) (mounted drive new)
 keeps-seal drive tables new host agrees is new-is some is_full =
     rw new-is (record {
-      agrees = agrees_seal drive tables.map tables.roles.empty host tables.roles.second tables.next (with-host drive tables (Some host) is agrees) some is_full;
+      agrees = agrees_seal drive tables.map tables.roles.empty host tables.roles.second tables.next tables.given (with-host drive tables (Some host) is agrees) some is_full;
       array = refl;
       places = refl;
       next = refl;
+      given = refl;
       spare = λ h. h;
       second = refl;
       geometry = refl;
@@ -72,16 +111,25 @@ keeps-seal drive tables new host agrees is new-is some is_full =
       appended = refl;
     })
 
+-- the tables after a Finish of the host zone agree with the drive, and the array is the same
+finished_host : (old new : DriveState) (tables : TablesView) (host : Filling) (start : ℕ) → Agrees (mounted old tables) → tables.roles.host ≡ Some host → start ≡ host.zone * old.geometry.size → 1 ≤ host.written → host.written < old.geometry.capacity
+    → new.geometry ≡ old.geometry → Finishes (contents old.zones) (contents new.zones) (start / old.geometry.size) → IsLawful new
+    → Agrees (mounted new (record tables { roles = sealed tables.roles })) × (spelled new tables.given ≡ spelled old tables.given)
+finished_host old new tables host start agrees is start-is some room geometry finishes lawful =
+    let index = (zone-start host.zone old.geometry.size agrees.geometry.size.0).0 in
+    let done = agrees_finish old new tables.map tables.roles.empty host tables.roles.second tables.next tables.given (with-host old tables (Some host) is agrees) some room geometry lawful (rw (start-is, index) at finishes) in
+    (done.0, done.2)
+
 pub keeps-finish : (old new : DriveState) (tables after : TablesView) (host : Filling) (start : ℕ) → Agrees (mounted old tables) → tables.roles.host ≡ Some host → start ≡ host.zone * old.geometry.size → 1 ≤ host.written → host.written < old.geometry.capacity
     → Finished old new start → IsLawful new → after ≡ record tables { roles = sealed tables.roles } → KeepsArray (mounted old tables) (mounted new after)
 keeps-finish old new tables after host start agrees is start-is some room finished lawful after-is =
-    let index = (zone-start host.zone old.geometry.size agrees.geometry.size.0).0 in
-    let done = agrees_finish old new tables.map tables.roles.empty host tables.roles.second tables.next (with-host old tables (Some host) is agrees) some room finished.geometry lawful (rw (start-is, index) at finished.contents) in
+    let done = finished_host old new tables host start agrees is start-is some room finished.geometry finished.contents lawful in
     rw after-is (record {
       agrees = done.0;
       array = done.1;
       places = refl;
       next = refl;
+      given = refl;
       spare = λ h. h;
       second = refl;
       geometry = finished.geometry;
@@ -89,14 +137,36 @@ keeps-finish old new tables after host start agrees is start-is some room finish
       appended = omega (arith, finished.counts.appended);
     })
 
+-- a Finish of the host zone that did not succeed
+pub record FinishHalts (old new : DriveState) (tables : TablesView) (fault : PortFault) : Type 0 where
+  pub halt : IsHalt fault
+  pub leaves : RoomLeaves {V = Unit {0}} (mounted old tables) (mounted new tables) (Err (disk_fault (halt_of fault)))
+  pub cause : IsCause new tables.next (disk_fault (halt_of fault))
+
+pub finish_halts : (old new : DriveState) (tables : TablesView) (host : Filling) (start : ℕ) (fault : PortFault) → AgreesWith old tables → tables.roles.host ≡ Some host → start ≡ host.zone * old.geometry.size → 1 ≤ host.written → host.written < old.geometry.capacity
+    → FinishGives {V = Unit {0}} old start (Err fault) new → FinishKeeps {V = Unit {0}} old start (Err fault) new → Obeys {V = Unit {0}} old (Err fault) new → (CanFinish old start → IsNotRefused {V = Unit {0}} (Err fault)) → FinishHalts old new tables fault
+finish_halts old new tables host start (port.Refused status) serves is start-is some room gives kept obeys passed =
+    absurd (passed (can_finish old tables host.zone start serves.agrees (filling-host tables.roles host is) start-is))
+finish_halts old new tables host start port.Memory serves is start-is some room gives kept obeys passed = record { halt = tt; leaves = keeps-halt old new tables gives.1.1.1 serves.agrees; cause = tt }
+finish_halts old new tables host start port.Stopped serves is start-is some room gives kept obeys passed = record { halt = tt; leaves = by kept; cause = obeys.stops refl }
+  where
+    by : SameContents old new ⊎ FinishedContents old new start → StopKeeps (mounted old tables) (mounted new tables) × (spelled new tables.given ≡ spelled old tables.given)
+    by (inl same) =
+        let agrees = agrees_same old new tables same obeys.lawful serves.agrees in
+        (stops-agreed (Unit {0}) old new tables tables (record { agrees = agrees; spare = serves.spare; alone = serves.alone }) refl refl obeys, spelled_same old new tables.given same)
+    by (inr finished) =
+        let done = finished_host old new tables host start serves.agrees is start-is some room finished.geometry finished.contents obeys.lawful in
+        (stops-agreed (Unit {0}) old new tables (record tables { roles = sealed tables.roles }) (record { agrees = done.0; spare = serves.spare; alone = serves.alone }) refl refl obeys, done.1)
+
 pub keeps-take : (drive : DriveState) (tables new : TablesView) (zone : ℕ) → Agrees (mounted drive tables) → tables.roles.host ≡ None → IsLowestEmpty tables.roles zone → 2 ≤ empty_count tables.roles → new ≡ record tables { roles = taken tables.roles zone }
     → KeepsArray (mounted drive tables) (mounted drive new)
 keeps-take drive tables new zone agrees is lowest two new-is =
     rw new-is (record {
-      agrees = agrees_take drive tables.map tables.roles.empty tables.roles.second zone tables.next (with-host drive tables None is agrees) lowest.in_range lowest.is_empty;
+      agrees = agrees_take drive tables.map tables.roles.empty tables.roles.second zone tables.next tables.given (with-host drive tables None is agrees) lowest.in_range lowest.is_empty;
       array = refl;
       places = refl;
       next = refl;
+      given = refl;
       spare = λ h. spare-taken tables.roles zone lowest.in_range lowest.is_empty two;
       second = refl;
       geometry = refl;

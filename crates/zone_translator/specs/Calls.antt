@@ -3,7 +3,9 @@ use Rattle.std.specs.Prelude.{◌≡◌, ℕ, ◌≤◌, ◌^◌, Bool, true, fa
 use Rattle.std.specs.List.{concat}
 use Rattle.drive_port.specs.Drive.{DriveState}
 use Rattle.zone_choice.specs.Tables.{TablesView, size_of}
+use Rattle.zone_choice.specs.Agreement.{drive_logs}
 use Rattle.zone_choice.specs.Mountable.{IsMountable}
+use Rattle.zone_choice.specs.Sizes.{encoded_size}
 use Rattle.zone_translator.specs.declared.fault.DiskFault.{DiskFault}
 use Rattle.zone_translator.specs.declared.fault.DiskFault.TheVariants as faults
 use Rattle.zone_translator.specs.declared.status.DiskStatus.{DiskStatus}
@@ -16,9 +18,10 @@ abbrev pub WhileServing : DiskStatus → Type 0 → Type 0
 WhileServing Serving Fact = Fact
 WhileServing Stopped Fact = Unit {0}
 
--- The drive of a disk can be mounted. While the disk serves, the tables agree with the drive; and it has answered `Stopped` only where the drive has stopped.
+-- The drive of a disk can be mounted, and has the disk's size. While the disk serves, the tables agree with the drive; and it has answered `Stopped` only where the drive has stopped.
 pub record Holds (drive : DriveState) (tables : TablesView) (status : DiskStatus) : Type 0 where
-  pub mountable : IsMountable drive (size_of tables)
+  pub mountable : IsMountable drive tables.given
+  pub size : encoded_size tables.given (drive_logs drive) ≡ size_of tables
   pub short : size_of tables ≤ 2 ^ 31
   pub agrees : WhileServing status (AgreesWith drive tables)
   pub stopped : status ≡ Stopped → drive.stopped ≡ true

@@ -1,14 +1,17 @@
 -- What the parts of a disk's calls change, of a drive and the tables that agree with it.
-use Rattle.std.specs.Prelude.{◌≡◌, ℕ, ◌≤◌, ◌+◌, ◌^◌, Bool, true, false, List, None, count_by}
+use Rattle.std.specs.Prelude.{◌≡◌, ℕ, ◌≤◌, ◌+◌, Bool, true, false, List, None, count_by, replicate, Result, Ok, Err}
 use Rattle.drive_port.specs.Drive.{DriveState, active_count}
 use Rattle.drive_port.specs.Contents.{Content, Usage, empty, contents}
 use Rattle.drive_port.specs.declared.device.Halt.{Halt}
 use Rattle.drive_port.specs.declared.device.Halt.TheVariants as halt
 use Rattle.zone_choice.specs.declared.roles.Filling.{Filling}
-use Rattle.zone_choice.specs.Agreement.{Agrees, Mounted, mounted, mounted_array}
+use Rattle.zone_choice.specs.Agreement.{Agrees, Mounted, drive_logs, mounted, mounted_array}
+use Rattle.zone_choice.specs.Changes.{KeepsArray, sequence_end}
+use Rattle.zone_choice.specs.Mountable.{IsMountable}
 use Rattle.zone_choice.specs.Roles.{empty_count}
+use Rattle.zone_choice.specs.Sizes.{encoded_size}
 use Rattle.zone_choice.specs.Tables.{TablesView, size_of}
-use Rattle.zone_translator.specs.Flat.{replaced}
+use Rattle.zone_translator.specs.Flat.{IsFront, replaced}
 use Rattle.zone_translator.specs.declared.fault.DiskFault.{DiskFault}
 use Rattle.zone_translator.specs.declared.fault.DiskFault.TheVariants.{OutOfRange, OutOfMemory, Stopped, Spent, NoRoom}
 
@@ -34,12 +37,12 @@ pub record IsFilledUp (drive : DriveState) : Type 0 where
   pub none_active : active_count drive.zones ≡ 0
   pub few_empty : empty_zones drive ≤ 1
 
--- why a refusal came: the drive has stopped, the sequences are used up, or the drive is filled up; of memory nothing can be said
+-- why a refusal came: the drive has stopped, no sequence is left that a batch may have, or the drive is filled up; of memory nothing can be said
 abbrev pub IsCause : DriveState → ℕ → DiskFault → Type 0
 IsCause drive next OutOfRange = ⊥
 IsCause drive next OutOfMemory = Unit {0}
 IsCause drive next Stopped = drive.stopped ≡ true
-IsCause drive next Spent = next ≡ 2 ^ 63
+IsCause drive next Spent = sequence_end drive.geometry ≤ next
 IsCause drive next NoRoom = IsFilledUp drive
 
 -- what a halt of the drive is to a disk
@@ -53,9 +56,34 @@ HasRoom drive host = host.written + 2 ≤ drive.geometry.capacity
 
 -- these blocks were written into the array by one batch; no command was refused
 pub record WritesBlocks (before after : Mounted) (first : ℕ) (blocks : List (List ℕ)) : Type 0 where
+  pub serves : Serves after
   pub size : size_of after.tables ≡ size_of before.tables
+  pub given : after.tables.given ≡ before.tables.given
   pub array : mounted_array after ≡ replaced (mounted_array before) first blocks
   pub next : after.tables.next ≡ before.tables.next + 1
   pub geometry : after.drive.geometry ≡ before.drive.geometry
   pub refused : after.drive.refused ≡ before.drive.refused
   pub appended : after.drive.appended ≡ before.drive.appended + 1
+
+-- What a drive that stopped on the way of a call leaves: it can be mounted, and has the disk's size. Tables and drive need not agree any more.
+pub record StopKeeps (before after : Mounted) : Type 0 where
+  pub stopped : after.drive.stopped ≡ true
+  pub mountable : IsMountable after.drive after.tables.given
+  pub encoded : encoded_size after.tables.given (drive_logs after.drive) ≡ size_of after.tables
+  pub size : size_of after.tables ≡ size_of before.tables
+  pub given : after.tables.given ≡ before.tables.given
+  pub next : after.tables.next ≡ before.tables.next
+  pub geometry : after.drive.geometry ≡ before.drive.geometry
+  pub refused : after.drive.refused ≡ before.drive.refused
+  pub appended : after.drive.appended ≡ before.drive.appended
+
+-- what making room leaves: the array is the same
+abbrev pub RoomLeaves : {V : Type 0} → Mounted → Mounted → Result V DiskFault → Type 0
+RoomLeaves before after (Err Stopped) = StopKeeps before after × (mounted_array after ≡ mounted_array before)
+RoomLeaves before after result = KeepsArray before after
+
+-- what a batch of a fill leaves, of these blocks at most: where the drive stopped, a front of them may be written
+abbrev pub FillLeaves : Mounted → Mounted → ℕ → ℕ → List ℕ → Result ℕ DiskFault → Type 0
+FillLeaves before after first left block (Ok count) = WritesBlocks before after first (replicate count block)
+FillLeaves before after first left block (Err Stopped) = StopKeeps before after × IsFront (mounted_array before) first (replicate left block) (mounted_array after)
+FillLeaves before after first left block (Err fault) = KeepsArray before after

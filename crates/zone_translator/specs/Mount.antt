@@ -15,18 +15,19 @@ use Rattle.zone_translator.specs.declared.mount.MountFault.TheVariants.{Reserve,
 abbrev pub IsFresh : DriveState → Type 0
 IsFresh drive = AreEmpty (contents drive.zones)
 
--- why a drive isn't mounted as that many blocks, in the order of the refusals
-abbrev pub MountRefuses : DriveState → ℕ → MountFault → Type 0
-MountRefuses drive blocks Limits = IsInRange drive.geometry → ⊥
-MountRefuses drive blocks Reserve = IsInRange drive.geometry × (FitsReserve drive.geometry blocks → ⊥)
-MountRefuses drive blocks NotFresh = IsInRange drive.geometry × FitsReserve drive.geometry blocks × (IsFresh drive → ⊥)
-MountRefuses drive blocks Halted = drive.stopped ≡ true
-MountRefuses drive blocks OutOfMemory = Unit {0}
+-- why a drive isn't mounted as that many blocks, in the order of the refusals; and, of one that is given back, that it has stopped
+abbrev pub MountRefuses : DriveState → ℕ → MountFault → DriveState → Type 0
+MountRefuses drive blocks Limits back = IsInRange drive.geometry → ⊥
+MountRefuses drive blocks Reserve back = IsInRange drive.geometry × (FitsReserve drive.geometry blocks → ⊥)
+MountRefuses drive blocks NotFresh back = IsInRange drive.geometry × FitsReserve drive.geometry blocks × (IsFresh drive → ⊥)
+MountRefuses drive blocks Halted back = back.stopped ≡ true
+MountRefuses drive blocks OutOfMemory back = Unit {0}
 
 -- the tables of a disk over a fresh drive
 pub record IsFreshDisk (old new : DriveState) (tables : TablesView) (blocks : ℕ) : Type 0 where
   pub agrees : AgreesWith new tables
   pub size : size_of tables ≡ blocks
+  pub given : tables.given ≡ blocks
   pub fresh : IsFresh old
   pub next : tables.next ≡ 1
   pub same : SameContents old new

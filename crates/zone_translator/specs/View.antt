@@ -24,9 +24,13 @@ disk_size disk = size_of disk.tables
 abbrev pub next_sequence : DiskView → ℕ
 next_sequence disk = disk.tables.next
 
--- the flat array that the disk keeps: the one that its drive spells
+-- the number of logical blocks that the mount was given: there are as many where no header has a size
+abbrev pub given_size : DiskView → ℕ
+given_size disk = disk.tables.given
+
+-- the flat array that the disk keeps: the one that its drive encodes
 abbrev pub array_of : DiskView → List (List ℕ)
-array_of disk = spelled disk.drive (disk_size disk)
+array_of disk = spelled disk.drive (given_size disk)
 
 abbrev pub flat_of : DiskView → FlatDisk
 flat_of disk = record { array = array_of disk; status = disk.status }
@@ -34,8 +38,9 @@ flat_of disk = record { array = array_of disk; status = disk.status }
 -- What every call of a disk keeps, whatever it answers: its size, and a drive that can be mounted again. No command is refused, and the next sequence rises by one with each batch that is appended.
 pub record KeepsDisk (old new : DiskView) : Type 0 where
   pub size : disk_size new ≡ disk_size old
+  pub given : given_size new ≡ given_size old
   pub geometry : new.drive.geometry ≡ old.drive.geometry
-  pub mountable : IsMountable new.drive (disk_size new)
+  pub mountable : IsMountable new.drive (given_size new)
   pub refused : new.drive.refused ≡ old.drive.refused
   pub next : next_sequence new + old.drive.appended ≡ next_sequence old + new.drive.appended
 

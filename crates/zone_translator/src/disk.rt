@@ -4,12 +4,12 @@ ghost use Rattle.zone_choice.specs.Reserve.{FitsReserve};
 ghost use Rattle.zone_states.specs.Geometry.{IsInRange};
 ghost use Rattle.zone_translator.specs.Calls.{Reads, answer_before, is_known, status_of};
 ghost use Rattle.zone_translator.specs.Changes.{IsCause};
-ghost use Rattle.zone_translator.specs.Flat.{FlatCall, known_answer, read, replaced, status_after, with_nothing, write};
+ghost use Rattle.zone_translator.specs.Flat.{FlatCall, IsFront, known_answer, read, replaced, status_after, with_nothing, write};
 ghost use Rattle.zone_translator.specs.declared.status.DiskStatus.TheVariants.{Serving};
 ghost use Rattle.batch_log.specs.Log.{zero_block};
 ghost use Rattle.zone_translator.specs.Mount.{IsFresh, KeepsDrive, MountRefuses};
 ghost use Rattle.zone_translator.specs.Read.{IsReadFault};
-ghost use Rattle.zone_translator.specs.View.{DiskCause, DiskView, KeepsDisk, array_of, disk_size, flat_of, next_sequence};
+ghost use Rattle.zone_translator.specs.View.{DiskCause, DiskView, KeepsDisk, array_of, disk_size, flat_of, given_size, next_sequence};
 
 use crate::fault::DiskFault;
 use crate::fill::fill_batch;
@@ -57,14 +57,14 @@ impl<D: Device + Drop> Disk<D> {
     /// A disk of `blocks` logical blocks of zeros over a drive on which nothing is written. With the
     /// fault the drive is given back, and holds what it held.
     pub fn mount(alloc: Global, mut device: D, blocks: u64) -> Result<Disk<D>, (MountFault, D)>
-        ensures size { IfOk result (λ disk. (disk_size disk ≡ blocks) × (disk.status ≡ Serving)) }
+        ensures size { IfOk result (λ disk. (disk_size disk ≡ blocks) × (given_size disk ≡ blocks) × (disk.status ≡ Serving)) }
         ensures next { IfOk result (λ disk. next_sequence disk ≡ 1) }
         ensures fits { IfOk result (λ disk. IsInRange disk.drive.geometry × FitsReserve disk.drive.geometry (disk_size disk)) }
         ensures fresh { OnOk result (IsFresh (D.drive device)) }
         ensures array { IfOk result (λ disk. array_of disk ≡ replicate blocks (zero_block (D.drive device).geometry.block)) }
         ensures drive { IfOk result (λ disk. KeepsDrive (D.drive device) disk.drive) }
-        ensures mountable { IfOk result (λ disk. IsMountable disk.drive (disk_size disk)) }
-        ensures err { IfErr result (λ refusal. MountRefuses (D.drive device) blocks refusal.0) }
+        ensures mountable { IfOk result (λ disk. IsMountable disk.drive (given_size disk)) }
+        ensures err { IfErr result (λ refusal. MountRefuses (D.drive device) blocks refusal.0 (D.drive refusal.1)) }
         ensures given_back { IfErr result (λ refusal. KeepsDrive (D.drive device) (D.drive refusal.1)) }
     {
         match fresh_tables(alloc, &mut device, blocks) {
@@ -96,7 +96,8 @@ impl<D: Device + Drop> Disk<D> {
 
     /// How many logical blocks there are.
     pub fn blocks(&self) -> u64
-        ensures { result ≡ disk_size self.now }
+        ensures size { result ≡ disk_size self.now }
+        ensures array { length (array_of self.now) ≡ disk_size self.now }
     {
         self.tables.blocks() as u64
     }
@@ -108,7 +109,8 @@ impl<D: Device + Drop> Disk<D> {
         self.status
     }
 
-    /// One batch of a fill.
+    /// One batch of a fill. A refusal leaves a front of the blocks that are left, none but where the drive
+    /// stopped.
     fn fill_some(&mut self, first: u32, left: u32, byte: u8) -> Result<u32, DiskFault>
         requires some { 1 ≤ left }
         requires in_range { first + left ≤ disk_size self.old }
@@ -118,7 +120,7 @@ impl<D: Device + Drop> Disk<D> {
         ensures ok { IfOk result (λ count. array_of self.new ≡ replaced (array_of self.old) first (replicate count (replicate self.old.drive.geometry.block byte))) }
         ensures serving { OnOk result (self.new.status ≡ Serving) }
         ensures status { IfErr result (λ fault. self.new.status ≡ status_of fault) }
-        ensures err { OnErr result (array_of self.new ≡ array_of self.old) }
+        ensures err { OnErr result (IsFront (array_of self.old) first (replicate left (replicate self.old.drive.geometry.block byte)) (array_of self.new)) }
         ensures cause { IfErr result (λ fault. IsCause self.new.drive (next_sequence self.new) fault) }
     {
         let written = fill_batch(
@@ -187,8 +189,9 @@ impl<D: Device + Drop> Disk<D> {
         ensures known { known_answer (flat_of self.now) first blocks ≡ answer_before result }
         ensures in_range { IfOk result (λ done. done ≡ false → (1 ≤ blocks) × (first + blocks ≤ disk_size self.now) × (self.now.status ≡ Serving)) }
         ensures cause { IfErr result (DiskCause self.now) }
-        ensures mountable { IsMountable self.now.drive (disk_size self.now) }
+        ensures mountable { IsMountable self.now.drive (given_size self.now) }
         ensures short { disk_size self.now ≤ 2 ^ 31 }
+        ensures long { length (array_of self.now) ≡ disk_size self.now }
     {
         let size = self.tables.blocks() as u64;
         if blocks == 0 {
@@ -205,7 +208,8 @@ impl<D: Device + Drop> Disk<D> {
 
     /// Writes `blocks` blocks of one byte from `first` on.
     ///
-    /// After `OutOfMemory`, `Spent` or `NoRoom` a front of them is written, and the disk goes on.
+    /// After a refusal on its way a front of them is written. After `OutOfMemory`, `Spent` or `NoRoom` the
+    /// disk goes on; after `Stopped` it needs a mount of the restarted drive, on which the front is found.
     pub fn fill(&mut self, first: u64, blocks: u64, byte: u8) -> Result<(), DiskFault>
         ensures flat { FlatCall (flat_of self.old) (write first (replicate blocks (replicate self.old.drive.geometry.block byte))) (with_nothing result) (flat_of self.new) }
         ensures untouched { is_known (flat_of self.old) (write first (replicate blocks (replicate self.old.drive.geometry.block byte))) ≡ true → self.new ≡ self.old }

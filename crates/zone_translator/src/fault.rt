@@ -13,9 +13,9 @@ pub enum DiskFault {
     /// The drive has stopped. A front of a write's blocks is in place.
     #[error("the drive has stopped")]
     Stopped,
-    /// The drive holds a batch with the last sequence number. A front of a write's blocks is in place,
-    /// and reads go on.
-    #[error("the sequence numbers of batches are used up")]
+    /// The sequence numbers that are left are kept for the repair of a zone, at a mount. A front of a
+    /// write's blocks is in place, and reads go on.
+    #[error("no sequence number is left for a batch of the disk")]
     Spent,
     /// No zone is left for the host's batches: none is opened or Closed, and the last Empty one is
     /// kept. A front of a write's blocks is in place, and reads go on.

@@ -1,11 +1,10 @@
 ghost use Rattle.std.specs.Prelude.{◌≡◌, ◌⊎◌, ◌+◌, ◌≤◌, ◌<◌, ◌^◌, ◌*◌, IfOk, IfErr, OnOk, OnErr, length, replicate};
-ghost use Rattle.batch_log.specs.Header.{entry_room};
+ghost use Rattle.batch_log.specs.Header.{IsSize, entry_room};
 ghost use Rattle.zone_states.specs.Geometry.{IsInRange};
 ghost use Rattle.zone_choice.specs.Agreement.{mounted};
-ghost use Rattle.zone_choice.specs.Changes.{KeepsArray};
 ghost use Rattle.zone_choice.specs.Tables.{MakesRoom, size_of};
 ghost use Rattle.zone_translator.specs.Batches.{IsPrepared, batch_count};
-ghost use Rattle.zone_translator.specs.Changes.{AgreesWith, IsCause, WritesBlocks};
+ghost use Rattle.zone_translator.specs.Changes.{AgreesWith, FillLeaves, IsCause};
 
 use crate::fault::DiskFault;
 use crate::room::{fault_of, make_room};
@@ -37,11 +36,12 @@ fn prepare(
     requires block { (block_bytes ≡ 512) ⊎ (block_bytes ≡ 4096) }
     requires in_range { first + count ≤ size_of tables.old }
     requires few { first + count < 2 ^ 32 }
+    requires size { IsSize (size_of tables.old) }
     requires room { count ≤ entry_room block_bytes }
     ensures ok { OnOk result (IsPrepared block_bytes first count byte tables.new batch.new) }
     ensures kept { MakesRoom tables.old tables.new }
 {
-    batch.start(Kind::Host, tables.next(), 0);
+    batch.start(Kind::Host, tables.next(), 0, Some(tables.blocks()));
     batch.name_data(first, count)?;
     batch.encode(block_bytes)?;
     batch.fill(count as usize * block_bytes as usize, byte)?;
@@ -62,17 +62,15 @@ pub(crate) fn fill_batch<D: Device>(
     requires agrees { AgreesWith (D.drive device.old) tables.old }
     requires some { 1 ≤ left }
     requires in_range { first + left ≤ size_of tables.old }
-    ensures agrees { AgreesWith (D.drive device.new) tables.new }
+    ensures leaves { FillLeaves (mounted (D.drive device.old) tables.old) (mounted (D.drive device.new) tables.new) first left (replicate (D.drive device.old).geometry.block byte) result }
     ensures count { IfOk result (λ count. (1 ≤ count) × (count ≤ left)) }
-    ensures ok { IfOk result (λ count. WritesBlocks (mounted (D.drive device.old) tables.old) (mounted (D.drive device.new) tables.new) first (replicate count (replicate (D.drive device.old).geometry.block byte))) }
-    ensures err { OnErr result (KeepsArray (mounted (D.drive device.old) tables.old) (mounted (D.drive device.new) tables.new)) }
     ensures cause { IfErr result (λ fault. IsCause (D.drive device.new) tables.new.next fault) }
 {
     let host = make_room(alloc, tables, device)?;
-    if tables.next() >= 1 << 63 {
+    let geometry = device.geometry();
+    if tables.next() >= (1 << 63) - geometry.capacity as u64 {
         return Err(DiskFault::Spent);
     }
-    let geometry = device.geometry();
     let count = batch_count(&geometry, host, left);
     prepare(tables, batch, geometry.block, first, count, byte)?;
     match append_batch(alloc, tables, device, host.zone, batch) {

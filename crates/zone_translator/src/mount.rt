@@ -60,7 +60,7 @@ pub(crate) fn fresh_tables<D: Device>(
     blocks: u64,
 ) -> Result<Tables, MountFault>
     ensures ok { IfOk result (λ tables. IsFreshDisk (D.drive device.old) (D.drive device.new) tables blocks) }
-    ensures err { IfErr result (MountRefuses (D.drive device.old) blocks) }
+    ensures err { IfErr result (λ fault. MountRefuses (D.drive device.old) blocks fault (D.drive device.new)) }
     ensures kept { KeepsDrive (D.drive device.old) (D.drive device.new) }
 {
     let geometry = device.geometry();

@@ -21,6 +21,31 @@ fn extend_zeros(into: &mut Vec<u8>, count: usize) -> Result<(), AllocError>
     Ok(())
 }
 
+/// Shows one block in place of what `into` holds: the data at its place, or zeros where it has none.
+pub(crate) fn read_into<D: Device>(
+    tables: &Tables,
+    device: &mut D,
+    block: u32,
+    into: &mut Vec<u8>,
+) -> Result<(), DiskFault>
+    requires agrees { AgreesWith (D.drive device.old) tables.now }
+    requires in_range { block < size_of tables.now }
+    ensures agrees { AgreesWith (D.drive device.new) tables.now }
+    ensures kept { KeepsArray (mounted (D.drive device.old) tables.now) (mounted (D.drive device.new) tables.now) }
+    ensures ok { OnOk result (into.new.items ≡ slice_index_or (spelled (D.drive device.old) tables.now.given) block []) }
+    ensures err { IfErr result (IsReadFault (D.drive device.new)) }
+{
+    let Place::At(address) = tables.place_of(block) else {
+        into.clear();
+        extend_zeros(into, device.geometry().block as usize)?;
+        return Ok(());
+    };
+    if let Err(fault) = read(device, address, 1, into) {
+        return Err(fault_of(halt_of(fault)));
+    }
+    Ok(())
+}
+
 /// Shows one block after what `into` holds: the data at its place, or zeros where it has none.
 pub(crate) fn read_block<D: Device>(
     tables: &Tables,
@@ -33,41 +58,10 @@ pub(crate) fn read_block<D: Device>(
     requires in_range { block < size_of tables.now }
     ensures agrees { AgreesWith (D.drive device.new) tables.now }
     ensures kept { KeepsArray (mounted (D.drive device.old) tables.now) (mounted (D.drive device.new) tables.now) }
-    ensures ok { OnOk result (into.new.items ≡ into.old.items ++ slice_index_or (spelled (D.drive device.old) (size_of tables.now)) block []) }
+    ensures ok { OnOk result (into.new.items ≡ into.old.items ++ slice_index_or (spelled (D.drive device.old) tables.now.given) block []) }
     ensures err { IfErr result (IsReadFault (D.drive device.new)) }
 {
-    let Place::At(address) = tables.place_of(block) else {
-        extend_zeros(into, device.geometry().block as usize)?;
-        return Ok(());
-    };
-    if let Err(fault) = read(device, address, 1, buffer) {
-        return Err(fault_of(halt_of(fault)));
-    }
+    read_into(tables, device, block, buffer)?;
     into.extend_from_slice(buffer)?;
-    Ok(())
-}
-
-/// Shows one block in place of what `into` holds: the data at its place, or zeros where it has none.
-pub(crate) fn read_into<D: Device>(
-    tables: &Tables,
-    device: &mut D,
-    block: u32,
-    into: &mut Vec<u8>,
-) -> Result<(), DiskFault>
-    requires agrees { AgreesWith (D.drive device.old) tables.now }
-    requires in_range { block < size_of tables.now }
-    ensures agrees { AgreesWith (D.drive device.new) tables.now }
-    ensures kept { KeepsArray (mounted (D.drive device.old) tables.now) (mounted (D.drive device.new) tables.now) }
-    ensures ok { OnOk result (into.new.items ≡ slice_index_or (spelled (D.drive device.old) (size_of tables.now)) block []) }
-    ensures err { IfErr result (IsReadFault (D.drive device.new)) }
-{
-    let Place::At(address) = tables.place_of(block) else {
-        into.clear();
-        extend_zeros(into, device.geometry().block as usize)?;
-        return Ok(());
-    };
-    if let Err(fault) = read(device, address, 1, into) {
-        return Err(fault_of(halt_of(fault)));
-    }
     Ok(())
 }

@@ -1,8 +1,7 @@
 ghost use Rattle.std.specs.Prelude.{◌≡◌, ◌+◌, ◌≤◌, ◌<◌, IfOk, IfErr, OnOk, Some, None};
 ghost use Rattle.drive_port.specs.Contents.{contents};
 ghost use Rattle.zone_choice.specs.Agreement.{mounted};
-ghost use Rattle.zone_choice.specs.Changes.{KeepsArray};
-ghost use Rattle.zone_translator.specs.Changes.{AgreesWith, HasRoom, IsCause, disk_fault};
+ghost use Rattle.zone_translator.specs.Changes.{AgreesWith, HasRoom, IsCause, RoomLeaves, disk_fault};
 
 use crate::fault::DiskFault;
 use drive_port::{Device, Halt, finish};
@@ -29,7 +28,7 @@ fn retire<D: Device>(
     requires agrees { AgreesWith (D.drive device.old) tables.old }
     requires host { tables.old.roles.host ≡ Some host }
     requires few { (D.drive device.old).geometry.capacity < host.written + 2 }
-    ensures kept { KeepsArray (mounted (D.drive device.old) tables.old) (mounted (D.drive device.new) tables.new) }
+    ensures leaves { RoomLeaves (mounted (D.drive device.old) tables.old) (mounted (D.drive device.new) tables.new) result }
     ensures ok { OnOk result (tables.new.roles.host ≡ None) }
     ensures err { IfErr result (λ fault. IsCause (D.drive device.new) tables.new.next fault) }
 {
@@ -50,7 +49,7 @@ fn retire<D: Device>(
 fn take<D: Device>(tables: &mut Tables, device: &D) -> Result<Filling, DiskFault>
     requires agrees { AgreesWith (D.drive device.now) tables.old }
     requires host { tables.old.roles.host ≡ None }
-    ensures kept { KeepsArray (mounted (D.drive device.now) tables.old) (mounted (D.drive device.now) tables.new) }
+    ensures leaves { RoomLeaves (mounted (D.drive device.now) tables.old) (mounted (D.drive device.now) tables.new) result }
     ensures ok { IfOk result (λ host. (tables.new.roles.host ≡ Some host) × HasRoom (D.drive device.now) host) }
     ensures err { IfErr result (λ fault. IsCause (D.drive device.now) tables.new.next fault) }
 {
@@ -71,7 +70,7 @@ pub(crate) fn make_room<D: Device>(
     device: &mut D,
 ) -> Result<Filling, DiskFault>
     requires agrees { AgreesWith (D.drive device.old) tables.old }
-    ensures kept { KeepsArray (mounted (D.drive device.old) tables.old) (mounted (D.drive device.new) tables.new) }
+    ensures leaves { RoomLeaves (mounted (D.drive device.old) tables.old) (mounted (D.drive device.new) tables.new) result }
     ensures ok { IfOk result (λ host. (tables.new.roles.host ≡ Some host) × HasRoom (D.drive device.new) host) }
     ensures err { IfErr result (λ fault. IsCause (D.drive device.new) tables.new.next fault) }
 {

@@ -1,10 +1,9 @@
 use Rattle.std.proofs.Common.{refl, arith}
-use Rattle.zone_translator.proofs.RoomLaws.{finish_halts, halt-cause, host-few, host-full, keeps-finish, keeps-seal}
-use Rattle.zone_choice.proofs.ChangeLaws.{keeps-halt}
+use Rattle.zone_translator.proofs.RoomLaws.{finish_halts, host-few, host-full, keeps-finish, keeps-seal}
 use Rattle.zone_translator.proofs.room.retire.Goals as goal
 
-pub returns-then-host-geometry-clause-kept : goal.returns-then-host-geometry-clause-kept
-returns-then-host-geometry-clause-kept g c =
+pub returns-then-host-geometry-clause-leaves : goal.returns-then-host-geometry-clause-leaves
+returns-then-host-geometry-clause-leaves g c =
     let t = c.args.tables.now in
     let agrees = c.requires.agrees.agrees in
     let full = rw c.geometry-geometry.ensures.value at c.if-host-geometry.true in
@@ -12,19 +11,32 @@ returns-then-host-geometry-clause-kept g c =
 
 pub halt_of-requires : goal.halt_of-requires
 halt_of-requires g c =
-    (finish_halts (Unit {0}) _ _ c.args.tables.now c.args.host _ c.in-Err.fault c.requires.agrees.agrees c.requires.host (rw c.geometry-geometry.ensures.value refl) c.in-Err.ensures.gives c.in-Err.ensures.taken).halt
+    let agrees = c.requires.agrees.agrees in
+    let few = host-few _ c.args.tables.now c.args.host c.requires.host agrees in
+    let other = rw c.geometry-geometry.ensures.value at c.if-host-geometry.false in
+    (finish_halts _ _ c.args.tables.now c.args.host _ c.in-Err.fault c.requires.agrees c.requires.host (rw c.geometry-geometry.ensures.value refl) (omega (arith, c.requires.few, agrees.geometry.capacity)) (omega (arith, few, other))
+    c.in-Err.ensures.gives c.in-Err.ensures.kept c.in-Err.ensures.obeys c.in-Err.ensures.taken).halt
 
-pub returns-in-Err-clause-kept : goal.returns-in-Err-clause-kept
-returns-in-Err-clause-kept g c =
-    keeps-halt _ _ c.args.tables.now (finish_halts (Unit {0}) _ _ c.args.tables.now c.args.host _ c.in-Err.fault c.requires.agrees.agrees c.requires.host (rw c.geometry-geometry.ensures.value refl) c.in-Err.ensures.gives c.in-Err.ensures.taken).same c.requires.agrees.agrees
+pub returns-in-Err-clause-leaves : goal.returns-in-Err-clause-leaves
+returns-in-Err-clause-leaves g c =
+    let agrees = c.requires.agrees.agrees in
+    let few = host-few _ c.args.tables.now c.args.host c.requires.host agrees in
+    let other = rw c.geometry-geometry.ensures.value at c.if-host-geometry.false in
+    rw (c.fault_of.ensures, c.halt_of.ensures)
+    (finish_halts _ _ c.args.tables.now c.args.host _ c.in-Err.fault c.requires.agrees c.requires.host (rw c.geometry-geometry.ensures.value refl) (omega (arith, c.requires.few, agrees.geometry.capacity)) (omega (arith, few, other))
+    c.in-Err.ensures.gives c.in-Err.ensures.kept c.in-Err.ensures.obeys c.in-Err.ensures.taken).leaves
 
 pub returns-in-Err-clause-err : goal.returns-in-Err-clause-err
 returns-in-Err-clause-err g c =
+    let agrees = c.requires.agrees.agrees in
+    let few = host-few _ c.args.tables.now c.args.host c.requires.host agrees in
+    let other = rw c.geometry-geometry.ensures.value at c.if-host-geometry.false in
     rw (c.fault_of.ensures, c.halt_of.ensures)
-    (halt-cause _ c.args.tables.now.next _ (finish_halts (Unit {0}) _ _ c.args.tables.now c.args.host _ c.in-Err.fault c.requires.agrees.agrees c.requires.host (rw c.geometry-geometry.ensures.value refl) c.in-Err.ensures.gives c.in-Err.ensures.taken).cause)
+    (finish_halts _ _ c.args.tables.now c.args.host _ c.in-Err.fault c.requires.agrees c.requires.host (rw c.geometry-geometry.ensures.value refl) (omega (arith, c.requires.few, agrees.geometry.capacity)) (omega (arith, few, other))
+    c.in-Err.ensures.gives c.in-Err.ensures.kept c.in-Err.ensures.obeys c.in-Err.ensures.taken).cause
 
-pub returns-clause-kept : goal.returns-clause-kept
-returns-clause-kept g c =
+pub returns-clause-leaves : goal.returns-clause-leaves
+returns-clause-leaves g c =
     let t = c.args.tables.now in
     let agrees = c.requires.agrees.agrees in
     let few = host-few _ t c.args.host c.requires.host agrees in

@@ -24,6 +24,8 @@ loop-done-preserved g c =
 pub returns-in-Err-clause-flat : goal.returns-in-Err-clause-flat
 returns-in-Err-clause-flat g c =
     let so_far = c.loop-done.invariant in
+    let front = fill-front (array_of c.args.self.now) (array_of c.loop-done.self) (array_of c.fill_some.new.self) c.args.first c.loop-done.done c.args.blocks _ _ _ _
+    (ap (λ (x : Geometry). replicate x.block c.args.byte) so_far.0.geometry) so_far.3 refl (omega (arith, so_far.2)) c.in-Err.ensures.err in
     write-begun c.args.self.now c.fill_some.new.self c.args.first c.args.blocks _ (Err c.in-Err.fault) (length-replicate _ _) (goes-begun c.args.self.now c.args.first c.args.blocks c.in_ok-is_done.field-0 c.in_ok-is_done.ensures.known c.if-branch.false)
-    (write-refused c.args.self.now c.fill_some.new.self c.args.first _ c.in-Err.fault (fill-front (array_of c.args.self.now) (array_of c.fill_some.new.self) c.args.first c.loop-done.done c.args.blocks _ so_far.2 (c.in-Err.ensures.err ∙ so_far.3)) c.in-Err.ensures.cause)
+    (write-refused c.args.self.now c.fill_some.new.self c.args.first _ c.in-Err.fault front c.in-Err.ensures.cause)
     (c.in-Err.ensures.status ∙ status-refused c.in-Err.fault)

@@ -1,4 +1,4 @@
-use Rattle.zone_translator.proofs.DiskLaws.{holds-refused, holds-serving, kept-disk, read-fault-cause}
+use Rattle.zone_translator.proofs.DiskLaws.{holds-agrees, holds-read, holds-serving, kept-disk}
 use Rattle.zone_translator.proofs.disk.Disk.read_one.Goals as goal
 
 pub invariant_of-self : goal.invariant_of-self
@@ -9,15 +9,15 @@ invariant_of-self g c =
 pub invariant_of-self-in-Err : goal.invariant_of-self-in-Err
 invariant_of-self-in-Err g c =
     rw c.status_of-self-inside.ensures
-    (holds-refused (g.D.Device.drive c.read_block.new.device) c.self.inside.tables c.in-Err.fault c.read_block.ensures.agrees (read-fault-cause (g.D.Device.drive c.read_block.new.device) c.self.inside.tables.next c.in-Err.fault c.in-Err.ensures.err))
+    (holds-read (g.D.Device.drive c.read_block.new.device) c.self.inside.tables c.in-Err.fault c.read_block.ensures.agrees c.in-Err.ensures.err)
 
 pub returns-in-Ok-clause-kept : goal.returns-in-Ok-clause-kept
 returns-in-Ok-clause-kept g c =
-    rw (← c.self.view_is) (kept-disk _ _ c.self.inside.tables c.self.inside.tables c.self.inside.status c.self.inside.status c.read_block.ensures.agrees c.in-Ok.ensures.kept)
+    rw (← c.self.view_is) (kept-disk _ _ c.self.inside.tables c.self.inside.tables c.self.inside.status c.self.inside.status (holds-agrees _ c.self.inside.tables c.self.inside.status (rw (← c.self.view_is) at c.requires.serving) c.self.invariant) c.in-Ok.ensures.kept)
 
 pub returns-in-Err-clause-kept : goal.returns-in-Err-clause-kept
 returns-in-Err-clause-kept g c =
-    rw (← c.self.view_is) (kept-disk _ _ c.self.inside.tables c.self.inside.tables c.self.inside.status c.status_of-self-inside.result c.read_block.ensures.agrees c.in-Err.ensures.kept)
+    rw (← c.self.view_is) (kept-disk _ _ c.self.inside.tables c.self.inside.tables c.self.inside.status c.status_of-self-inside.result (holds-agrees _ c.self.inside.tables c.self.inside.status (rw (← c.self.view_is) at c.requires.serving) c.self.invariant) c.in-Err.ensures.kept)
 
 pub returns-in-Err-clause-array : goal.returns-in-Err-clause-array
 returns-in-Err-clause-array g c = rw (← c.self.view_is) c.in-Err.ensures.kept.array
