@@ -141,6 +141,10 @@ replies_shown old new size first n was text reply long fits same serves none sho
       reply_is = ap (λ (xs : List ℕ). Some xs) (sym (is ∙ ap (λ (xs : List ℕ). xs ++ ok_text) (shown ∙ ap (λ (xs : List ℕ). xs ++ lines) none)));
     }
 
+-- a range that is not past the end
+pub in-range : (size first n long : ℕ) → size ≡ long → false ≡ (nat_lt 0 n && nat_lt size (first + n)) → 0 < n → first + n ≤ long
+in-range size first n long same fits some = let within = inside size first n fits some in omega (arith, within, same)
+
 -- ---- the lines of blocks
 
 lines-more : (i first number : ℕ) (xs : List (List ℕ)) → number ≡ first + i → i < length xs → block_lines first (take (suc i) xs) ≡ block_lines first (take i xs) ++ block_line number (concat (take 1 (drop i xs)))

@@ -1,5 +1,5 @@
 -- A run from a drive to a drive.
-use Rattle.std.proofs.Common.{◌≡◌, ℕ, List, Option, Ok, Err, ap, subst, ◌∙◌}
+use Rattle.std.proofs.Common.{◌≡◌, ℕ, List, Option, Ok, Err, ap, subst, ◌∙◌, arith}
 use Rattle.std.specs.Prelude.{IfErr, OnOk, Result}
 use Rattle.zone_states.specs.declared.geometry.Geometry.{Geometry}
 use Rattle.drive_port.specs.Drive.{DriveState}
@@ -7,12 +7,12 @@ use Rattle.zone_choice.specs.Agreement.{spelled}
 use Rattle.zone_choice.proofs.AgreementLaws.{spelled_same}
 use Rattle.zone_translator.specs.Flat.{FlatDisk, serving}
 use Rattle.zone_translator.specs.Mount.{KeepsDrive}
-use Rattle.zone_translator.specs.View.{DiskView, array_of, disk_size, flat_of}
+use Rattle.zone_translator.specs.View.{DiskView, KeepsDisk, array_of, flat_of, given_size, next_sequence}
 use Rattle.zone_translator.specs.declared.status.DiskStatus.{DiskStatus}
 use Rattle.zone_translator.specs.declared.status.DiskStatus.TheVariants.{Serving}
 use Rattle.disk_runs.specs.FlatLines.{flat}
 use Rattle.disk_runs.specs.Run.{HasCause, Ran, Stopped, WhereKnown}
-use Rattle.disk_runs.specs.Trace.{EndCause, RunGives, disk_on}
+use Rattle.disk_runs.specs.Trace.{EndCause, IsMounted, RunGives, RunKeeps, RunLeaves, disk_on}
 use Rattle.disk_runs.specs.declared.fault.RunFault.{RunFault}
 use Rattle.disk_runs.specs.declared.fault.RunFault.TheVariants as runs
 use Rattle.disk_runs.specs.declared.fault.RunFault.TheVariants.{Line, Long, Disk, Mount, Input, Output, Memory}
@@ -26,7 +26,7 @@ pub record Seen (n : ℕ) (old : DriveState) (first last : DiskView) : Type 0 wh
   pub begins : flat_of first ≡ serving (spelled old n)
   pub ends : flat_of last ≡ disk_on n last.drive last.status
 
-pub seen : (n : ℕ) (old : DriveState) (first last : DiskView) → KeepsDrive old first.drive → disk_size first ≡ n → first.status ≡ Serving → disk_size last ≡ disk_size first → Seen n old first last
+pub seen : (n : ℕ) (old : DriveState) (first last : DiskView) → KeepsDrive old first.drive → given_size first ≡ n → first.status ≡ Serving → given_size last ≡ given_size first → Seen n old first last
 seen n old first last kept size serves keeps = record {
   block = ap (λ (g : Geometry). g.block) kept.same.geometry;
   begins =
@@ -60,3 +60,27 @@ run_gives n old first last input written contents (Err fault) s cause ran stoppe
     of Input cause h = h
     of Output cause h = h
     of Memory cause h = h
+
+-- what it leaves of the drive
+run_keeps : (n : ℕ) (old : DriveState) (first last : DiskView) → IsMounted old n → KeepsDrive old first.drive → given_size first ≡ n → KeepsDisk first last → RunKeeps n old last.drive
+run_keeps n old first last is_mounted kept given keeps = record {
+  mounted = is_mounted;
+  geometry = keeps.geometry ∙ kept.same.geometry;
+  mountable = rw (← given, ← keeps.given) keeps.mountable;
+  refused = keeps.refused ∙ kept.refused;
+}
+
+pub run_leaves : (n : ℕ) (old : DriveState) (first last : DiskView) (result : Result (Unit {0}) RunFault) → IsMounted old n → KeepsDrive old first.drive → given_size first ≡ n → next_sequence first ≡ 1 → KeepsDisk first last
+    → IfErr result (HasCause (EndCause last)) → RunLeaves n old result last.drive
+run_leaves n old first last (Ok done) is_mounted kept given next keeps cause = run_keeps n old first last is_mounted kept given keeps
+run_leaves n old first last (Err fault) is_mounted kept given next keeps cause = of fault cause
+  where
+    of : (fault : RunFault) → HasCause (EndCause last) fault → RunLeaves n old (Err fault) last.drive
+    of (Line m) cause = run_keeps n old first last is_mounted kept given keeps
+    of (Long m) cause = run_keeps n old first last is_mounted kept given keeps
+    of (Disk f) cause = (run_keeps n old first last is_mounted kept given keeps, record { next = next_sequence last; next_is = omega (arith, keeps.next, next, kept.appended); cause = cause })
+    of (Mount f) cause = absurd cause
+    of (runs.Geometry f) cause = absurd cause
+    of Input cause = run_keeps n old first last is_mounted kept given keeps
+    of Output cause = run_keeps n old first last is_mounted kept given keeps
+    of Memory cause = run_keeps n old first last is_mounted kept given keeps

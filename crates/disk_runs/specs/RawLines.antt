@@ -1,7 +1,9 @@
 -- What a drive replies to raw lines: each is one submission entry, and the data beside it.
 use Rattle.std.specs.Prelude.{◌≡◌, ℕ, ◌||◌, if◌then◌else◌, Bool, true, false, List, [], Option, Some, None, is_some}
 use Rattle.drive_port.specs.Drive.{DriveState}
-use Rattle.drive_port.specs.Step.{Completes, Halts}
+use Rattle.drive_port.specs.Entry.{decode_of}
+use Rattle.drive_port.specs.Halting.{Halts}
+use Rattle.drive_port.specs.Step.{Completes}
 use Rattle.drive_port.specs.declared.device.Halt.TheVariants as halts
 use Rattle.drive_port.specs.declared.device.Halt.TheVariants.{Memory}
 use Rattle.disk_files.specs.RawLine.{raw_line, raw_reply_text}
@@ -33,8 +35,8 @@ AnswersEntry old (Some call) reply new = RepliesToEntry old call.0 call.1 reply 
 
 -- only a line that asks to submit an entry is refused: the drive halted
 abbrev pub RefusesEntry : DriveState → Option (List ℕ × List ℕ) → RunFault → DriveState → Type 0
-RefusesEntry old (Some call) (Disk OutOfMemory) new = Halts old Memory new
-RefusesEntry old (Some call) (Disk Stopped) new = Halts old halts.Stopped new
+RefusesEntry old (Some call) (Disk OutOfMemory) new = Halts old (decode_of call.0) call.1 Memory new
+RefusesEntry old (Some call) (Disk Stopped) new = Halts old (decode_of call.0) call.1 halts.Stopped new
 RefusesEntry old call fault new = ⊥
 
 -- the faults of a drive: it was out of memory and has not stopped, or it has stopped

@@ -9,7 +9,7 @@ use Rattle.zone_choice.specs.Reserve.{FitsReserve}
 use Rattle.zone_translator.specs.Changes.{IsCause}
 use Rattle.zone_translator.specs.Flat.{FlatDisk, serving}
 use Rattle.zone_translator.specs.Mount.{IsFresh, KeepsDrive, MountRefuses}
-use Rattle.zone_translator.specs.View.{DiskView, KeepsDisk, disk_size, next_sequence}
+use Rattle.zone_translator.specs.View.{DiskView, KeepsDisk, given_size, next_sequence}
 use Rattle.zone_translator.specs.declared.fault.DiskFault.{DiskFault}
 use Rattle.zone_translator.specs.declared.status.DiskStatus.{DiskStatus}
 use Rattle.disk_runs.specs.FlatLines.{flat}
@@ -22,7 +22,7 @@ use Rattle.disk_runs.specs.declared.fault.RunFault.TheVariants.{Disk, Mount, Geo
 -- what the answer to a line keeps of a disk
 pub record KeepsServed (old new : DiskView) : Type 0 where
   pub geometry : new.drive.geometry ≡ old.drive.geometry
-  pub mounted : IsMountable old.drive (disk_size old) → KeepsDisk old new
+  pub mounted : IsMountable old.drive (given_size old) → KeepsDisk old new
 
 -- why a disk ends a run
 abbrev pub EndCause : DiskView → RunFault → Type 0
@@ -64,7 +64,7 @@ pub record IsDiskCause (mounted : DriveState) (first : ℕ) (fault : DiskFault) 
 
 -- What a run leaves of a drive, and why it stopped. A drive that is not mounted holds what it held.
 abbrev pub RunLeaves : ℕ → DriveState → Result (Unit {0}) RunFault → DriveState → Type 0
-RunLeaves n old (Err (Mount fault)) new = KeepsDrive old new × MountRefuses old n fault
+RunLeaves n old (Err (Mount fault)) new = KeepsDrive old new × MountRefuses old n fault new
 RunLeaves n old (Err (Disk fault)) new = RunKeeps n old new × IsDiskCause old 1 fault new
 RunLeaves n old (Err (Geometry fault)) new = ⊥
 RunLeaves n old result new = RunKeeps n old new

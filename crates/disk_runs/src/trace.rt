@@ -1,7 +1,7 @@
-ghost use Rattle.std.specs.Prelude.{◌≡◌, ◌+◌, ◌^◌, ◌<◌, ◌≤◌, ◌++◌, ◌&&◌, [], IfErr, OnOk, nat_lt, vec_capacity};
+ghost use Rattle.std.specs.Prelude.{◌≡◌, ◌+◌, ◌^◌, ◌<◌, ◌≤◌, ◌++◌, ◌&&◌, [], IfErr, OnOk, length, nat_lt, vec_capacity};
 ghost use Rattle.disk_files.specs.Reply.{block_lines};
 ghost use Rattle.zone_translator.specs.Flat.{FlatDisk, blocks_from, read, write};
-ghost use Rattle.zone_translator.specs.View.{array_of, disk_size, flat_of};
+ghost use Rattle.zone_translator.specs.View.{array_of, flat_of};
 ghost use Rattle.zone_translator.specs.declared.status.DiskStatus.TheVariants.{Serving};
 ghost use Rattle.disk_files.specs.declared.trace_line.TraceLine.TheVariants.{Fill};
 ghost use Rattle.disk_runs.specs.FlatLines.{CallStops, RepliesTo, asked, flat};
@@ -39,7 +39,7 @@ fn show_blocks<D: Device + Drop>(
     block: &mut Vec<u8>,
     reply: &mut Vec<u8>,
 ) -> Result<(), RunFault>
-    requires in_range { 0 < blocks → first + blocks ≤ disk_size disk.old }
+    requires in_range { 0 < blocks → first + blocks ≤ length (array_of disk.old) }
     requires small { first + blocks ≤ 2 ^ 64 }
     ensures ok { OnOk result ((flat_of disk.new ≡ flat_of disk.old) × (0 < blocks → disk.old.status ≡ Serving)
         × (reply.new.items ≡ reply.old.items ++ block_lines first (blocks_from (array_of disk.old) first blocks))) }
