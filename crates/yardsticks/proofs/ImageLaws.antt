@@ -1,19 +1,20 @@
 -- The logs of zones as they stand on a drive.
-use Rattle.std.proofs.Common.{◌≡◌, ℕ, zero, suc, ◌+◌, ◌-◌, ◌<◌, ◌≤◌, ◌^◌, Bool, true, false, List, [], ◌∷◌, ◌++◌, length, get_or, replicate, Option, Some, None, Result, Ok, Err, Vec, vec_len, refl, sym, ap, ◌∙◌, arith, append_assoc}
+use Rattle.std.proofs.Common.{◌≡◌, ℕ, zero, suc, ◌+◌, ◌-◌, ◌<◌, ◌≤◌, ◌^◌, Bool, true, false, not, ◌&&◌, List, [], ◌∷◌, ◌++◌, length, get_or, replicate, Option, Some, None, Result, Ok, Err, Vec, vec_len, refl, sym, ap, ◌∙◌, arith, append_assoc}
 use Rattle.std.specs.declared.alloc.Global.{Global}
 use Rattle.std.specs.Prelude.{IfOk, IfSome, IfNone}
 use Rattle.std.specs.List.{AllByRecursion}
 use Rattle.std.proofs.lemmas.List.{length-replicate, map_push, replicate-append-replicate}
 use Rattle.zone_states.specs.declared.geometry.Geometry.{Geometry}
 use Rattle.drive_port.specs.Contents.{Content, is_full}
-use Rattle.batch_log.specs.Log.{Batch, IsUntornLog, zero_block}
-use Rattle.yardsticks.specs.Batches.{HaveNoUntornLog, blocks_of}
-use Rattle.batch_log.proofs.LogLaws.{one_log, untorn_log}
+use Rattle.batch_log.specs.Log.{Batch, HaveNoLog, IsLog, has_tail, zero_block}
+use Rattle.yardsticks.specs.Batches.{IsFound, blocks_of}
+use Rattle.batch_log.proofs.LogLaws.{one_log}
+use Rattle.yardsticks.specs.declared.batches.ZoneLog.{ZoneLog}
 use Rattle.yardsticks.specs.declared.logs.ZoneImage.{ZoneImage}
-use Rattle.zone_choice.specs.ZoneLogs.{HasLog, padding, readable, zone_log}
-use Rattle.yardsticks.specs.Zones.{HasWholeBlocks, IsZoneLog, image_content, image_contents}
+use Rattle.zone_choice.specs.ZoneLogs.{HasLog, has_torn_tail, padding, readable, zone_log}
+use Rattle.yardsticks.specs.Zones.{HasWholeBlocks, IsZoneLog, image_content, image_contents, log_of}
 use Rattle.zone_choice.proofs.AllLaws.{all-append}
-use Rattle.zone_choice.proofs.ZoneLogLaws.{zone_log-read}
+use Rattle.zone_choice.proofs.ZoneLogLaws.{readable-not_full, zone_log-read}
 
 -- ---- each readable block has its number of bytes
 
@@ -69,17 +70,26 @@ if_none-weaker (Ok (Some x)) f h = tt
 if_none-weaker (Ok None) f h = f h
 if_none-weaker (Err e) f h = tt
 
-same_log : (size : ℕ) (full full' : Bool) (blocks blocks' : List (List ℕ)) (log log' : List Batch) → full' ≡ full → blocks' ≡ blocks → log' ≡ log → IsUntornLog size full blocks log → IsUntornLog size full' blocks' log'
+same_log : (size : ℕ) (full full' : Bool) (blocks blocks' : List (List ℕ)) (log log' : List Batch) → full' ≡ full → blocks' ≡ blocks → log' ≡ log → IsLog size full blocks log → IsLog size full' blocks' log'
 same_log size full full' blocks blocks' log log' e1 e2 e3 is = rw (e1, e2, e3) is
 
-pub zone_log-found : (geometry : Geometry) (content : Content) (full : Bool) (blocks : List (List ℕ)) (log : List Batch) → geometry.block < 2 ^ 32
-    → full ≡ is_full content.usage → blocks ≡ readable geometry content → IsUntornLog geometry.block full blocks log → IsZoneLog geometry content log
+tail_read : (geometry : Geometry) (content : Content) (full : Bool) (blocks : List (List ℕ)) → full ≡ is_full content.usage → blocks ≡ readable geometry content → (not full && has_tail blocks) ≡ has_torn_tail content
+unfolding has_torn_tail
+tail_read geometry content true blocks full-is read = rw (← full-is) refl
+tail_read geometry content false blocks full-is read = let same : blocks ≡ content.blocks = read ∙ readable-not_full geometry content (sym full-is) in rw (← full-is, same) refl
+
+pub zone_log-found : (geometry : Geometry) (content : Content) (full : Bool) (blocks : List (List ℕ)) (log : ZoneLog) → geometry.block < 2 ^ 32
+    → full ≡ is_full content.usage → blocks ≡ readable geometry content → IsFound geometry.block full blocks log → IsZoneLog geometry content (log_of log.batches.items) log.is_torn
 zone_log-found geometry content full blocks log small full-is read is =
-    let same : zone_log geometry content ≡ log = zone_log-read geometry content blocks (sym read) ∙ one_log geometry.block full blocks log small ((untorn_log geometry.block full blocks log).log_of_it is) in
-    record { has = same_log geometry.block full (is_full content.usage) blocks (readable geometry content) log (zone_log geometry content) (sym full-is) (sym read) same is; log_is = sym same }
+    let same : zone_log geometry content ≡ log_of log.batches.items = zone_log-read geometry content blocks (sym read) ∙ one_log geometry.block full blocks (log_of log.batches.items) small is.log_is in
+    record {
+      has = same_log geometry.block full (is_full content.usage) blocks (readable geometry content) (log_of log.batches.items) (zone_log geometry content) (sym full-is) (sym read) same is.log_is;
+      log_is = sym same;
+      torn_is = is.torn_is ∙ tail_read geometry content full blocks full-is read;
+    }
 
 pub zone_log-none : (geometry : Geometry) (content : Content) (full : Bool) (blocks : List (List ℕ))
-    → full ≡ is_full content.usage → blocks ≡ readable geometry content → HaveNoUntornLog geometry.block full blocks → HasLog geometry content → ⊥
+    → full ≡ is_full content.usage → blocks ≡ readable geometry content → HaveNoLog geometry.block full blocks → HasLog geometry content → ⊥
 zone_log-none geometry content full blocks full-is read none has = none (zone_log geometry content) (same_log geometry.block (is_full content.usage) full (readable geometry content) blocks (zone_log geometry content) (zone_log geometry content) full-is read refl has)
 
 pub lacks-log : (geometry : Geometry) (images : List ZoneImage) (i : ℕ) (image : ZoneImage) → i < length images → image ≡ get_or images i image

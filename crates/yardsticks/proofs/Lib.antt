@@ -3,5 +3,9 @@ pub mod DistinctLaws
 pub mod BatchReading
 pub mod RestLaws
 pub mod HeardLaws
+pub mod GreatestLaws
 pub mod ImageLaws
+pub mod SequenceLaws
+pub mod SpareLaws
+pub mod RepairLaws
 pub mod MountableLaws

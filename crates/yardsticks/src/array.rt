@@ -1,4 +1,4 @@
-//! The array that logs spell.
+//! What is said of a block, and the array that logs encode.
 
 ghost use Rattle.std.specs.Prelude.{◌≡◌, ◌↔◌, ◌≤◌, ◌<◌, ◌∷◌, ℕ, [], length, slice_index_or, IfOk, IfSome, IsSome};
 ghost use Rattle.std.specs.List.{AllByRecursion};
@@ -6,21 +6,24 @@ ghost use Rattle.std.specs.Option.{option_map};
 ghost use Rattle.zone_states.specs.Geometry.{IsInRange};
 ghost use Rattle.batch_log.specs.Log.{one_unless};
 ghost use Rattle.yardsticks.specs.Batches.{batch_of, blocks_of};
-ghost use Rattle.zone_choice.specs.Records.{array_of, batch_records, entry_content, log_records, newest, record_of, records};
+ghost use Rattle.zone_choice.specs.Records.{batch_records, entry_content, log_records, newest, record_of, records};
+ghost use Rattle.zone_choice.specs.Sizes.{array_of};
 ghost use Rattle.zone_choice.specs.ZoneLogs.{HasLog, log_at, spelled_array};
 ghost use Rattle.yardsticks.specs.Zones.{HasWholeBlocks, heard, image_contents, later, log_of, logs_but, logs_of, saying, saying_of, shown_by};
 
 use crate::batches::Batch;
 use crate::logs::{ZoneImage, zone_logs};
+use crate::sizes::{encoded_size, log_but};
 use batch_log::Entry;
 use std::alloc::{AllocError, Global};
 use zone_states::Geometry;
 
-// What a record says of its block: its sequence, and its data, or none of a trim.
+// What a record says of its block: its data, or none of a trim; with its sequence and its zone.
 #[derive(Clone, Copy)]
-struct Said<'a> {
+pub(crate) struct Said<'a> {
     sequence: u64,
-    content: Option<&'a [u8]>,
+    pub zone: usize,
+    pub content: Option<&'a [u8]>,
 }
 
 // The later of two; of two with one sequence the first.
@@ -46,10 +49,11 @@ fn body_block(body: &[Vec<u8>], number: usize) -> &[u8]
     }
 }
 
-// What an entry of a batch says, with the number of its data block in the body.
-fn said_by<'a>(batch: &'a Batch, entry: &Entry, number: usize) -> Said<'a>
+// What an entry of a batch in a zone says, with the number of its data block in the body.
+fn said_by<'a>(zone: usize, batch: &'a Batch, entry: &Entry, number: usize) -> Said<'a>
     ensures { saying_of result ≡ record {
       sequence = batch.now.header.sequence;
+      zone = zone;
       content = entry_content entry.now.trim (blocks_of batch.now.body.items) number;
     } }
 {
@@ -57,11 +61,16 @@ fn said_by<'a>(batch: &'a Batch, entry: &Entry, number: usize) -> Said<'a>
     if entry.trim {
         return Said {
             sequence,
+            zone,
             content: None,
         };
     }
     let content = Some(body_block(&batch.body, number));
-    Said { sequence, content }
+    Said {
+        sequence,
+        zone,
+        content,
+    }
 }
 
 fn data_blocks(entry: &Entry) -> usize
@@ -75,66 +84,70 @@ fn data_blocks(entry: &Entry) -> usize
 fn heard_in_entry<'a>(
     found: Option<Said<'a>>,
     block: u64,
+    zone: usize,
     batch: &'a Batch,
     entry: &Entry,
     number: usize,
 ) -> Option<Said<'a>>
     ensures { let sequence = batch.now.header.sequence in
         let body = blocks_of batch.now.body.items in
-        (zone header : ℕ) → option_map saying_of result ≡ heard block (option_map saying_of found.entry)
+        (header : ℕ) → option_map saying_of result ≡ heard block (option_map saying_of found.entry)
         (record_of sequence body zone header number entry.now ∷ []) }
 {
     if entry.block != block {
         return found;
     }
-    later(found, said_by(batch, entry, number))
+    later(found, said_by(zone, batch, entry, number))
 }
 
 // The latest that is said of a block, by what was found or by a batch.
-fn heard_in_batch<'a>(found: Option<Said<'a>>, block: u64, batch: &'a Batch) -> Option<Said<'a>>
-    ensures { (zone header : ℕ) → option_map saying_of result
+fn heard_in_batch<'a>(
+    found: Option<Said<'a>>,
+    block: u64,
+    zone: usize,
+    batch: &'a Batch,
+) -> Option<Said<'a>>
+    ensures { (header : ℕ) → option_map saying_of result
         ≡ heard block (option_map saying_of found.entry) (batch_records zone header (batch_of batch.now)) }
 {
     let mut latest = found;
     let mut number = 0;
     for entry in &batch.header.entries {
-        latest = heard_in_entry(latest, block, batch, entry, number);
+        latest = heard_in_entry(latest, block, zone, batch, entry, number);
         number += data_blocks(entry);
     }
     latest
 }
 
 // The latest that is said of a block, by what was found or by a log.
-fn heard_in_log<'a>(found: Option<Said<'a>>, block: u64, log: &'a [Batch]) -> Option<Said<'a>>
-    ensures { (zone offset : ℕ) → option_map saying_of result
-        ≡ heard block (option_map saying_of found.entry) (log_records zone offset (log_of log.now)) }
+fn heard_in_log<'a>(
+    found: Option<Said<'a>>,
+    block: u64,
+    zone: usize,
+    log: &'a [Batch],
+) -> Option<Said<'a>>
+    ensures { option_map saying_of result
+        ≡ heard block (option_map saying_of found.entry) (log_records zone 0 (log_of log.now)) }
 {
     let mut latest = found;
     for batch in log {
-        latest = heard_in_batch(latest, block, batch);
+        latest = heard_in_batch(latest, block, zone, batch);
     }
     latest
 }
 
-// The log of a zone, or none if it is the one that is left out.
-fn log_but<'a>(logs: &'a [Vec<Batch>], left_out: Option<usize>, zone: usize) -> &'a [Batch]
-    requires { zone < length logs.now }
-    ensures { log_of result.now ≡ log_at (logs_but left_out (logs_of logs.now)) zone }
-{
-    if left_out == Some(zone) {
-        return &[];
-    }
-    &logs[zone]
-}
-
 // What the newest record of a block says, where the records of one zone may be left out.
-fn newest<'a>(logs: &'a [Vec<Batch>], left_out: Option<usize>, block: u64) -> Option<Said<'a>>
+pub(crate) fn newest<'a>(
+    logs: &'a [Vec<Batch>],
+    left_out: Option<usize>,
+    block: u64,
+) -> Option<Said<'a>>
     ensures { let found = newest block (records 0 (logs_but left_out (logs_of logs.now))) in
         option_map saying_of result ≡ option_map saying found }
 {
     let mut latest = None;
     for zone in 0..logs.len() {
-        latest = heard_in_log(latest, block, log_but(logs, left_out, zone));
+        latest = heard_in_log(latest, block, zone, log_but(logs, left_out, zone));
     }
     latest
 }
@@ -152,7 +165,8 @@ fn shown(alloc: Global, said: Option<Said>, block_bytes: usize) -> Result<Vec<u8
     vec![in alloc; 0; block_bytes]
 }
 
-// The array of n blocks that the logs spell, where the records of one zone may be left out.
+// The array that the logs encode, where the batches of one zone may be left out; it has n blocks where
+// no header has a size.
 pub(crate) fn array(
     alloc: Global,
     block_bytes: usize,
@@ -164,15 +178,16 @@ pub(crate) fn array(
         IfOk result (λ blocks. blocks_of blocks.items ≡ array_of block_bytes n kept) }
 {
     let mut blocks = Vec::new(alloc);
-    for block in 0..n {
+    for block in 0..encoded_size(n, logs, left_out) {
         let said = newest(logs, left_out, block as u64);
         blocks.push(shown(alloc, said, block_bytes)?)?;
     }
     Ok(blocks)
 }
 
-/// The array of `n` blocks that the zones spell, or none if some zone has no log. The geometry is one
-/// that `check` admits, and each block has its number of bytes.
+/// The array that the zones encode, or none if some zone has no log. It has `n` blocks where no header
+/// has a size, and else as many as the greatest size. The geometry is one that `check` admits, and each
+/// block has its number of bytes.
 pub fn spelled_array(
     alloc: Global,
     geometry: &Geometry,
@@ -186,8 +201,9 @@ pub fn spelled_array(
     ensures logs { let contents = image_contents zones.now in
         IfOk result (λ found. IsSome found ↔ AllByRecursion (HasLog geometry.now) contents) }
 {
-    let Some(logs) = zone_logs(alloc, geometry, zones)? else {
+    let Some(drive) = zone_logs(alloc, geometry, zones)? else {
         return Ok(None);
     };
-    Ok(Some(array(alloc, geometry.block as usize, n, &logs, None)?))
+    let block_bytes = geometry.block as usize;
+    Ok(Some(array(alloc, block_bytes, n, &drive.logs, None)?))
 }

@@ -1,13 +1,13 @@
 //! The log that the written blocks of a zone spell, computed as it is defined.
 
-ghost use Rattle.std.specs.Prelude.{◌≡◌, ◌⊎◌, ◌≤◌, ◌<◌, ◌*◌, ◌^◌, ◌↔◌, [], drop, length, map, nat_eq, vec_len, IsTrue, IfOk, IfSome, IfNone};
+ghost use Rattle.std.specs.Prelude.{◌≡◌, ◌==◌, ◌&&◌, ◌⊎◌, not, ◌≤◌, ◌<◌, ◌*◌, ◌^◌, ◌↔◌, [], drop, length, map, nat_eq, vec_len, IsTrue, IfOk, IfSome, IfNone};
 ghost use Rattle.batch_log.specs.declared.header.Kind.TheVariants.{Host};
 ghost use Rattle.std.specs.List.{AllByRecursion, IsDistinct, list_any};
 ghost use Rattle.byteorder.specs.Endian.{little_from};
 ghost use Rattle.batch_log.specs.Header.{IsHeading, IsHeaderBlock, IsNoHeader, IsSize, heading_of, header_block, head_size, entry_room};
 ghost use Rattle.batch_log.specs.Reading.{entry_of, entries_in, kind_of, size_of, heading_in};
-ghost use Rattle.batch_log.specs.Log.{BeginsWithNoBatch, IsUntornLog, data_count, zero_block};
-ghost use Rattle.yardsticks.specs.Batches.{blocks_of, batch_of, BeginsWithBatch, HaveNoUntornLog};
+ghost use Rattle.batch_log.specs.Log.{BeginsWithNoBatch, HaveNoLog, IsTail, IsTorn, data_count, zero_block};
+ghost use Rattle.yardsticks.specs.Batches.{blocks_of, batch_of, BeginsWithBatch, IsFound};
 
 use batch_log::{Entry, Header, Kind, header_bytes};
 use byteorder::{ByteOrder, LittleEndian};
@@ -24,6 +24,14 @@ pub struct Batch {
     pub header: Header,
     /// A block for each entry that is not a trim.
     pub body: Vec<Vec<u8>>,
+}
+
+/// The log of a zone.
+#[derive(Debug, Drop)]
+pub struct ZoneLog {
+    pub batches: Vec<Batch>,
+    /// Whether a torn tail stands after the batches: a header block and fewer data blocks than it needs.
+    pub is_torn: bool,
 }
 
 fn entry_at(bytes: &[u8]) -> Entry
@@ -261,45 +269,78 @@ fn are_zero(blocks: &[Vec<u8>]) -> bool
     blocks.iter().all(|block| is_zero(block))
 }
 
-// Whether no batch follows: nothing does, or zeros to the end of a full zone.
-fn is_end(blocks: &[Vec<u8>], block_bytes: usize, is_full: bool) -> bool
-    requires { AllByRecursion (λ block. vec_len block ≡ block_bytes) blocks.now }
-    ensures { IsTrue result ↔ IsUntornLog block_bytes is_full (blocks_of blocks.now) [] }
+// Whether blocks that begin with no batch are a torn tail: the first of them is a header block.
+fn are_torn(alloc: Global, blocks: &[Vec<u8>], block_bytes: usize) -> Result<bool, AllocError>
+    requires size { (block_bytes ≡ 512) ⊎ (block_bytes ≡ 4096) }
+    requires sizes { AllByRecursion (λ block. vec_len block ≡ block_bytes) blocks.now }
+    requires none { BeginsWithNoBatch block_bytes (blocks_of blocks.now) }
+    ensures { let all = blocks_of blocks.now in
+        IfOk result (λ b. IsTrue b ↔ IsTorn block_bytes all) }
 {
-    if blocks.is_empty() {
-        return true;
-    }
-    if !is_full {
-        return false;
-    }
-    are_zero(blocks)
+    let Some((block, _)) = blocks.split_first() else {
+        return Ok(false);
+    };
+    let Some(_header) = read_header(alloc, block)? else {
+        return Ok(false);
+    };
+    Ok(true)
 }
 
-/// The log that the written blocks of a zone spell, if they spell one. A block has 512 or 4096 bytes.
-/// After the last batch of a full zone there may be blocks of zeros.
+// Whether blocks that begin with no batch may stand after the last batch of a zone.
+fn are_tail(
+    alloc: Global,
+    blocks: &[Vec<u8>],
+    block_bytes: usize,
+    is_full: bool,
+) -> Result<bool, AllocError>
+    requires size { (block_bytes ≡ 512) ⊎ (block_bytes ≡ 4096) }
+    requires sizes { AllByRecursion (λ block. vec_len block ≡ block_bytes) blocks.now }
+    requires none { BeginsWithNoBatch block_bytes (blocks_of blocks.now) }
+    ensures { let all = blocks_of blocks.now in
+        IfOk result (λ b. IsTrue b ↔ IsTail block_bytes is_full all) }
+{
+    if is_full {
+        return Ok(are_zero(blocks));
+    }
+    if blocks.is_empty() {
+        return Ok(true);
+    }
+    are_torn(alloc, blocks, block_bytes)
+}
+
+// Whether a torn tail is left, where the blocks that are left are a tail.
+fn is_torn_left(rest: &[Vec<u8>], is_full: bool) -> bool
+    ensures { result ≡ (not is_full && not (length rest.now == 0)) }
+{
+    !is_full && !rest.is_empty()
+}
+
+/// The log of a zone with these written blocks, if it has one. A block has 512 or 4096 bytes. After the
+/// last batch of a full zone there may be blocks of zeros, and of another zone a torn tail.
 pub fn log(
     alloc: Global,
     blocks: &[Vec<u8>],
     block_bytes: usize,
     is_full: bool,
-) -> Result<Option<Vec<Batch>>, AllocError>
+) -> Result<Option<ZoneLog>, AllocError>
     requires size { (block_bytes ≡ 512) ⊎ (block_bytes ≡ 4096) }
     requires sizes { AllByRecursion (λ block. vec_len block ≡ block_bytes) blocks.now }
     ensures some { let all = blocks_of blocks.now in
-        IfOk result (λ found. IfSome found (λ log. IsUntornLog block_bytes is_full all (map batch_of log.items))) }
-    ensures none { IfOk result (λ found. IfNone found (HaveNoUntornLog block_bytes is_full (blocks_of blocks.now))) }
+        IfOk result (λ found. IfSome found (λ log. IsFound block_bytes is_full all log)) }
+    ensures none { IfOk result (λ found. IfNone found (HaveNoLog block_bytes is_full (blocks_of blocks.now))) }
 {
-    let mut log = Vec::new(alloc);
+    let mut batches = Vec::new(alloc);
     let mut rest = blocks;
     loop {
-        if is_end(rest, block_bytes, is_full) {
-            return Ok(Some(log));
-        }
         let Some(batch) = first_batch(alloc, rest, block_bytes)? else {
-            return Ok(None);
+            if !are_tail(alloc, rest, block_bytes, is_full)? {
+                return Ok(None);
+            }
+            let is_torn = is_torn_left(rest, is_full);
+            return Ok(Some(ZoneLog { batches, is_torn }));
         };
         let (_, after) = rest.split_at(1 + batch.body.len());
         rest = after;
-        log.push(batch)?;
+        batches.push(batch)?;
     }
 }

@@ -1,5 +1,5 @@
-//! Plain programs that compute definitions just as they stand: the log of a zone, the array that the
-//! newest records of a drive spell, whether a drive can be mounted, the quota of records.
+//! Plain programs that compute definitions just as they stand: the log of a zone and its torn tail, the
+//! array that a drive encodes, whether a drive can be mounted, the quota of records.
 //!
 //! They are slow and copy all data, and are proved to compute what `batch_log` and `zone_choice`
 //! define, so that tests and worked runs can compare what a host does with what is defined. No host
@@ -7,19 +7,26 @@
 //!
 //! ```text
 //! let zones = [ZoneImage { state: ZoneState::Closed, blocks }, ..];
-//! let array = spelled_array(alloc, &geometry, &zones, 8)?; // 8 blocks, or None without logs
+//! let array = spelled_array(alloc, &geometry, &zones, 8)?; // 8 blocks, if no header has a size
 //! let mountable = is_mountable(alloc, &geometry, &zones, 8)?;
 //! ```
 #![tactic(auto)]
 
 mod array;
 mod batches;
+mod live;
 mod logs;
 mod mountable;
+mod repair;
 mod reserve;
+mod sequences;
+mod sizes;
+mod spare;
+#[cfg(test)]
+mod tests;
 
 pub use array::spelled_array;
-pub use batches::{Batch, is_heading, log};
+pub use batches::{Batch, ZoneLog, is_heading, log};
 pub use logs::ZoneImage;
 pub use mountable::is_mountable;
 pub use reserve::quota;

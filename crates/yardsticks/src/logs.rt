@@ -8,7 +8,7 @@ ghost use Rattle.yardsticks.specs.Batches.{blocks_of};
 ghost use Rattle.zone_choice.specs.ZoneLogs.{HasLog, padding, readable};
 ghost use Rattle.yardsticks.specs.Zones.{AreZoneLogs, HasWholeBlocks, IsZoneLog, image_content, image_contents, log_of, logs_of};
 
-use crate::batches::{Batch, copied, log};
+use crate::batches::{Batch, ZoneLog, copied, log};
 use nvme_wire::ZoneState;
 use std::alloc::{AllocError, Global};
 use zone_states::Geometry;
@@ -18,6 +18,13 @@ use zone_states::Geometry;
 pub struct ZoneImage {
     pub state: ZoneState,
     pub blocks: Vec<Vec<u8>>,
+}
+
+// The logs of the zones of a drive, and after which of them torn tails stand.
+#[derive(Drop)]
+pub(crate) struct DriveLogs {
+    pub logs: Vec<Vec<Batch>>,
+    pub tails: Vec<bool>,
 }
 
 // The blocks, and zero blocks after them up to the capacity.
@@ -65,11 +72,12 @@ fn zone_log(
     alloc: Global,
     geometry: &Geometry,
     zone: &ZoneImage,
-) -> Result<Option<Vec<Batch>>, AllocError>
+) -> Result<Option<ZoneLog>, AllocError>
     requires geometry { IsInRange geometry.now }
     requires whole { HasWholeBlocks geometry.now.block zone.now }
     ensures some { let content = image_content zone.now in
-        IfOk result (λ found. IfSome found (λ log. IsZoneLog geometry.now content (log_of log.items))) }
+        IfOk result (λ found. IfSome found (λ log.
+        IsZoneLog geometry.now content (log_of log.batches.items) log.is_torn)) }
     ensures none { let content = image_content zone.now in
         IfOk result (λ found. IfNone found (HasLog geometry.now content → ⊥)) }
 {
@@ -82,20 +90,23 @@ pub(crate) fn zone_logs(
     alloc: Global,
     geometry: &Geometry,
     zones: &[ZoneImage],
-) -> Result<Option<Vec<Vec<Batch>>>, AllocError>
+) -> Result<Option<DriveLogs>, AllocError>
     requires geometry { IsInRange geometry.now }
     requires whole { AllByRecursion (HasWholeBlocks geometry.now.block) zones.now }
     ensures some { let contents = image_contents zones.now in
-        IfOk result (λ found. IfSome found (λ logs. AreZoneLogs geometry.now contents (logs_of logs.items))) }
+        IfOk result (λ found. IfSome found (λ drive.
+        AreZoneLogs geometry.now contents (logs_of drive.logs.items) drive.tails.items)) }
     ensures none { let contents = image_contents zones.now in
         IfOk result (λ found. IfNone found (AllByRecursion (HasLog geometry.now) contents → ⊥)) }
 {
     let mut logs = Vec::new(alloc);
+    let mut tails = Vec::new(alloc);
     for zone in zones {
         let Some(log) = zone_log(alloc, geometry, zone)? else {
             return Ok(None);
         };
-        logs.push(log)?;
+        logs.push(log.batches)?;
+        tails.push(log.is_torn)?;
     }
-    Ok(Some(logs))
+    Ok(Some(DriveLogs { logs, tails }))
 }

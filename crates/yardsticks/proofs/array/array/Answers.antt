@@ -7,6 +7,6 @@ use Rattle.yardsticks.proofs.array.array.Goals as goal
 pub loop-block-preserved : goal.loop-block-preserved
 loop-block-preserved c =
     let size = c.args.block_bytes in
-    let logs = logs_but c.args.left_out (logs_of c.args.logs.now) in
-    let shows = c.in_ok-shown.ensures ∙ ap (shown_by size) c.newest-said.ensures ∙ shown_by-shown size (newest c.loop-block.block (records 0 logs)) in
-    array-step size c.loop-block.block logs c.loop-block.blocks.items _ c.in_ok-shown.field-0 c.loop-block.invariant c.in_ok-push.ensures.items shows
+    let rs = records 0 (logs_but c.args.left_out (logs_of c.args.logs.now)) in
+    let shows = c.in_ok-shown.ensures ∙ ap (shown_by size) c.newest-said.ensures ∙ shown_by-shown size (newest c.loop-block.block rs) in
+    array-step size c.loop-block.block rs c.loop-block.blocks.items _ c.in_ok-shown.field-0 c.loop-block.invariant c.in_ok-push.ensures.items shows

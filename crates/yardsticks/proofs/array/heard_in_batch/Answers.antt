@@ -9,15 +9,15 @@ use Rattle.yardsticks.proofs.array.heard_in_batch.Goals as goal
 pub loop-entry-preserved : goal.loop-entry-preserved
 loop-entry-preserved c =
     let entries = c.args.batch.now.header.entries.items in
-    let here = rw c.deref-entry-items.ensures.value at (c.heard_in_entry-latest.ensures 0 0) in
+    let here = rw c.deref-entry-items.ensures.value at (c.heard_in_entry-latest.ensures 0) in
     let count = rw c.deref-entry-items.ensures.value at c.data_blocks-number.ensures.count in
     record {
-      found = entry-step c.args.block _ _ _ c.loop-entry.entry-index _ entries _ _ _ _ (drop_more entries c.loop-entry.entry-index _ (omega arith)) c.loop-entry.invariant.found here (ap (λ (n : ℕ). c.loop-entry.number + n) count);
+      found = entry-step c.args.block _ c.args.zone _ _ c.loop-entry.entry-index _ entries _ _ _ _ (drop_more entries c.loop-entry.entry-index _ (omega arith)) c.loop-entry.invariant.found here (ap (λ (n : ℕ). c.loop-entry.number + n) count);
       small = omega arith;
     }
 
 pub returns : goal.returns
-returns c = λ zone header.
+returns c = λ header.
     let entries = c.args.batch.now.header.entries.items in
     let done : drop c.loop-entry.entry-index entries ≡ [] = drop_all c.loop-entry.entry-index entries (omega arith) in
-    (rw done at c.loop-entry.invariant.found) ∙ heard-entries c.args.block (option_map saying_of c.args.found) c.args.batch.now.header.sequence (blocks_of c.args.batch.now.body.items) zone header 0 entries
+    (rw done at c.loop-entry.invariant.found) ∙ heard-entries c.args.block (option_map saying_of c.args.found) c.args.batch.now.header.sequence (blocks_of c.args.batch.now.body.items) c.args.zone header 0 entries

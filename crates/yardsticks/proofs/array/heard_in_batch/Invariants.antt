@@ -10,7 +10,7 @@ invariant-loop-entry l =
     let sequence = l.batch.header.sequence in
     let body = blocks_of l.batch.body.items in
     record {
-      found : heard l.block (option_map saying_of l.latest) (entry_records sequence body 0 0 l.number (drop l.entry-index l.batch.header.entries.items))
-          ≡ heard l.block (option_map saying_of l.fn.found) (entry_records sequence body 0 0 0 l.batch.header.entries.items);
+      found : heard l.block (option_map saying_of l.latest) (entry_records sequence body l.zone 0 l.number (drop l.entry-index l.batch.header.entries.items))
+          ≡ heard l.block (option_map saying_of l.fn.found) (entry_records sequence body l.zone 0 0 l.batch.header.entries.items);
       small : l.number ≤ l.entry-index;
     }

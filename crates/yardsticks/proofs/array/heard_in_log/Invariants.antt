@@ -6,5 +6,5 @@ use Rattle.yardsticks.proofs.array.heard_in_log.Given as goal
 
 abbrev pub invariant-loop-batch : goal.invariant-loop-batch
 invariant-loop-batch l =
-    heard l.block (option_map saying_of l.latest) (log_records 0 0 (log_of (drop l.batch-index l.log)))
-    ≡ heard l.block (option_map saying_of l.fn.found) (log_records 0 0 (log_of l.log))
+    heard l.block (option_map saying_of l.latest) (log_records l.zone 0 (log_of (drop l.batch-index l.log)))
+    ≡ heard l.block (option_map saying_of l.fn.found) (log_records l.zone 0 (log_of l.log))

@@ -7,4 +7,4 @@ use Rattle.yardsticks.proofs.array.newest.Given as goal
 abbrev pub invariant-loop-zone : goal.invariant-loop-zone
 invariant-loop-zone l =
     let logs = logs_but l.left_out (logs_of l.logs) in
-    heard l.block (option_map saying_of l.latest) (records 0 (drop l.zone logs)) ≡ heard l.block None (records 0 logs)
+    heard l.block (option_map saying_of l.latest) (records l.zone (drop l.zone logs)) ≡ heard l.block None (records 0 logs)

@@ -3,4 +3,4 @@ use Rattle.yardsticks.specs.Zones.{AreZoneLogs, image_contents, logs_of}
 use Rattle.yardsticks.proofs.logs.zone_logs.Given as goal
 
 abbrev pub invariant-loop-zone : goal.invariant-loop-zone
-invariant-loop-zone l = AreZoneLogs l.geometry (image_contents (take l.zone-index l.zones)) (logs_of l.logs.items)
+invariant-loop-zone l = AreZoneLogs l.geometry (image_contents (take l.zone-index l.zones)) (logs_of l.logs.items) l.tails.items
