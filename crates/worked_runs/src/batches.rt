@@ -12,6 +12,7 @@ pub struct Batch {
     kind: Kind,
     sequence: u64,
     source: u32,
+    size: Option<u32>,
     entries: Vec<Entry>,
     data: u8,
 }
@@ -39,20 +40,37 @@ fn contents(alloc: Global, words: &[&str]) -> Result<(Vec<Entry>, u8), ScriptFau
     }
 }
 
-/// The batch of these words: `1 host blocks 0 1 data aa`, `4 host trims 3`, `5 move from 0`.
+// The size that the words begin with, if they say one, and the words after it.
+fn sized<'a, 'b>(words: &'b [&'a str]) -> Result<(Option<u32>, &'b [&'a str]), ScriptFault> {
+    match words {
+        ["size", size, rest @ ..] => Ok((Some(part(size)?), rest)),
+        _ => Ok((None, words)),
+    }
+}
+
+// The kind and the source that the words begin with, and the words after them.
+fn placed<'a, 'b>(words: &'b [&'a str]) -> Result<(Kind, u32, &'b [&'a str]), ScriptFault> {
+    match words {
+        ["host", rest @ ..] => Ok((Kind::Host, 0, rest)),
+        ["move", "from", zone, rest @ ..] => Ok((Kind::Move, part(zone)?, rest)),
+        _ => Err(ScriptFault::Words),
+    }
+}
+
+/// The batch of these words: `1 host blocks 0 1 data aa`, `4 host trims 3`, `5 move from 0`, or with the
+/// disk's size `1 size 9 host blocks 0 1 data aa`.
 pub fn parse_batch(alloc: Global, words: &[&str]) -> Result<Batch, ScriptFault> {
-    let (kind, sequence, source, rest) = match words {
-        [sequence, "host", rest @ ..] => (Kind::Host, number(sequence)?, 0, rest),
-        [sequence, "move", "from", zone, rest @ ..] => {
-            (Kind::Move, number(sequence)?, part(zone)?, rest)
-        }
-        _ => return Err(ScriptFault::Words),
+    let [sequence, words @ ..] = words else {
+        return Err(ScriptFault::Words);
     };
-    let (entries, data) = contents(alloc, rest)?;
+    let (size, words) = sized(words)?;
+    let (kind, source, words) = placed(words)?;
+    let (entries, data) = contents(alloc, words)?;
     Ok(Batch {
         kind,
-        sequence,
+        sequence: number(sequence)?,
         source,
+        size,
         entries,
         data,
     })
@@ -65,14 +83,15 @@ impl Batch {
             Kind::Host => 1,
             Kind::Move => 2,
         };
+        let version: u16 = if self.size.is_some() { 2 } else { 1 };
         let count = u32::try_from(self.entries.len()).or(Err(ScriptFault::Words))?;
         let mut bytes = Vec::from_slice(alloc, b"ZLOGBAT1")?;
-        bytes.extend_from_slice(&1u16.to_le_bytes())?;
+        bytes.extend_from_slice(&version.to_le_bytes())?;
         bytes.extend_from_slice(&kind.to_le_bytes())?;
         bytes.extend_from_slice(&count.to_le_bytes())?;
         bytes.extend_from_slice(&self.sequence.to_le_bytes())?;
         bytes.extend_from_slice(&self.source.to_le_bytes())?;
-        bytes.extend_from_slice(&[0; 4])?;
+        bytes.extend_from_slice(&self.size.unwrap_or(0).to_le_bytes())?;
         for entry in &self.entries {
             let trim_bit: u64 = if entry.trim { 1 << 63 } else { 0 };
             bytes.extend_from_slice(&(entry.block | trim_bit).to_le_bytes())?;
@@ -97,7 +116,7 @@ impl Batch {
             kind: self.kind,
             sequence: self.sequence,
             source: self.source,
-            size: None,
+            size: self.size,
             entries: self.entries,
         };
         if !is_heading(&header, 512) {

@@ -45,11 +45,13 @@ impl<D: Device + Drop> Device for OnceWithoutMemory<D> {
     }
 }
 
-/// How a run is made and shown: after how many commands the device stops or is out of memory, if ever,
-/// and whether the bytes of the entries are shown.
+/// How a run is made and shown: after how many commands the device stops or is out of memory, if ever;
+/// how many blocks of the Append after those commands are written before it stops; and whether the bytes
+/// of the entries are shown.
 #[derive(Clone, Copy)]
 pub struct Setting {
     pub stop_after: Option<u64>,
+    pub tear: u32,
     pub no_memory_after: Option<u64>,
     pub shows_entries: bool,
 }
@@ -57,6 +59,7 @@ pub struct Setting {
 impl Setting {
     pub const PLAIN: Setting = Setting {
         stop_after: None,
+        tear: 0,
         no_memory_after: None,
         shows_entries: false,
     };
@@ -73,7 +76,8 @@ pub fn bench_of(alloc: Global, world: &World, setting: Setting) -> Result<Bench,
         device: drive,
         others: setting.no_memory_after.unwrap_or(u64::MAX),
     };
-    let stopping = StopAfter::new(device, setting.stop_after.unwrap_or(u64::MAX));
+    let commands = setting.stop_after.unwrap_or(u64::MAX);
+    let stopping = StopAfter::tearing(device, commands, setting.tear);
     Ok(Recorder::new(alloc, stopping))
 }
 

@@ -1,8 +1,5 @@
 //! What a script asks of its drive between two runs.
 
-ghost use Rattle.std.specs.Prelude.{◌↔◌, ◌≡◌, IsTrue, vec_len};
-ghost use Rattle.std.specs.List.{AllByRecursion};
-
 use crate::fault::ScriptFault;
 use crate::requests::parse_request;
 use crate::show::{show_bytes, show_fault, show_lines};
@@ -10,9 +7,8 @@ use crate::words::{number, part};
 use crate::world::World;
 use disk_runs::RunFault;
 use drive_port::Device;
-use nvme_wire::ZoneState;
 use std::alloc::{AllocError, Global};
-use yardsticks::{ZoneImage, log, quota};
+use yardsticks::quota;
 use zone_choice::{batch_most, fill, fits_reserve};
 use zone_drive::{Drive, DriveFault};
 use zone_report::report_text;
@@ -85,47 +81,6 @@ pub fn show_array(
         writeln!(out, "    can be mounted")?;
     } else {
         writeln!(out, "    cannot be mounted")?;
-    }
-    Ok(())
-}
-
-fn are_whole(blocks: &[Vec<u8>], size: usize) -> bool
-    ensures { IsTrue result ↔ AllByRecursion (λ block. vec_len block ≡ size) blocks.now }
-{
-    blocks.iter().all(|block| block.len() == size)
-}
-
-// How many batches a zone of blocks of 512 bytes holds, and how many data blocks, if it holds a log.
-fn log_counts(alloc: Global, zone: &ZoneImage) -> Result<Option<(usize, usize)>, ScriptFault> {
-    if !are_whole(&zone.blocks, 512) {
-        return Err(ScriptFault::Words);
-    }
-    let is_full = zone.state == ZoneState::Full;
-    let Some(log) = log(alloc, &zone.blocks, 512, is_full)? else {
-        return Ok(None);
-    };
-    let mut data: usize = 0;
-    for batch in &log {
-        data = data.saturating_add(batch.body.len());
-    }
-    Ok(Some((log.len(), data)))
-}
-
-/// Shows how many batches each zone that is not Empty holds, and how many data blocks.
-pub fn show_logs(alloc: Global, world: &World, out: &mut String) -> Result<(), ScriptFault> {
-    for (number, zone) in world.zones.iter().enumerate() {
-        if zone.state == ZoneState::Empty {
-            continue;
-        }
-        match log_counts(alloc, zone)? {
-            Some((batches, data)) => {
-                writeln!(
-                    out,
-                    "    zone {number}: batches {batches}, data blocks {data}"
-                )?;
-            }
-            None => writeln!(out, "    zone {number}: no log")?,
-        }
     }
     Ok(())
 }

@@ -5,9 +5,9 @@ use crate::bench::Setting;
 use crate::calls::{show_calls, show_disk};
 use crate::fault::ScriptFault;
 use crate::grammar::{show_raw_lines, show_trace_lines};
+use crate::logs::show_logs;
 use crate::questions::{
-    show_array, show_contents, show_drive_fault, show_logs, show_moves, show_reserve, show_room,
-    show_zones,
+    show_array, show_contents, show_drive_fault, show_moves, show_reserve, show_room, show_zones,
 };
 use crate::runs::{Lines, show_run};
 use crate::show::show_answer_bytes;
@@ -126,11 +126,26 @@ impl<'a> Session<'a> {
     fn set(&mut self, words: &[&str]) -> Result<bool, ScriptFault> {
         match words {
             ["stop", "after", commands, _] => self.setting.stop_after = Some(number(commands)?),
+            [
+                "stop",
+                "after",
+                commands,
+                _,
+                blocks,
+                _,
+                "into",
+                "an",
+                "Append",
+            ] => {
+                self.setting.stop_after = Some(number(commands)?);
+                self.setting.tear = u32::try_from(number(blocks)?).or(Err(ScriptFault::Words))?;
+            }
             ["out", "of", "memory", "after", commands, _] => {
                 self.setting.no_memory_after = Some(number(commands)?);
             }
             ["with", "entries"] => self.setting.shows_entries = true,
             ["at", "every", "stop"] => self.halts = Some(Halts::Stop),
+            ["at", "every", "torn", "block"] => self.halts = Some(Halts::Tear),
             ["at", "every", "halt", "for", "memory"] => self.halts = Some(Halts::Memory),
             _ => return Ok(false),
         }

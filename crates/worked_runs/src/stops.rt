@@ -1,4 +1,5 @@
-//! A trace with a stop after each number of commands, or out of memory there, against a flat array.
+//! A trace with a stop after each number of commands, or inside each Append, or out of memory there,
+//! against a flat array.
 
 use crate::bench::{Setting, world_of};
 use crate::fault::ScriptFault;
@@ -7,23 +8,30 @@ use crate::runs::{Lines, Ran, run};
 use crate::show::show_line;
 use crate::world::World;
 use disk_files::TraceLine;
+use disk_runs::RunFault;
 use drive_port::Device;
-use std::alloc::Global;
+use nvme_wire::Command;
+use std::alloc::{AllocError, Global};
+use zone_translator::DiskFault;
 
 /// What happens at each command of a trace in turn.
 #[derive(Clone, Copy)]
 pub enum Halts {
     /// The device has stopped.
     Stop,
+    /// The device stops inside it, if it is an Append: after each number of its blocks.
+    Tear,
     /// The device is out of memory, once.
     Memory,
 }
 
 impl Halts {
-    fn setting(self, commands: u64) -> Setting {
+    // The halt after that many commands, and for a tear after that many blocks of the Append then.
+    fn setting(self, commands: u64, tear: u32) -> Setting {
         match self {
-            Halts::Stop => Setting {
+            Halts::Stop | Halts::Tear => Setting {
                 stop_after: Some(commands),
+                tear,
                 ..Setting::PLAIN
             },
             Halts::Memory => Setting {
@@ -101,26 +109,124 @@ fn wrong_array(
     Ok(None)
 }
 
-// What is wrong after a run: with its replies, or with what the drive holds then.
-fn wrong(
-    alloc: Global,
-    world: &World,
+// A trace over a drive, that is run again and again.
+#[derive(Clone, Copy)]
+struct Trial<'a> {
+    world: &'a World,
     n: u32,
-    lines: &[&str],
-    ran: Ran,
-) -> Result<Option<&'static str>, ScriptFault> {
-    let flat = Flat::new(alloc, world.geometry.block as usize, n as usize)?;
-    match answered(alloc, flat, lines, &ran.replies)? {
-        Some((number, flat)) => {
-            let left = world_of(alloc, world.geometry, ran.bench)?;
-            wrong_array(alloc, &left, n, flat, lines.get(number).copied())
+    lines: &'a [&'a str],
+    text: &'a str,
+}
+
+impl<'a> Trial<'a> {
+    fn run(&self, alloc: Global, setting: Setting) -> Result<Ran, ScriptFault> {
+        let lines = Lines::Trace(u64::from(self.n));
+        run(alloc, self.world, setting, lines, self.text.as_bytes())
+    }
+
+    // What is wrong with the replies of a run, or with what the drive holds then.
+    fn wrong_after(&self, alloc: Global, ran: Ran) -> Result<Option<&'static str>, ScriptFault> {
+        let geometry = self.world.geometry;
+        let flat = Flat::new(alloc, geometry.block as usize, self.n as usize)?;
+        match answered(alloc, flat, self.lines, &ran.replies)? {
+            Some((number, flat)) => {
+                let left = world_of(alloc, geometry, ran.bench)?;
+                wrong_array(alloc, &left, self.n, flat, self.lines.get(number).copied())
+            }
+            None => Ok(Some("the replies are not those of a flat array")),
         }
-        None => Ok(Some("the replies are not those of a flat array")),
+    }
+
+    // What is wrong after a run that is made so.
+    fn wrong(&self, alloc: Global, setting: Setting) -> Result<Option<&'static str>, ScriptFault> {
+        let ran = self.run(alloc, setting)?;
+        if setting.tear > 0 && ran.result != Err(RunFault::Disk(DiskFault::Stopped)) {
+            return Ok(Some("the trace is not stopped"));
+        }
+        self.wrong_after(alloc, ran)
+    }
+
+    // What is wrong after a run that stops inside the Append after that many commands, and how many of
+    // its blocks are written then.
+    fn wrong_tear(
+        &self,
+        alloc: Global,
+        commands: u64,
+        blocks: u32,
+    ) -> Result<Option<(u32, &'static str)>, ScriptFault> {
+        for tear in 1..=blocks {
+            if let Some(wrong) = self.wrong(alloc, Halts::Tear.setting(commands, tear))? {
+                return Ok(Some((tear, wrong)));
+            }
+        }
+        Ok(None)
     }
 }
 
-/// Runs a trace once with each number of commands before the halt, and says whether each time the lines
-/// before it are answered, and the drive can be mounted and holds their array with a front of the next.
+fn show_right(out: &mut String) -> Result<(), AllocError> {
+    writeln!(
+        out,
+        "the lines before are answered, the drive can be mounted,"
+    )?;
+    writeln!(
+        out,
+        "    and it holds the array with a front of the next line"
+    )
+}
+
+// How many blocks a command writes, if it is an Append.
+fn append_blocks(entry: &[u8; 64]) -> u32 {
+    match Command::decode(entry) {
+        Ok(Command::Append { blocks, .. }) => blocks,
+        _ => 0,
+    }
+}
+
+// Says whether something is wrong after a run that stops inside one of the commands of these entries.
+fn show_tears(
+    alloc: Global,
+    trial: Trial,
+    entries: &[[u8; 64]],
+    out: &mut String,
+) -> Result<(), ScriptFault> {
+    let mut tears: u64 = 0;
+    for (commands, entry) in entries.iter().enumerate() {
+        let blocks = append_blocks(entry);
+        if let Some((tear, wrong)) = trial.wrong_tear(alloc, commands as u64, blocks)? {
+            writeln!(
+                out,
+                "    after {commands} commands, {tear} blocks into an Append: {wrong}"
+            )?;
+            return Ok(());
+        }
+        tears = tears.saturating_add(u64::from(blocks));
+    }
+    write!(out, "    at {tears} torn blocks: ")?;
+    show_right(out)?;
+    Ok(())
+}
+
+// Says whether something is wrong after a run with the halt after each number of commands.
+fn show_each(
+    alloc: Global,
+    trial: Trial,
+    halts: Halts,
+    commands: u64,
+    out: &mut String,
+) -> Result<(), ScriptFault> {
+    for before in 0..=commands {
+        if let Some(wrong) = trial.wrong(alloc, halts.setting(before, 0))? {
+            writeln!(out, "    after {before} commands: {wrong}")?;
+            return Ok(());
+        }
+    }
+    write!(out, "    after 0 to {commands} commands: ")?;
+    show_right(out)?;
+    Ok(())
+}
+
+/// Runs a trace once with each halt, and says whether each time the lines before it are answered, and the
+/// drive can be mounted and holds their array with a front of the next.
 pub fn show_halts(
     alloc: Global,
     world: &World,
@@ -135,23 +241,17 @@ pub fn show_halts(
         show_line(line, out)?;
         writeln!(text, "{line}")?;
     }
-    let trace = Lines::Trace(blocks);
-    let whole = run(alloc, world, Setting::PLAIN, trace, text.as_bytes())?;
-    let commands = whole.bench.completed();
-    for before in 0..=commands {
-        let ran = run(alloc, world, halts.setting(before), trace, text.as_bytes())?;
-        if let Some(wrong) = wrong(alloc, world, n, lines, ran)? {
-            writeln!(out, "    after {before} commands: {wrong}")?;
-            return Ok(());
+    let trial = Trial {
+        world,
+        n,
+        lines,
+        text: &text,
+    };
+    let whole = trial.run(alloc, Setting::PLAIN)?;
+    match halts {
+        Halts::Tear => show_tears(alloc, trial, whole.bench.entries(), out),
+        Halts::Stop | Halts::Memory => {
+            show_each(alloc, trial, halts, whole.bench.completed(), out)
         }
     }
-    writeln!(
-        out,
-        "    after 0 to {commands} commands: the lines before are answered, the drive can be mounted,"
-    )?;
-    writeln!(
-        out,
-        "    and it holds the array with a front of the next line"
-    )?;
-    Ok(())
 }

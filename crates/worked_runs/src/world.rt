@@ -41,12 +41,17 @@ fn image_of(alloc: Global, block: u32, zone: &Zone) -> Result<ZoneImage, AllocEr
     })
 }
 
-fn zone_of(alloc: Global, image: &ZoneImage) -> Result<Zone, AllocError> {
-    let mut written = Vec::new(alloc);
+/// The bytes of the blocks of a zone.
+pub fn bytes_of(alloc: Global, image: &ZoneImage) -> Result<Vec<u8>, AllocError> {
+    let mut bytes = Vec::new(alloc);
     for block in &image.blocks {
-        written.extend_from_slice(block)?;
+        bytes.extend_from_slice(block)?;
     }
-    Ok(Zone::from_parts(image.state, written))
+    Ok(bytes)
+}
+
+fn zone_of(alloc: Global, image: &ZoneImage) -> Result<Zone, AllocError> {
+    Ok(Zone::from_parts(image.state, bytes_of(alloc, image)?))
 }
 
 impl World {
@@ -113,7 +118,8 @@ impl World {
         Ok(())
     }
 
-    /// The array of `n` blocks that the newest records of the zones spell, if each zone has a log.
+    /// The array that the newest records of the zones spell, if each zone has a log: of the size that the
+    /// headers say, or of `n` blocks.
     pub fn array(&self, alloc: Global, n: u32) -> Result<Option<Vec<Vec<u8>>>, ScriptFault> {
         let Ok(()) = self.geometry.check() else {
             return Err(ScriptFault::Words);
