@@ -1,7 +1,0 @@
-use Rattle.std.proofs.Common.{◌≡◌, ◌++◌, take}
-use Rattle.zone_choice.specs.Mountable.{log_sequences}
-use Rattle.yardsticks.specs.Zones.{log_of}
-use Rattle.yardsticks.proofs.mountable.add_sequences.Given as goal
-
-abbrev pub invariant-loop-batch : goal.invariant-loop-batch
-invariant-loop-batch l = l.numbers.items ≡ l.fn.numbers.items ++ log_sequences (log_of (take l.batch-index l.log))

@@ -1,7 +1,0 @@
-use Rattle.std.proofs.Common.{◌≡◌, take}
-use Rattle.zone_choice.specs.Mountable.{sequences}
-use Rattle.yardsticks.specs.Zones.{logs_of}
-use Rattle.yardsticks.proofs.mountable.sequences.Given as goal
-
-abbrev pub invariant-loop-log : goal.invariant-loop-log
-invariant-loop-log l = l.numbers.items ≡ sequences (logs_of (take l.log-index l.logs))
