@@ -1,28 +1,30 @@
--- A read of equal blocks, as bytes.
-use Rattle.std.proofs.Common.{◌≡◌, ◌∙◌, ℕ, zero, suc, ◌+◌, ◌*◌, List, ◌∷◌, ◌++◌, length, replicate, Ok, Err, refl, ap, arith}
+-- A read of blocks that were cut from bytes shows the bytes.
+use Rattle.std.proofs.Common.{◌≡◌, ◌∙◌, ℕ, zero, suc, ◌+◌, ◌*◌, List, [], ◌∷◌, ◌++◌, length, take, drop, Ok, Err, refl, ap, arith}
 use Rattle.std.specs.Prelude.{OnOk, Result}
 use Rattle.std.specs.List.{concat}
-use Rattle.std.proofs.lemmas.List.{length-replicate}
+use Rattle.std.proofs.Math.Nat.{add-mul}
+use Rattle.std.proofs.lemmas.List.{length-drop, take-append-drop}
+use Rattle.zone_states.specs.Zone.{cut_blocks}
 use Rattle.zone_translator.specs.declared.fault.DiskFault.{DiskFault}
 use Rattle.zone_translator.specs.Calls.{Reads}
 use Rattle.zone_translator.specs.Flat.{FlatCall, FlatDisk, with_nothing, write}
 use Rattle.zone_translator.specs.Laws.{WrittenReadsBack}
 
-replicate-more : (a b : ℕ) (x : ℕ) → replicate a x ++ replicate b x ≡ replicate (a + b) x
-replicate-more zero b x = let e : 0 + b ≡ b = omega arith in rw e refl
-replicate-more (suc a) b x = let e : suc a + b ≡ suc (a + b) = omega arith in rw e (ap (λ (xs : List ℕ). x ∷ xs) (replicate-more a b x))
+concat-cut : (size n : ℕ) (bytes : List ℕ) → length bytes ≡ n * size → concat (cut_blocks size n bytes) ≡ bytes
+concat-cut size zero [] e = refl
+concat-cut size zero (x ∷ xs) e = absurd (omega arith)
+concat-cut size (suc n) bytes e =
+    let more : suc n * size ≡ size + n * size = omega (arith, add-mul n 1 size) in
+    let rest : length (drop size bytes) ≡ n * size = omega (arith, more, e, length-drop size bytes) in
+    ap (λ (xs : List ℕ). take size bytes ++ xs) (concat-cut size n (drop size bytes) rest) ∙ take-append-drop size bytes
 
-concat-equal : (n size byte : ℕ) → concat (replicate n (replicate size byte)) ≡ replicate (n * size) byte
-concat-equal zero size byte = let e : 0 * size ≡ 0 = omega arith in rw e refl
-concat-equal (suc n) size byte =
-    let e : suc n * size ≡ size + n * size = omega arith in
-    ap (λ (xs : List ℕ). replicate size byte ++ xs) (concat-equal n size byte) ∙ replicate-more size (n * size) byte ∙ rw e refl
+pub length-cut : (size n : ℕ) (bytes : List ℕ) → length (cut_blocks size n bytes) ≡ n
+length-cut size zero bytes = refl
+length-cut size (suc n) bytes = let rest = length-cut size n (drop size bytes) in omega (arith, rest)
 
-pub shown-again : WrittenReadsBack → (old middle new : FlatDisk) (first n size byte : ℕ) (result : Result (Unit {0}) DiskFault) (bytes : List ℕ)
-    → FlatCall old (write first (replicate n (replicate size byte))) (with_nothing (Ok tt)) middle → Reads middle first n result bytes new → OnOk result (bytes ≡ replicate (n * size) byte)
-shown-again law old middle new first n size byte (Err fault) bytes wrote reads = tt
-shown-again law old middle new first n size byte (Ok done) bytes wrote reads =
-    let blocks = replicate n (replicate size byte) in
-    let long : length (replicate n (replicate size byte)) ≡ n = length-replicate n (replicate size byte) in
-    let same = law old middle new first (replicate n (replicate size byte)) reads.shown wrote (rw long reads.flat) in
-    reads.bytes_are ∙ ap concat same ∙ concat-equal n size byte
+pub shown-again : WrittenReadsBack → (old middle new : FlatDisk) (first n size : ℕ) (written : List ℕ) (result : Result (Unit {0}) DiskFault) (bytes : List ℕ) → length written ≡ n * size
+    → FlatCall old (write first (cut_blocks size n written)) (with_nothing (Ok tt)) middle → Reads middle first n result bytes new → OnOk result (bytes ≡ written)
+shown-again law old middle new first n size written (Err fault) bytes whole wrote reads = tt
+shown-again law old middle new first n size written (Ok done) bytes whole wrote reads =
+    let same = law old middle new first (cut_blocks size n written) reads.shown wrote (rw (length-cut size n written) reads.flat) in
+    reads.bytes_are ∙ ap concat same ∙ concat-cut size n written whole

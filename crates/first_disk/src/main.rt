@@ -3,7 +3,8 @@
 //! of its own: what `write_and_read` shows is what it wrote.
 #![tactic(auto)]
 
-ghost use Rattle.std.specs.Prelude.{◌≡◌, ◌*◌, OnOk, replicate};
+ghost use Rattle.std.specs.Prelude.{◌≡◌, ◌*◌, OnOk, length};
+ghost use Rattle.drive_port.specs.Calls.{block_count};
 
 use drive_port::{Device, Geometry};
 use std::io;
@@ -24,19 +25,21 @@ const GEOMETRY: Geometry = Geometry {
 /// How many logical blocks the disk has.
 const BLOCKS: u64 = 9;
 
-/// Writes `blocks` blocks of one byte from `first` on, and reads them back: where both calls are done,
-/// `shown` holds that byte and nothing else.
+/// Writes these bytes, which are `blocks` whole blocks, from the block `first` on, and reads them back:
+/// where both calls are done, `shown` holds these bytes.
 fn write_and_read<D: Device + Drop>(
     disk: &mut Disk<D>,
     first: u64,
     blocks: u64,
-    byte: u8,
+    bytes: &[u8],
     shown: &mut Vec<u8>,
 ) -> Result<(), DiskFault>
-    ensures { OnOk result (shown.new.items ≡ replicate (blocks * disk.old.drive.geometry.block) byte) }
+    requires whole { length bytes.now ≡ block_count disk.old.drive.geometry bytes.now * disk.old.drive.geometry.block }
+    requires blocks { blocks ≡ block_count disk.old.drive.geometry bytes.now }
+    ensures { OnOk result (shown.new.items ≡ bytes.now) }
 {
     written_reads_back();
-    disk.fill(first, blocks, byte)?;
+    disk.write(first, bytes)?;
     disk.read(first, blocks, shown)
 }
 
@@ -51,7 +54,7 @@ fn main(rt: HostRuntime) -> io::Result<()> {
         Err((fault, _drive)) => return println!(rt; "not mounted: {fault:?}"),
     };
     let mut shown = Vec::new(alloc);
-    match write_and_read(&mut disk, 2, 3, 0xaa, &mut shown) {
+    match write_and_read(&mut disk, 2, 3, &[0xaa; 3 * 512], &mut shown) {
         Ok(()) => println!(rt; "{} bytes were written and read back", shown.len())?,
         Err(fault) => println!(rt; "refused: {fault:?}")?,
     }

@@ -10,7 +10,7 @@ use std::marker::Model;
 /// from one batch to the next.
 ///
 /// A batch is built in this order: `start`, a call of `name_data` for each run of blocks that it names,
-/// `encode`, and `fill` for the data.
+/// `encode`, and `fill` or `copy` for the data.
 #[derive(Drop)]
 pub struct BatchBuilder {
     header: Header,
@@ -88,6 +88,14 @@ impl BatchBuilder {
         let length = self.bytes.len() + count;
         self.bytes.resize(length, byte)?;
         Ok(())
+    }
+
+    /// Adds these bytes of data.
+    pub fn copy(&mut self, bytes: &[u8]) -> Result<(), AllocError>
+        ensures heading { self.new.heading ≡ self.old.heading }
+        ensures bytes { OnOk result (self.new.bytes ≡ self.old.bytes ++ bytes.now) }
+    {
+        self.bytes.extend_from_slice(bytes)
     }
 
     pub(crate) fn entries(&self) -> &[Entry]

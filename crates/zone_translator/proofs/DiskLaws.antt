@@ -1,10 +1,14 @@
 -- The calls of a disk, by what its parts change.
-use Rattle.std.proofs.Common.{◌≡◌, ◌==◌, ℕ, nat_lt, zero, suc, ◌+◌, ◌<◌, ◌≤◌, Bool, true, false, List, [], ◌∷◌, ◌++◌, length, take, drop, get_or, replicate, Some, None, Ok, Err, refl, sym, ap, ◌∙◌, arith, append_assoc, append-nil}
+use Rattle.std.proofs.Common.{◌≡◌, ◌==◌, ℕ, nat_lt, zero, suc, ◌+◌, ◌-◌, ◌*◌, ◌/◌, ◌<◌, ◌≤◌, Bool, true, false, List, [], ◌∷◌, ◌++◌, length, take, drop, get_or, replicate, Some, None, Ok, Err, refl, sym, ap, ◌∙◌, arith, append_assoc, append-nil}
 use Rattle.std.specs.Prelude.{Result}
 use Rattle.std.specs.Result.{IfErr, OnErr, OnOk}
 use Rattle.std.specs.List.{AllByRecursion, concat}
 use Rattle.std.proofs.lemmas.Bool.Decides.{nat_tests}
-use Rattle.std.proofs.lemmas.List.{get_or-drop, length-drop, length-replicate, take_more}
+use Rattle.std.proofs.lemmas.List.{drop-drop, get_or-drop, length-drop, length-take, take_all, take_more, take_rest}
+use Rattle.std.proofs.Math.Nat.{add-mul}
+use Rattle.zone_states.specs.Zone.{cut_blocks}
+use Rattle.zone_states.specs.declared.geometry.Geometry.{Geometry}
+use Rattle.drive_port.specs.Calls.{block_count, data_blocks}
 use Rattle.drive_port.specs.Drive.{DriveState}
 use Rattle.zone_choice.specs.Agreement.{mounted, spelled}
 use Rattle.zone_choice.specs.Changes.{KeepsArray}
@@ -17,10 +21,10 @@ use Rattle.zone_translator.specs.declared.fault.DiskFault.TheVariants.{OutOfRang
 use Rattle.zone_translator.specs.declared.status.DiskStatus.{DiskStatus}
 use Rattle.zone_translator.specs.declared.status.DiskStatus.TheVariants as statuses
 use Rattle.zone_translator.specs.Calls.{Holds, Reads, answer_before, is_known, status_of}
-use Rattle.zone_translator.specs.Changes.{AgreesWith, FillLeaves, IsCause, StopKeeps, WritesBlocks}
+use Rattle.zone_translator.specs.Changes.{AgreesWith, IsCause, StopKeeps, WriteLeaves, WritesBlocks}
 use Rattle.zone_translator.specs.Flat.{Begun, FlatCall, IsFront, blocks_from, known_answer, read, replaced, status_after, with_nothing, write}
 use Rattle.zone_translator.specs.Read.{IsReadFault}
-use Rattle.zone_translator.proofs.FillLaws.{front-none, take-less}
+use Rattle.zone_translator.proofs.WriteLaws.{front-none, length-cut}
 use Rattle.zone_translator.proofs.FlatLaws.{replaced-append}
 use Rattle.zone_translator.proofs.RoomLaws.{serves-kept, serves_mountable}
 use Rattle.zone_translator.specs.View.{DiskCause, DiskView, KeepsDisk, array_of, disk_size, flat_of, given_size, next_sequence}
@@ -86,6 +90,7 @@ pub holds-serving : (drive : DriveState) (tables : TablesView) → AgreesWith dr
 holds-serving drive tables serves = record {
   mountable = serves_mountable drive tables serves;
   size = sym (size-encoded (mounted drive tables) serves.agrees);
+  geometry = serves.agrees.geometry;
   short = serves.agrees.reserve.1;
   agrees = serves;
   stopped = λ e. absurd (cc);
@@ -96,6 +101,7 @@ pub holds-stopped : (old new : DriveState) (tables tables' : TablesView) → Agr
 holds-stopped old new tables tables' serves stops = record {
   mountable = stops.mountable;
   size = stops.encoded;
+  geometry = rw stops.geometry serves.agrees.geometry;
   short = omega (arith, stops.size, serves.agrees.reserve.1);
   agrees = tt;
   stopped = λ e. stops.stopped;
@@ -108,6 +114,7 @@ holds-read drive tables OutOfMemory serves cause = holds-serving drive tables se
 holds-read drive tables Stopped serves cause = record {
   mountable = serves_mountable drive tables serves;
   size = sym (size-encoded (mounted drive tables) serves.agrees);
+  geometry = serves.agrees.geometry;
   short = serves.agrees.reserve.1;
   agrees = tt;
   stopped = λ e. cause;
@@ -115,66 +122,104 @@ holds-read drive tables Stopped serves cause = record {
 holds-read drive tables Spent serves cause = absurd cause
 holds-read drive tables NoRoom serves cause = absurd cause
 
--- ---- a batch of a fill that was refused
+-- ---- a batch of a write that was refused
 
 -- the parts of the disk, what it keeps, and the front that is written
-pub record RefusedFill (old new : DriveState) (tables tables' : TablesView) (first left : ℕ) (block : List ℕ) (fault : DiskFault) (was : DiskStatus) : Type 0 where
+pub record RefusedWrite (old new : DriveState) (tables tables' : TablesView) (first : ℕ) (blocks : List (List ℕ)) (fault : DiskFault) (was : DiskStatus) : Type 0 where
   pub holds : Holds new tables' (status_of fault)
   pub kept : KeepsDisk (view_of old tables was) (view_of new tables' (status_of fault))
-  pub front : IsFront (spelled old tables.given) first (replicate left block) (spelled new tables'.given)
+  pub front : IsFront (spelled old tables.given) first blocks (spelled new tables'.given)
 
-refused-kept : (old new : DriveState) (tables tables' : TablesView) (first left : ℕ) (block : List ℕ) (fault : DiskFault) (was : DiskStatus) → status_of fault ≡ statuses.Serving → AgreesWith old tables → KeepsArray (mounted old tables) (mounted new tables')
-    → RefusedFill old new tables tables' first left block fault was
-refused-kept old new tables tables' first left block fault was is serves kept = record {
+refused-kept : (old new : DriveState) (tables tables' : TablesView) (first : ℕ) (blocks : List (List ℕ)) (fault : DiskFault) (was : DiskStatus) → status_of fault ≡ statuses.Serving → AgreesWith old tables → KeepsArray (mounted old tables) (mounted new tables')
+    → RefusedWrite old new tables tables' first blocks fault was
+refused-kept old new tables tables' first blocks fault was is serves kept = record {
   holds = rw is (holds-serving new tables' (serves-kept old new tables tables' serves kept));
   kept = kept-disk old new tables tables' was (status_of fault) serves kept;
-  front = front-none (spelled old tables.given) (spelled new tables'.given) first (replicate left block) kept.array;
+  front = front-none (spelled old tables.given) (spelled new tables'.given) first blocks kept.array;
 }
 
-pub refused-fill : (old new : DriveState) (tables tables' : TablesView) (first left : ℕ) (block : List ℕ) (fault : DiskFault) (was : DiskStatus) → AgreesWith old tables → FillLeaves (mounted old tables) (mounted new tables') first left block (Err fault)
-    → RefusedFill old new tables tables' first left block fault was
-refused-fill old new tables tables' first left block OutOfRange was serves leaves = refused-kept old new tables tables' first left block OutOfRange was refl serves leaves
-refused-fill old new tables tables' first left block OutOfMemory was serves leaves = refused-kept old new tables tables' first left block OutOfMemory was refl serves leaves
-refused-fill old new tables tables' first left block Stopped was serves leaves = record {
+pub refused-write : (old new : DriveState) (tables tables' : TablesView) (first : ℕ) (blocks : List (List ℕ)) (fault : DiskFault) (was : DiskStatus) → AgreesWith old tables → WriteLeaves (mounted old tables) (mounted new tables') first blocks (Err fault)
+    → RefusedWrite old new tables tables' first blocks fault was
+refused-write old new tables tables' first blocks OutOfRange was serves leaves = refused-kept old new tables tables' first blocks OutOfRange was refl serves leaves
+refused-write old new tables tables' first blocks OutOfMemory was serves leaves = refused-kept old new tables tables' first blocks OutOfMemory was refl serves leaves
+refused-write old new tables tables' first blocks Stopped was serves leaves = record {
   holds = holds-stopped old new tables tables' serves leaves.0;
   kept = stopped-disk old new tables tables' was statuses.Stopped leaves.0;
   front = leaves.1;
 }
-refused-fill old new tables tables' first left block Spent was serves leaves = refused-kept old new tables tables' first left block Spent was refl serves leaves
-refused-fill old new tables tables' first left block NoRoom was serves leaves = refused-kept old new tables tables' first left block NoRoom was refl serves leaves
+refused-write old new tables tables' first blocks Spent was serves leaves = refused-kept old new tables tables' first blocks Spent was refl serves leaves
+refused-write old new tables tables' first blocks NoRoom was serves leaves = refused-kept old new tables tables' first blocks NoRoom was refl serves leaves
 
 -- while it serves, its tables agree with its drive
 pub holds-agrees : (drive : DriveState) (tables : TablesView) (status : DiskStatus) → status ≡ statuses.Serving → Holds drive tables status → AgreesWith drive tables
 holds-agrees drive tables statuses.Serving e holds = holds.agrees
 holds-agrees drive tables statuses.Stopped e holds = absurd (cc)
 
--- ---- fronts of a fill
+-- ---- fronts of a write
 
-pub replicate-append : {X : Type 0} (a b : ℕ) (x : X) → replicate a x ++ replicate b x ≡ replicate (a + b) x
-replicate-append zero b x = let e : 0 + b ≡ b = omega arith in rw e refl
-replicate-append {X} (suc a) b x = let e : suc a + b ≡ suc (a + b) = omega arith in rw e (ap (λ (xs : List X). x ∷ xs) (replicate-append a b x))
+take-none : {X : Type 0} → (b : ℕ) → take {A = X} b [] ≡ []
+take-none zero = refl
+take-none (suc b) = refl
 
--- one batch more
-pub filled-more : (array now new : List (List ℕ)) (first done count next more : ℕ) (block same : List ℕ) → same ≡ block → now ≡ replaced array first (replicate done block) → next ≡ first + done → more ≡ done + count → new ≡ replaced now next (replicate count same)
-    → new ≡ replaced array first (replicate more block)
-filled-more array now new first done count next more block same same-is was next-is more-is is =
-    is ∙ ap (λ (b : List ℕ). replaced now next (replicate count b)) same-is
-    ∙ ap (λ (xs : List (List ℕ)). replaced xs next (replicate count block)) was
-    ∙ replaced-append array first next (replicate done block) (replicate count block) (omega (arith, next-is, length-replicate done block))
-    ∙ rw more-is (ap (λ (xs : List (List ℕ)). replaced array first xs) (replicate-append done count block))
+take-more : {X : Type 0} → (a b : ℕ) (xs : List X) → take a xs ++ take b (drop a xs) ≡ take (a + b) xs
+take-more zero b xs = let e : 0 + b ≡ b = omega arith in rw e refl
+take-more {X} (suc a) b [] = let e : suc a + b ≡ suc (a + b) = omega arith in rw e (take-none {X = X} b)
+take-more {X} (suc a) b (x ∷ xs) = let e : suc a + b ≡ suc (a + b) = omega arith in rw e (ap (λ (ys : List X). x ∷ ys) (take-more a b xs))
+
+-- one batch more, of the blocks that were left
+pub written-more : (array now new : List (List ℕ)) (first done count next more : ℕ) (blocks left : List (List ℕ)) → now ≡ replaced array first (take done blocks) → next ≡ first + done → more ≡ done + count → done ≤ length blocks → left ≡ drop done blocks
+    → new ≡ replaced now next (take count left) → new ≡ replaced array first (take more blocks)
+written-more array now new first done count next more blocks left was next-is more-is le left-is is =
+    let so : new ≡ replaced (replaced array first (take done blocks)) next (take count (drop done blocks)) = rw (← was, ← left-is) is in
+    let both : take done blocks ++ take count (drop done blocks) ≡ take more blocks = rw more-is (take-more done count blocks) in
+    so ∙ replaced-append array first next (take done blocks) (take count (drop done blocks)) (omega (arith, next-is, length-take done blocks, le)) ∙ ap (λ (xs : List (List ℕ)). replaced array first xs) both
 
 -- what was done, where the next batch was refused with a front of the blocks that were left
-pub fill-front : (array now new : List (List ℕ)) (first done n next left : ℕ) (block same : List ℕ) → same ≡ block → now ≡ replaced array first (replicate done block) → next ≡ first + done → n ≡ done + left → IsFront now next (replicate left same) new
-    → IsFront array first (replicate n block) new
-fill-front array now new first done n next left block same same-is was next-is all front =
-    let within : front.done ≤ left = omega (arith, front.within, length-replicate left same) in
-    let more : new ≡ replaced now next (replicate front.done same) = front.written ∙ ap (λ (xs : List (List ℕ)). replaced now next xs) (take-less front.done left same within) in
-    record {
-      done = done + front.done;
-      within = omega (arith, within, all, length-replicate n block);
-      written = filled-more array now new first done front.done next (done + front.done) block same same-is was next-is refl more
-          ∙ ap (λ (xs : List (List ℕ)). replaced array first xs) (sym (take-less (done + front.done) n block (omega (arith, within, all))));
-    }
+pub write-front : (array now new : List (List ℕ)) (first done next : ℕ) (blocks left : List (List ℕ)) → now ≡ replaced array first (take done blocks) → next ≡ first + done → done ≤ length blocks → left ≡ drop done blocks → IsFront now next left new
+    → IsFront array first blocks new
+write-front array now new first done next blocks left was next-is le left-is front = record {
+  done = done + front.done;
+  within = omega (arith, front.within, ap length left-is, length-drop done blocks, le);
+  written = written-more array now new first done front.done next (done + front.done) blocks left was next-is refl le left-is front.written;
+}
+
+-- blocks that are all the same
+pub drop-replicate : {X : Type 0} (a b n : ℕ) (x : X) → n ≡ a + b → drop a (replicate n x) ≡ replicate b x
+drop-replicate zero b n x e = let same : n ≡ b = omega arith in rw same refl
+drop-replicate (suc a) b zero x e = absurd (omega arith)
+drop-replicate (suc a) b (suc n) x e = drop-replicate a b n x (omega arith)
+
+-- blocks that are cut from bytes
+pub cut-drop : (size n done left : ℕ) (bytes : List ℕ) → n ≡ done + left → cut_blocks size left (drop (done * size) bytes) ≡ drop done (cut_blocks size n bytes)
+cut-drop size n zero left bytes e = let same : n ≡ left = omega arith in let none : 0 * size ≡ 0 = omega arith in rw (same, none) refl
+cut-drop size zero (suc done) left bytes e = absurd (omega arith)
+cut-drop size (suc n) (suc done) left bytes e =
+    let k : suc done * size ≡ size + done * size = omega (arith, add-mul done 1 size) in
+    let moved : drop (size + done * size) bytes ≡ drop (done * size) (drop size bytes) = sym (drop-drop (done * size) size bytes) in
+    rw (k, moved) (cut-drop size n done left (drop size bytes) (omega arith))
+
+-- the blocks that are left of a fill, and of a write
+pub fill-left : (g h : Geometry) (done left n byte : ℕ) → h ≡ g → n ≡ done + left → replicate left (replicate h.block byte) ≡ drop done (replicate n (replicate g.block byte))
+fill-left g h done left n byte same e = rw same (sym (drop-replicate done left n (replicate g.block byte) e))
+
+-- the bytes that are left of a write
+pub record IsRest (g h : Geometry) (done left : ℕ) (bytes rest : List ℕ) : Type 0 where
+  pub within : done ≤ length (data_blocks g bytes)
+  pub whole : length rest ≡ left * h.block
+  pub left_is : cut_blocks h.block left rest ≡ drop done (data_blocks g bytes)
+
+pub write-rest : (g h : Geometry) (block done : ℕ) (bytes : List ℕ) → block ≡ g.block → h ≡ g → length bytes ≡ block_count g bytes * g.block → done ≤ length bytes / block
+    → IsRest g h done (length bytes / block - done) bytes (take (length bytes - done * block) (drop (done * block) bytes))
+write-rest g h block done bytes is same whole le =
+    let n = block_count g bytes in
+    let few : done ≤ n = rw (← is) le in
+    let split : n ≡ done + (n - done) = omega (arith, few) in
+    let sum : n * g.block ≡ done * g.block + (n - done) * g.block = ap (λ (k : ℕ). k * g.block) split ∙ add-mul done (n - done) g.block in
+    rw (is, same, take_rest bytes (done * g.block)) (record {
+      within = omega (arith, few, length-cut g.block n bytes);
+      whole = omega (arith, length-drop (done * g.block) bytes, whole, sum);
+      left_is = cut-drop g.block n done (n - done) bytes split;
+    })
 
 -- ---- what is known beforehand
 
@@ -220,6 +265,15 @@ write-begun old new first n blocks result long known begun status = rw (long, kn
 pub write-known : (old : DiskView) (first n : ℕ) (blocks : List (List ℕ)) (result : Result (Unit {0}) DiskFault) → length blocks ≡ n → known_answer (flat_of old) first n ≡ Some result
     → FlatCall (flat_of old) (write first blocks) (with_nothing result) (flat_of old)
 write-known old first n blocks result long known = rw (long, known) (refl, refl)
+
+-- a write that was not known beforehand is done, or is not
+pub write-done : (old new : DiskView) (first n done : ℕ) (blocks : List (List ℕ)) → length blocks ≡ n → known_answer (flat_of old) first n ≡ None → n ≤ done → array_of new ≡ replaced (array_of old) first (take done blocks) → new.status ≡ statuses.Serving
+    → FlatCall (flat_of old) (write first blocks) (with_nothing (Ok tt)) (flat_of new)
+write-done old new first n done blocks long known most is serves =
+    write-begun old new first n blocks (Ok tt) long known (refl, is ∙ ap (λ (xs : List (List ℕ)). replaced (array_of old) first xs) (take_all done blocks (omega (arith, long, most)))) serves
+
+pub write-unknown : (old new : DiskView) (first n : ℕ) (blocks : List (List ℕ)) → length blocks ≡ n → known_answer (flat_of old) first n ≡ None → is_known (flat_of old) (write first blocks) ≡ true → new ≡ old
+write-unknown old new first n blocks long none known = let e : false ≡ true = rw (long, none) at known in absurd (cc)
 
 pub read-begun : (old new : DiskView) (first n : ℕ) (result : Result (Unit {0}) DiskFault) (shown : List (List ℕ)) (bytes : List ℕ) → known_answer (flat_of old) first n ≡ None
     → Begun (flat_of old) (read first n) result shown (flat_of new) → new.status ≡ status_after result → bytes ≡ concat shown → Reads (flat_of old) first n result bytes (flat_of new)

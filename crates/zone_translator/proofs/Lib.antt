@@ -1,8 +1,8 @@
 pub mod RoomLaws
 pub mod FlatLaws
 pub mod BatchLaws
-pub mod FillLaws
 pub mod ReadLaws
 pub mod DiskLaws
 pub mod MountLaws
-mod WriteLaws
+pub mod WriteLaws
+pub mod BackLaws

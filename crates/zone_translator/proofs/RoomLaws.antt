@@ -9,7 +9,7 @@ use Rattle.drive_port.specs.Drive.{DriveState, IsLawful}
 use Rattle.drive_port.specs.declared.calls.PortFault.{PortFault}
 use Rattle.drive_port.specs.declared.calls.PortFault.TheVariants as port
 use Rattle.zone_choice.specs.declared.roles.Filling.{Filling}
-use Rattle.zone_choice.specs.Agreement.{Agrees, HoldsFilling, Mounted, drive_logs, mounted, mounted_array, spelled}
+use Rattle.zone_choice.specs.Agreement.{Agrees, HoldsFilling, Mounted, drive_logs, mounted, spelled}
 use Rattle.zone_choice.specs.Changes.{IsHalt, KeepsArray, halt_of}
 use Rattle.zone_choice.specs.Mountable.{IsMountable}
 use Rattle.zone_choice.specs.Roles.{IsLowestEmpty, RolesView, empty_count, fillings, is_at, is_filling_at, listed, sealed, taken}

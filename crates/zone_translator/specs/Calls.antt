@@ -1,6 +1,7 @@
 -- What holds of the parts of a disk, and what a read gives.
 use Rattle.std.specs.Prelude.{◌≡◌, ℕ, ◌≤◌, ◌^◌, Bool, true, false, List, Option, Some, None, Result, Ok, Err, is_some}
 use Rattle.std.specs.List.{concat}
+use Rattle.zone_states.specs.Geometry.{IsInRange}
 use Rattle.drive_port.specs.Drive.{DriveState}
 use Rattle.zone_choice.specs.Tables.{TablesView, size_of}
 use Rattle.zone_choice.specs.Agreement.{drive_logs}
@@ -18,10 +19,11 @@ abbrev pub WhileServing : DiskStatus → Type 0 → Type 0
 WhileServing Serving Fact = Fact
 WhileServing Stopped Fact = Unit {0}
 
--- The drive of a disk can be mounted, and has the disk's size. While the disk serves, the tables agree with the drive; and it has answered `Stopped` only where the drive has stopped.
+-- The drive of a disk has a geometry in range, can be mounted, and has the disk's size. While the disk serves, the tables agree with the drive; and it has answered `Stopped` only where the drive has stopped.
 pub record Holds (drive : DriveState) (tables : TablesView) (status : DiskStatus) : Type 0 where
   pub mountable : IsMountable drive tables.given
   pub size : encoded_size tables.given (drive_logs drive) ≡ size_of tables
+  pub geometry : IsInRange drive.geometry
   pub short : size_of tables ≤ 2 ^ 31
   pub agrees : WhileServing status (AgreesWith drive tables)
   pub stopped : status ≡ Stopped → drive.stopped ≡ true

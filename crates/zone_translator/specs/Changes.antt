@@ -1,5 +1,5 @@
 -- What the parts of a disk's calls change, of a drive and the tables that agree with it.
-use Rattle.std.specs.Prelude.{◌≡◌, ℕ, ◌≤◌, ◌+◌, Bool, true, false, List, None, count_by, replicate, Result, Ok, Err}
+use Rattle.std.specs.Prelude.{◌≡◌, ℕ, ◌≤◌, ◌+◌, Bool, true, false, List, None, count_by, take, Result, Ok, Err}
 use Rattle.drive_port.specs.Drive.{DriveState, active_count}
 use Rattle.drive_port.specs.Contents.{Content, Usage, empty, contents}
 use Rattle.drive_port.specs.declared.device.Halt.{Halt}
@@ -82,8 +82,8 @@ abbrev pub RoomLeaves : {V : Type 0} → Mounted → Mounted → Result V DiskFa
 RoomLeaves before after (Err Stopped) = StopKeeps before after × (mounted_array after ≡ mounted_array before)
 RoomLeaves before after result = KeepsArray before after
 
--- what a batch of a fill leaves, of these blocks at most: where the drive stopped, a front of them may be written
-abbrev pub FillLeaves : Mounted → Mounted → ℕ → ℕ → List ℕ → Result ℕ DiskFault → Type 0
-FillLeaves before after first left block (Ok count) = WritesBlocks before after first (replicate count block)
-FillLeaves before after first left block (Err Stopped) = StopKeeps before after × IsFront (mounted_array before) first (replicate left block) (mounted_array after)
-FillLeaves before after first left block (Err fault) = KeepsArray before after
+-- what the next batch of a write of these blocks leaves: as many of them as it took are written; where the drive stopped, a front of them may be
+abbrev pub WriteLeaves : Mounted → Mounted → ℕ → List (List ℕ) → Result ℕ DiskFault → Type 0
+WriteLeaves before after first blocks (Ok count) = WritesBlocks before after first (take count blocks)
+WriteLeaves before after first blocks (Err Stopped) = StopKeeps before after × IsFront (mounted_array before) first blocks (mounted_array after)
+WriteLeaves before after first blocks (Err fault) = KeepsArray before after

@@ -1,7 +1,9 @@
-ghost use Rattle.std.specs.Prelude.{◌≡◌, ◌+◌, ◌<◌, ◌≤◌, ◌++◌, ◌^◌, [], IfErr, IfOk, OnOk, OnErr, false, true, length, replicate, slice_index_or};
+ghost use Rattle.std.specs.Prelude.{◌≡◌, ◌+◌, ◌<◌, ◌≤◌, ◌++◌, ◌^◌, ◌*◌, [], IfErr, IfOk, OnOk, OnErr, false, true, length, replicate, slice_index_or, take};
+ghost use Rattle.drive_port.specs.Calls.{block_count, data_blocks};
 ghost use Rattle.zone_choice.specs.Mountable.{IsMountable};
 ghost use Rattle.zone_choice.specs.Reserve.{FitsReserve};
 ghost use Rattle.zone_states.specs.Geometry.{IsInRange};
+ghost use Rattle.zone_states.specs.Zone.{cut_blocks};
 ghost use Rattle.zone_translator.specs.Calls.{Reads, answer_before, is_known, status_of};
 ghost use Rattle.zone_translator.specs.Changes.{IsCause};
 ghost use Rattle.zone_translator.specs.Flat.{FlatCall, IsFront, known_answer, read, replaced, status_after, with_nothing, write};
@@ -12,10 +14,10 @@ ghost use Rattle.zone_translator.specs.Read.{IsReadFault};
 ghost use Rattle.zone_translator.specs.View.{DiskCause, DiskView, KeepsDisk, array_of, disk_size, flat_of, given_size, next_sequence};
 
 use crate::fault::DiskFault;
-use crate::fill::fill_batch;
 use crate::mount::{MountFault, fresh_tables};
 use crate::read::{read_block, read_into};
 use crate::status::DiskStatus;
+use crate::write::{fill_batch, write_batch};
 use drive_port::Device;
 use std::alloc::Global;
 use std::marker::Model;
@@ -117,7 +119,7 @@ impl<D: Device + Drop> Disk<D> {
         requires serving { self.old.status ≡ Serving }
         ensures kept { KeepsDisk self.old self.new }
         ensures count { IfOk result (λ count. (1 ≤ count) × (count ≤ left)) }
-        ensures ok { IfOk result (λ count. array_of self.new ≡ replaced (array_of self.old) first (replicate count (replicate self.old.drive.geometry.block byte))) }
+        ensures ok { IfOk result (λ count. array_of self.new ≡ replaced (array_of self.old) first (take count (replicate left (replicate self.old.drive.geometry.block byte)))) }
         ensures serving { OnOk result (self.new.status ≡ Serving) }
         ensures status { IfErr result (λ fault. self.new.status ≡ status_of fault) }
         ensures err { OnErr result (IsFront (array_of self.old) first (replicate left (replicate self.old.drive.geometry.block byte)) (array_of self.new)) }
@@ -131,6 +133,39 @@ impl<D: Device + Drop> Disk<D> {
             first,
             left,
             byte,
+        );
+        match written {
+            Ok(count) => Ok(count),
+            Err(fault) => {
+                self.status = status_of(fault);
+                Err(fault)
+            }
+        }
+    }
+
+    /// One batch of a write. A refusal leaves a front of the blocks that are left, none but where the drive
+    /// stopped.
+    fn write_some(&mut self, first: u32, left: u32, bytes: &[u8]) -> Result<u32, DiskFault>
+        requires some { 1 ≤ left }
+        requires in_range { first + left ≤ disk_size self.old }
+        requires whole { length bytes.now ≡ left * self.old.drive.geometry.block }
+        requires serving { self.old.status ≡ Serving }
+        ensures kept { KeepsDisk self.old self.new }
+        ensures count { IfOk result (λ count. (1 ≤ count) × (count ≤ left)) }
+        ensures ok { IfOk result (λ count. array_of self.new ≡ replaced (array_of self.old) first (take count (cut_blocks self.old.drive.geometry.block left bytes.now))) }
+        ensures serving { OnOk result (self.new.status ≡ Serving) }
+        ensures status { IfErr result (λ fault. self.new.status ≡ status_of fault) }
+        ensures err { OnErr result (IsFront (array_of self.old) first (cut_blocks self.old.drive.geometry.block left bytes.now) (array_of self.new)) }
+        ensures cause { IfErr result (λ fault. IsCause self.new.drive (next_sequence self.new) fault) }
+    {
+        let written = write_batch(
+            self.alloc,
+            &mut self.tables,
+            &mut self.device,
+            &mut self.batch,
+            first,
+            left,
+            bytes,
         );
         match written {
             Ok(count) => Ok(count),
@@ -222,6 +257,32 @@ impl<D: Device + Drop> Disk<D> {
         let mut done = 0;
         while done < blocks as u32 {
             match self.fill_some(first as u32 + done, blocks as u32 - done, byte) {
+                Ok(count) => done += count,
+                Err(fault) => return Err(fault),
+            }
+        }
+        Ok(())
+    }
+
+    /// Writes these bytes from the block `first` on: any whole number of blocks.
+    ///
+    /// After a refusal on its way a front of the blocks is written, as after one of a `fill`.
+    pub fn write(&mut self, first: u64, bytes: &[u8]) -> Result<(), DiskFault>
+        requires whole { length bytes.now ≡ block_count self.old.drive.geometry bytes.now * self.old.drive.geometry.block }
+        ensures flat { FlatCall (flat_of self.old) (write first (data_blocks self.old.drive.geometry bytes.now)) (with_nothing result) (flat_of self.new) }
+        ensures untouched { is_known (flat_of self.old) (write first (data_blocks self.old.drive.geometry bytes.now)) ≡ true → self.new ≡ self.old }
+        ensures kept { KeepsDisk self.old self.new }
+        ensures cause { IfErr result (DiskCause self.new) }
+    {
+        let block = self.device.geometry().block as usize;
+        let blocks = (bytes.len() / block) as u64;
+        if self.is_done(first, blocks)? {
+            return Ok(());
+        }
+        let mut done = 0;
+        while done < blocks as u32 {
+            let rest = &bytes[done as usize * block..];
+            match self.write_some(first as u32 + done, blocks as u32 - done, rest) {
                 Ok(count) => done += count,
                 Err(fault) => return Err(fault),
             }

@@ -21,12 +21,12 @@
 
 mod disk;
 mod fault;
-mod fill;
 mod laws;
 mod mount;
 mod read;
 mod room;
 mod status;
+mod write;
 
 pub use disk::Disk;
 pub use fault::DiskFault;

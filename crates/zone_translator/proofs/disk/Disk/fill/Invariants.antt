@@ -1,4 +1,4 @@
-use Rattle.std.proofs.Common.{◌≡◌, ◌-◌, ◌≤◌, replicate}
+use Rattle.std.proofs.Common.{◌≡◌, ◌-◌, ◌≤◌, replicate, take}
 use Rattle.zone_translator.specs.declared.status.DiskStatus.TheVariants.{Serving}
 use Rattle.zone_translator.specs.Flat.{replaced}
 use Rattle.zone_translator.specs.View.{KeepsDisk, array_of}
@@ -7,7 +7,7 @@ use Rattle.zone_translator.proofs.disk.Disk.fill.Given as goal
 abbrev pub invariant-loop-done : goal.invariant-loop-done
 invariant-loop-done g l =
     KeepsDisk l.fn.self l.self × (l.self.status ≡ Serving) × (l.done ≤ l.blocks)
-    × (array_of l.self ≡ replaced (array_of l.fn.self) l.first (replicate l.done (replicate l.fn.self.drive.geometry.block l.byte)))
+    × (array_of l.self ≡ replaced (array_of l.fn.self) l.first (take l.done (replicate l.blocks (replicate l.fn.self.drive.geometry.block l.byte))))
 
 abbrev pub decreases-loop-done : goal.decreases-loop-done
 decreases-loop-done g l = l.blocks - l.done

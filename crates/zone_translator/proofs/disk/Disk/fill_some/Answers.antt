@@ -1,4 +1,4 @@
-use Rattle.zone_translator.proofs.DiskLaws.{holds-agrees, holds-serving, refused-fill, written-disk}
+use Rattle.zone_translator.proofs.DiskLaws.{holds-agrees, holds-serving, refused-write, written-disk}
 use Rattle.zone_translator.proofs.disk.Disk.fill_some.Goals as goal
 
 pub invariant_of-self : goal.invariant_of-self
@@ -9,7 +9,7 @@ invariant_of-self g c =
 pub invariant_of-self-in-Err : goal.invariant_of-self-in-Err
 invariant_of-self-in-Err g c =
     let serves = holds-agrees _ c.self.inside.tables c.self.inside.status (rw (← c.self.view_is) at c.requires.serving) c.self.invariant in
-    rw c.status_of-self-inside.ensures (refused-fill _ _ c.self.inside.tables c.fill_batch-written.new.tables _ _ _ c.in-Err.fault c.self.inside.status serves c.in-Err.ensures.leaves).holds
+    rw c.status_of-self-inside.ensures (refused-write _ _ c.self.inside.tables c.fill_batch-written.new.tables _ _ c.in-Err.fault c.self.inside.status serves c.in-Err.ensures.leaves).holds
 
 pub returns-in-Ok-clause-kept : goal.returns-in-Ok-clause-kept
 returns-in-Ok-clause-kept g c =
@@ -18,9 +18,9 @@ returns-in-Ok-clause-kept g c =
 pub returns-in-Err-clause-kept : goal.returns-in-Err-clause-kept
 returns-in-Err-clause-kept g c =
     let serves = holds-agrees _ c.self.inside.tables c.self.inside.status (rw (← c.self.view_is) at c.requires.serving) c.self.invariant in
-    rw (← c.self.view_is, c.status_of-self-inside.ensures) (refused-fill _ _ c.self.inside.tables c.fill_batch-written.new.tables _ _ _ c.in-Err.fault c.self.inside.status serves c.in-Err.ensures.leaves).kept
+    rw (← c.self.view_is, c.status_of-self-inside.ensures) (refused-write _ _ c.self.inside.tables c.fill_batch-written.new.tables _ _ c.in-Err.fault c.self.inside.status serves c.in-Err.ensures.leaves).kept
 
 pub returns-in-Err-clause-err : goal.returns-in-Err-clause-err
 returns-in-Err-clause-err g c =
     let serves = holds-agrees _ c.self.inside.tables c.self.inside.status (rw (← c.self.view_is) at c.requires.serving) c.self.invariant in
-    rw (← c.self.view_is) (refused-fill _ _ c.self.inside.tables c.fill_batch-written.new.tables _ _ _ c.in-Err.fault c.self.inside.status serves c.in-Err.ensures.leaves).front
+    rw (← c.self.view_is) (refused-write _ _ c.self.inside.tables c.fill_batch-written.new.tables _ _ c.in-Err.fault c.self.inside.status serves c.in-Err.ensures.leaves).front

@@ -1,6 +1,6 @@
 use Rattle.std.proofs.Common.{arith}
 use Rattle.zone_translator.proofs.BatchLaws.{host-heading}
-use Rattle.zone_translator.proofs.fill.prepare.Goals as goal
+use Rattle.zone_translator.proofs.write.start_batch.Goals as goal
 
 pub encode-requires-clause-heading : goal.encode-requires-clause-heading
 encode-requires-clause-heading c =

@@ -1,0 +1,62 @@
+-- A write and the read after it.
+use Rattle.std.proofs.Common.{◌≡◌, ◌==◌, ◌∙◌, ◌⊎◌, ℕ, nat_lt, zero, suc, ◌+◌, ◌<◌, ◌≤◌, Bool, true, false, List, [], ◌∷◌, length, take, drop, get_or, Ok, refl, ap, arith, inl, inr}
+use Rattle.std.proofs.lemmas.Bool.Decides.{nat_tests}
+use Rattle.zone_translator.specs.declared.status.DiskStatus.{DiskStatus}
+use Rattle.zone_translator.specs.declared.status.DiskStatus.TheVariants.{Serving, Stopped}
+use Rattle.zone_translator.specs.Flat.{Answer, FlatCall, FlatDisk, blocks_from, read, replaced, with_nothing, write}
+use Rattle.zone_translator.proofs.FlatLaws.{length-replaced}
+
+pub blocks-replaced : {X : Type 0} (xs : List X) (first : ℕ) (ys : List X) → first + length ys ≤ length xs → take (length ys) (drop first (replaced xs first ys)) ≡ ys
+blocks-replaced [] zero [] le = refl
+blocks-replaced [] zero (y ∷ ys) le = absurd (omega arith)
+blocks-replaced [] (suc first) ys le = absurd (omega arith)
+blocks-replaced (x ∷ xs) (suc first) ys le = blocks-replaced xs first ys (omega arith)
+blocks-replaced (x ∷ xs) zero [] le = refl
+blocks-replaced {X} (x ∷ xs) zero (y ∷ ys) le = ap (λ (zs : List X). y ∷ zs) (blocks-replaced xs zero ys (omega arith))
+
+pub other-replaced : (array blocks : List (List ℕ)) (first block : ℕ) → (block < first) ⊎ (first + length blocks ≤ block) → get_or (replaced array first blocks) block [] ≡ get_or array block []
+other-replaced [] blocks first block outside = refl
+other-replaced (x ∷ xs) blocks (suc first) zero outside = refl
+other-replaced (x ∷ xs) blocks (suc first) (suc block) outside =
+    other-replaced xs blocks first block (elim outside as (λ _. (block < first) ⊎ (first + length blocks ≤ block)) [ inl below ↦ inl (omega arith) | inr above ↦ inr (omega arith) ])
+other-replaced (x ∷ xs) [] zero block outside = refl
+other-replaced (x ∷ xs) (y ∷ ys) zero zero outside = elim outside as (λ _. y ≡ x) [ inl below ↦ absurd (omega arith) | inr above ↦ absurd (omega arith) ]
+other-replaced (x ∷ xs) (y ∷ ys) zero (suc block) outside =
+    other-replaced xs ys zero block (elim outside as (λ _. (block < 0) ⊎ (0 + length ys ≤ block)) [ inl below ↦ absurd (omega arith) | inr above ↦ inr (omega arith) ])
+
+-- a write of some blocks that is done was in range, and its blocks stand in the array
+record IsWritten (old : FlatDisk) (first : ℕ) (blocks : List (List ℕ)) (new : FlatDisk) : Type 0 where
+  within : nat_lt (length old.array) (first + length blocks) ≡ false
+  array : new.array ≡ replaced old.array first blocks
+
+is-written : (old new : FlatDisk) (first : ℕ) (blocks : List (List ℕ)) (past : Bool) (status : DiskStatus) → (length blocks == 0) ≡ false → nat_lt (length old.array) (first + length blocks) ≡ past → old.status ≡ status
+    → FlatCall old (write first blocks) (with_nothing (Ok tt)) new → IsWritten old first blocks new
+is-written old new first blocks true status some past is call =
+    let known = rw (some, past) at call in
+    let answers = ap (λ (a : Answer). a.result) known.0 in absurd (cc)
+is-written old new first blocks false Serving some past is call =
+    let begun = rw (some, past, is) at call in
+    record { within = past; array = begun.0.1 }
+is-written old new first blocks false Stopped some past is call =
+    let known = rw (some, past, is) at call in
+    let answers = ap (λ (a : Answer). a.result) known.0 in absurd (cc)
+
+-- a read of some blocks in range that is done shows them
+is-shown : (old new : FlatDisk) (first n : ℕ) (shown : List (List ℕ)) (status : DiskStatus) → (n == 0) ≡ false → nat_lt (length old.array) (first + n) ≡ false → old.status ≡ status
+    → FlatCall old (read first n) (record { result = Ok tt; shown = shown }) new → shown ≡ blocks_from old.array first n
+is-shown old new first n shown Serving some past is call = let begun = rw (some, past, is) at call in begun.0.0
+is-shown old new first n shown Stopped some past is call =
+    let known = rw (some, past, is) at call in
+    let answers = ap (λ (a : Answer). a.result) known.0 in absurd (cc)
+
+pub written-reads-back : (old middle new : FlatDisk) (first : ℕ) (blocks shown : List (List ℕ)) → FlatCall old (write first blocks) (with_nothing (Ok tt)) middle
+    → FlatCall middle (read first (length blocks)) (record { result = Ok tt; shown = shown }) new → shown ≡ blocks
+written-reads-back old middle new first [] shown wrote reads = ap (λ (a : Answer). a.shown) reads.0
+written-reads-back old middle new first (b ∷ bs) shown wrote reads =
+    let n = length (b ∷ bs) in
+    let some : (length (b ∷ bs) == 0) ≡ false = grind (arith, nat_tests) in
+    let is = is-written old middle first (b ∷ bs) (nat_lt (length old.array) (first + length (b ∷ bs))) old.status some refl refl wrote in
+    let long : length middle.array ≡ length old.array = rw is.array (length-replaced old.array first (b ∷ bs)) in
+    let within : nat_lt (length middle.array) (first + length (b ∷ bs)) ≡ false = rw long is.within in
+    let le : first + length (b ∷ bs) ≤ length old.array = grind (arith, nat_tests, is.within) in
+    is-shown middle new first (length (b ∷ bs)) shown middle.status some within refl reads ∙ rw is.array (blocks-replaced old.array first (b ∷ bs) le)
