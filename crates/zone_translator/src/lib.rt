@@ -8,8 +8,9 @@
 //!     Ok(disk) => disk,
 //!     Err((fault, drive)) => return give_back(drive, fault),
 //! };
-//! disk.fill(2, 3, 0xaa)?;          // blocks 2 to 4
-//! disk.read(2, 3, &mut shown)?;    // 3 blocks of 0xaa
+//! disk.write(2, &bytes)?;          // from block 2 on
+//! disk.fill(5, 4, 0xaa)?;          // blocks 5 to 8
+//! disk.read(2, 3, &mut shown)?;    // blocks 2 to 4
 //! let drive = disk.into_device();
 //! ```
 //!
