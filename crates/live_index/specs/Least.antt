@@ -1,5 +1,5 @@
 -- The least of some counts.
-use Rattle.std.specs.Prelude.{◌≡◌, ℕ, ◌<◌, ◌≤◌, if◌then◌else◌, Bool, true, List, slice_get, slice_index, Option, Some, None, nat_lt}
+use Rattle.std.specs.Prelude.{◌≡◌, ℕ, ◌<◌, ◌≤◌, Bool, true, List, slice_get, slice_index, Option, Some, None}
 
 -- a zone is named, where each zone has a mark
 abbrev pub IsNamed : List Bool → ℕ → Type 0
@@ -20,8 +20,3 @@ pub record IsLeast (counts : List ℕ) (among : List Bool) (end zone : ℕ) : Ty
 abbrev pub FindsLeast : List ℕ → List Bool → ℕ → Option ℕ → Type 0
 FindsLeast counts among end None = NoneNamed among end
 FindsLeast counts among end (Some zone) = IsLeast counts among end zone
-
--- of the best zone so far and a later one: the later one only if it has fewer
-abbrev pub better : List ℕ → Option ℕ → ℕ → ℕ
-better counts None zone = zone
-better counts (Some other) zone = if nat_lt (slice_index counts zone) (slice_index counts other) then zone else other

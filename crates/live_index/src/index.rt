@@ -1,6 +1,7 @@
-ghost use Rattle.std.specs.Prelude.{◌≡◌, ◌<◌, ◌+◌, ◌-◌, ◌^◌, IfOk, IfSome, length, replicate, slice_index, slice_set};
-ghost use Rattle.live_index.specs.Least.{FindsLeast, better};
+ghost use Rattle.std.specs.Prelude.{◌≡◌, ◌<◌, ◌+◌, ◌-◌, ◌^◌, IfOk, length, replicate, slice_index, slice_set};
+ghost use Rattle.live_index.specs.Least.{FindsLeast};
 
+use crate::order::Order;
 use std::alloc::{AllocError, Global};
 use std::marker::Model;
 
@@ -8,16 +9,19 @@ use std::marker::Model;
 #[derive(Drop)]
 pub struct LiveIndex {
     counts: Vec<u32>,
+    /// The zones in order of their counts.
+    order: Order,
 }
 
 impl Model for LiveIndex {
-    ghost use Rattle.std.specs.Prelude.{List, ℕ, ◌<◌, ◌^◌, length};
+    ghost use Rattle.std.specs.Prelude.{List, ℕ};
+    ghost use Rattle.live_index.specs.Ordered.{AreInverse, IsOrdered};
 
     ghost Value = { List ℕ };
 
     ghost view = { λ i. i.counts.items };
 
-    ghost invariant = { λ i. length i.counts.items < 2 ^ 32 };
+    ghost invariant = { λ i. IsOrdered i.counts.items i.order.zones.items × AreInverse i.order.zones.items i.order.positions.items };
 }
 
 impl LiveIndex {
@@ -27,6 +31,7 @@ impl LiveIndex {
     {
         Ok(LiveIndex {
             counts: vec![in alloc; 0; zones as usize]?,
+            order: Order::new(alloc, zones)?,
         })
     }
 
@@ -44,6 +49,9 @@ impl LiveIndex {
         requires below { slice_index self.old zone < 2 ^ 31 }
         ensures { self.new ≡ slice_set self.old zone (slice_index self.old zone + 1) }
     {
+        let count = self.counts[zone as usize];
+        let last = self.order.first_above(&self.counts, count) - 1;
+        self.order.put(zone, last);
         self.counts[zone as usize] += 1;
     }
 
@@ -53,6 +61,9 @@ impl LiveIndex {
         requires above { 0 < slice_index self.old zone }
         ensures { self.new ≡ slice_set self.old zone (slice_index self.old zone - 1) }
     {
+        let count = self.counts[zone as usize];
+        let first = self.order.first_above(&self.counts, count - 1);
+        self.order.put(zone, first);
         self.counts[zone as usize] -= 1;
     }
 
@@ -62,27 +73,11 @@ impl LiveIndex {
         requires { length among.now ≡ length self.now }
         ensures { FindsLeast self.now among.now (length among.now) result }
     {
-        let mut best: Option<u32> = None;
-        for zone in 0..self.counts.len() as u32 {
-            if among[zone as usize] {
-                best = Some(self.better(best, zone));
-            }
-        }
-        best
-    }
-
-    /// The better of the best zone so far and a later one: the later one only if it has fewer live records.
-    fn better(&self, best: Option<u32>, zone: u32) -> u32
-        requires zone { zone < length self.now }
-        requires best { IfSome best (λ other. other < length self.now) }
-        ensures { result ≡ better self.now best zone }
-    {
-        let Some(other) = best else {
-            return zone;
+        let Some(first) = self.order.first_named(among) else {
+            return None;
         };
-        if self.count(zone) < self.count(other) {
-            return zone;
-        }
-        other
+        let count = self.counts[self.order.zone(first) as usize];
+        let end = self.order.first_above(&self.counts, count);
+        Some(self.order.zone(self.order.lowest_named(among, first, end)))
     }
 }

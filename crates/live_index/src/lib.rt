@@ -7,10 +7,13 @@
 //! ```
 //!
 //! What is promised: the counts are a list of numbers, `add` and `remove` change one of them by one, and
-//! `least` finds the lowest of the named zones with the fewest (`FindsLeast` in specs/Least).
+//! `least` finds the lowest of the named zones with the fewest (`FindsLeast` in specs/Least). The zones are
+//! kept in order of their counts: `add` and `remove` swap two of them, found by bisection, and `least` goes
+//! through the order once at most (`IsOrdered` in specs/Ordered).
 #![tactic(auto)]
 
 mod index;
+mod order;
 
 pub use index::LiveIndex;
 
