@@ -3,6 +3,7 @@
 use crate::fault::ScriptFault;
 use crate::words::{byte, number, part};
 use batch_log::{Entry, Header, Kind, header_bytes};
+use byteorder::{ByteOrder, LittleEndian};
 use std::alloc::Global;
 use yardsticks::is_heading;
 
@@ -77,21 +78,28 @@ pub fn parse_batch(alloc: Global, words: &[&str]) -> Result<Batch, ScriptFault> 
 }
 
 impl Batch {
-    /// The bytes of the header, without the zeros that follow the entries, put together by hand.
-    pub fn front(&self, alloc: Global) -> Result<Vec<u8>, ScriptFault> {
-        let kind: u16 = match self.kind {
+    // The bytes before the entries, put together by hand.
+    fn head(&self, count: u32) -> [u8; 32] {
+        let version = if self.size.is_some() { 2 } else { 1 };
+        let kind = match self.kind {
             Kind::Host => 1,
             Kind::Move => 2,
         };
-        let version: u16 = if self.size.is_some() { 2 } else { 1 };
+        let mut head = [0; 32];
+        head[..8].copy_from_slice(b"ZLOGBAT1");
+        LittleEndian::write_u16(&mut head[8..10], version);
+        LittleEndian::write_u16(&mut head[10..12], kind);
+        LittleEndian::write_u32(&mut head[12..16], count);
+        LittleEndian::write_u64(&mut head[16..24], self.sequence);
+        LittleEndian::write_u32(&mut head[24..28], self.source);
+        LittleEndian::write_u32(&mut head[28..32], self.size.unwrap_or(0));
+        head
+    }
+
+    /// The bytes of the header, without the zeros that follow the entries.
+    pub fn front(&self, alloc: Global) -> Result<Vec<u8>, ScriptFault> {
         let count = u32::try_from(self.entries.len()).or(Err(ScriptFault::Words))?;
-        let mut bytes = Vec::from_slice(alloc, b"ZLOGBAT1")?;
-        bytes.extend_from_slice(&version.to_le_bytes())?;
-        bytes.extend_from_slice(&kind.to_le_bytes())?;
-        bytes.extend_from_slice(&count.to_le_bytes())?;
-        bytes.extend_from_slice(&self.sequence.to_le_bytes())?;
-        bytes.extend_from_slice(&self.source.to_le_bytes())?;
-        bytes.extend_from_slice(&self.size.unwrap_or(0).to_le_bytes())?;
+        let mut bytes = Vec::from_slice(alloc, &self.head(count))?;
         for entry in &self.entries {
             let trim_bit: u64 = if entry.trim { 1 << 63 } else { 0 };
             bytes.extend_from_slice(&(entry.block | trim_bit).to_le_bytes())?;

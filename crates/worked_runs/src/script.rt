@@ -47,6 +47,15 @@ fn steps<'a>(alloc: Global, text: &'a str) -> Result<Vec<Step<'a>>, ScriptFault>
     Ok(steps)
 }
 
+// How many blocks of an Append are written before a stop, if these words say so.
+fn tear(words: &[&str]) -> Result<u32, ScriptFault> {
+    match words {
+        [] => Ok(0),
+        [blocks, _, "into", "an", "Append"] => part(blocks),
+        _ => Err(ScriptFault::Words),
+    }
+}
+
 // What the steps so far have made.
 #[derive(Drop)]
 struct Session<'a> {
@@ -125,20 +134,9 @@ impl<'a> Session<'a> {
     // Lines that say how the next run is made.
     fn set(&mut self, words: &[&str]) -> Result<bool, ScriptFault> {
         match words {
-            ["stop", "after", commands, _] => self.setting.stop_after = Some(number(commands)?),
-            [
-                "stop",
-                "after",
-                commands,
-                _,
-                blocks,
-                _,
-                "into",
-                "an",
-                "Append",
-            ] => {
+            ["stop", "after", commands, _, rest @ ..] => {
                 self.setting.stop_after = Some(number(commands)?);
-                self.setting.tear = u32::try_from(number(blocks)?).or(Err(ScriptFault::Words))?;
+                self.setting.tear = tear(rest)?;
             }
             ["out", "of", "memory", "after", commands, _] => {
                 self.setting.no_memory_after = Some(number(commands)?);
