@@ -1,5 +1,5 @@
 -- Pages of places as one list: a page more, and a place changed.
-use Rattle.std.proofs.Common.{◌≡◌, ◌≢◌, ℕ, ◌/◌, ◌%◌, ◌<◌, ◌≤◌, Bool, true, false, List, length, get_or, set, replicate, Option, Some, refl, sym, ap, ◌∙◌, inl, inr, arith}
+use Rattle.std.proofs.Common.{◌≡◌, ◌≢◌, ℕ, zero, suc, ◌/◌, ◌%◌, ◌<◌, ◌≤◌, Bool, true, false, List, [], ◌∷◌, map, length, get_or, set, replicate, Option, Some, refl, sym, ap, ◌∙◌, inl, inr, arith}
 use Rattle.std.specs.Option.{unwrap_or, option_map, is_some}
 use Rattle.std.proofs.lemmas.List.{get_or-set_same, get_or-set_other, length-set, length-replicate, get_or-replicate, get_or_past}
 use Rattle.std.proofs.lemmas.List.FromFn.{fill_by_all, length-map-range_with_len, get_or-map-range_with_len}
@@ -13,13 +13,19 @@ use Rattle.std.specs.BTreeMap.{is_at}
 use Rattle.std.proofs.lemmas.Bool.{false≢true}
 use Rattle.std.proofs.lemmas.Bool.Decides.{nat_tests}
 use Rattle.logical_map.specs.Places.{MapView, Reserves}
-use Rattle.logical_map.specs.Pages.{place_in, shown, ready}
+use Rattle.logical_map.specs.Pages.{place_in, place_of, shown, ready}
 
 pub length-shown : (page : ℕ → Option (List Place)) (n : ℕ) → length (shown page n) ≡ n
 length-shown page n = length-map-range_with_len (place_in page) 0 n
 
 pub shown-at : (page : ℕ → Option (List Place)) (n block : ℕ) → block < n → get_or (shown page n) block places.None ≡ place_in page block
 shown-at page n block h = get_or-map-range_with_len (place_in page) 0 n block block places.None h (omega arith)
+
+-- a place among words
+pub word-at : (words : List ℕ) (i : ℕ) → get_or (map place_of words) i places.None ≡ place_of (get_or words i 0)
+word-at [] i = refl
+word-at (w ∷ words) zero = refl
+word-at (w ∷ words) (suc i) = word-at words i
 
 -- where a page is missing there is no place
 pub none-at : (page : ℕ → Option (List Place)) (block : ℕ) → page (block / 256) ≡ Option.None → place_in page block ≡ places.None
@@ -35,6 +41,10 @@ pub shown-empty : (page : ℕ → Option (List Place)) (n : ℕ) → ((m : ℕ) 
 shown-empty page n none = sym (fill_by_all (place_in page) (replicate n places.None) n places.None (length-replicate n places.None) (λ k h. get_or-replicate n k places.None places.None h ∙ sym (none-at page k (none (k / 256)))))
 
 -- a fresh page
+pub fresh-page : (n : ℕ) → map place_of (replicate n 0) ≡ replicate n places.None
+fresh-page zero = refl
+fresh-page (suc n) = ap (λ (ps : List Place). places.None ∷ ps) (fresh-page n)
+
 pub shown-reserve : (page page' : ℕ → Option (List Place)) (n number : ℕ) → page number ≡ Option.None → page' number ≡ Some (replicate 256 places.None) → ((m : ℕ) → m ≢ number → page' m ≡ page m) → shown page' n ≡ shown page n
 shown-reserve page page' n number none fresh others =
     sym (fill_by_all (place_in page') (shown page n) n places.None (length-shown page n) (λ k h. shown-at page n k h ∙ sym (same k)))
@@ -108,10 +118,10 @@ sets page page' n zones size block p place h long old new others = both (shown p
 pub is_at-other : (a m : ℕ) → m ≢ a → is_at (nat_cmp a) m ≡ false
 is_at-other a m h = grind (arith, nat_tests)
 
-pub there-from : (o : Option (Box (List Place) Global)) → true ≡ is_some o → is_some (option_map (λ b. b.value) o) ≡ true
+pub there-from : (o : Option (Box (List ℕ) Global)) → true ≡ is_some o → is_some (option_map (λ b. map place_of b.value) o) ≡ true
 there-from Option.None e = sym e
 there-from (Some b) e = refl
 
-pub missing-from : (o : Option (Box (List Place) Global)) → false ≡ is_some o → option_map (λ b. b.value) o ≡ Option.None
+pub missing-from : (o : Option (Box (List ℕ) Global)) → false ≡ is_some o → option_map (λ b. map place_of b.value) o ≡ Option.None
 missing-from Option.None e = refl
 missing-from (Some b) e = absurd (false≢true e)

@@ -1,6 +1,13 @@
 -- A list of places, and which of its blocks are ready to be set.
 use Rattle.std.specs.Prelude.{◌≡◌, ℕ, Bool, true, false, List, slice_index_or}
 use Rattle.logical_map.specs.declared.place.Place.{Place}
+use Rattle.logical_map.specs.declared.place.Place.TheVariants as places
+
+-- the address of a place, 0 where there is none
+abbrev pub address_of : Place → ℕ
+address_of places.None = 0
+address_of (places.Trimmed address) = address
+address_of (places.At address) = address
 
 -- where each block lies, and whether its place can be set without an allocation; the drive's number of zones, and how many addresses a zone has
 pub record MapView : Type 0 where

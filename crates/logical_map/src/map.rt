@@ -1,5 +1,6 @@
-ghost use Rattle.std.specs.Prelude.{◌≡◌, ◌≢◌, ◌<◌, ◌≤◌, length, slice_index_or, slice_set, replicate, OnOk, OnErr};
-ghost use Rattle.logical_map.specs.Places.{IsReady, Reserves};
+ghost use Rattle.std.specs.Prelude.{◌≡◌, ◌≢◌, ◌<◌, ◌≤◌, ◌+◌, ◌^◌, length, map, slice_index_or, slice_set, replicate, OnOk, OnErr};
+ghost use Rattle.logical_map.specs.Pages.{place_of};
+ghost use Rattle.logical_map.specs.Places.{IsReady, Reserves, address_of};
 ghost use Rattle.logical_map.specs.declared.place.Place.TheVariants as places;
 
 use crate::place::Place;
@@ -11,8 +12,8 @@ use std::marker::Model;
 const PAGE: u32 = 256;
 
 /// Where each of a number of logical blocks lies, on a drive of `zones` zones with `zone_size` addresses
-/// each. The places stand in pages, which are made as they are wanted; a page that is missing holds no
-/// place.
+/// each. The places stand in pages, 8 bytes each; a page is made when it is wanted, and one that is missing
+/// holds no place.
 #[derive(Drop)]
 pub struct Map {
     /// How many blocks there are.
@@ -20,7 +21,7 @@ pub struct Map {
     zones: u32,
     zone_size: u32,
     alloc: Global,
-    pages: BTreeMap<u32, Box<[Place; 256]>>,
+    pages: BTreeMap<u32, Box<[u64; 256]>>,
 }
 
 impl Model for Map {
@@ -64,7 +65,7 @@ impl Map {
     {
         match self.pages.get(&(block / PAGE)) {
             None => Place::None,
-            Some(page) => page[(block % PAGE) as usize],
+            Some(page) => Place::from_word(page[(block % PAGE) as usize]),
         }
     }
 
@@ -79,7 +80,7 @@ impl Map {
         if self.pages.contains_key(&page) {
             return Ok(());
         }
-        let fresh = Box::new(self.alloc, [Place::None; 256])?;
+        let fresh = Box::new(self.alloc, [0; 256])?;
         self.pages.insert(page, fresh)?;
         Ok(())
     }
@@ -88,6 +89,7 @@ impl Map {
     pub fn set(&mut self, block: u32, place: Place)
         requires in_range { block < length self.old.places }
         requires ready { IsReady self.old block }
+        requires fits { address_of place + 1 < 2 ^ 63 }
         ensures { self.new ≡ record self.old { places = slice_set self.old.places block place } }
     {
         let Some(page) = self.pages.get_mut(&(block / PAGE)) else {
@@ -98,12 +100,13 @@ impl Map {
 }
 
 /// Writes one place of a page.
-fn put(page: &mut [Place; 256], index: usize, place: Place)
-    requires { index < 256 }
-    ensures set { page.new ≡ slice_set page.old index place }
+fn put(page: &mut [u64; 256], index: usize, place: Place)
+    requires in_range { index < 256 }
+    requires fits { address_of place + 1 < 2 ^ 63 }
+    ensures set { map place_of page.new ≡ slice_set (map place_of page.old) index place }
     ensures long { length page.old ≡ 256 }
 {
-    page[index] = place;
+    page[index] = place.word();
 }
 
 #[cfg(test)]
