@@ -1,5 +1,5 @@
 -- Pages of places, seen as one list: a page that is missing holds no place.
-use Rattle.std.specs.Prelude.{ℕ, ◌-◌, ◌/◌, ◌%◌, ◌==◌, if◌then◌else◌, Bool, List, map, slice_index_or, Option, Box}
+use Rattle.std.specs.Prelude.{◌≡◌, ℕ, ◌≤◌, ◌-◌, ◌/◌, ◌%◌, ◌==◌, if◌then◌else◌, Bool, List, map, slice_index_or, Option, Box}
 use Rattle.std.specs.declared.alloc.Global.{Global}
 use Rattle.std.specs.List.{range_with_len}
 use Rattle.std.specs.Option.{unwrap_or, option_map, is_some}
@@ -19,6 +19,10 @@ place_in page block = unwrap_or (option_map (λ p. slice_index_or p (block % 256
 -- the places of all blocks
 abbrev pub shown : (ℕ → Option (List Place)) → ℕ → List Place
 shown page n = map (place_in page) (range_with_len 0 n)
+
+-- no block from one on has a place
+abbrev pub HasNoneFrom : (ℕ → Option (List Place)) → ℕ → Type 0
+HasNoneFrom page end = (block : ℕ) → end ≤ block → place_in page block ≡ places.None
 
 -- a map's page, by a look-up of its number
 abbrev pub page_of : BTreeMap ℕ (Box (List ℕ) Global) → ℕ → Option (List Place)

@@ -1,5 +1,5 @@
 -- A list of places, and which of its blocks are ready to be set.
-use Rattle.std.specs.Prelude.{◌≡◌, ℕ, Bool, true, false, List, slice_index_or}
+use Rattle.std.specs.Prelude.{◌≡◌, ℕ, ◌-◌, Bool, true, false, List, ◌++◌, length, replicate, slice_index_or}
 use Rattle.logical_map.specs.declared.place.Place.{Place}
 use Rattle.logical_map.specs.declared.place.Place.TheVariants as places
 
@@ -24,5 +24,12 @@ pub record Reserves (old : MapView) (block : ℕ) (new : MapView) : Type 0 where
   pub places : new.places ≡ old.places
   pub here : IsReady new block
   pub kept : (other : ℕ) → IsReady old other → IsReady new other
+  pub zones : new.zones ≡ old.zones
+  pub zone_size : new.zone_size ≡ old.zone_size
+
+-- there are more blocks, up to this count, and those have no place; the blocks that were ready still are
+pub record Grows (old : MapView) (count : ℕ) (new : MapView) : Type 0 where
+  pub places : new.places ≡ old.places ++ replicate (count - length old.places) places.None
+  pub kept : (block : ℕ) → IsReady old block → IsReady new block
   pub zones : new.zones ≡ old.zones
   pub zone_size : new.zone_size ≡ old.zone_size

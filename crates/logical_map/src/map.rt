@@ -1,6 +1,6 @@
 ghost use Rattle.std.specs.Prelude.{◌≡◌, ◌≢◌, ◌<◌, ◌≤◌, ◌+◌, ◌^◌, length, map, slice_index_or, slice_set, replicate, OnOk, OnErr};
 ghost use Rattle.logical_map.specs.Pages.{place_of};
-ghost use Rattle.logical_map.specs.Places.{IsReady, Reserves, address_of};
+ghost use Rattle.logical_map.specs.Places.{Grows, IsReady, Reserves, address_of};
 ghost use Rattle.logical_map.specs.declared.place.Place.TheVariants as places;
 
 use crate::place::Place;
@@ -26,11 +26,13 @@ pub struct Map {
 
 impl Model for Map {
     ghost use Rattle.logical_map.specs.Places.{MapView};
-    ghost use Rattle.logical_map.specs.Pages.{page_of, ready, shown};
+    ghost use Rattle.logical_map.specs.Pages.{HasNoneFrom, page_of, ready, shown};
 
     ghost Value = { MapView };
 
     ghost view = { λ m. record { places = shown (page_of m.pages) m.count; ready = ready (page_of m.pages) m.count; zones = m.zones; zone_size = m.zone_size } };
+
+    ghost invariant = { λ m. HasNoneFrom (page_of m.pages) m.count };
 }
 
 impl Map {
@@ -55,6 +57,15 @@ impl Map {
         ensures { result ≡ length self.now.places }
     {
         self.count
+    }
+
+    /// Makes it a map of more blocks, none of which has a place. It allocates nothing, and blocks that room
+    /// was made for need no more.
+    pub fn grow(&mut self, count: u32)
+        requires { length self.old.places ≤ count }
+        ensures { Grows self.old count self.new }
+    {
+        self.count = count;
     }
 
     /// Where a block lies. A block that has a place is ready to be placed again.

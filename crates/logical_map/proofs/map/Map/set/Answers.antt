@@ -3,7 +3,7 @@ use Rattle.std.specs.Option.{option_map}
 use Rattle.std.proofs.lemmas.Bool.{false≢true}
 use Rattle.std.proofs.lemmas.List.{length-map}
 use Rattle.logical_map.specs.Pages.{page_of, place_of}
-use Rattle.logical_map.proofs.Showing.{sets, length-shown, ready-at, is_at-other}
+use Rattle.logical_map.proofs.Showing.{none_from-set, sets, length-shown, ready-at, is_at-other}
 use Rattle.logical_map.proofs.map.Map.set.Goals as goal
 
 pub returns : goal.returns
@@ -24,3 +24,13 @@ returns-in_default c =
     let below = rw (← c.self.view_is) at c.requires.in_range in
     let ready = rw (← c.self.view_is) at c.requires.ready in
     absurd (false≢true (ap is_some (ap (option_map (λ b. map place_of b.value)) c.in_default.ensures.value) ∙ sym (ready-at page c.self.inside.count c.args.block (omega (arith, below, length-shown page c.self.inside.count))) ∙ ready))
+
+pub invariant_of-self-2 : goal.invariant_of-self-2
+invariant_of-self-2 c =
+    let w = Rattle.std.specs.Box.with_value c.in-Some.page.now c.put.new.page in
+    let u = (c.get_mut.follows.holds w).3 (search rules) in
+    let page = page_of c.self.inside.pages in
+    let below = rw (← c.self.view_is) at c.requires.in_range in
+    none_from-set page (page_of (c.get_mut.follows.lender w)) c.self.inside.count c.args.block (map place_of c.deref_mut.result.now) c.args.place c.self.invariant (omega (arith, below, length-shown page c.self.inside.count))
+    (ap (option_map (λ b. map place_of b.value)) (sym c.in-Some.ensures.value) ∙ ap (λ ws. Some (map place_of ws)) (sym c.deref_mut.ensures.value)) (ap (option_map (λ b. map place_of b.value)) u.1 ∙ ap Some c.put.ensures.set)
+    (λ m apart. ap (option_map (λ b. map place_of b.value)) (u.2 m (is_at-other (c.args.block / 256) m apart)))
