@@ -37,6 +37,9 @@ some-at page block p e = ap (λ (q : Option (List Place)). unwrap_or (option_map
 same-at : (page page' : ℕ → Option (List Place)) (block : ℕ) → page' (block / 256) ≡ page (block / 256) → place_in page' block ≡ place_in page block
 same-at page page' block e = ap (λ (q : Option (List Place)). unwrap_or (option_map (λ r. get_or r (block % 256) places.None) q) places.None) e
 
+pub shown-some : (page : ℕ → Option (List Place)) (n block : ℕ) (p : List Place) → block < n → page (block / 256) ≡ Some p → get_or p (block % 256) places.None ≡ get_or (shown page n) block places.None
+shown-some page n block p h found = sym (shown-at page n block h ∙ some-at page block p found)
+
 pub shown-empty : (page : ℕ → Option (List Place)) (n : ℕ) → ((m : ℕ) → page m ≡ Option.None) → shown page n ≡ replicate n places.None
 shown-empty page n none = sym (fill_by_all (place_in page) (replicate n places.None) n places.None (length-replicate n places.None) (λ k h. get_or-replicate n k places.None places.None h ∙ sym (none-at page k (none (k / 256)))))
 
@@ -139,7 +142,7 @@ pub none_from-set : (page page' : ℕ → Option (List Place)) (n block : ℕ) (
     → HasNoneFrom page' n
 none_from-set page page' n block p place past below old new others = λ k above. place-set page page' block k p place (λ same. omega arith) old new others ∙ past k above
 
-shown-grow : (page : ℕ → Option (List Place)) (n count : ℕ) → HasNoneFrom page n → n ≤ count → shown page count ≡ shown page n ++ replicate (count - n) places.None
+pub shown-grow : (page : ℕ → Option (List Place)) (n count : ℕ) → HasNoneFrom page n → n ≤ count → shown page count ≡ shown page n ++ replicate (count - n) places.None
 shown-grow page n count past more = sym (fill_by_all (place_in page) (shown page n ++ replicate (count - n) places.None) count places.None long each)
   where
     long : length (shown page n ++ replicate (count - n) places.None) ≡ count
