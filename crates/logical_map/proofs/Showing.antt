@@ -1,7 +1,7 @@
 -- Pages of places as one list: a page more, and a place changed.
-use Rattle.std.proofs.Common.{◌≡◌, ◌≢◌, ℕ, ◌/◌, ◌%◌, ◌<◌, ◌≤◌, Bool, true, false, List, length, get_or, set, replicate, Option, Some, refl, sym, ap, ◌∙◌, inl, inr, arith}
+use Rattle.std.proofs.Common.{◌≡◌, ◌≢◌, ℕ, zero, suc, ◌-◌, ◌/◌, ◌%◌, ◌<◌, ◌≤◌, Bool, true, false, List, [], ◌∷◌, ◌++◌, map, length, get_or, set, replicate, Option, Some, refl, sym, ap, ◌∙◌, inl, inr, arith}
 use Rattle.std.specs.Option.{unwrap_or, option_map, is_some}
-use Rattle.std.proofs.lemmas.List.{get_or-set_same, get_or-set_other, length-set, length-replicate, get_or-replicate, get_or_past}
+use Rattle.std.proofs.lemmas.List.{get_or-append_right, get_or-set_same, get_or-set_other, get_or_append_left, length-append, length-set, length-replicate, get_or-replicate, get_or_past}
 use Rattle.std.proofs.lemmas.List.FromFn.{fill_by_all, length-map-range_with_len, get_or-map-range_with_len}
 use Rattle.std.proofs.lemmas.Bool.{cases_eq, cases_lt}
 use Rattle.logical_map.specs.declared.place.Place.{Place}
@@ -12,14 +12,20 @@ use Rattle.std.specs.Ordering.{nat_cmp}
 use Rattle.std.specs.BTreeMap.{is_at}
 use Rattle.std.proofs.lemmas.Bool.{false≢true}
 use Rattle.std.proofs.lemmas.Bool.Decides.{nat_tests}
-use Rattle.logical_map.specs.Places.{MapView, Reserves}
-use Rattle.logical_map.specs.Pages.{place_in, shown, ready}
+use Rattle.logical_map.specs.Places.{Grows, MapView, Reserves}
+use Rattle.logical_map.specs.Pages.{HasNoneFrom, place_in, place_of, shown, ready}
 
 pub length-shown : (page : ℕ → Option (List Place)) (n : ℕ) → length (shown page n) ≡ n
 length-shown page n = length-map-range_with_len (place_in page) 0 n
 
 pub shown-at : (page : ℕ → Option (List Place)) (n block : ℕ) → block < n → get_or (shown page n) block places.None ≡ place_in page block
 shown-at page n block h = get_or-map-range_with_len (place_in page) 0 n block block places.None h (omega arith)
+
+-- a place among words
+pub word-at : (words : List ℕ) (i : ℕ) → get_or (map place_of words) i places.None ≡ place_of (get_or words i 0)
+word-at [] i = refl
+word-at (w ∷ words) zero = refl
+word-at (w ∷ words) (suc i) = word-at words i
 
 -- where a page is missing there is no place
 pub none-at : (page : ℕ → Option (List Place)) (block : ℕ) → page (block / 256) ≡ Option.None → place_in page block ≡ places.None
@@ -31,21 +37,35 @@ some-at page block p e = ap (λ (q : Option (List Place)). unwrap_or (option_map
 same-at : (page page' : ℕ → Option (List Place)) (block : ℕ) → page' (block / 256) ≡ page (block / 256) → place_in page' block ≡ place_in page block
 same-at page page' block e = ap (λ (q : Option (List Place)). unwrap_or (option_map (λ r. get_or r (block % 256) places.None) q) places.None) e
 
+pub shown-some : (page : ℕ → Option (List Place)) (n block : ℕ) (p : List Place) → block < n → page (block / 256) ≡ Some p → get_or p (block % 256) places.None ≡ get_or (shown page n) block places.None
+shown-some page n block p h found = sym (shown-at page n block h ∙ some-at page block p found)
+
 pub shown-empty : (page : ℕ → Option (List Place)) (n : ℕ) → ((m : ℕ) → page m ≡ Option.None) → shown page n ≡ replicate n places.None
 shown-empty page n none = sym (fill_by_all (place_in page) (replicate n places.None) n places.None (length-replicate n places.None) (λ k h. get_or-replicate n k places.None places.None h ∙ sym (none-at page k (none (k / 256)))))
 
 -- a fresh page
+pub fresh-page : (n : ℕ) → map place_of (replicate n 0) ≡ replicate n places.None
+fresh-page zero = refl
+fresh-page (suc n) = ap (λ (ps : List Place). places.None ∷ ps) (fresh-page n)
+
+pub place-reserve : (page page' : ℕ → Option (List Place)) (number k : ℕ) → page number ≡ Option.None → page' number ≡ Some (replicate 256 places.None) → ((m : ℕ) → m ≢ number → page' m ≡ page m) → place_in page' k ≡ place_in page k
+place-reserve page page' number k none fresh others = elim (cases_eq (k / 256) number) as (λ _. place_in page' k ≡ place_in page k) [
+  | inl e ↦ some-at page' k (replicate 256 places.None) (ap page' e ∙ fresh) ∙ get_or-replicate 256 (k % 256) places.None places.None (omega arith) ∙ sym (none-at page k (ap page e ∙ none))
+  | inr n ↦ same-at page page' k (others (k / 256) n)
+]
+
 pub shown-reserve : (page page' : ℕ → Option (List Place)) (n number : ℕ) → page number ≡ Option.None → page' number ≡ Some (replicate 256 places.None) → ((m : ℕ) → m ≢ number → page' m ≡ page m) → shown page' n ≡ shown page n
 shown-reserve page page' n number none fresh others =
-    sym (fill_by_all (place_in page') (shown page n) n places.None (length-shown page n) (λ k h. shown-at page n k h ∙ sym (same k)))
-  where
-    same : (k : ℕ) → place_in page' k ≡ place_in page k
-    same k = elim (cases_eq (k / 256) number) as (λ _. place_in page' k ≡ place_in page k) [
-      | inl e ↦ some-at page' k (replicate 256 places.None) (ap page' e ∙ fresh) ∙ get_or-replicate 256 (k % 256) places.None places.None (omega arith) ∙ sym (none-at page k (ap page e ∙ none))
-      | inr n ↦ same-at page page' k (others (k / 256) n)
-    ]
+    sym (fill_by_all (place_in page') (shown page n) n places.None (length-shown page n) (λ k h. shown-at page n k h ∙ sym (place-reserve page page' number k none fresh others)))
 
 -- a place changed
+pub place-set : (page page' : ℕ → Option (List Place)) (block k : ℕ) (p : List Place) (place : Place) → k ≢ block → page (block / 256) ≡ Some p → page' (block / 256) ≡ Some (set p (block % 256) place) → ((m : ℕ) → m ≢ block / 256 → page' m ≡ page m)
+    → place_in page' k ≡ place_in page k
+place-set page page' block k p place differs old new others = elim (cases_eq (k / 256) (block / 256)) as (λ _. place_in page' k ≡ place_in page k) [
+  | inl e ↦ some-at page' k (set p (block % 256) place) (ap page' e ∙ new) ∙ get_or-set_other p (block % 256) (k % 256) place places.None (λ r. differs (omega (arith, e, r))) ∙ sym (some-at page k p (ap page e ∙ old))
+  | inr apart ↦ same-at page page' k (others (k / 256) apart)
+]
+
 pub shown-set : (page page' : ℕ → Option (List Place)) (n block : ℕ) (p : List Place) (place : Place) → block < n → length p ≡ 256 → page (block / 256) ≡ Some p → page' (block / 256) ≡ Some (set p (block % 256) place) → ((m : ℕ) → m ≢ block / 256 → page' m ≡ page m)
     → shown page' n ≡ set (shown page n) block place
 shown-set page page' n block p place h long old new others =
@@ -54,10 +74,7 @@ shown-set page page' n block p place h long old new others =
     each : (k : ℕ) → k < n → get_or (set (shown page n) block place) k places.None ≡ place_in page' k
     each k below = elim (cases_eq k block) as (λ _. get_or (set (shown page n) block place) k places.None ≡ place_in page' k) [
       | inl e ↦ ap (λ (j : ℕ). get_or (set (shown page n) block place) j places.None) e ∙ get_or-set_same (shown page n) block place places.None (omega (arith, length-shown page n)) ∙ sym (get_or-set_same p (block % 256) place places.None (omega arith)) ∙ sym (some-at page' block (set p (block % 256) place) new) ∙ ap (place_in page') (sym e)
-      | inr differs ↦ get_or-set_other (shown page n) block k place places.None differs ∙ shown-at page n k below ∙ sym (elim (cases_eq (k / 256) (block / 256)) as (λ _. place_in page' k ≡ place_in page k) [
-        | inl e ↦ some-at page' k (set p (block % 256) place) (ap page' e ∙ new) ∙ get_or-set_other p (block % 256) (k % 256) place places.None (λ r. differs (omega (arith, e, r))) ∙ sym (some-at page k p (ap page e ∙ old))
-        | inr apart ↦ same-at page page' k (others (k / 256) apart)
-      ])
+      | inr differs ↦ get_or-set_other (shown page n) block k place places.None differs ∙ shown-at page n k below ∙ sym (place-set page page' block k p place differs old new others)
     ]
 
 pub ready-at : (page : ℕ → Option (List Place)) (n block : ℕ) → block < n → get_or (ready page n) block false ≡ is_some (page (block / 256))
@@ -108,10 +125,42 @@ sets page page' n zones size block p place h long old new others = both (shown p
 pub is_at-other : (a m : ℕ) → m ≢ a → is_at (nat_cmp a) m ≡ false
 is_at-other a m h = grind (arith, nat_tests)
 
-pub there-from : (o : Option (Box (List Place) Global)) → true ≡ is_some o → is_some (option_map (λ b. b.value) o) ≡ true
+pub there-from : (o : Option (Box (List ℕ) Global)) → true ≡ is_some o → is_some (option_map (λ b. map place_of b.value) o) ≡ true
 there-from Option.None e = sym e
 there-from (Some b) e = refl
 
-pub missing-from : (o : Option (Box (List Place) Global)) → false ≡ is_some o → option_map (λ b. b.value) o ≡ Option.None
+pub missing-from : (o : Option (Box (List ℕ) Global)) → false ≡ is_some o → option_map (λ b. map place_of b.value) o ≡ Option.None
 missing-from Option.None e = refl
 missing-from (Some b) e = absurd (false≢true e)
+
+-- ---- no places past the end
+
+pub none_from-reserve : (page page' : ℕ → Option (List Place)) (n number : ℕ) → HasNoneFrom page n → page number ≡ Option.None → page' number ≡ Some (replicate 256 places.None) → ((m : ℕ) → m ≢ number → page' m ≡ page m) → HasNoneFrom page' n
+none_from-reserve page page' n number past none fresh others = λ k above. place-reserve page page' number k none fresh others ∙ past k above
+
+pub none_from-set : (page page' : ℕ → Option (List Place)) (n block : ℕ) (p : List Place) (place : Place) → HasNoneFrom page n → block < n → page (block / 256) ≡ Some p → page' (block / 256) ≡ Some (set p (block % 256) place) → ((m : ℕ) → m ≢ block / 256 → page' m ≡ page m)
+    → HasNoneFrom page' n
+none_from-set page page' n block p place past below old new others = λ k above. place-set page page' block k p place (λ same. omega arith) old new others ∙ past k above
+
+pub shown-grow : (page : ℕ → Option (List Place)) (n count : ℕ) → HasNoneFrom page n → n ≤ count → shown page count ≡ shown page n ++ replicate (count - n) places.None
+shown-grow page n count past more = sym (fill_by_all (place_in page) (shown page n ++ replicate (count - n) places.None) count places.None long each)
+  where
+    long : length (shown page n ++ replicate (count - n) places.None) ≡ count
+    long = omega (arith, length-append (shown page n) (replicate (count - n) places.None), length-shown page n, length-replicate (count - n) places.None)
+
+    each : (k : ℕ) → k < count → get_or (shown page n ++ replicate (count - n) places.None) k places.None ≡ place_in page k
+    each k below = elim (cases_lt k n) as (λ _. get_or (shown page n ++ replicate (count - n) places.None) k places.None ≡ place_in page k) [
+      | inl old ↦ get_or_append_left (shown page n) (replicate (count - n) places.None) places.None k (omega (arith, length-shown page n)) ∙ shown-at page n k old
+      | inr new ↦ get_or-append_right (shown page n) (replicate (count - n) places.None) n k places.None (length-shown page n) new ∙ get_or-replicate (count - n) (k - n) places.None places.None (omega arith) ∙ sym (past k new)
+    ]
+
+pub grows : (page : ℕ → Option (List Place)) (n count zones size : ℕ) → HasNoneFrom page n → n ≤ count → Grows (view_with page n zones size) count (view_with page count zones size)
+grows page n count zones size past more = record {
+  places = shown-grow page n count past more ∙ ap (λ (k : ℕ). shown page n ++ replicate (count - k) places.None) (sym (length-shown page n));
+  kept = λ block p. elim (cases_lt block n) as (λ _. get_or (ready page count) block false ≡ true) [
+    | inl below ↦ ready-at page count block (omega arith) ∙ sym (ready-at page n block below) ∙ p
+    | inr above ↦ absurd (false≢true (sym (ready-past page n block above) ∙ p))
+  ];
+  zones = refl;
+  zone_size = refl;
+}

@@ -1,3 +1,4 @@
 pub mod Places
 pub mod Pages
 pub mod Live
+pub mod Counts

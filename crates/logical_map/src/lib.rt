@@ -4,6 +4,8 @@
 //! let mut map = Map::new(alloc, 9, 4, 8);     // 9 blocks, on 4 zones of 8 addresses
 //! map.reserve_for(5)?;                        // the only call that allocates
 //! map.set(5, Place::At(12));                  // block 5 lies at address 12, in zone 1
+//! map.live(1);                                // 1: one block lies in zone 1
+//! map.grow(12);                               // 3 blocks more, none of which has a place
 //! ```
 //!
 //! What is promised: the map is a list of places, and `set` changes that of one block and no other. Its

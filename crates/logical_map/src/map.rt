@@ -1,5 +1,8 @@
-ghost use Rattle.std.specs.Prelude.{◌≡◌, ◌≢◌, ◌<◌, ◌≤◌, length, slice_index_or, slice_set, replicate, OnOk, OnErr};
-ghost use Rattle.logical_map.specs.Places.{IsReady, Reserves};
+ghost use Rattle.std.specs.Prelude.{◌≡◌, ◌≢◌, ◌<◌, ◌≤◌, ◌+◌, ◌/◌, ◌^◌, length, map, slice_index, slice_index_or, slice_set, replicate, IfSome, OnOk, OnErr};
+ghost use Rattle.logical_map.specs.Counts.{lowered, raised};
+ghost use Rattle.logical_map.specs.Live.{live, zone_of};
+ghost use Rattle.logical_map.specs.Pages.{place_of};
+ghost use Rattle.logical_map.specs.Places.{Grows, IsReady, Reserves, address_of};
 ghost use Rattle.logical_map.specs.declared.place.Place.TheVariants as places;
 
 use crate::place::Place;
@@ -11,8 +14,8 @@ use std::marker::Model;
 const PAGE: u32 = 256;
 
 /// Where each of a number of logical blocks lies, on a drive of `zones` zones with `zone_size` addresses
-/// each. The places stand in pages, which are made as they are wanted; a page that is missing holds no
-/// place.
+/// each. The places stand in pages, 8 bytes each; a page is made when it is wanted, and one that is missing
+/// holds no place. How many blocks lie in each zone is kept beside them.
 #[derive(Drop)]
 pub struct Map {
     /// How many blocks there are.
@@ -20,16 +23,21 @@ pub struct Map {
     zones: u32,
     zone_size: u32,
     alloc: Global,
-    pages: BTreeMap<u32, Box<[Place; 256]>>,
+    pages: BTreeMap<u32, Box<[u64; 256]>>,
+    /// How many blocks lie in each zone; none before the first page is made.
+    counts: Vec<u32>,
 }
 
 impl Model for Map {
     ghost use Rattle.logical_map.specs.Places.{MapView};
     ghost use Rattle.logical_map.specs.Pages.{page_of, ready, shown};
+    ghost use Rattle.logical_map.specs.Counts.{IsKept};
 
     ghost Value = { MapView };
 
     ghost view = { λ m. record { places = shown (page_of m.pages) m.count; ready = ready (page_of m.pages) m.count; zones = m.zones; zone_size = m.zone_size } };
+
+    ghost invariant = { λ m. IsKept (page_of m.pages) m.count m.zones m.zone_size m.counts.items };
 }
 
 impl Map {
@@ -46,6 +54,7 @@ impl Map {
             zone_size,
             alloc,
             pages: BTreeMap::new(alloc),
+            counts: Vec::new(alloc),
         }
     }
 
@@ -56,6 +65,15 @@ impl Map {
         self.count
     }
 
+    /// Makes it a map of more blocks, none of which has a place. It allocates nothing, and blocks that room
+    /// was made for need no more.
+    pub fn grow(&mut self, count: u32)
+        requires { length self.old.places ≤ count }
+        ensures { Grows self.old count self.new }
+    {
+        self.count = count;
+    }
+
     /// Where a block lies. A block that has a place is ready to be placed again.
     pub fn get(&self, block: u32) -> Place
         requires { block < length self.now.places }
@@ -64,7 +82,7 @@ impl Map {
     {
         match self.pages.get(&(block / PAGE)) {
             None => Place::None,
-            Some(page) => page[(block % PAGE) as usize],
+            Some(page) => Place::from_word(page[(block % PAGE) as usize]),
         }
     }
 
@@ -79,7 +97,8 @@ impl Map {
         if self.pages.contains_key(&page) {
             return Ok(());
         }
-        let fresh = Box::new(self.alloc, [Place::None; 256])?;
+        self.counts.resize(self.zones as usize, 0)?;
+        let fresh = Box::new(self.alloc, [0; 256])?;
         self.pages.insert(page, fresh)?;
         Ok(())
     }
@@ -88,22 +107,88 @@ impl Map {
     pub fn set(&mut self, block: u32, place: Place)
         requires in_range { block < length self.old.places }
         requires ready { IsReady self.old block }
+        requires fits { address_of place + 1 < 2 ^ 63 }
         ensures { self.new ≡ record self.old { places = slice_set self.old.places block place } }
     {
         let Some(page) = self.pages.get_mut(&(block / PAGE)) else {
             return;
         };
-        put(page, (block % PAGE) as usize, place);
+        let old = put(page, (block % PAGE) as usize, place);
+        lower(&mut self.counts, zone_of(self.zone_size, old));
+        raise(&mut self.counts, zone_of(self.zone_size, place));
+    }
+
+    /// How many blocks lie in a zone.
+    pub fn live(&self, zone: u32) -> u32
+        requires { zone < self.now.zones }
+        ensures { result ≡ live self.now zone }
+    {
+        let index = zone as usize;
+        if index >= self.counts.len() {
+            return 0;
+        }
+        self.counts[index]
     }
 }
 
-/// Writes one place of a page.
-fn put(page: &mut [Place; 256], index: usize, place: Place)
-    requires { index < 256 }
-    ensures set { page.new ≡ slice_set page.old index place }
+/// The zone that a place lies in.
+fn zone_of(zone_size: u32, place: Place) -> Option<u64>
+    ensures { result ≡ zone_of zone_size place }
+{
+    match place {
+        Place::None => None,
+        Place::Trimmed(address) | Place::At(address) => Some(zone_at(zone_size, address)),
+    }
+}
+
+/// The zone that an address lies in; the first where zones have no addresses.
+fn zone_at(zone_size: u32, address: u64) -> u64
+    ensures { result ≡ address / zone_size }
+{
+    if zone_size == 0 {
+        return 0;
+    }
+    address / zone_size as u64
+}
+
+/// One block less in a zone.
+fn lower(counts: &mut Vec<u32>, zone: Option<u64>)
+    ensures { counts.new.items ≡ lowered zone counts.old.items }
+{
+    let Some(zone) = zone else {
+        return;
+    };
+    if zone >= counts.len() as u64 {
+        return;
+    }
+    counts[zone as usize] = counts[zone as usize].saturating_sub(1);
+}
+
+/// One block more in a zone.
+fn raise(counts: &mut Vec<u32>, zone: Option<u64>)
+    requires { IfSome zone (λ zone. slice_index counts.old.items zone + 1 < 2 ^ 32) }
+    ensures { counts.new.items ≡ raised zone counts.old.items }
+{
+    let Some(zone) = zone else {
+        return;
+    };
+    if zone >= counts.len() as u64 {
+        return;
+    }
+    counts[zone as usize] += 1;
+}
+
+/// Writes one place of a page, and answers the old one.
+fn put(page: &mut [u64; 256], index: usize, place: Place) -> Place
+    requires in_range { index < 256 }
+    requires fits { address_of place + 1 < 2 ^ 63 }
+    ensures old { result ≡ slice_index_or (map place_of page.old) index places.None }
+    ensures set { map place_of page.new ≡ slice_set (map place_of page.old) index place }
     ensures long { length page.old ≡ 256 }
 {
-    page[index] = place;
+    let old = Place::from_word(page[index]);
+    page[index] = place.word();
+    old
 }
 
 #[cfg(test)]

@@ -1,5 +1,5 @@
 -- The entries of a batch as they are named, and the places of its blocks.
-use Rattle.std.proofs.Common.{◌≡◌, ◌≢◌, ℕ, zero, suc, ◌+◌, ◌*◌, ◌<◌, ◌≤◌, Bool, true, false, eqb, List, [], ◌∷◌, ◌++◌, map, length, drop, set, get_or, Some, refl, sym, ap, ◌∙◌, arith, append_assoc}
+use Rattle.std.proofs.Common.{◌≡◌, ◌≢◌, ℕ, zero, suc, ◌+◌, ◌*◌, ◌^◌, ◌<◌, ◌≤◌, Bool, true, false, eqb, List, [], ◌∷◌, ◌++◌, map, length, drop, set, get_or, Some, refl, sym, ap, ◌∙◌, arith, append_assoc}
 use Rattle.std.specs.Prelude.{nat_eq}
 use Rattle.std.specs.List.{AllByRecursion, IsDistinct}
 use Rattle.std.proofs.lemmas.Bool.{eq-eqb}
@@ -7,6 +7,7 @@ use Rattle.std.proofs.lemmas.List.{drop_more, length-set, set_comm}
 use Rattle.batch_log.specs.declared.header.Entry.{Entry}
 use Rattle.batch_log.specs.Log.{data_count, one_unless}
 use Rattle.logical_map.specs.declared.place.Place.{Place}
+use Rattle.logical_map.specs.Places.{address_of}
 use Rattle.zone_choice.specs.Builder.{data_entries, entry_place, placed}
 use Rattle.zone_choice.specs.Records.{entry_records, over, place, record_of}
 use Rattle.zone_choice.specs.Tables.{TablesView}
@@ -78,6 +79,11 @@ placing-more header entries old now new address i e d p more was distinct lt is 
       long = length-set now.map.places e.block (entry_place e.trim header address) ∙ was.long;
       rest = rw (new-is, place-is) at shape;
     })
+
+-- a place among these is no higher than the next address
+pub entry_place-fits : (trim : Bool) (header address : ℕ) → header < address → address + 1 < 2 ^ 63 → address_of (entry_place trim header address) + 1 < 2 ^ 63
+entry_place-fits true header address above fits = omega arith
+entry_place-fits false header address above fits = fits
 
 -- all are placed
 pub placing-all : (header : ℕ) (entries : List Entry) (old now : TablesView) (address i : ℕ) → Placing header entries old now address i → drop i entries ≡ [] → (now ≡ with_places old (placed header (header + 1) entries old.map.places)) × (address ≡ header + 1 + data_count entries)

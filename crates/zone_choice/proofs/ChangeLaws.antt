@@ -137,7 +137,7 @@ place_can old tables zone start builder is can start-is =
 
 -- where a batch lies
 pub address-fits : (old new : DriveState) (tables : TablesView) (zone start address : ℕ) (builder : BuilderView) (bytes : List ℕ) → CanPlace (mounted old tables) zone (built old.geometry.block builder) → start ≡ zone * old.geometry.size
-    → Appended old new start bytes address → address < 2 ^ 63
+    → Appended old new start bytes address → address < 2 ^ 62
 address-fits old new tables zone start address builder bytes can start-is appended =
     let g = old.geometry in
     let index = (zone-start zone g.size can.agrees.geometry.size.0).0 in

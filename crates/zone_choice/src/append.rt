@@ -54,7 +54,7 @@ fn place_blocks(tables: &mut Tables, entries: &[Entry], header: u64) -> u32
     requires distinct { IsDistinct nat_eq (map (λ e. e.block) entries.now) }
     requires few { length entries.now < 2 ^ 31 }
     requires size { size_of tables.old ≤ 2 ^ 31 }
-    requires fits { header < 2 ^ 63 }
+    requires fits { header < 2 ^ 62 }
     ensures placed { tables.new ≡ record tables.old { map = record tables.old.map { places = placed header (header + 1) entries.now tables.old.map.places } } }
     ensures blocks { result ≡ 1 + data_count entries.now }
 {

@@ -1,6 +1,6 @@
 ghost use Rattle.std.specs.Prelude.{◌≡◌, ◌≢◌, ◌≤◌, ◌<◌, ◌+◌, ◌^◌, IfNone, IfOk, IfSome, length, None, OnOk, replicate, slice_index_or, slice_set};
 ghost use Rattle.std.specs.List.{AllByRecursion};
-ghost use Rattle.logical_map.specs.Places.{IsReady, Reserves};
+ghost use Rattle.logical_map.specs.Places.{IsReady, Reserves, address_of};
 ghost use Rattle.logical_map.specs.declared.place.Place.TheVariants as places;
 ghost use Rattle.zone_choice.specs.Roles.{IsLowestEmpty, empty_count, fillings, sealed, taken, unused, wrote};
 ghost use Rattle.zone_choice.specs.Tables.{AreReserved, MakesRoom, size_of};
@@ -112,6 +112,7 @@ impl Tables {
     pub(crate) fn place(&mut self, block: u32, place: Place)
         requires in_range { block < size_of self.old }
         requires ready { IsReady self.old.map block }
+        requires fits { address_of place + 1 < 2 ^ 63 }
         ensures { self.new ≡ record self.old { map = record self.old.map { places = slice_set self.old.map.places block place } } }
     {
         self.map.set(block, place);

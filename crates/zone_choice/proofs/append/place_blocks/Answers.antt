@@ -1,6 +1,6 @@
 use Rattle.std.proofs.Common.{false, get_or, refl, arith}
 use Rattle.batch_log.specs.declared.header.Entry.{Entry}
-use Rattle.zone_choice.proofs.BuilderLaws.{data_count-few, one-at_most, placing-more}
+use Rattle.zone_choice.proofs.BuilderLaws.{data_count-few, entry_place-fits, one-at_most, placing-more}
 use Rattle.zone_choice.proofs.append.place_blocks.Goals as goal
 
 pub overflow_add-address-in-loop-entry : goal.overflow_add-address-in-loop-entry
@@ -21,3 +21,10 @@ pub overflow_cast-result : goal.overflow_cast-result
 overflow_cast-result c =
     let was = c.loop-entry.invariant in
     omega (arith, was.data_left, data_count-few c.args.entries.now, c.requires.few)
+
+pub place-requires-clause-fits : goal.place-requires-clause-fits
+place-requires-clause-fits c =
+    let none : Entry = record { block = 0; trim = false } in
+    let entry = get_or c.args.entries.now c.loop-entry.entry-index none in
+    let was = c.loop-entry.invariant in
+    rw c.place_of.ensures (entry_place-fits entry.trim c.args.header c.loop-entry.address was.above (omega (arith, was.data_left, data_count-few c.args.entries.now, c.requires.few, c.requires.fits)))
