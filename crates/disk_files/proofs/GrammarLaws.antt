@@ -100,6 +100,9 @@ IsBytes-one b small (suc i) = omega arith
 
 -- ---- words
 
+pub one_word : (a : List ℕ) → NoSpace a → words_of a ≡ a ∷ []
+one_word a p = slice_split_none is_space a p
+
 pub two_words : (a b : List ℕ) → NoSpace a → NoSpace b → words_of (a ++ codes " " ++ b) ≡ a ∷ b ∷ []
 two_words a b p q = rw (append_assoc a (codes " ") b, slice_split_at is_space a 32 b p refl, slice_split_none is_space b q) refl
 

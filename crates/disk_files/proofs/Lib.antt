@@ -1,6 +1,6 @@
 pub mod AheadLaws
+pub mod DataLaws
 pub mod GrammarLaws
-pub mod LineLaws
 pub mod OutputLaws
 pub mod PlaceLaws
 pub mod RawLaws

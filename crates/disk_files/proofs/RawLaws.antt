@@ -1,46 +1,13 @@
--- Bytes are what their digits decode to, and a raw line is its entry and its data.
-use Rattle.std.proofs.Common.{◌≡◌, ◌≢◌, ℕ, ◌+◌, ◌*◌, ◌/◌, ◌%◌, Bor, true, false, List, [], ◌∷◌, length, Option, Some, None, Result, Ok, Err, inl, inr, refl, sym, ap, ◌∙◌, arith}
-use Rattle.std.specs.Prelude.{MatchResult, is_some, option_copied}
-use Rattle.std.specs.List.{join_with_byte}
+-- An entry is what its digits decode to.
+use Rattle.std.proofs.Common.{◌≡◌, ℕ, ◌*◌, ◌/◌, ◌%◌, List, length, Some, None, inl, inr, arith}
 use Rattle.std.specs.Result.{result_ok}
 use Rattle.std.proofs.lemmas.Bool.{cases_eq}
 use Rattle.std.proofs.lemmas.Bool.Decides.{eqb_tells, nat_tests}
-use Rattle.std.proofs.lemmas.List.{length-append}
-use Rattle.std.proofs.lemmas.List.Splits.{join_with_byte-slice_split}
-use Rattle.hex.specs.Hex.{decode_pairs, decode_sized, digit_or_error, hex_digit_value, ◌>>=◌ as ◌>>=?◌}
-use Rattle.hex.specs.declared.error.FromHexError.{FromHexError}
+use Rattle.hex.specs.Hex.{decode_sized}
 use Rattle.hex.proofs.HexLemmas.{decode_sized-odd, decode_sized-other}
 use Rattle.hex.proofs.Pairs.{decode_sized-pairs}
-use Rattle.disk_files.specs.RawLine.{data_of, exact_bytes_of, raw_of}
-use Rattle.disk_files.specs.Words.{byte_of, bytes_of, words_after, words_of, ◌>>=◌}
-use Rattle.disk_files.proofs.WordLaws.{words_of-IsCons}
-
--- two digits, and the bytes after them
-pair_after : (high low i : ℕ) (h l : Option ℕ) (bytes : Option (List ℕ)) (decoded : Result (List ℕ) FromHexError) → bytes ≡ result_ok decoded
-    → ((h >>= (λ x. l >>= (λ y. Some (x * 16 + y)))) >>= (λ b. bytes >>= (λ bs. Some (b ∷ bs))))
-    ≡ result_ok ((digit_or_error high i h >>=? (λ (x : ℕ). digit_or_error low (i + 1) l >>=? (λ (y : ℕ). Ok (x * 16 + y)))) >>=? (λ (b : ℕ). decoded >>=? (λ (bs : List ℕ). Ok (b ∷ bs))))
-pair_after high low i None l bytes decoded e = refl
-pair_after high low i (Some x) None bytes decoded e = refl
-pair_after high low i (Some x) (Some y) bytes (Ok bs) e = rw e refl
-pair_after high low i (Some x) (Some y) bytes (Err error) e = rw e refl
-
--- bytes are what their digits decode to
-pub bytes_of-decoded : (i : ℕ) (word : List ℕ) → bytes_of word ≡ result_ok (decode_pairs i word)
-unfolding decode_pairs
-bytes_of-decoded i [] = refl
-bytes_of-decoded i (high ∷ []) = refl
-bytes_of-decoded i (high ∷ low ∷ rest) =
-    pair_after high low i (hex_digit_value high) (hex_digit_value low) (bytes_of rest) (decode_pairs (i + 2) rest) (bytes_of-decoded (i + 2) rest)
-
--- an odd number of digits stands for no bytes
-none_after : (byte : Option ℕ) (bytes : Option (List ℕ)) → bytes ≡ None → (byte >>= (λ b. bytes >>= (λ bs. Some (b ∷ bs)))) ≡ None
-none_after None bytes e = refl
-none_after (Some b) bytes e = rw e refl
-
-bytes_of-odd : (word : List ℕ) → length word % 2 ≡ 1 → bytes_of word ≡ None
-bytes_of-odd [] odd = absurd (omega arith)
-bytes_of-odd (high ∷ []) odd = refl
-bytes_of-odd (high ∷ low ∷ rest) odd = none_after (byte_of (high ∷ low ∷ [])) (bytes_of rest) (bytes_of-odd rest (omega arith))
+use Rattle.disk_files.specs.RawLine.{exact_bytes_of}
+use Rattle.disk_files.proofs.DataLaws.{bytes_of-decoded}
 
 -- this many bytes
 pub exact_bytes_of-decoded : (count : ℕ) (word : List ℕ) → exact_bytes_of count word ≡ result_ok (decode_sized word count)
@@ -59,55 +26,3 @@ length-exact_bytes_of count word bytes e = elim (eqb_tells (length word) (2 * co
   | inl same ↦ same.1
   | inr other ↦ let none : None ≡ Some bytes = rw other.0 at e in absurd cc
 ]
-
-pub data_of-some : (word : List ℕ) → length word ≢ 0 → data_of word ≡ bytes_of word
-data_of-some [] some = absurd (some refl)
-data_of-some (digit ∷ digits) some = refl
-
--- as many bytes as there are pairs
-data_of-decoded : (word : List ℕ) → length word ≢ 0 → data_of word ≡ result_ok (decode_sized word (length word / 2))
-data_of-decoded [] some = absurd (some refl)
-data_of-decoded (digit ∷ digits) some =
-    let word = digit ∷ digits in
-    elim (cases_eq (length word % 2) 1) [
-      | inl odd ↦ bytes_of-odd word odd ∙ rw (decode_sized-odd word (length word / 2) odd) refl
-      | inr even ↦ bytes_of-decoded 0 word ∙ rw (decode_sized-pairs word (length word / 2) (omega arith) refl) refl
-    ]
-
--- data that was decoded into a slice, or was not
-data_of-at : (word : List ℕ) (count : ℕ) → length word ≢ 0 → count ≡ length word / 2 → data_of word ≡ result_ok (decode_sized word count)
-data_of-at word count some half = data_of-decoded word some ∙ ap (λ (n : ℕ). result_ok (decode_sized word n)) (sym half)
-
-decoded : (answer : Result (List ℕ) FromHexError) (result : Result (Unit {0}) FromHexError) (out : List ℕ)
-    → MatchResult answer (λ bytes. (result ≡ Ok tt) × (out ≡ bytes)) (λ error. result ≡ Err error) → result ≡ Ok tt → result_ok answer ≡ Some out
-decoded (Ok bytes) result out value e = ap (λ (bs : List ℕ). Some bs) (sym value.1)
-decoded (Err error) result out value e = absurd cc
-
-not_decoded : (answer : Result (List ℕ) FromHexError) (result : Result (Unit {0}) FromHexError) (out : List ℕ) (error : FromHexError)
-    → MatchResult answer (λ bytes. (result ≡ Ok tt) × (out ≡ bytes)) (λ error. result ≡ Err error) → result ≡ Err error → result_ok answer ≡ None
-not_decoded (Ok bytes) result out error value e = absurd cc
-not_decoded (Err other) result out error value e = refl
-
-module _ (word : List ℕ) (count : ℕ) (result : Result (Unit {0}) FromHexError) (out : List ℕ) (some : length word ≢ 0) (half : count ≡ length word / 2)
-    (value : MatchResult (decode_sized word count) (λ bytes. (result ≡ Ok tt) × (out ≡ bytes)) (λ error. result ≡ Err error)) where
-  pub data_of-Ok : result ≡ Ok tt → data_of word ≡ Some out
-  data_of-Ok e = data_of-at word count some half ∙ decoded (decode_sized word count) result out value e
-
-  pub data_of-Err : (error : FromHexError) → result ≡ Err error → data_of word ≡ None
-  data_of-Err error e = data_of-at word count some half ∙ not_decoded (decode_sized word count) result out error value e
-
--- ---- words
-
--- a line of more than two words is no raw line
-pub raw_of-more : (count : ℕ) (word digits : List ℕ) (rest : Option (Bor (List ℕ))) → is_some rest ≡ true → raw_of count (word ∷ digits ∷ words_after (option_copied rest)) ≡ None
-raw_of-more count word digits None e = absurd cc
-raw_of-more count word digits (Some line) e = rw (words_of-IsCons line.now).is refl
-
-pub length-two_words : (line word digits : List ℕ) → words_of line ≡ word ∷ digits ∷ [] → length line ≡ length word + 1 + length digits
-length-two_words line word digits e =
-    let text = sym (join_with_byte-slice_split 32 line) ∙ ap (join_with_byte 32) e in
-    omega (arith, ap length text, length-append word (32 ∷ digits))
-
-pub words_after-None : (rest : Option (Bor (List ℕ))) → is_some rest ≡ false → words_after (option_copied rest) ≡ []
-words_after-None None e = refl
-words_after-None (Some line) e = absurd cc

@@ -1,16 +1,16 @@
 -- Raw lines and replies that are written are read again.
-use Rattle.std.proofs.Common.{◌≡◌, ◌≢◌, ℕ, ◌*◌, ◌==◌, true, false, List, [], ◌∷◌, length, Some, refl, ◌∙◌, arith}
+use Rattle.std.proofs.Common.{◌≡◌, ℕ, ◌*◌, ◌==◌, true, false, List, [], ◌∷◌, length, Some, refl, arith}
 use Rattle.std.proofs.lemmas.Bool.Decides.{nat_tests}
 use Rattle.std.proofs.lemmas.List.{append-nil}
 use Rattle.std.proofs.lemmas.List.Elements.{All-append, All-cons, All-nil}
 use Rattle.std.proofs.lemmas.List.Splits.{slice_split_at, slice_split_none}
 use Rattle.hex.specs.Hex.{IsBytes, encode_lower, lower_digits}
-use Rattle.hex.proofs.HexLemmas.{IsDigits-lower_digits, decode_pairs-encode_with, length-encode_with}
+use Rattle.hex.proofs.HexLemmas.{length-encode_with}
 use Rattle.disk_files.specs.Line.{NoFeed, first_line, is_feed}
-use Rattle.disk_files.specs.RawLine.{beside_text, data_of, exact_bytes_of, raw_of, raw_reply_text, raw_text}
-use Rattle.disk_files.specs.Words.{bytes_of, is_space, words_of}
+use Rattle.disk_files.specs.RawLine.{beside_text, exact_bytes_of, raw_of, raw_reply_text, raw_text}
+use Rattle.disk_files.specs.Words.{is_space, words_of}
+use Rattle.disk_files.proofs.DataLaws.{bytes_of-encode_lower, data_of-encode_lower}
 use Rattle.disk_files.proofs.GrammarLaws.{AboveSpaces-encode_lower, NoSpace-encode_lower}
-use Rattle.disk_files.proofs.RawLaws.{bytes_of-decoded, data_of-some}
 use Rattle.disk_files.proofs.ReadingLaws.{first_line-feed}
 
 -- ---- digits
@@ -18,18 +18,10 @@ use Rattle.disk_files.proofs.ReadingLaws.{first_line-feed}
 NoFeed-encode_lower : (bytes : List ℕ) → IsBytes bytes → NoFeed (encode_lower bytes)
 NoFeed-encode_lower bytes fits = λ k d lt. let large = AboveSpaces-encode_lower bytes fits k d lt in grind (arith, nat_tests)
 
-bytes_of-encode_lower : (bytes : List ℕ) → IsBytes bytes → bytes_of (encode_lower bytes) ≡ Some bytes
-bytes_of-encode_lower bytes fits = bytes_of-decoded 0 (encode_lower bytes) ∙ rw (decode_pairs-encode_with lower_digits IsDigits-lower_digits 0 bytes fits) refl
-
 exact_bytes_of-encode_lower : (bytes : List ℕ) → IsBytes bytes → exact_bytes_of (length bytes) (encode_lower bytes) ≡ Some bytes
 exact_bytes_of-encode_lower bytes fits =
     let long : (length (encode_lower bytes) == 2 * length bytes) ≡ true = grind (arith, nat_tests, length-encode_with lower_digits bytes) in
     rw long (bytes_of-encode_lower bytes fits)
-
-data_of-encode_lower : (b : ℕ) (bytes : List ℕ) → IsBytes (b ∷ bytes) → data_of (encode_lower (b ∷ bytes)) ≡ Some (b ∷ bytes)
-data_of-encode_lower b bytes fits =
-    let some : length (encode_lower (b ∷ bytes)) ≢ 0 = λ none. absurd (omega (arith, none, length-encode_with lower_digits (b ∷ bytes))) in
-    data_of-some (encode_lower (b ∷ bytes)) some ∙ bytes_of-encode_lower (b ∷ bytes) fits
 
 -- ---- lines
 
@@ -38,7 +30,7 @@ raw_of-raw_text head [] fits clean = rw (append-nil (encode_lower head), slice_s
 raw_of-raw_text head (b ∷ bytes) fits clean =
     let first = encode_lower head in
     let digits = encode_lower (b ∷ bytes) in
-    rw (slice_split_at is_space first 32 digits (NoSpace-encode_lower head fits) refl, slice_split_none is_space digits (NoSpace-encode_lower (b ∷ bytes) clean), exact_bytes_of-encode_lower head fits, data_of-encode_lower b bytes clean) refl
+    rw (slice_split_at is_space first 32 digits (NoSpace-encode_lower head fits) refl, slice_split_none is_space digits (NoSpace-encode_lower (b ∷ bytes) clean), exact_bytes_of-encode_lower head fits, data_of-encode_lower (b ∷ bytes) clean (omega arith)) refl
 
 NoFeed-beside_text : (bytes : List ℕ) → IsBytes bytes → NoFeed (beside_text bytes)
 NoFeed-beside_text [] clean = All-nil (λ b. is_feed b ≡ false)

@@ -1,14 +1,16 @@
--- A line has a word at least, and a byte is what two digits decode to.
-use Rattle.std.proofs.Common.{◌≡◌, ℕ, ◌+◌, ◌*◌, ◌/◌, ◌%◌, if◌then◌else◌, Bool, true, false, List, [], ◌∷◌, length, slice_index, Option, Some, None, Result, Ok, Err, refl, arith}
+-- The words of a line and their lengths; a byte is what two digits decode to.
+use Rattle.std.proofs.Common.{◌≡◌, ℕ, ◌+◌, ◌*◌, ◌/◌, ◌%◌, if◌then◌else◌, Bool, true, false, List, [], ◌∷◌, ◌++◌, length, slice_index, Option, Some, None, Result, Ok, Err, refl, sym, ap, ◌∙◌, arith}
 use Rattle.std.specs.Prelude.{◌==◌}
-use Rattle.std.specs.List.{onto_first}
+use Rattle.std.specs.List.{join_with_byte, onto_first}
 use Rattle.std.specs.Option.{option_map}
 use Rattle.std.specs.Result.{result_ok}
 use Rattle.std.proofs.lemmas.Bool.Decides.{nat_tests}
+use Rattle.std.proofs.lemmas.List.{length-append}
+use Rattle.std.proofs.lemmas.List.Splits.{join_with_byte-slice_split}
 use Rattle.hex.specs.Hex.{decode_pairs, decode_sized, digit_or_error, hex_digit_value, ◌>>=◌ as ◌>>=?◌}
 use Rattle.hex.specs.declared.error.FromHexError.{FromHexError}
 use Rattle.hex.specs.declared.error.FromHexError.TheVariants.{InvalidStringLength, OddLength}
-use Rattle.disk_files.specs.Words.{byte_of, is_space, words_of, ◌>>=◌}
+use Rattle.disk_files.specs.Words.{HasMore, byte_of, is_space, words_of, ◌>>=◌}
 
 -- some list begins with an element
 pub record IsCons (words : List (List ℕ)) : Type 0 where
@@ -26,6 +28,23 @@ words_of-IsCons (x ∷ xs) = elim (is_space x) as (λ b. IsCons (if b then [] �
   | true ↦ record { first = []; rest = words_of xs; is = refl }
   | false ↦ onto_first-IsCons x (words_of xs)
 ]
+
+pub HasMore-rest : (line word rest : List ℕ) → words_of line ≡ word ∷ words_of rest → HasMore (words_of line)
+HasMore-rest line word rest e = let more = words_of-IsCons rest in record { first = word; second = more.first; rest = more.rest; are = rw (e, more.is) refl }
+
+-- ---- lengths
+
+pub length-rest : (line word rest : List ℕ) → words_of line ≡ word ∷ words_of rest → length line ≡ length word + 1 + length rest
+length-rest line word rest e =
+    let more = words_of-IsCons rest in
+    let joined : join_with_byte 32 (word ∷ words_of rest) ≡ word ++ 32 ∷ join_with_byte 32 (words_of rest) = rw (more.is) refl in
+    let text : line ≡ word ++ 32 ∷ rest = sym (join_with_byte-slice_split 32 line) ∙ ap (join_with_byte 32) e ∙ joined ∙ ap (λ (xs : List ℕ). word ++ 32 ∷ xs) (join_with_byte-slice_split 32 rest) in
+    omega (arith, ap length text, length-append word (32 ∷ rest))
+
+pub length-two_words : (line word digits : List ℕ) → words_of line ≡ word ∷ digits ∷ [] → length line ≡ length word + 1 + length digits
+length-two_words line word digits e =
+    let text = sym (join_with_byte-slice_split 32 line) ∙ ap (join_with_byte 32) e in
+    omega (arith, ap length text, length-append word (32 ∷ digits))
 
 -- ---- bytes
 

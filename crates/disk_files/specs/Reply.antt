@@ -16,7 +16,7 @@ data_text None block = encode_lower block
 abbrev pub block_line : ℕ → List ℕ → List ℕ
 block_line number block = decimal number ++ codes " " ++ data_text (same_byte block) block ++ codes "\n"
 
--- the lines of blocks, numbered from one on
+-- the lines of blocks, numbered from `first` on
 abbrev pub block_lines : ℕ → List (List ℕ) → List ℕ
 block_lines first [] = []
 block_lines first (block ∷ blocks) = block_line first block ++ block_lines (first + 1) blocks
@@ -26,6 +26,14 @@ ok_text = codes "ok\n"
 
 abbrev pub out_of_range_text : List ℕ
 out_of_range_text = codes "refused 1 OutOfRange\n"
+
+-- a disk has more blocks than it is to grow to
+abbrev pub smaller_text : List ℕ
+smaller_text = codes "refused 7 Smaller\n"
+
+-- the reserve allows no disk of so many blocks
+abbrev pub reserve_text : List ℕ
+reserve_text = codes "refused 8 Reserve\n"
 
 -- the reply to a read that shows blocks from a number on
 abbrev pub read_text : ℕ → List (List ℕ) → List ℕ

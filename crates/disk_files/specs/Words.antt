@@ -1,5 +1,5 @@
 -- The words of a line, and the numbers and bytes that words stand for.
-use Rattle.std.specs.Prelude.{ℕ, ◌+◌, ◌-◌, ◌*◌, ◌^◌, ◌==◌, nat_lt, nat_le, ◌&&◌, if◌then◌else◌, Bool, List, [], ◌∷◌, length, Option, Some, None, option_and_then}
+use Rattle.std.specs.Prelude.{◌≡◌, ℕ, ◌+◌, ◌-◌, ◌*◌, ◌^◌, ◌==◌, nat_lt, nat_le, ◌&&◌, if◌then◌else◌, Bool, List, [], ◌∷◌, length, Option, Some, None, option_and_then}
 use Rattle.std.specs.Char.{is_ascii_digit}
 use Rattle.std.specs.List.{slice_split}
 use Rattle.hex.specs.Hex.{hex_digit_value}
@@ -21,18 +21,25 @@ abbrev pub words_after : Option (List ℕ) → List (List ℕ)
 words_after None = []
 words_after (Some line) = words_of line
 
+-- more words than one
+pub record HasMore (words : List (List ℕ)) : Type 0 where
+  pub first : List ℕ
+  pub second : List ℕ
+  pub rest : List (List ℕ)
+  pub are : words ≡ first ∷ second ∷ rest
+
 -- the number of a value's digits and those of a word
 abbrev pub digits_after : ℕ → List ℕ → Option ℕ
 digits_after value [] = Some value
 digits_after value (b ∷ bs) = if is_ascii_digit b then digits_after (10 * value + (b - 48)) bs else None
 
-abbrev pub below_limit : ℕ → Option ℕ
-below_limit n = if nat_lt n (2 ^ 64) then Some n else None
+abbrev pub below : ℕ → ℕ → Option ℕ
+below limit n = if nat_lt n limit then Some n else None
 
 -- a number has 1 to 20 decimal digits, and is below 2^64
 abbrev pub number_of : List ℕ → Option ℕ
 number_of word =
-    if nat_le 1 (length word) && nat_le (length word) 20 then digits_after 0 word >>= below_limit
+    if nat_le 1 (length word) && nat_le (length word) 20 then digits_after 0 word >>= below (2 ^ 64)
     else None
 
 -- a byte has two hexadecimal digits, of either case
@@ -53,3 +60,8 @@ bytes_of (high ∷ low ∷ rest) = do
   b ← byte_of (high ∷ low ∷ [])
   bs ← bytes_of rest
   Some (b ∷ bs)
+
+-- data is one byte at least
+abbrev pub data_of : List ℕ → Option (List ℕ)
+data_of [] = None
+data_of (digit ∷ digits) = bytes_of (digit ∷ digits)

@@ -3,26 +3,31 @@
 //! ```text
 //! let mut reader = LineReader::new(rt.reader());
 //! let mut line = Vec::new(alloc);
+//! let mut bytes = Vec::new(alloc);
 //! while reader.next_line(&mut line)? {
 //!     if is_skipped(&line) {
 //!         continue;
 //!     }
-//!     match TraceLine::parse(&line) {
-//!         Some(TraceLine::Read { first, blocks }) => ..,
-//!         Some(TraceLine::Fill { first, blocks, byte }) => ..,
-//!         None => ..,
+//!     match TraceLine::parse(&line, &mut bytes) {
+//!         Ok(TraceLine::Read { first, blocks }) => ..,
+//!         Ok(TraceLine::Write { first }) => .., // the data is in `bytes`
+//!         Ok(..) => ..,
+//!         Err(ParseFault::Grammar) => ..,
+//!         Err(ParseFault::Memory) => ..,
 //!     }
 //! }
 //! ```
 //!
 //! What is promised: [`LineReader::next_line`] takes the first line of what is left, or says why it did not;
-//! [`TraceLine::parse`] and [`parse_raw_line`] accept the lines of their grammars and no others, and say what
-//! those say; replies are their texts; and [`write_out`] writes all its bytes, or after a fault a beginning
-//! of them. `laws` has what holds of all lines: those that are written are read again.
+//! [`TraceLine::parse`] and [`parse_raw_line`] accept the lines of their grammars and no others, say what
+//! those say, and decode their data into a buffer that the caller keeps; replies are their texts; and
+//! [`write_out`] writes all its bytes, or after a fault a beginning of them. `laws` has what holds of all
+//! lines: those that are written are read again.
 #![tactic(auto)]
 
 mod ahead;
 mod bytes;
+mod data;
 pub mod laws;
 mod line_reader;
 mod output;
@@ -32,11 +37,12 @@ mod reply;
 mod trace_line;
 mod words;
 
+pub use data::ParseFault;
 pub use line_reader::{LONGEST_LINE, LineFault, LineReader};
 pub use output::{WriteFault, write_out};
-pub use raw_line::{RawFault, parse_raw_line};
+pub use raw_line::parse_raw_line;
 pub use raw_reply::write_raw_reply;
-pub use reply::{block_line, ok_reply, out_of_range_reply};
+pub use reply::{block_line, ok_reply, out_of_range_reply, reserve_reply, smaller_reply};
 pub use trace_line::{TraceLine, is_skipped};
 
 #[cfg(test)]

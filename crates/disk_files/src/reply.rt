@@ -1,6 +1,6 @@
 ghost use Rattle.std.specs.Prelude.{◌≡◌, ◌+◌, ◌*◌, ◌<◌, ◌≤◌, ◌++◌, OnErr, OnOk, decimal, length, vec_capacity, vec_len};
 ghost use Rattle.hex.specs.Hex.{encode_lower};
-ghost use Rattle.disk_files.specs.Reply.{block_line, ok_text, out_of_range_text, same_byte};
+ghost use Rattle.disk_files.specs.Reply.{block_line, ok_text, out_of_range_text, reserve_text, same_byte, smaller_text};
 
 use std::alloc::AllocError;
 
@@ -22,6 +22,26 @@ pub fn out_of_range_reply(out: &mut Vec<u8>) -> Result<(), AllocError>
     ensures full { OnErr result (vec_capacity out.old < vec_len out.old + 21) }
 {
     out.extend_from_slice(b"refused 1 OutOfRange\n")
+}
+
+/// Puts the reply to a grow to fewer blocks after what `out` holds. Refused for memory, which is wanted only
+/// where `out` has too little room, `out` stays as it was.
+pub fn smaller_reply(out: &mut Vec<u8>) -> Result<(), AllocError>
+    ensures ok { OnOk result (out.new.items ≡ out.old.items ++ smaller_text) }
+    ensures err { OnErr result (out.new.items ≡ out.old.items) }
+    ensures full { OnErr result (vec_capacity out.old < vec_len out.old + 18) }
+{
+    out.extend_from_slice(b"refused 7 Smaller\n")
+}
+
+/// Puts the reply to a grow outside the reserve after what `out` holds. Refused for memory, which is wanted
+/// only where `out` has too little room, `out` stays as it was.
+pub fn reserve_reply(out: &mut Vec<u8>) -> Result<(), AllocError>
+    ensures ok { OnOk result (out.new.items ≡ out.old.items ++ reserve_text) }
+    ensures err { OnErr result (out.new.items ≡ out.old.items) }
+    ensures full { OnErr result (vec_capacity out.old < vec_len out.old + 18) }
+{
+    out.extend_from_slice(b"refused 8 Reserve\n")
 }
 
 /// The byte that all bytes of a block are.

@@ -1,8 +1,9 @@
-ghost use Rattle.std.specs.Prelude.{◌≡◌};
-ghost use Rattle.disk_files.specs.TraceLine.{fill_of, is_skipped, name_of, read_of, trace_line};
+ghost use Rattle.std.specs.Prelude.{◌≡◌, ◌*◌, ◌<◌, [], IfOk, IsErrOf, OnErr, length, vec_capacity};
+ghost use Rattle.disk_files.specs.TraceLine.{fill_of, is_skipped, name_of, only_number, plain_of, range_of, trace_line, write_of};
 ghost use Rattle.disk_files.specs.Words.{words_of};
 
-use crate::words::{byte, number, split_word};
+use crate::data::{ParseFault, decode_data};
+use crate::words::{byte, number, only_word, split_word};
 
 /// A line of a trace, which is a call of a disk.
 #[derive(Clone, Copy, Debug, PartialEq, Eq)]
@@ -11,6 +12,14 @@ pub enum TraceLine {
     Read { first: u64, blocks: u64 },
     /// `fill L N BB`: writes `blocks` blocks of one byte from `first` on.
     Fill { first: u64, blocks: u64, byte: u8 },
+    /// `write L HEX`: writes the bytes that stand beside this line, at least one, from the block `first` on.
+    Write { first: u64 },
+    /// `trim L N`: trims `blocks` blocks from `first` on.
+    Trim { first: u64, blocks: u64 },
+    /// `idle K`: gives the cleaner this many turns.
+    Idle { turns: u32 },
+    /// `grow N2`: makes the disk this many blocks long.
+    Grow { blocks: u64 },
 }
 
 /// Whether a line is skipped, without a reply: an empty one, and one that begins with `#`.
@@ -23,11 +32,14 @@ pub fn is_skipped(line: &[u8]) -> bool
     }
 }
 
-/// The first word of a line.
+/// The first word of a line that has no data.
 #[derive(Clone, Copy)]
 enum Name {
     Read,
     Fill,
+    Trim,
+    Idle,
+    Grow,
 }
 
 impl Name {
@@ -37,23 +49,28 @@ impl Name {
         match word {
             b"read" => Some(Name::Read),
             b"fill" => Some(Name::Fill),
+            b"trim" => Some(Name::Trim),
+            b"idle" => Some(Name::Idle),
+            b"grow" => Some(Name::Grow),
             _ => None,
         }
     }
 }
 
-fn read_line(words: &[u8]) -> Option<TraceLine>
-    ensures { result ≡ read_of (words_of words.now) }
+/// The two numbers of `L N`.
+fn range(words: &[u8]) -> Option<(u64, u64)>
+    ensures { result ≡ range_of (words_of words.now) }
 {
     let (first, rest) = split_word(words);
-    let (blocks, rest) = split_word(rest?);
-    if rest.is_some() {
-        return None;
-    }
-    Some(TraceLine::Read {
-        first: number(first)?,
-        blocks: number(blocks)?,
-    })
+    let blocks = only_word(rest?)?;
+    Some((number(first)?, number(blocks)?))
+}
+
+/// The only word of a line, a number.
+fn only_number(words: &[u8]) -> Option<u64>
+    ensures { result ≡ only_number (words_of words.now) }
+{
+    number(only_word(words)?)
 }
 
 fn fill_line(words: &[u8]) -> Option<TraceLine>
@@ -61,10 +78,7 @@ fn fill_line(words: &[u8]) -> Option<TraceLine>
 {
     let (first, rest) = split_word(words);
     let (blocks, rest) = split_word(rest?);
-    let (data, rest) = split_word(rest?);
-    if rest.is_some() {
-        return None;
-    }
+    let data = only_word(rest?)?;
     Some(TraceLine::Fill {
         first: number(first)?,
         blocks: number(blocks)?,
@@ -72,15 +86,74 @@ fn fill_line(words: &[u8]) -> Option<TraceLine>
     })
 }
 
+/// What a line without data says, by its name and the words after it.
+fn plain_line(name: &[u8], words: &[u8]) -> Option<TraceLine>
+    ensures { result ≡ plain_of name.now (words_of words.now) }
+{
+    match Name::of(name)? {
+        Name::Read => {
+            let (first, blocks) = range(words)?;
+            Some(TraceLine::Read { first, blocks })
+        }
+        Name::Fill => fill_line(words),
+        Name::Trim => {
+            let (first, blocks) = range(words)?;
+            Some(TraceLine::Trim { first, blocks })
+        }
+        Name::Idle => {
+            let turns = u32::try_from(only_number(words)?).ok()?;
+            Some(TraceLine::Idle { turns })
+        }
+        Name::Grow => {
+            let blocks = only_number(words)?;
+            Some(TraceLine::Grow { blocks })
+        }
+    }
+}
+
+/// What a `write` says, by the words after its name. Its data is decoded into `bytes`.
+fn write_line(words: &[u8], bytes: &mut Vec<u8>) -> Result<TraceLine, ParseFault>
+    requires { bytes.old.items ≡ [] }
+    ensures ok { IfOk result (λ call. write_of (words_of words.now) ≡ Some (call, bytes.new.items)) }
+    ensures err { OnErr result (bytes.new.items ≡ []) }
+    ensures grammar { IsErrOf result ParseFault.Grammar → write_of (words_of words.now) ≡ None }
+    ensures memory { IsErrOf result ParseFault.Memory →
+        2 * vec_capacity bytes.old < length words.now }
+{
+    let (first, rest) = split_word(words);
+    let Some(rest) = rest else {
+        return Err(ParseFault::Grammar);
+    };
+    let Some(digits) = only_word(rest) else {
+        return Err(ParseFault::Grammar);
+    };
+    let Some(first) = number(first) else {
+        return Err(ParseFault::Grammar);
+    };
+    decode_data(digits, bytes)?;
+    Ok(TraceLine::Write { first })
+}
+
 impl TraceLine {
-    /// What a line says, without its line feed. None if it is not in the grammar.
-    pub fn parse(line: &[u8]) -> Option<TraceLine>
-        ensures { result ≡ trace_line line.now }
+    /// What a line says, without its line feed. After a `write`, `bytes` holds its data: at least one byte,
+    /// not always whole blocks. After any other line, and after a fault, `bytes` is empty. With room for half as
+    /// many bytes as the line has, no memory is wanted.
+    pub fn parse(line: &[u8], bytes: &mut Vec<u8>) -> Result<TraceLine, ParseFault>
+        ensures ok { IfOk result (λ call. trace_line line.now ≡ Some (call, bytes.new.items)) }
+        ensures err { OnErr result (bytes.new.items ≡ []) }
+        ensures grammar { IsErrOf result ParseFault.Grammar → trace_line line.now ≡ None }
+        // Two digits for each byte of data, and the words before them.
+        ensures memory { IsErrOf result ParseFault.Memory →
+            2 * vec_capacity bytes.old < length line.now }
     {
-        let (word, rest) = split_word(line);
-        match Name::of(word)? {
-            Name::Read => read_line(rest?),
-            Name::Fill => fill_line(rest?),
+        bytes.clear();
+        let (name, rest) = split_word(line);
+        let Some(words) = rest else {
+            return Err(ParseFault::Grammar);
+        };
+        match name {
+            b"write" => write_line(words, bytes),
+            _ => plain_line(name, words).ok_or(ParseFault::Grammar),
         }
     }
 }

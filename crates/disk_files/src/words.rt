@@ -1,5 +1,5 @@
-ghost use Rattle.std.specs.Prelude.{◌≡◌, ◌∷◌, option_copied};
-ghost use Rattle.disk_files.specs.Words.{byte_of, number_of, words_after, words_of};
+ghost use Rattle.std.specs.Prelude.{◌≡◌, ◌∷◌, [], MatchOption, option_copied};
+ghost use Rattle.disk_files.specs.Words.{HasMore, byte_of, number_of, words_after, words_of};
 
 use crate::bytes::first_place;
 use hex::FromHex;
@@ -11,6 +11,17 @@ pub fn split_word(line: &[u8]) -> (&[u8], Option<&[u8]>)
     match first_place(line, b' ') {
         Some(place) => (&line[..place], Some(&line[place + 1..])),
         None => (line, None),
+    }
+}
+
+/// The only word of a line. None if it has more.
+pub fn only_word(line: &[u8]) -> Option<&[u8]>
+    ensures { MatchOption result (HasMore (words_of line.now)) (λ word. words_of line.now ≡ word.now ∷ []) }
+{
+    let (word, rest) = split_word(line);
+    match rest {
+        Some(_) => None,
+        None => Some(word),
     }
 }
 

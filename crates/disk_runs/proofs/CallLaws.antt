@@ -1,5 +1,5 @@
 -- Calls of a flat disk, and their replies.
-use Rattle.std.proofs.Common.{◌≡◌, ◌≢◌, ℕ, zero, suc, ◌+◌, ◌<◌, ◌≤◌, ◌==◌, true, false, List, [], ◌∷◌, ◌++◌, length, take, drop, Some, Ok, Err, refl, sym, ap, subst, ◌∙◌, append_assoc, arith}
+use Rattle.std.proofs.Common.{◌≡◌, ℕ, zero, suc, ◌+◌, ◌<◌, ◌≤◌, ◌==◌, true, false, List, [], ◌∷◌, ◌++◌, length, take, drop, Some, None, Ok, Err, refl, sym, ap, subst, ◌∙◌, append_assoc, arith}
 use Rattle.std.specs.Prelude.{nat_lt, ◌&&◌}
 use Rattle.std.specs.List.{concat}
 use Rattle.std.proofs.lemmas.Bool.Decides.{nat_tests}
@@ -8,33 +8,29 @@ use Rattle.disk_files.specs.Reply.{block_line, block_lines, ok_text, out_of_rang
 use Rattle.zone_translator.specs.Calls.{Reads}
 use Rattle.zone_translator.specs.Flat.{Answer, FlatCall, FlatDisk, answer_while, blocks_from, known_answer, may_refuse, read, with_nothing}
 use Rattle.zone_translator.specs.declared.fault.DiskFault.{DiskFault}
-use Rattle.zone_translator.specs.declared.fault.DiskFault.TheVariants.{OutOfRange, OutOfMemory, Stopped, Spent, NoRoom}
+use Rattle.zone_translator.specs.declared.fault.DiskFault.TheVariants.{OutOfRange, OutOfMemory, Stopped, Spent, NoRoom, Smaller, Reserve}
 use Rattle.zone_translator.specs.declared.status.DiskStatus.{DiskStatus}
 use Rattle.zone_translator.specs.declared.status.DiskStatus.TheVariants as statuses
 use Rattle.zone_translator.specs.Changes.{IsCause}
 use Rattle.zone_translator.specs.View.{DiskCause, DiskView, next_sequence}
-use Rattle.disk_runs.specs.FlatLines.{IsRefused, RepliesTo}
+use Rattle.disk_runs.specs.FlatLines.{IsRefused, RepliesTo, refusal_reply, single}
 
 -- ---- what is known of a call before it begins
 
-known-in : (disk : FlatDisk) (first n : ℕ) → 0 < n → first + n ≤ length disk.array → known_answer disk first n ≡ answer_while disk.status
+known-in : (disk : FlatDisk) (first n : ℕ) → 0 < n → first + n ≤ disk.size → known_answer disk (read first n) ≡ answer_while disk.status
 known-in disk first n some fits =
     let e : (n == 0) ≡ false = grind (arith, nat_tests) in
-    let f : nat_lt (length disk.array) (first + n) ≡ false = grind (arith, nat_tests) in
+    let f : nat_lt disk.size (first + n) ≡ false = grind (arith, nat_tests) in
     rw (e, f) refl
 
 -- a read past the end
-read_past : (disk : FlatDisk) (first n : ℕ) → 0 < n → length disk.array < first + n → FlatCall disk (read first n) (with_nothing (Err OutOfRange)) disk
+read_past : (disk : FlatDisk) (first n : ℕ) → 0 < n → disk.size < first + n → FlatCall disk (read first n) (with_nothing (Err OutOfRange)) disk
 read_past disk first n some past =
     let e : (n == 0) ≡ false = grind (arith, nat_tests) in
-    let f : nat_lt (length disk.array) (first + n) ≡ true = grind (arith, nat_tests) in
+    let f : nat_lt disk.size (first + n) ≡ true = grind (arith, nat_tests) in
     rw (e, f) (refl, refl)
 
 -- ---- a read, block by block
-
-same-disk : (a b : FlatDisk) → a.array ≡ b.array → a.status ≡ b.status → a ≡ b
-same-disk a b e f =
-    ap (λ (xs : List (List ℕ)). record { array = xs; status = a.status }) e ∙ ap (λ (s : DiskStatus). record { array = b.array; status = s }) f
 
 -- a block that was shown
 pub record ShowsBlock (old : FlatDisk) (at : ℕ) (bytes : List ℕ) (new : FlatDisk) : Type 0 where
@@ -42,7 +38,7 @@ pub record ShowsBlock (old : FlatDisk) (at : ℕ) (bytes : List ℕ) (new : Flat
   pub same : new ≡ old
   pub bytes_are : bytes ≡ concat (blocks_from old.array at 1)
 
-shows_block : (old new : FlatDisk) (at : ℕ) (bytes : List ℕ) → at + 1 ≤ length old.array → Reads old at 1 (Ok tt) bytes new → ShowsBlock old at bytes new
+shows_block : (old new : FlatDisk) (at : ℕ) (bytes : List ℕ) → at + 1 ≤ old.size → Reads old at 1 (Ok tt) bytes new → ShowsBlock old at bytes new
 shows_block old new at bytes fits reads = of old.status refl
   where
     of : (status : DiskStatus) → old.status ≡ status → ShowsBlock old at bytes new
@@ -50,8 +46,8 @@ shows_block old new at bytes fits reads = of old.status refl
         let begun = rw (known-in old at 1 (omega arith) fits, e) at reads.flat in
         record {
           serves = e;
-          same = same-disk new old begun.0.1 (begun.1 ∙ sym e);
-          bytes_are = reads.bytes_are ∙ ap concat begun.0.0;
+          same = begun.1 ∙ ap (λ (s : DiskStatus). record { array = old.array; size = old.size; status = s; block = old.block; most = old.most }) (sym e);
+          bytes_are = reads.bytes_are ∙ ap concat begun.0;
         }
     of statuses.Stopped e =
         let known = rw (known-in old at 1 (omega arith) fits, e) at reads.flat in
@@ -64,52 +60,67 @@ same_refusal a b c d OutOfMemory = refl
 same_refusal a b c d Stopped = refl
 same_refusal a b c d Spent = refl
 same_refusal a b c d NoRoom = refl
+same_refusal a b c d Smaller = refl
+same_refusal a b c d Reserve = refl
+
+-- no refusal of a read on its way has a reply
+no_reply : (first n : ℕ) (fault : DiskFault) → may_refuse (read first n) fault ≡ true → refusal_reply fault ≡ None
+no_reply first n OutOfRange may = absurd (cc)
+no_reply first n OutOfMemory may = refl
+no_reply first n Stopped may = refl
+no_reply first n Spent may = refl
+no_reply first n NoRoom may = refl
+no_reply first n Smaller may = absurd (cc)
+no_reply first n Reserve may = absurd (cc)
 
 -- a read of blocks is refused as that of one of them is
-refused_block : (old new : FlatDisk) (at first n : ℕ) (bytes : List ℕ) (fault : DiskFault) → at + 1 ≤ length old.array → 0 < n → first + n ≤ length old.array → Reads old at 1 (Err fault) bytes new → IsRefused old (read first n) fault new
+refused_block : (old new : FlatDisk) (at first n : ℕ) (bytes : List ℕ) (fault : DiskFault) → at + 1 ≤ old.size → 0 < n → first + n ≤ old.size → Reads old at 1 (Err fault) bytes new → IsRefused old (single (read first n)) fault new
 refused_block old new at first n bytes fault fits some all reads = of old.status refl
   where
-    of : (status : DiskStatus) → old.status ≡ status → IsRefused old (read first n) fault new
+    of : (status : DiskStatus) → old.status ≡ status → IsRefused old (single (read first n)) fault new
     of statuses.Serving e =
         let begun = rw (known-in old at 1 (omega arith) fits, e) at reads.flat in
-        let may : may_refuse (read first n) fault ≡ true = same_refusal first n at 1 fault ∙ begun.0.0 in
+        let may : may_refuse (read first n) fault ≡ true = same_refusal first n at 1 fault ∙ begun.0 in
         record {
-          flat = rw (known-in old first n some all, e) ((may, refl, begun.0.2), begun.1);
-          no_reply = λ is. let bad : false ≡ true = rw is at may in absurd (cc);
+          flat = rw (known-in old first n some all, e) (may, refl, begun.2, begun.3);
+          no_reply = no_reply first n fault may;
         }
     of statuses.Stopped e =
         let known = rw (known-in old at 1 (omega arith) fits, e) at reads.flat in
         let same : Err fault ≡ Err Stopped = ap (λ (a : Answer). a.result) known.0 in
+        let is : fault ≡ Stopped = cc in
         record {
           flat = rw (known-in old first n some all, e) (ap with_nothing same, known.1);
-          no_reply = λ is. let bad : Err OutOfRange ≡ Err Stopped = rw is at same in absurd (cc);
+          no_reply = ap refusal_reply is;
         }
 
 -- the same of the block at i in a read of n blocks, on a disk that is still as it was
-pub block_shown : (old middle new : FlatDisk) (size first i n : ℕ) (bytes : List ℕ) → size ≡ length old.array → i < n → (0 < n → first + n ≤ size) → middle ≡ old → Reads middle (first + i) 1 (Ok tt) bytes new → ShowsBlock old (first + i) bytes new
-block_shown old middle new size first i n bytes long lt fits same reads =
+pub block_shown : (old middle new : FlatDisk) (first i n : ℕ) (bytes : List ℕ) → i < n → (0 < n → first + n ≤ old.size) → middle ≡ old → Reads middle (first + i) 1 (Ok tt) bytes new → ShowsBlock old (first + i) bytes new
+block_shown old middle new first i n bytes lt fits same reads =
     let within = fits (omega (arith, lt)) in
-    shows_block old new (first + i) bytes (omega (arith, within, long, lt)) (subst (λ (d : FlatDisk). Reads d (first + i) 1 (Ok tt) bytes new) same reads)
+    shows_block old new (first + i) bytes (omega (arith, within, lt)) (subst (λ (d : FlatDisk). Reads d (first + i) 1 (Ok tt) bytes new) same reads)
 
-pub block_refused : (old middle new : FlatDisk) (size first i n : ℕ) (bytes : List ℕ) (fault : DiskFault) → size ≡ length old.array → i < n → (0 < n → first + n ≤ size) → middle ≡ old → Reads middle (first + i) 1 (Err fault) bytes new → IsRefused old (read first n) fault new
-block_refused old middle new size first i n bytes fault long lt fits same reads =
+pub block_refused : (old middle new : FlatDisk) (first i n : ℕ) (bytes : List ℕ) (fault : DiskFault) → i < n → (0 < n → first + n ≤ old.size) → middle ≡ old → Reads middle (first + i) 1 (Err fault) bytes new → IsRefused old (single (read first n)) fault new
+block_refused old middle new first i n bytes fault lt fits same reads =
     let within = fits (omega (arith, lt)) in
-    refused_block old new (first + i) first n bytes fault (omega (arith, within, long, lt)) (omega (arith, lt)) (omega (arith, within, long)) (subst (λ (d : FlatDisk). Reads d (first + i) 1 (Err fault) bytes new) same reads)
+    refused_block old new (first + i) first n bytes fault (omega (arith, within, lt)) (omega (arith, lt)) within (subst (λ (d : FlatDisk). Reads d (first + i) 1 (Err fault) bytes new) same reads)
 
 -- a read that shows all its blocks
-shows_all : (disk : FlatDisk) (first n : ℕ) → (0 < n → first + n ≤ length disk.array) → (0 < n → disk.status ≡ statuses.Serving)
+shows_all : (disk : FlatDisk) (first n : ℕ) → (0 < n → first + n ≤ disk.size) → (0 < n → disk.status ≡ statuses.Serving)
     → FlatCall disk (read first n) (record { result = Ok tt; shown = blocks_from disk.array first n }) disk
 shows_all disk first zero fits serves = (refl, refl)
 shows_all disk first (suc n) fits serves =
-    rw (known-in disk first (suc n) (omega arith) (fits (omega arith)), serves (omega arith)) ((refl, refl), refl)
+    rw (known-in disk first (suc n) (omega arith) (fits (omega arith)), serves (omega arith)) (refl, refl)
 
--- why a disk refused a call that has no reply
-pub cause_of : (disk : DiskView) (fault : DiskFault) → fault ≢ OutOfRange → DiskCause disk fault → IsCause disk.drive (next_sequence disk) fault
-cause_of disk OutOfRange other cause = absurd (other refl)
-cause_of disk OutOfMemory other cause = cause
-cause_of disk Stopped other cause = cause
-cause_of disk Spent other cause = cause
-cause_of disk NoRoom other cause = cause
+-- why a disk refused what has no reply
+pub cause_of : (disk : DiskView) (fault : DiskFault) → refusal_reply fault ≡ None → DiskCause disk fault → IsCause disk.drive (next_sequence disk) fault
+cause_of disk OutOfRange none cause = absurd (cc)
+cause_of disk OutOfMemory none cause = cause
+cause_of disk Stopped none cause = cause
+cause_of disk Spent none cause = cause
+cause_of disk NoRoom none cause = cause
+cause_of disk Smaller none cause = absurd (cc)
+cause_of disk Reserve none cause = absurd (cc)
 
 -- ---- replies
 
@@ -119,8 +130,12 @@ outside size first n e = (grind (arith, nat_tests), grind (arith, nat_tests))
 pub inside : (size first n : ℕ) → false ≡ (nat_lt 0 n && nat_lt size (first + n)) → 0 < n → first + n ≤ size
 inside size first n e some = grind (arith, nat_tests)
 
-pub replies_past : (disk : FlatDisk) (size first n : ℕ) (was reply : List ℕ) → size ≡ length disk.array → true ≡ (nat_lt 0 n && nat_lt size (first + n)) → was ≡ [] → reply ≡ was ++ out_of_range_text
-    → RepliesTo disk (read first n) reply disk
+-- a range that is not past the end
+pub in-range : (size first n long : ℕ) → size ≡ long → false ≡ (nat_lt 0 n && nat_lt size (first + n)) → 0 < n → first + n ≤ long
+in-range size first n long same fits some = let within = inside size first n fits some in omega (arith, within, same)
+
+pub replies_past : (disk : FlatDisk) (size first n : ℕ) (was reply : List ℕ) → size ≡ disk.size → true ≡ (nat_lt 0 n && nat_lt size (first + n)) → was ≡ [] → reply ≡ was ++ out_of_range_text
+    → RepliesTo disk (single (read first n)) reply disk
 replies_past disk size first n was reply long past none is =
     let out = outside size first n past in
     record {
@@ -129,21 +144,17 @@ replies_past disk size first n was reply long past none is =
       reply_is = ap (λ (xs : List ℕ). Some xs) (sym (is ∙ ap (λ (xs : List ℕ). xs ++ out_of_range_text) none));
     }
 
-pub replies_shown : (old new : FlatDisk) (size first n : ℕ) (was text reply : List ℕ) → size ≡ length old.array → false ≡ (nat_lt 0 n && nat_lt size (first + n)) → new ≡ old → (0 < n → old.status ≡ statuses.Serving)
-    → was ≡ [] → text ≡ was ++ block_lines first (blocks_from old.array first n) → reply ≡ text ++ ok_text → RepliesTo old (read first n) reply new
+pub replies_shown : (old new : FlatDisk) (size first n : ℕ) (was text reply : List ℕ) → size ≡ old.size → false ≡ (nat_lt 0 n && nat_lt size (first + n)) → new ≡ old → (0 < n → old.status ≡ statuses.Serving)
+    → was ≡ [] → text ≡ was ++ block_lines first (blocks_from old.array first n) → reply ≡ text ++ ok_text → RepliesTo old (single (read first n)) reply new
 replies_shown old new size first n was text reply long fits same serves none shown is =
     let lines = block_lines first (blocks_from old.array first n) in
     let done : FlatCall old (read first n) (record { result = Ok tt; shown = blocks_from old.array first n }) old =
-    shows_all old first n (λ some. let within = inside size first n fits some in omega (arith, within, long)) serves in
+    shows_all old first n (in-range size first n old.size long fits) serves in
     record {
       answer = record { result = Ok tt; shown = blocks_from old.array first n };
       flat = subst (λ (d : FlatDisk). FlatCall old (read first n) (record { result = Ok tt; shown = blocks_from old.array first n }) d) (sym same) done;
       reply_is = ap (λ (xs : List ℕ). Some xs) (sym (is ∙ ap (λ (xs : List ℕ). xs ++ ok_text) (shown ∙ ap (λ (xs : List ℕ). xs ++ lines) none)));
     }
-
--- a range that is not past the end
-pub in-range : (size first n long : ℕ) → size ≡ long → false ≡ (nat_lt 0 n && nat_lt size (first + n)) → 0 < n → first + n ≤ long
-in-range size first n long same fits some = let within = inside size first n fits some in omega (arith, within, same)
 
 -- ---- the lines of blocks
 

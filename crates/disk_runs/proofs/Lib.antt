@@ -1,3 +1,4 @@
 pub mod CallLaws
+pub mod RequestLaws
 pub mod RunLaws
 pub mod TraceLaws

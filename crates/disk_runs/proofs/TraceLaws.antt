@@ -1,18 +1,19 @@
 -- A run from a drive to a drive.
-use Rattle.std.proofs.Common.{◌≡◌, ℕ, List, Option, Ok, Err, ap, subst, ◌∙◌, arith}
+use Rattle.std.proofs.Common.{◌≡◌, ℕ, List, Option, Ok, Err, refl, ap, subst, ◌∙◌, arith}
 use Rattle.std.specs.Prelude.{IfErr, OnOk, Result}
 use Rattle.zone_states.specs.declared.geometry.Geometry.{Geometry}
 use Rattle.drive_port.specs.Drive.{DriveState}
 use Rattle.zone_choice.specs.Agreement.{spelled}
+use Rattle.zone_choice.specs.Reserve.{most_size}
 use Rattle.zone_choice.proofs.AgreementLaws.{spelled_same}
-use Rattle.zone_translator.specs.Flat.{FlatDisk, serving}
+use Rattle.zone_translator.specs.Flat.{FlatDisk}
 use Rattle.zone_translator.specs.Mount.{KeepsDrive}
-use Rattle.zone_translator.specs.View.{DiskView, KeepsDisk, array_of, flat_of, given_size, next_sequence}
+use Rattle.zone_translator.specs.View.{DiskView, KeepsDisk, disk_size, flat_of, given_size, next_sequence}
 use Rattle.zone_translator.specs.declared.status.DiskStatus.{DiskStatus}
 use Rattle.zone_translator.specs.declared.status.DiskStatus.TheVariants.{Serving}
 use Rattle.disk_runs.specs.FlatLines.{flat}
 use Rattle.disk_runs.specs.Run.{HasCause, Ran, Stopped, WhereKnown}
-use Rattle.disk_runs.specs.Trace.{EndCause, IsMounted, RunGives, RunKeeps, RunLeaves, disk_on}
+use Rattle.disk_runs.specs.Trace.{EndCause, IsMounted, RunGives, RunKeeps, RunLeaves, disk_at_first, disk_on}
 use Rattle.disk_runs.specs.declared.fault.RunFault.{RunFault}
 use Rattle.disk_runs.specs.declared.fault.RunFault.TheVariants as runs
 use Rattle.disk_runs.specs.declared.fault.RunFault.TheVariants.{Line, Long, Disk, Mount, Input, Output, Memory}
@@ -23,16 +24,22 @@ carried P a a' b b' c c' e f g p = subst (λ z. P a' b' z) g (subst (λ y. P a' 
 -- the block's size, the disk at first, and the disk at last, as the run saw them and by the drives
 pub record Seen (n : ℕ) (old : DriveState) (first last : DiskView) : Type 0 where
   pub block : first.drive.geometry.block ≡ old.geometry.block
-  pub begins : flat_of first ≡ serving (spelled old n)
-  pub ends : flat_of last ≡ disk_on n last.drive last.status
+  pub begins : flat_of first ≡ disk_at_first n old
+  pub ends : flat_of last ≡ disk_on n last.drive (disk_size last) last.status
 
-pub seen : (n : ℕ) (old : DriveState) (first last : DiskView) → KeepsDrive old first.drive → given_size first ≡ n → first.status ≡ Serving → given_size last ≡ given_size first → Seen n old first last
-seen n old first last kept size serves keeps = record {
+-- a disk of these parts
+abbrev pub disk_of : List (List ℕ) → ℕ → DiskStatus → Geometry → FlatDisk
+disk_of array size status geometry = record { array = array; size = size; status = status; block = geometry.block; most = most_size geometry }
+
+disk-of : (array array' : List (List ℕ)) (size size' : ℕ) (status status' : DiskStatus) (geometry geometry' : Geometry) → array ≡ array' → size ≡ size' → status ≡ status' → geometry ≡ geometry'
+    → disk_of array size status geometry ≡ disk_of array' size' status' geometry'
+disk-of array array' size size' status status' geometry geometry' e f g h = rw (e, f, g, h) refl
+
+pub seen : (n : ℕ) (old : DriveState) (first last : DiskView) → KeepsDrive old first.drive → given_size first ≡ n → disk_size first ≡ n → first.status ≡ Serving → given_size last ≡ given_size first → Seen n old first last
+seen n old first last kept given size serves keeps = record {
   block = ap (λ (g : Geometry). g.block) kept.same.geometry;
-  begins =
-      ap (λ (s : DiskStatus). record { array = array_of first; status = s }) serves
-      ∙ ap serving (ap (λ (k : ℕ). spelled first.drive k) size ∙ spelled_same old first.drive n kept.same);
-  ends = ap (λ (k : ℕ). disk_on k last.drive last.status) (keeps ∙ size);
+  begins = disk-of _ _ _ _ _ _ _ _ (ap (λ (k : ℕ). spelled first.drive k) given ∙ spelled_same old first.drive n kept.same) size serves kept.same.geometry;
+  ends = ap (λ (k : ℕ). disk_on k last.drive (disk_size last) last.status) (keeps ∙ given);
 }
 
 abbrev pub RanAs : Option (List ℕ) → Option (List ℕ) → Option (List ℕ) → ℕ → FlatDisk → FlatDisk → Type 0
@@ -47,11 +54,11 @@ pub run_gives : (n : ℕ) (old : DriveState) (first last : DiskView) (input writ
     → IfErr result (λ fault. StoppedAs input written fault contents first.drive.geometry.block (flat_of first) (flat_of last))
     → RunGives n old input written result contents last.drive
 run_gives n old first last input written contents (Ok done) s cause ran stopped =
-    (last.status, carried (RanAs input written contents) _ _ _ _ _ _ s.block s.begins s.ends ran)
+    (disk_size last, last.status, carried (RanAs input written contents) _ _ _ _ _ _ s.block s.begins s.ends ran)
 run_gives n old first last input written contents (Err fault) s cause ran stopped =
-    of fault cause (last.status, carried (StoppedAs input written fault contents) _ _ _ _ _ _ s.block s.begins s.ends stopped)
+    of fault cause (disk_size last, last.status, carried (StoppedAs input written fault contents) _ _ _ _ _ _ s.block s.begins s.ends stopped)
   where
-    of : (fault : RunFault) → HasCause (EndCause last) fault → (status : DiskStatus) × StoppedAs input written fault contents old.geometry.block (serving (spelled old n)) (disk_on n last.drive status) → RunGives n old input written (Err fault) contents last.drive
+    of : (fault : RunFault) → HasCause (EndCause last) fault → (size : ℕ) × (status : DiskStatus) × StoppedAs input written fault contents old.geometry.block (disk_at_first n old) (disk_on n last.drive size status) → RunGives n old input written (Err fault) contents last.drive
     of (Line m) cause h = h
     of (Long m) cause h = h
     of (Disk f) cause h = h

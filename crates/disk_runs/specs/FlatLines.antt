@@ -1,66 +1,131 @@
 -- What a conventional disk replies to the lines of a trace. It knows nothing of zones.
-use Rattle.std.specs.Prelude.{◌≡◌, ◌≢◌, ℕ, ◌||◌, if◌then◌else◌, Bool, List, [], replicate, Option, Some, None, Result, Ok, Err, is_some, option_map}
-use Rattle.disk_files.specs.Reply.{out_of_range_text, read_text}
+use Rattle.std.specs.Prelude.{◌≡◌, ℕ, zero, suc, ◌<◌, ◌/◌, ◌%◌, ◌==◌, ◌||◌, if◌then◌else◌, Bool, List, [], length, Option, Some, None, Result, Ok, Err, is_some, option_and_then}
+use Rattle.zone_states.specs.Zone.{cut_blocks}
+use Rattle.disk_files.specs.Reply.{out_of_range_text, read_text, reserve_text, smaller_text}
 use Rattle.disk_files.specs.TraceLine.{is_skipped, trace_line}
 use Rattle.disk_files.specs.declared.trace_line.TraceLine.{TraceLine}
-use Rattle.disk_files.specs.declared.trace_line.TraceLine.TheVariants.{Read, Fill}
-use Rattle.zone_translator.specs.Flat.{Answer, Call, FlatCall, FlatDisk, first_of, read, with_nothing, write}
+use Rattle.disk_files.specs.declared.trace_line.TraceLine.TheVariants.{Read, Fill, Write, Trim, Idle, Grow}
+use Rattle.zone_translator.specs.Flat.{Answer, Call, FlatCall, FlatDisk, fill, grow, idle, read, trim, with_nothing, write}
 use Rattle.zone_translator.specs.declared.fault.DiskFault.{DiskFault}
-use Rattle.zone_translator.specs.declared.fault.DiskFault.TheVariants.{OutOfRange}
+use Rattle.zone_translator.specs.declared.fault.DiskFault.TheVariants.{OutOfRange, Smaller, Reserve}
 use Rattle.disk_runs.specs.Run.{Language}
 use Rattle.disk_runs.specs.declared.fault.RunFault.{RunFault}
 use Rattle.disk_runs.specs.declared.fault.RunFault.TheVariants.{Disk, Memory}
 
--- the call that a line asks for, where a block has this many bytes: a fill writes blocks of one byte
-abbrev pub asked : ℕ → TraceLine → Call
-asked size (Read first n) = read first n
-asked size (Fill first n byte) = write first (replicate n (replicate size byte))
+-- ---- what a line asks for
 
--- a line that is skipped asks for no call
-abbrev pub call_of : ℕ → List ℕ → Option Call
-call_of size line = if is_skipped line then None else option_map (asked size) (trace_line line)
+-- one call, or that many turns of cleaning
+pub data Request : Type 0 where
+  single : Call → Request
+  turns : ℕ → Request
 
--- whether a line is skipped or in the grammar
-abbrev pub is_legal : List ℕ → Bool
-is_legal line = is_skipped line || is_some (trace_line line)
+-- data that is whole blocks of this many bytes
+abbrev pub is_whole : ℕ → List ℕ → Bool
+is_whole size bytes = length bytes % size == 0
 
--- the reply to a call that is done, or goes past the end; no other refusal has one
+-- what a line asks for, with the data beside it, where a block has this many bytes: data that is not whole blocks asks for nothing
+abbrev pub asked : ℕ → TraceLine → List ℕ → Option Request
+asked size (Read first n) bytes = Some (single (read first n))
+asked size (Fill first n byte) bytes = Some (single (fill size first n byte))
+asked size (Write first) bytes =
+    if is_whole size bytes then Some (single (write first (cut_blocks size (length bytes / size) bytes)))
+    else None
+asked size (Trim first n) bytes = Some (single (trim size first n))
+asked size (Idle n) bytes = Some (turns n)
+asked size (Grow n) bytes = Some (single (grow n))
+
+-- the same of the line's text
+abbrev pub asked_by : ℕ → List ℕ → Option Request
+asked_by size line = option_and_then (λ said. asked size said.0 said.1) (trace_line line)
+
+-- a line that is skipped asks for nothing
+abbrev pub request_of : ℕ → List ℕ → Option Request
+request_of size line = if is_skipped line then None else asked_by size line
+
+-- whether a line is skipped or asks for something
+abbrev pub is_legal : ℕ → List ℕ → Bool
+is_legal size line = is_skipped line || is_some (asked_by size line)
+
+-- ---- what is answered to it
+
+-- that many turns of cleaning are done, one after the other
+abbrev pub TurnsDone : ℕ → FlatDisk → FlatDisk → Type 0
+TurnsDone zero old new = new ≡ old
+TurnsDone (suc n) old new = (middle : FlatDisk) × FlatCall old idle (with_nothing (Ok tt)) middle × TurnsDone n middle new
+
+-- some of the turns are done, and the next one is refused
+pub record TurnsStop (n : ℕ) (old : FlatDisk) (fault : DiskFault) (new : FlatDisk) : Type 0 where
+  pub done : ℕ
+  pub few : done < n
+  pub middle : FlatDisk
+  pub before : TurnsDone done old middle
+  pub refused : FlatCall middle idle (with_nothing (Err fault)) new
+
+-- turns of cleaning, up to one that is refused
+abbrev pub Turns : ℕ → FlatDisk → Result (Unit {0}) DiskFault → FlatDisk → Type 0
+Turns n old (Ok done) new = TurnsDone n old new
+Turns n old (Err fault) new = TurnsStop n old fault new
+
+-- a call is answered as a flat disk answers it; turns show nothing
+abbrev pub FlatAnswer : FlatDisk → Request → Answer → FlatDisk → Type 0
+FlatAnswer old (single call) answer new = FlatCall old call answer new
+FlatAnswer old (turns n) answer new = (answer.shown ≡ []) × Turns n old answer.result new
+
+-- ---- replies
+
+-- from which block on a request shows blocks: only a read shows any
+abbrev pub first_of : Request → ℕ
+first_of (single (read first n)) = first
+first_of request = 0
+
+-- the replies to refusals of a range and of a size; no other refusal has one
+abbrev pub refusal_reply : DiskFault → Option (List ℕ)
+refusal_reply OutOfRange = Some out_of_range_text
+refusal_reply Smaller = Some smaller_text
+refusal_reply Reserve = Some reserve_text
+refusal_reply fault = None
+
+-- the reply to what was answered: the blocks that are shown, numbered from `first` on, or the refusal
 abbrev pub reply_of : ℕ → List (List ℕ) → Result (Unit {0}) DiskFault → Option (List ℕ)
 reply_of first shown (Ok done) = Some (read_text first shown)
-reply_of first shown (Err OutOfRange) = Some out_of_range_text
-reply_of first shown (Err fault) = None
+reply_of first shown (Err fault) = refusal_reply fault
 
--- a call is answered, and its answer has this reply
-pub record RepliesTo (old : FlatDisk) (call : Call) (reply : List ℕ) (new : FlatDisk) : Type 0 where
+-- what was answered is a refusal without a reply, and ends the run
+abbrev pub IsUntold : Result (Unit {0}) DiskFault → RunFault → Type 0
+IsUntold (Err fault) (Disk same) = (same ≡ fault) × (refusal_reply fault ≡ None)
+IsUntold done ends = ⊥
+
+-- a request is answered, and its answer has this reply
+pub record RepliesTo (old : FlatDisk) (request : Request) (reply : List ℕ) (new : FlatDisk) : Type 0 where
   pub answer : Answer
-  pub flat : FlatCall old call answer new
-  pub reply_is : reply_of (first_of call) answer.shown answer.result ≡ Some reply
+  pub flat : FlatAnswer old request answer new
+  pub reply_is : reply_of (first_of request) answer.shown answer.result ≡ Some reply
 
--- a line is answered by the reply to its call, and by nothing where it asks for none
-abbrev pub AnswersCall : FlatDisk → Option Call → List ℕ → FlatDisk → Type 0
-AnswersCall old None reply new = (reply ≡ []) × (new ≡ old)
-AnswersCall old (Some call) reply new = RepliesTo old call reply new
+-- a line is answered by the reply to its request, and by nothing where it asks for none
+abbrev pub AnswersRequest : FlatDisk → Option Request → List ℕ → FlatDisk → Type 0
+AnswersRequest old None reply new = (reply ≡ []) × (new ≡ old)
+AnswersRequest old (Some request) reply new = RepliesTo old request reply new
 
--- a call is refused, and its refusal has no reply
-pub record IsRefused (old : FlatDisk) (call : Call) (fault : DiskFault) (new : FlatDisk) : Type 0 where
-  pub flat : FlatCall old call (with_nothing (Err fault)) new
-  pub no_reply : fault ≢ OutOfRange
+-- a request is refused, and its refusal has no reply
+pub record IsRefused (old : FlatDisk) (request : Request) (fault : DiskFault) (new : FlatDisk) : Type 0 where
+  pub flat : FlatAnswer old request (with_nothing (Err fault)) new
+  pub no_reply : refusal_reply fault ≡ None
 
--- why a call has no reply, and what it left: it was refused, or there was no memory for its reply and nothing changed
-abbrev pub CallStops : FlatDisk → Call → RunFault → FlatDisk → Type 0
-CallStops old call (Disk fault) new = IsRefused old call fault new
-CallStops old call Memory new = new ≡ old
-CallStops old call fault new = ⊥
+-- a line is refused only where it asks for something, and only by the disk
+abbrev pub RefusesRequest : FlatDisk → Option Request → RunFault → FlatDisk → Type 0
+RefusesRequest old (Some request) (Disk fault) new = IsRefused old request fault new
+RefusesRequest old wanted fault new = ⊥
 
--- a line is refused only where it asks for a call, and only by the disk
-abbrev pub RefusesCall : FlatDisk → Option Call → RunFault → FlatDisk → Type 0
-RefusesCall old (Some call) (Disk fault) new = IsRefused old call fault new
-RefusesCall old call fault new = ⊥
+-- why what a line asks for has no reply, and what it left: it was refused, or there was no memory for the reply and nothing changed
+abbrev pub RequestStops : FlatDisk → Option Request → RunFault → FlatDisk → Type 0
+RequestStops old wanted (Disk fault) new = RefusesRequest old wanted (Disk fault) new
+RequestStops old wanted Memory new = new ≡ old
+RequestStops old wanted fault new = ⊥
 
 -- the lines of a trace, as a flat disk answers them whose blocks have this many bytes
 abbrev pub flat : ℕ → Language FlatDisk
 flat size = record {
-  is_legal = is_legal;
-  Answers = λ old line reply new. AnswersCall old (call_of size line) reply new;
-  Refuses = λ old line fault new. RefusesCall old (call_of size line) fault new;
+  is_legal = λ line. is_legal size line;
+  Answers = λ old line reply new. AnswersRequest old (request_of size line) reply new;
+  Refuses = λ old line fault new. RefusesRequest old (request_of size line) fault new;
 }

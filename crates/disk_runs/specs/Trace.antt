@@ -5,13 +5,14 @@ use Rattle.zone_states.specs.Geometry.{IsInRange}
 use Rattle.drive_port.specs.Drive.{DriveState}
 use Rattle.zone_choice.specs.Agreement.{spelled}
 use Rattle.zone_choice.specs.Mountable.{IsMountable}
-use Rattle.zone_choice.specs.Reserve.{FitsReserve}
+use Rattle.zone_choice.specs.Reserve.{FitsReserve, most_size}
 use Rattle.zone_translator.specs.Changes.{IsCause}
-use Rattle.zone_translator.specs.Flat.{FlatDisk, serving}
+use Rattle.zone_translator.specs.Flat.{FlatDisk}
 use Rattle.zone_translator.specs.Mount.{IsFresh, KeepsDrive, MountRefuses}
 use Rattle.zone_translator.specs.View.{DiskView, KeepsDisk, given_size, next_sequence}
 use Rattle.zone_translator.specs.declared.fault.DiskFault.{DiskFault}
 use Rattle.zone_translator.specs.declared.status.DiskStatus.{DiskStatus}
+use Rattle.zone_translator.specs.declared.status.DiskStatus.TheVariants.{Serving}
 use Rattle.disk_runs.specs.FlatLines.{flat}
 use Rattle.disk_runs.specs.Run.{Ran, Stopped, WhereKnown}
 use Rattle.disk_runs.specs.declared.fault.RunFault.{RunFault}
@@ -31,17 +32,27 @@ EndCause disk fault = ⊥
 
 -- ---- a run
 
--- the disk of n blocks that a drive keeps
-abbrev pub disk_on : ℕ → DriveState → DiskStatus → FlatDisk
-disk_on n drive status = record { array = spelled drive n; status = status }
+-- The disk of this size that a drive keeps which was mounted as n blocks. After a stop inside a growth the array may have more blocks than the size, by which calls are checked.
+abbrev pub disk_on : ℕ → DriveState → ℕ → DiskStatus → FlatDisk
+disk_on n drive size status = record {
+  array = spelled drive n;
+  size = size;
+  status = status;
+  block = drive.geometry.block;
+  most = most_size drive.geometry;
+}
 
--- The lines are answered by the disk of n blocks that the drive keeps, which serves calls at first. Where the drive is not mounted, nothing is written.
+-- the disk at first: it has the n blocks as which its drive is mounted, and serves calls
+abbrev pub disk_at_first : ℕ → DriveState → FlatDisk
+disk_at_first n drive = disk_on n drive n Serving
+
+-- The lines are answered by the disk that the drive keeps. Where the drive is not mounted, nothing is written.
 abbrev pub RunGives : ℕ → DriveState → Option (List ℕ) → Option (List ℕ) → Result (Unit {0}) RunFault → Option (List ℕ) → DriveState → Type 0
 RunGives n old input written (Ok done) contents new =
-    (status : DiskStatus) × WhereKnown input written (λ bytes before. Ran (flat old.geometry.block) bytes before (serving (spelled old n)) contents (disk_on n new status))
+    (size : ℕ) × (status : DiskStatus) × WhereKnown input written (λ bytes before. Ran (flat old.geometry.block) bytes before (disk_at_first n old) contents (disk_on n new size status))
 RunGives n old input written (Err (Mount fault)) contents new = Keeps written contents
 RunGives n old input written (Err fault) contents new =
-    (status : DiskStatus) × WhereKnown input written (λ bytes before. Stopped (flat old.geometry.block) bytes before (serving (spelled old n)) fault contents (disk_on n new status))
+    (size : ℕ) × (status : DiskStatus) × WhereKnown input written (λ bytes before. Stopped (flat old.geometry.block) bytes before (disk_at_first n old) fault contents (disk_on n new size status))
 
 -- a drive that is mounted as n blocks
 pub record IsMounted (drive : DriveState) (n : ℕ) : Type 0 where

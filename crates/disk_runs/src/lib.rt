@@ -13,7 +13,8 @@
 //! }
 //! ```
 //!
-//! With the lines `fill 0 2 aa` and `read 1 1` the output is `ok`, `1 aa*512`, `ok`.
+//! With the lines `fill 0 2 aa` and `read 1 1` the output is `ok`, `1 aa*512`, `ok`. The lines `write`,
+//! `trim`, `idle` and `grow` are answered too.
 //!
 //! What is promised, of every device, every reader and every writer:
 //!
@@ -22,8 +23,9 @@
 //!   writer failed, a beginning of its reply. The bytes are promised where the reader and the writer say by
 //!   contract which bytes they have left and hold, as those in memory do.
 //! - A run ends with `Ok` only where the reader ended and every line was answered.
-//! - A line is refused only where it asks for a call, and only as a flat disk may refuse that call. After
+//! - A line is refused only where it asks for calls, and only as a flat disk may refuse one of them. After
 //!   `Memory` nothing came of the line.
+//! - Data of a `write` that is not whole blocks is refused as a line that is not in the grammar.
 //! - Each answer but `Mount` comes from a drive that was mounted, and that can be mounted again.
 //! - A raw line is one step of the drive, which had not stopped.
 #![tactic(auto)]
@@ -32,6 +34,8 @@ mod fault;
 mod fault_line;
 mod lines;
 mod raw;
+mod reads;
+mod requests;
 mod trace;
 
 pub use fault::RunFault;

@@ -5,7 +5,7 @@ ghost use Rattle.disk_runs.specs.Run.{HasCause, Ran, Stopped, WhereKnown};
 
 use crate::fault::RunFault;
 use crate::lines::{Answerer, answer_lines};
-use disk_files::{LineReader, RawFault, WriteFault, is_skipped, parse_raw_line, write_raw_reply};
+use disk_files::{LineReader, ParseFault, WriteFault, is_skipped, parse_raw_line, write_raw_reply};
 use drive_port::{Device, Halt};
 use std::alloc::Global;
 use std::io::{Read, Write};
@@ -49,8 +49,8 @@ impl<D: Device + Drop> Answerer for RawAnswerer<D> {
         }
         let entry = match parse_raw_line(line, &mut self.data) {
             Ok(entry) => entry,
-            Err(RawFault::Grammar) => return Err(RunFault::Line(number)),
-            Err(RawFault::Memory) => return Err(RunFault::Memory),
+            Err(ParseFault::Grammar) => return Err(RunFault::Line(number)),
+            Err(ParseFault::Memory) => return Err(RunFault::Memory),
         };
         match self.device.submit(&entry, &self.data, &mut self.returned) {
             Ok(completion) => {

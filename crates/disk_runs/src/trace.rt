@@ -1,109 +1,25 @@
-ghost use Rattle.std.specs.Prelude.{◌≡◌, ◌+◌, ◌^◌, ◌<◌, ◌≤◌, ◌++◌, ◌&&◌, [], IfErr, OnOk, length, nat_lt, vec_capacity};
-ghost use Rattle.disk_files.specs.Reply.{block_lines};
-ghost use Rattle.zone_translator.specs.Flat.{FlatDisk, blocks_from, read, write};
-ghost use Rattle.zone_translator.specs.View.{array_of, flat_of};
-ghost use Rattle.zone_translator.specs.declared.status.DiskStatus.TheVariants.{Serving};
-ghost use Rattle.disk_files.specs.declared.trace_line.TraceLine.TheVariants.{Fill};
-ghost use Rattle.disk_runs.specs.FlatLines.{CallStops, RepliesTo, asked, flat};
-ghost use Rattle.disk_runs.specs.Run.{HasCause};
+ghost use Rattle.std.specs.Prelude.{◌≡◌};
+ghost use Rattle.zone_translator.specs.Flat.{FlatDisk};
+ghost use Rattle.zone_translator.specs.View.{flat_of};
+ghost use Rattle.disk_runs.specs.FlatLines.{flat};
 ghost use Rattle.disk_runs.specs.Trace.{EndCause, KeepsServed, RunGives, RunLeaves};
 ghost use Rattle.disk_runs.specs.KeepingLaws.{keeps_again, keeps_same};
 
 use crate::fault::RunFault;
 use crate::lines::{Answerer, answer_lines};
-use disk_files::{
-    LineReader, TraceLine, WriteFault, block_line, is_skipped, ok_reply, out_of_range_reply,
-    write_out,
-};
+use crate::requests::{SHORT_REPLY, answer_request, is_request};
+use disk_files::{LineReader, ParseFault, TraceLine, WriteFault, is_skipped, write_out};
 use drive_port::Device;
 use std::alloc::Global;
 use std::io::{Read, Write};
-use zone_translator::{Disk, DiskFault};
-
-/// The bytes of the longest reply but those of reads: `refused 1 OutOfRange`, and a line feed.
-const SHORT_REPLY: usize = 21;
-
-/// Whether a call of these blocks goes past the end of a disk. One of no block does not.
-fn is_past_end(size: u64, first: u64, blocks: u64) -> bool
-    ensures { result ≡ (nat_lt 0 blocks && nat_lt size (first + blocks)) }
-{
-    blocks > 0 && (blocks > size || first > size - blocks)
-}
-
-/// Puts the lines of blocks after what `reply` holds. Each block is read when its line is made, so that no
-/// more than one is held.
-fn show_blocks<D: Device + Drop>(
-    disk: &mut Disk<D>,
-    first: u64,
-    blocks: u64,
-    block: &mut Vec<u8>,
-    reply: &mut Vec<u8>,
-) -> Result<(), RunFault>
-    requires in_range { 0 < blocks → first + blocks ≤ length (array_of disk.old) }
-    requires small { first + blocks ≤ 2 ^ 64 }
-    ensures ok { OnOk result ((flat_of disk.new ≡ flat_of disk.old) × (0 < blocks → disk.old.status ≡ Serving)
-        × (reply.new.items ≡ reply.old.items ++ block_lines first (blocks_from (array_of disk.old) first blocks))) }
-    ensures err { IfErr result (λ fault. CallStops (flat_of disk.old) (read first blocks) fault (flat_of disk.new)) }
-    ensures cause { IfErr result (HasCause (EndCause disk.new)) }
-    ensures keeps { KeepsServed disk.old disk.new }
-{
-    for i in 0..blocks {
-        if let Err(fault) = disk.read(first + i, 1, block) {
-            return Err(RunFault::Disk(fault));
-        }
-        block_line(first + i, block, reply)?;
-    }
-    Ok(())
-}
-
-/// Reads blocks, and puts the reply into `reply`, which is empty.
-fn read_blocks<D: Device + Drop>(
-    disk: &mut Disk<D>,
-    first: u64,
-    blocks: u64,
-    block: &mut Vec<u8>,
-    reply: &mut Vec<u8>,
-) -> Result<(), RunFault>
-    requires { reply.old.items ≡ [] }
-    ensures ok { OnOk result (RepliesTo (flat_of disk.old) (read first blocks) reply.new.items (flat_of disk.new)) }
-    ensures err { IfErr result (λ fault. CallStops (flat_of disk.old) (read first blocks) fault (flat_of disk.new)) }
-    ensures cause { IfErr result (HasCause (EndCause disk.new)) }
-    ensures keeps { KeepsServed disk.old disk.new }
-{
-    if is_past_end(disk.blocks(), first, blocks) {
-        return Ok(out_of_range_reply(reply)?);
-    }
-    show_blocks(disk, first, blocks, block, reply)?;
-    Ok(ok_reply(reply)?)
-}
-
-/// Fills blocks, and puts the reply into `reply`, which is empty and has room for it.
-fn fill_blocks<D: Device + Drop>(
-    disk: &mut Disk<D>,
-    first: u64,
-    blocks: u64,
-    byte: u8,
-    reply: &mut Vec<u8>,
-) -> Result<(), RunFault>
-    requires empty { reply.old.items ≡ [] }
-    requires room { SHORT_REPLY ≤ vec_capacity reply.old }
-    ensures ok { OnOk result (RepliesTo (flat_of disk.old) (asked disk.old.drive.geometry.block (Fill first blocks byte)) reply.new.items (flat_of disk.new)) }
-    ensures err { IfErr result (λ fault. CallStops (flat_of disk.old) (asked disk.old.drive.geometry.block (Fill first blocks byte)) fault (flat_of disk.new)) }
-    ensures cause { IfErr result (HasCause (EndCause disk.new)) }
-    ensures keeps { KeepsServed disk.old disk.new }
-{
-    match disk.fill(first, blocks, byte) {
-        Ok(()) => ok_reply(reply).unwrap(),
-        Err(DiskFault::OutOfRange) => out_of_range_reply(reply).unwrap(),
-        Err(fault) => return Err(RunFault::Disk(fault)),
-    }
-    Ok(())
-}
+use zone_translator::Disk;
 
 /// Answers the lines of a trace by the calls of a disk.
 #[derive(Drop)]
 struct TraceAnswerer<D: Device + Drop> {
     disk: Disk<D>,
+    /// The data of the last line, if it was a `write`.
+    bytes: Vec<u8>,
     /// The block that a read showed last.
     block: Vec<u8>,
     reply: Vec<u8>,
@@ -133,27 +49,23 @@ impl<D: Device + Drop> Answerer for TraceAnswerer<D> {
         if is_skipped(line) {
             return Ok(());
         }
-        let Some(call) = TraceLine::parse(line) else {
-            return Err(RunFault::Line(number));
+        let request = match TraceLine::parse(line, &mut self.bytes) {
+            Ok(request) => request,
+            Err(ParseFault::Grammar) => return Err(RunFault::Line(number)),
+            Err(ParseFault::Memory) => return Err(RunFault::Memory),
         };
-        // With this room the reply to a fill that is done can always be held.
-        self.reply.reserve(SHORT_REPLY)?;
-        match call {
-            TraceLine::Read { first, blocks } => {
-                read_blocks(
-                    &mut self.disk,
-                    first,
-                    blocks,
-                    &mut self.block,
-                    &mut self.reply,
-                )
-            }
-            TraceLine::Fill {
-                first,
-                blocks,
-                byte,
-            } => fill_blocks(&mut self.disk, first, blocks, byte, &mut self.reply),
+        if !is_request(request, &self.bytes, self.disk.block_bytes()) {
+            return Err(RunFault::Line(number));
         }
+        // With this room the reply to a call that is done can always be held.
+        self.reply.reserve(SHORT_REPLY)?;
+        answer_request(
+            &mut self.disk,
+            request,
+            &self.bytes,
+            &mut self.block,
+            &mut self.reply,
+        )
     }
 
     fn write_reply<W: Write>(&self, writer: &mut W) -> Result<(), WriteFault> {
@@ -183,6 +95,7 @@ pub fn run_trace<R: Read + Drop, W: Write, D: Device + Drop>(
     let mut reader = LineReader::new(reader);
     let mut answerer = TraceAnswerer {
         disk,
+        bytes: Vec::new(alloc),
         block: Vec::new(alloc),
         reply: Vec::new(alloc),
     };

@@ -27,7 +27,7 @@ CallGives old command bytes (Err (Refused status)) returned new = (old.stopped �
 CallGives old command bytes (Err Memory) returned new = (returned ≡ []) × Halts old (Ok command) bytes halts.Memory new
 CallGives old command bytes (Err Stopped) returned new = (returned ≡ []) × Halts old (Ok command) bytes halts.Stopped new
 
--- What each call keeps, whatever it answers: the drive stays lawful and has its geometry; a drive that had stopped answers just that and does not change; and a drive that answers `Stopped` has stopped, and its counts are the same.
+-- What each call keeps, whatever it answers: the drive stays lawful and has its geometry; a drive that had stopped answers just that and does not change; a drive that answers `Stopped` has stopped, and its counts are the same; and no more than one command is completed.
 pub record Obeys {V : Type 0} (old : DriveState) (result : Result V PortFault) (new : DriveState) : Type 0 where
   pub was_lawful : IsLawful old
   pub lawful : IsLawful new
@@ -35,6 +35,7 @@ pub record Obeys {V : Type 0} (old : DriveState) (result : Result V PortFault) (
   pub already : old.stopped ≡ true → (result ≡ Err Stopped) × (new ≡ old)
   pub stops : result ≡ Err Stopped → new.stopped ≡ true
   pub counts : result ≡ Err Stopped → SameCounts old new
+  pub completed : new.completed ≤ old.completed + 1
 
 -- the answer of a call whose command has no result: that is 0
 abbrev pub with_zero : {V : Type 0} → Result V PortFault → Result ℕ PortFault

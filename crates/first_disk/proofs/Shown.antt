@@ -22,9 +22,9 @@ pub length-cut : (size n : ℕ) (bytes : List ℕ) → length (cut_blocks size n
 length-cut size zero bytes = refl
 length-cut size (suc n) bytes = let rest = length-cut size n (drop size bytes) in omega (arith, rest)
 
-pub shown-again : WrittenReadsBack → (old middle new : FlatDisk) (first n size : ℕ) (written : List ℕ) (result : Result (Unit {0}) DiskFault) (bytes : List ℕ) → length written ≡ n * size
+pub shown-again : (old middle new : FlatDisk) (first n size : ℕ) (written : List ℕ) (result : Result (Unit {0}) DiskFault) (bytes : List ℕ) → WrittenReadsBack old → length written ≡ n * size
     → FlatCall old (write first (cut_blocks size n written)) (with_nothing (Ok tt)) middle → Reads middle first n result bytes new → OnOk result (bytes ≡ written)
-shown-again law old middle new first n size written (Err fault) bytes whole wrote reads = tt
-shown-again law old middle new first n size written (Ok done) bytes whole wrote reads =
-    let same = law old middle new first (cut_blocks size n written) reads.shown wrote (rw (length-cut size n written) reads.flat) in
+shown-again old middle new first n size written (Err fault) bytes law whole wrote reads = tt
+shown-again old middle new first n size written (Ok done) bytes law whole wrote reads =
+    let same = law middle new first (cut_blocks size n written) reads.shown wrote (rw (length-cut size n written) reads.flat) in
     reads.bytes_are ∙ ap concat same ∙ concat-cut size n written whole

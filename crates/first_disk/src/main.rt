@@ -38,7 +38,7 @@ fn write_and_read<D: Device + Drop>(
     requires blocks { blocks ≡ block_count disk.old.drive.geometry bytes.now }
     ensures { OnOk result (shown.new.items ≡ bytes.now) }
 {
-    written_reads_back();
+    written_reads_back(disk);
     disk.write(first, bytes)?;
     disk.read(first, blocks, shown)
 }

@@ -119,6 +119,11 @@ widened-at counts zones new few e =
       | inr past ↦ get_or-append_right counts (replicate (zones - length counts) 0) (length counts) zone 0 refl past ∙ zeros (zones - length counts) (zone - length counts) ∙ sym (get_or_past counts zone 0 past)
     ]
 
+pub kept-widen : (page : ℕ → Option (List Place)) (n zones size : ℕ) (counts new : List ℕ) → IsKept page n zones size counts → Widens counts zones new → IsKept page n zones size new
+kept-widen page n zones size counts new kept wide =
+    let w = widened-at counts zones new kept.few wide in
+    record { past = kept.past; counted = λ zone q. w.1 zone ∙ kept.counted zone q; made = λ m there. w.0; few = omega (arith, w.0) }
+
 pub kept-reserve : (page page' : ℕ → Option (List Place)) (n zones size number : ℕ) (counts new : List ℕ) → IsKept page n zones size counts → Widens counts zones new → page number ≡ Option.None → page' number ≡ Some (replicate 256 places.None) → ((m : ℕ) → m ≢ number → page' m ≡ page m)
     → IsKept page' n zones size new
 kept-reserve page page' n zones size number counts new kept wide none fresh others =

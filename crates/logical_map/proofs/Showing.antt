@@ -80,6 +80,14 @@ shown-set page page' n block p place h long old new others =
 pub ready-at : (page : ℕ → Option (List Place)) (n block : ℕ) → block < n → get_or (ready page n) block false ≡ is_some (page (block / 256))
 ready-at page n block h = get_or-map-range_with_len (λ b. is_some (page (b / 256))) 0 n block block false h (omega arith)
 
+-- a block that has a place is ready
+pub placed-ready : (page : ℕ → Option (List Place)) (n block : ℕ) → block < n → place_in page block ≢ places.None → get_or (ready page n) block false ≡ true
+placed-ready page n block h placed = ready-at page n block h ∙ there (page (block / 256)) refl
+  where
+    there : (p : Option (List Place)) → page (block / 256) ≡ p → is_some (page (block / 256)) ≡ true
+    there Option.None e = absurd (placed (none-at page block e))
+    there (Some q) e = ap is_some e
+
 pub ready-past : (page : ℕ → Option (List Place)) (n block : ℕ) → n ≤ block → get_or (ready page n) block false ≡ false
 ready-past page n block h = get_or_past (ready page n) block false (omega (arith, length-map-range_with_len (λ b. is_some (page (b / 256))) 0 n))
 

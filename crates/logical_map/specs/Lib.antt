@@ -2,3 +2,4 @@ pub mod Places
 pub mod Pages
 pub mod Live
 pub mod Counts
+pub mod Lists

@@ -1,5 +1,6 @@
 -- Which blocks lie in a zone.
-use Rattle.std.specs.Prelude.{ℕ, ◌+◌, ◌/◌, ◌==◌, if◌then◌else◌, Bool, false, List, [], ◌∷◌, drop, count_by, Option, Some, None}
+use Rattle.std.specs.Prelude.{ℕ, ◌+◌, ◌/◌, ◌==◌, if◌then◌else◌, Bool, false, List, [], ◌∷◌, drop, count_by, slice_get, slice_index_or, Option, Some, None}
+use Rattle.std.specs.Option.{option_map}
 use Rattle.logical_map.specs.declared.place.Place.{Place}
 use Rattle.logical_map.specs.declared.place.Place.TheVariants as places
 use Rattle.logical_map.specs.Places.{MapView}
@@ -30,3 +31,7 @@ blocks_in zone_size zone first (place ∷ all) =
 -- the blocks from one on that lie in a zone
 abbrev pub records_of : MapView → ℕ → ℕ → List ℕ
 records_of map zone from = blocks_in map.zone_size zone from (drop from map.places)
+
+-- the first of them, with its place
+abbrev pub first_record : MapView → ℕ → ℕ → Option (ℕ × Place)
+first_record map zone from = option_map (λ block. (block, slice_index_or map.places block places.None)) (slice_get (records_of map zone from) 0)

@@ -1,21 +1,22 @@
-ghost use Rattle.std.specs.Prelude.{◌≡◌, ◌≢◌, ◌<◌, ◌≤◌, ◌+◌, ◌/◌, ◌^◌, length, map, slice_index, slice_index_or, slice_set, replicate, IfSome, OnOk, OnErr};
+ghost use Rattle.std.specs.Prelude.{◌≡◌, ◌≢◌, ◌<◌, ◌≤◌, ◌+◌, ◌/◌, ◌^◌, length, map, slice_get, slice_index, slice_index_or, slice_set, replicate, IfSome, OnOk, OnErr};
 ghost use Rattle.logical_map.specs.Counts.{lowered, raised};
-ghost use Rattle.logical_map.specs.Live.{live, zone_of};
-ghost use Rattle.logical_map.specs.Pages.{place_of};
+ghost use Rattle.logical_map.specs.Lists.{FindsBlock, FindsThere};
+ghost use Rattle.logical_map.specs.Live.{first_record, lies_in, live, records_of, zone_of};
+ghost use Rattle.logical_map.specs.Pages.{page_of, place_in, place_of};
 ghost use Rattle.logical_map.specs.Places.{Grows, IsReady, Reserves, address_of};
 ghost use Rattle.logical_map.specs.declared.place.Place.TheVariants as places;
 
+use crate::lists::{ZoneList, first_from, is_whole, make_lists, note, shorten};
+use crate::pages::{PAGE, Pages, lies_in, place_at, zone_of};
 use crate::place::Place;
 use std::alloc::{AllocError, Global};
 use std::collections::BTreeMap;
 use std::marker::Model;
 
-/// How many places a page has.
-const PAGE: u32 = 256;
-
 /// Where each of a number of logical blocks lies, on a drive of `zones` zones with `zone_size` addresses
 /// each. The places stand in pages, 8 bytes each; a page is made when it is wanted, and one that is missing
-/// holds no place. How many blocks lie in each zone is kept beside them.
+/// holds no place. How many blocks lie in each zone is kept beside them, and a list of them, 4 bytes for
+/// each block that was moved there; blocks that were moved away are dropped from a long list.
 #[derive(Drop)]
 pub struct Map {
     /// How many blocks there are.
@@ -23,21 +24,24 @@ pub struct Map {
     zones: u32,
     zone_size: u32,
     alloc: Global,
-    pages: BTreeMap<u32, Box<[u64; 256]>>,
+    pages: Pages,
     /// How many blocks lie in each zone; none before the first page is made.
     counts: Vec<u32>,
+    /// The blocks of each zone that room was made in.
+    lists: Vec<ZoneList>,
 }
 
 impl Model for Map {
     ghost use Rattle.logical_map.specs.Places.{MapView};
     ghost use Rattle.logical_map.specs.Pages.{page_of, ready, shown};
     ghost use Rattle.logical_map.specs.Counts.{IsKept};
+    ghost use Rattle.logical_map.specs.Lists.{AreListed};
 
     ghost Value = { MapView };
 
     ghost view = { λ m. record { places = shown (page_of m.pages) m.count; ready = ready (page_of m.pages) m.count; zones = m.zones; zone_size = m.zone_size } };
 
-    ghost invariant = { λ m. IsKept (page_of m.pages) m.count m.zones m.zone_size m.counts.items };
+    ghost invariant = { λ m. IsKept (page_of m.pages) m.count m.zones m.zone_size m.counts.items × AreListed (page_of m.pages) m.zone_size m.lists.items };
 }
 
 impl Map {
@@ -55,6 +59,7 @@ impl Map {
             alloc,
             pages: BTreeMap::new(alloc),
             counts: Vec::new(alloc),
+            lists: Vec::new(alloc),
         }
     }
 
@@ -80,10 +85,7 @@ impl Map {
         ensures place { result ≡ slice_index_or self.now.places block places.None }
         ensures ready { result ≢ Place.None → IsReady self.now block }
     {
-        match self.pages.get(&(block / PAGE)) {
-            None => Place::None,
-            Some(page) => Place::from_word(page[(block % PAGE) as usize]),
-        }
+        place_at(&self.pages, block)
     }
 
     /// Makes room for a block's place, so that `set` allocates nothing. Where an allocation fails, the map
@@ -103,7 +105,20 @@ impl Map {
         Ok(())
     }
 
-    /// Sets the place of a block that room was made for.
+    /// Makes room to note `count` blocks more in a zone, so that `records_of` finds the blocks that are moved
+    /// there without a walk over the map. A zone past the end of the drive needs none.
+    pub fn reserve_in(&mut self, zone: u32, count: u32) -> Result<(), AllocError>
+        ensures { self.new ≡ self.old }
+    {
+        if zone >= self.zones {
+            return Ok(());
+        }
+        let empty = self.live(zone) == 0;
+        make_lists(self.alloc, &mut self.lists, zone as usize + 1)?;
+        self.lists[zone as usize].make_room(empty, count)
+    }
+
+    /// Sets the place of a block that room was made for. It allocates nothing.
     pub fn set(&mut self, block: u32, place: Place)
         requires in_range { block < length self.old.places }
         requires ready { IsReady self.old block }
@@ -114,14 +129,24 @@ impl Map {
             return;
         };
         let old = put(page, (block % PAGE) as usize, place);
-        lower(&mut self.counts, zone_of(self.zone_size, old));
-        raise(&mut self.counts, zone_of(self.zone_size, place));
+        let was = zone_of(self.zone_size, old);
+        let zone = zone_of(self.zone_size, place);
+        lower(&mut self.counts, was);
+        raise(&mut self.counts, zone);
+        note(&mut self.lists, was, zone, block);
+        shorten(
+            &mut self.lists,
+            &self.pages,
+            &self.counts,
+            self.zone_size,
+            was,
+            zone,
+        );
     }
 
-    /// How many blocks lie in a zone.
+    /// How many blocks lie in a zone of the drive.
     pub fn live(&self, zone: u32) -> u32
-        requires { zone < self.now.zones }
-        ensures { result ≡ live self.now zone }
+        ensures { zone < self.now.zones → result ≡ live self.now zone }
     {
         let index = zone as usize;
         if index >= self.counts.len() {
@@ -129,26 +154,68 @@ impl Map {
         }
         self.counts[index]
     }
-}
 
-/// The zone that a place lies in.
-fn zone_of(zone_size: u32, place: Place) -> Option<u64>
-    ensures { result ≡ zone_of zone_size place }
-{
-    match place {
-        Place::None => None,
-        Place::Trimmed(address) | Place::At(address) => Some(zone_at(zone_size, address)),
+    /// The first of the blocks from `from` on that lie in a zone, with its place. What it costs depends on
+    /// the blocks that were moved into the zone since none lay there, if room was made for all of them; else
+    /// it walks over the blocks of the map.
+    pub fn records_of(&mut self, zone: u32, from: u32) -> Option<(u32, Place)>
+        requires { zone < self.old.zones }
+        ensures first { result ≡ first_record self.old zone from }
+        ensures kept { self.new ≡ self.old }
+    {
+        let block = self.first_in(zone, from)?;
+        Some((block, place_at(&self.pages, block)))
+    }
+
+    /// The first of the blocks from `from` on that lie in a zone.
+    fn first_in(&mut self, zone: u32, from: u32) -> Option<u32>
+        requires { zone < self.old.zones }
+        ensures first { result ≡ slice_get (records_of self.old zone from) 0 }
+        ensures kept { self.new ≡ self.old }
+    {
+        if self.live(zone) == 0 {
+            return None;
+        }
+        if !is_whole(&self.lists, zone as usize) {
+            return first_placed(&self.pages, self.zone_size, zone, from, self.count);
+        }
+        let index = zone as usize;
+        self.lists[index].sort();
+        let blocks = self.lists[index].blocks();
+        let first = first_from(blocks, from);
+        let position = first_listed(&self.pages, self.zone_size, zone, blocks, first)?;
+        Some(blocks[position])
     }
 }
 
-/// The zone that an address lies in; the first where zones have no addresses.
-fn zone_at(zone_size: u32, address: u64) -> u64
-    ensures { result ≡ address / zone_size }
+/// The position of the first of some blocks, from a position on, that lies in a zone.
+fn first_listed(
+    pages: &Pages,
+    zone_size: u32,
+    zone: u32,
+    blocks: &[u32],
+    first: usize,
+) -> Option<usize>
+    ensures { FindsThere (page_of pages.now) zone_size zone blocks.now first result }
 {
-    if zone_size == 0 {
-        return 0;
+    for position in first..blocks.len() {
+        if lies_in(zone_size, zone as u64, place_at(pages, blocks[position])) {
+            return Some(position);
+        }
     }
-    address / zone_size as u64
+    None
+}
+
+/// The first block from `from` to before `count` that lies in a zone.
+fn first_placed(pages: &Pages, zone_size: u32, zone: u32, from: u32, count: u32) -> Option<u32>
+    ensures { FindsBlock (page_of pages.now) zone_size zone from count result }
+{
+    for block in from..count {
+        if lies_in(zone_size, zone as u64, place_at(pages, block)) {
+            return Some(block);
+        }
+    }
+    None
 }
 
 /// One block less in a zone.
@@ -197,20 +264,25 @@ mod tests {
     use std::process::Abort;
     use std::test::Fail;
 
-    // The last block is placed, and no other.
+    // The last block is placed, and no other; its zone has that block.
     fn places_last(rt: &impl Abort, alloc: Global, count: u32) -> Result<(), Fail>
         requires { 2 ≤ count }
     {
-        let mut map = Map::new(alloc, count, 3, 16);
+        let mut map = Map::new(alloc, count, 3, 4);
         let last = count - 1;
         assert_eq!(rt; map.len(), count);
         let fresh = map.get(last);
         map.reserve_for(last)?;
+        map.reserve_in(2, 1)?;
         map.set(last, Place::At(9));
         assert_eq!(rt;
             (fresh, map.get(last), map.get(last - 1)),
             (Place::None, Place::At(9), Place::None)
         );
+        assert_eq!(rt; map.live(2), 1);
+        assert!(rt; is_whole(&map.lists, 2));
+        assert_eq!(rt; map.records_of(2, 0), Some((last, Place::At(9))));
+        assert_eq!(rt; map.records_of(2, count), None);
         Ok(())
     }
 

@@ -3,14 +3,15 @@
 use crate::bench::{Bench, Setting, bench_of, world_of};
 use crate::fault::ScriptFault;
 use crate::requests::{Request, parse_request};
-use crate::runs::show_unreached;
+use crate::runs::{show_report, show_unreached};
 use crate::show::{show_answer_bytes, show_line, show_sent};
+use crate::words::{meant, number, part};
 use crate::world::World;
-use disk_files::TraceLine;
+use disk_files::{ParseFault, TraceLine};
 use drive_port::{Device, PortFault, append, close, count_zones, finish, read, report, reset};
 use nvme_wire::{Action, Command};
 use std::alloc::{AllocError, Global};
-use zone_translator::{Disk, DiskFault, MountFault};
+use zone_translator::{Disk, DiskFault, MountFault, Place};
 
 // Shows the commands that are recorded after the first `sent`, and says how many there are.
 fn show_new(
@@ -30,43 +31,132 @@ fn show_data(data: &[u8], out: &mut String) -> Result<(), AllocError> {
     show_answer_bytes("", data, out)
 }
 
-fn disk_call(
-    disk: &mut Disk<Bench>,
-    line: &str,
-    data: &mut Vec<u8>,
-) -> Result<Result<(), DiskFault>, ScriptFault> {
-    data.clear();
-    match TraceLine::parse(line.as_bytes()) {
-        Some(TraceLine::Read { first, blocks }) => Ok(disk.read(first, blocks, data)),
-        Some(
-            TraceLine::Fill {
-                first,
-                blocks,
-                byte,
-            },
-        ) => Ok(disk.fill(first, blocks, byte)),
-        None => Err(ScriptFault::Words),
+// The call of a line, and its data in `bytes`.
+fn call_of(line: &[u8], bytes: &mut Vec<u8>) -> Result<TraceLine, ScriptFault> {
+    match TraceLine::parse(line, bytes) {
+        Ok(call) => Ok(call),
+        Err(ParseFault::Grammar) => Err(ScriptFault::Words),
+        Err(ParseFault::Memory) => Err(ScriptFault::Memory),
     }
 }
 
-// Makes a call of a disk, and shows the commands that it sent and its answer.
+fn write_call(
+    disk: &mut Disk<Bench>,
+    first: u64,
+    bytes: &[u8],
+) -> Result<Result<(), DiskFault>, ScriptFault> {
+    if bytes.len() % disk.block_bytes() != 0 {
+        return Err(ScriptFault::Words);
+    }
+    Ok(disk.write(first, bytes))
+}
+
+fn idle_calls(disk: &mut Disk<Bench>, turns: u32) -> Result<(), DiskFault> {
+    for _ in 0..turns {
+        disk.idle()?;
+    }
+    Ok(())
+}
+
+// Makes the calls of a line, and puts what they show into `shown`.
+fn disk_call(
+    disk: &mut Disk<Bench>,
+    line: &[u8],
+    bytes: &mut Vec<u8>,
+    shown: &mut Vec<u8>,
+) -> Result<Result<(), DiskFault>, ScriptFault> {
+    shown.clear();
+    match call_of(line, bytes)? {
+        TraceLine::Read { first, blocks } => Ok(disk.read(first, blocks, shown)),
+        TraceLine::Fill {
+            first,
+            blocks,
+            byte,
+        } => Ok(disk.fill(first, blocks, byte)),
+        TraceLine::Write { first } => write_call(disk, first, bytes),
+        TraceLine::Trim { first, blocks } => Ok(disk.trim(first, blocks)),
+        TraceLine::Idle { turns } => Ok(idle_calls(disk, turns)),
+        TraceLine::Grow { blocks } => Ok(disk.grow(blocks)),
+    }
+}
+
+fn show_done(answer: Result<(), DiskFault>, out: &mut String) -> Result<(), AllocError> {
+    match answer {
+        Ok(()) => writeln!(out, "    done"),
+        Err(fault) => writeln!(out, "    refused {fault:?}"),
+    }
+}
+
+// What the calls of the lines before have left: how many commands were sent, and two buffers.
+#[derive(Drop)]
+struct Calls {
+    sent: usize,
+    bytes: Vec<u8>,
+    shown: Vec<u8>,
+}
+
+// Makes the calls of a line, and shows the commands that were sent and the answer.
 fn show_disk_call(
     alloc: Global,
     disk: &mut Disk<Bench>,
     line: &str,
-    data: &mut Vec<u8>,
-    sent: usize,
+    calls: &mut Calls,
     out: &mut String,
-) -> Result<usize, ScriptFault> {
-    show_line(line, out)?;
-    let answer = disk_call(disk, line, data)?;
-    let now = show_new(alloc, disk.device().entries(), sent, out)?;
-    show_data(data, out)?;
+) -> Result<(), ScriptFault> {
+    let text = meant(alloc, line)?;
+    let answer = disk_call(disk, &text, &mut calls.bytes, &mut calls.shown)?;
+    calls.sent = show_new(alloc, disk.device().entries(), calls.sent, out)?;
+    show_data(&calls.shown, out)?;
+    show_done(answer, out)?;
+    Ok(())
+}
+
+// Asks the disk for a report of all zones, and shows the commands that were sent and the report.
+fn show_disk_report(
+    alloc: Global,
+    disk: &mut Disk<Bench>,
+    calls: &mut Calls,
+    out: &mut String,
+) -> Result<(), ScriptFault> {
+    let answer = disk.report();
+    calls.sent = show_new(alloc, disk.device().entries(), calls.sent, out)?;
     match answer {
-        Ok(()) => writeln!(out, "    done")?,
-        Err(fault) => writeln!(out, "    refused {fault:?}")?,
+        Ok(report) => {
+            show_report(alloc, &report, out)?;
+            show_done(Ok(()), out)?;
+        }
+        Err(fault) => show_done(Err(fault), out)?,
     }
-    Ok(now)
+    Ok(())
+}
+
+// Shows where the disk has the newest record of a block.
+fn show_place(place: Place, out: &mut String) -> Result<(), AllocError> {
+    match place {
+        Place::None => writeln!(out, "    no record"),
+        Place::Trimmed(address) => writeln!(out, "    a trim at {address}"),
+        Place::At(address) => writeln!(out, "    data at {address}"),
+    }
+}
+
+// Answers a line of a disk: what it knows of a block or of a zone, a report, or a call.
+fn show_disk_line(
+    alloc: Global,
+    disk: &mut Disk<Bench>,
+    line: &str,
+    calls: &mut Calls,
+    out: &mut String,
+) -> Result<(), ScriptFault> {
+    match line.split_once(' ') {
+        None if line == "report" => show_disk_report(alloc, disk, calls, out)?,
+        Some(("place", block)) => show_place(disk.place_of(number(block)?), out)?,
+        Some(("live", zone)) => {
+            let live = disk.live(part(zone)?);
+            writeln!(out, "    {live}")?;
+        }
+        _ => show_disk_call(alloc, disk, line, calls, out)?,
+    }
+    Ok(())
 }
 
 fn show_disk_calls(
@@ -75,12 +165,16 @@ fn show_disk_calls(
     lines: &[&str],
     out: &mut String,
 ) -> Result<Bench, ScriptFault> {
-    let mut sent = show_new(alloc, disk.device().entries(), 0, out)?;
+    let mut calls = Calls {
+        sent: show_new(alloc, disk.device().entries(), 0, out)?,
+        bytes: Vec::new(alloc),
+        shown: Vec::new(alloc),
+    };
     let blocks = disk.blocks();
     writeln!(out, "    mounted, {blocks} blocks")?;
-    let mut data = Vec::new(alloc);
     for line in lines {
-        sent = show_disk_call(alloc, &mut disk, line, &mut data, sent, out)?;
+        show_line(line, out)?;
+        show_disk_line(alloc, &mut disk, line, &mut calls, out)?;
     }
     Ok(disk.into_device())
 }
@@ -97,7 +191,8 @@ fn show_refused_mount(
     show_unreached(lines, out)
 }
 
-/// Mounts the drive as a disk, and makes a call of it for each line, also after a refusal.
+/// Mounts the drive as a disk, and makes the calls of each line, also after a refusal. The line `report`
+/// asks it for a report of all zones, `place L` where block `L` lies, `live I` how many blocks lie in zone `I`.
 pub fn show_disk(
     alloc: Global,
     world: &World,

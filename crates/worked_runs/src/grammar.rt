@@ -3,24 +3,37 @@
 use crate::fault::ScriptFault;
 use crate::show::{show_bytes, show_line};
 use crate::words::meant;
-use disk_files::{RawFault, TraceLine, is_skipped, parse_raw_line};
+use disk_files::{ParseFault, TraceLine, is_skipped, parse_raw_line};
 use std::alloc::{AllocError, Global};
 
-fn show_call(line: &[u8], out: &mut String) -> Result<(), AllocError> {
+fn show_write(first: u64, bytes: &[u8], out: &mut String) -> Result<(), AllocError> {
+    write!(out, "    write {first} data")?;
+    show_bytes(bytes, out)?;
+    writeln!(out)
+}
+
+fn show_call(line: &[u8], bytes: &mut Vec<u8>, out: &mut String) -> Result<(), ScriptFault> {
     if is_skipped(line) {
-        return writeln!(out, "    skipped");
+        writeln!(out, "    skipped")?;
+        return Ok(());
     }
-    match TraceLine::parse(line) {
-        Some(TraceLine::Read { first, blocks }) => writeln!(out, "    read {first} {blocks}"),
-        Some(
+    match TraceLine::parse(line, bytes) {
+        Ok(TraceLine::Read { first, blocks }) => writeln!(out, "    read {first} {blocks}")?,
+        Ok(
             TraceLine::Fill {
                 first,
                 blocks,
                 byte,
             },
-        ) => { writeln!(out, "    fill {first} {blocks} {byte:02x}") }
-        None => writeln!(out, "    not in the grammar"),
+        ) => { writeln!(out, "    fill {first} {blocks} {byte:02x}")? }
+        Ok(TraceLine::Write { first }) => show_write(first, bytes, out)?,
+        Ok(TraceLine::Trim { first, blocks }) => writeln!(out, "    trim {first} {blocks}")?,
+        Ok(TraceLine::Idle { turns }) => writeln!(out, "    idle {turns}")?,
+        Ok(TraceLine::Grow { blocks }) => writeln!(out, "    grow {blocks}")?,
+        Err(ParseFault::Grammar) => writeln!(out, "    not in the grammar")?,
+        Err(ParseFault::Memory) => return Err(ScriptFault::Memory),
     }
+    Ok(())
 }
 
 /// Says what each line is in a trace.
@@ -29,9 +42,10 @@ pub fn show_trace_lines(
     lines: &[&str],
     out: &mut String,
 ) -> Result<(), ScriptFault> {
+    let mut bytes = Vec::new(alloc);
     for line in lines {
         show_line(line, out)?;
-        show_call(&meant(alloc, line)?, out)?;
+        show_call(&meant(alloc, line)?, &mut bytes, out)?;
     }
     Ok(())
 }
@@ -49,8 +63,8 @@ fn show_entry(entry: &[u8], data: &[u8], out: &mut String) -> Result<(), AllocEr
 fn show_raw_line(line: &[u8], data: &mut Vec<u8>, out: &mut String) -> Result<(), ScriptFault> {
     match parse_raw_line(line, data) {
         Ok(entry) => show_entry(&entry, data, out)?,
-        Err(RawFault::Grammar) => writeln!(out, "    not in the grammar")?,
-        Err(RawFault::Memory) => return Err(ScriptFault::Memory),
+        Err(ParseFault::Grammar) => writeln!(out, "    not in the grammar")?,
+        Err(ParseFault::Memory) => return Err(ScriptFault::Memory),
     }
     Ok(())
 }

@@ -87,8 +87,8 @@ fn show_completion(alloc: Global, digits: &str, out: &mut String) -> Result<(), 
     Ok(())
 }
 
-// Shows a report as text, after its length.
-fn show_report(alloc: Global, report: &[u8], out: &mut String) -> Result<(), ScriptFault> {
+/// Shows a report as text, after its length.
+pub fn show_report(alloc: Global, report: &[u8], out: &mut String) -> Result<(), ScriptFault> {
     let length = report.len();
     writeln!(out, "    {length} bytes")?;
     let text = report_text(alloc, report).or(Err(ScriptFault::Words))?;

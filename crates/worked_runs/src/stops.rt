@@ -6,8 +6,8 @@ use crate::fault::ScriptFault;
 use crate::flat::Flat;
 use crate::runs::{Lines, Ran, run};
 use crate::show::show_line;
+use crate::words::meant;
 use crate::world::World;
-use disk_files::TraceLine;
 use disk_runs::RunFault;
 use drive_port::Device;
 use nvme_wire::Command;
@@ -46,7 +46,7 @@ impl Halts {
 fn answered(
     alloc: Global,
     mut flat: Flat,
-    lines: &[&str],
+    lines: &[Vec<u8>],
     replies: &[u8],
 ) -> Result<Option<(usize, Flat)>, ScriptFault> {
     let mut text = String::new(alloc);
@@ -62,31 +62,29 @@ fn answered(
     Ok(None)
 }
 
-// Whether these blocks are the flat array with a front of a line.
-fn has_front(mut flat: Flat, line: Option<&str>, blocks: &[Vec<u8>]) -> bool {
+// Whether these blocks are the flat array with a front of a line. Only a stop leaves a growth done.
+fn has_front(
+    mut flat: Flat,
+    line: Option<&[u8]>,
+    is_stopped: bool,
+    blocks: &[Vec<u8>],
+) -> Result<bool, ScriptFault> {
     if flat.is_spelled(blocks) {
-        return true;
+        return Ok(true);
     }
     let Some(line) = line else {
-        return false;
+        return Ok(false);
     };
-    let Some(
-        TraceLine::Fill {
-            first,
-            blocks: count,
-            byte,
-        },
-    ) = TraceLine::parse(line.as_bytes())
-    else {
-        return false;
-    };
-    for place in first..first.saturating_add(count) {
-        flat.fill(place, 1, byte);
+    if line.starts_with(b"grow") && !is_stopped {
+        return Ok(false);
+    }
+    for number in 0..flat.steps(line)? {
+        flat.step(line, number)?;
         if flat.is_spelled(blocks) {
-            return true;
+            return Ok(true);
         }
     }
-    false
+    Ok(false)
 }
 
 // What is wrong with what the drive holds after a run, whose answered lines lead to this flat array.
@@ -95,7 +93,8 @@ fn wrong_array(
     left: &World,
     n: u32,
     flat: Flat,
-    next: Option<&str>,
+    next: Option<&[u8]>,
+    is_stopped: bool,
 ) -> Result<Option<&'static str>, ScriptFault> {
     if !left.can_mount(alloc, n)? {
         return Ok(Some("the drive cannot be mounted"));
@@ -103,7 +102,7 @@ fn wrong_array(
     let Some(array) = left.array(alloc, n)? else {
         return Ok(Some("some zone has no log"));
     };
-    if !has_front(flat, next, &array) {
+    if !has_front(flat, next, is_stopped, &array)? {
         return Ok(Some("the drive holds another array"));
     }
     Ok(None)
@@ -114,27 +113,27 @@ fn wrong_array(
 struct Trial<'a> {
     world: &'a World,
     n: u32,
-    lines: &'a [&'a str],
-    text: &'a str,
+    lines: &'a [Vec<u8>],
+    text: &'a [u8],
 }
 
 impl<'a> Trial<'a> {
     fn run(&self, alloc: Global, setting: Setting) -> Result<Ran, ScriptFault> {
         let lines = Lines::Trace(u64::from(self.n));
-        run(alloc, self.world, setting, lines, self.text.as_bytes())
+        run(alloc, self.world, setting, lines, self.text)
     }
 
     // What is wrong with the replies of a run, or with what the drive holds then.
     fn wrong_after(&self, alloc: Global, ran: Ran) -> Result<Option<&'static str>, ScriptFault> {
         let geometry = self.world.geometry;
-        let flat = Flat::new(alloc, geometry.block as usize, self.n as usize)?;
-        match answered(alloc, flat, self.lines, &ran.replies)? {
-            Some((number, flat)) => {
-                let left = world_of(alloc, geometry, ran.bench)?;
-                wrong_array(alloc, &left, self.n, flat, self.lines.get(number).copied())
-            }
-            None => Ok(Some("the replies are not those of a flat array")),
-        }
+        let flat = Flat::new(alloc, &geometry, u64::from(self.n))?;
+        let Some((number, flat)) = answered(alloc, flat, self.lines, &ran.replies)? else {
+            return Ok(Some("the replies are not those of a flat array"));
+        };
+        let next = self.lines.get(number).map(|line| line.as_slice());
+        let is_stopped = ran.result == Err(RunFault::Disk(DiskFault::Stopped));
+        let left = world_of(alloc, geometry, ran.bench)?;
+        wrong_array(alloc, &left, self.n, flat, next, is_stopped)
     }
 
     // What is wrong after a run that is made so.
@@ -236,15 +235,19 @@ pub fn show_halts(
     out: &mut String,
 ) -> Result<(), ScriptFault> {
     let n = u32::try_from(blocks).or(Err(ScriptFault::Words))?;
-    let mut text = String::new(alloc);
+    let mut text = Vec::new(alloc);
+    let mut meant_lines = Vec::new(alloc);
     for line in lines {
         show_line(line, out)?;
-        writeln!(text, "{line}")?;
+        let line = meant(alloc, line)?;
+        text.extend_from_slice(&line)?;
+        text.push(b'\n')?;
+        meant_lines.push(line)?;
     }
     let trial = Trial {
         world,
         n,
-        lines,
+        lines: &meant_lines,
         text: &text,
     };
     let whole = trial.run(alloc, Setting::PLAIN)?;

@@ -1,31 +1,33 @@
 -- How the agreement of tables and drive lasts, command by command.
-use Rattle.std.proofs.Common.{◌≡◌, ◌≢◌, ℕ, zero, suc, ◌+◌, ◌-◌, ◌<◌, ◌≤◌, ◌^◌, Bool, true, false, not, ◌&&◌, cond, List, [], ◌∷◌, ◌++◌, length, set, get_or, Option, Some, None, refl, sym, ap, ◌∙◌, inl, inr, arith, append-nil}
+use Rattle.std.proofs.Common.{◌≡◌, ◌≢◌, ℕ, zero, suc, ◌+◌, ◌-◌, ◌<◌, ◌≤◌, ◌^◌, Bool, true, false, not, ◌&&◌, cond, List, [], ◌∷◌, ◌++◌, length, set, get_or, replicate, Option, Some, None, refl, sym, ap, ◌∙◌, inl, inr, arith, append-nil}
 use Rattle.std.specs.List.{AllByRecursion, count_by}
 use Rattle.std.proofs.lemmas.Bool.{cases_lt, le-ltb}
-use Rattle.std.proofs.lemmas.List.{get_or-set_other, length-map, length-set}
+use Rattle.std.proofs.lemmas.List.{get_or-set_other, length-append, length-map, length-replicate, length-set}
 use Rattle.std.proofs.lemmas.List.Sums.{sum_by-cons, sum_by-set}
 use Rattle.zone_states.specs.declared.geometry.Geometry.{Geometry}
 use Rattle.drive_port.specs.Drive.{DriveState, IsLawful}
 use Rattle.drive_port.specs.Contents.{Content, SameContents, full, Appends, Finishes, content_at, contents, emptied, is_writable, nothing, is_full}
 use Rattle.batch_log.specs.declared.header.Entry.{Entry}
-use Rattle.batch_log.specs.Log.{Batch, IsBatch, batch_blocks, batch_size, has_tail, log_of, log_size}
+use Rattle.batch_log.specs.Log.{Batch, IsBatch, batch_blocks, batch_size, has_tail, log_of, log_size, zero_block}
 use Rattle.logical_map.specs.Places.{MapView}
 use Rattle.logical_map.specs.declared.place.Place.{Place}
+use Rattle.logical_map.specs.declared.place.Place.TheVariants as places
 use Rattle.zone_choice.specs.declared.roles.Filling.{Filling}
 use Rattle.zone_choice.specs.declared.roles.Second.{Second}
-use Rattle.zone_choice.specs.Records.{Record, append_log, batch_records, new_records, newest, over, place, records, shown}
+use Rattle.zone_choice.specs.Records.{Record, append_log, batch_records, new_records, over, place, shown}
+use Rattle.zone_choice.specs.Changes.{size_with}
 use Rattle.zone_choice.specs.Repair.{HasAtMost}
-use Rattle.zone_choice.specs.Reserve.{batch_most}
-use Rattle.zone_choice.specs.Sizes.{array_of, encoded_size, extended, map_of}
+use Rattle.zone_choice.specs.Reserve.{FitsReserve, batch_most}
+use Rattle.zone_choice.specs.Sizes.{encoded_size, extended, map_of}
 use Rattle.zone_choice.specs.Spare.{HasSpare}
 use Rattle.zone_choice.specs.ZoneLogs.{HasLog, has_torn_tail, log_at, sequences, spelled_array, zone_log, zone_logs, zone_tails}
-use Rattle.zone_choice.specs.Mountable.{AreSound, HoldDisk, IsMountable, is_partly_written}
+use Rattle.zone_choice.specs.Mountable.{AreSound, IsMountable, is_partly_written}
 use Rattle.zone_choice.specs.Roles.{RolesView, empty_count, fillings, is_empty_at, is_filling_at, taken, wrote}
 use Rattle.zone_choice.specs.Tables.{MakesRoom, TablesView, size_of}
 use Rattle.zone_choice.specs.Agreement.{Agrees, HoldsFilling, Mounted, RolesAgree, drive_logs, mounted, spelled}
 use Rattle.zone_choice.specs.Laws.{IsNext, Writes}
 use Rattle.zone_choice.proofs.AllLaws.{all-at, all-weaker}
-use Rattle.zone_choice.proofs.ContentLaws.{IsSettled, all-usable, count-fillings, few-write, filling-log, roles-finish, roles-seal, roles-settled, roles-take, roles-write, settled-whole}
+use Rattle.zone_choice.proofs.ContentLaws.{all-usable, count-fillings, few-write, filling-log, roles-finish, roles-seal, roles-settled, roles-take, roles-write, settled-whole}
 use Rattle.zone_choice.proofs.MountLaws.{NoTails, untorn_mounts}
 use Rattle.zone_choice.proofs.RolesLaws.{all-filling, few-fillings, filling-occupied, roles_with}
 use Rattle.zone_choice.proofs.SizeLaws.{append_writes, array_length, next_is_last, told-length}
@@ -112,10 +114,12 @@ no_tails geometry zones roles agree zone = elim (cases_lt zone (length zones)) a
 -- what an Append of the next batch has to be
 pub record AppendsBatch (old new : DriveState) (tables : TablesView) (zone : ℕ) (b : Batch) : Type 0 where
   pub batch : IsBatch old.geometry.block b
-  pub size : b.heading.size ≡ Some (size_of tables)
+  pub size : b.heading.size ≡ Some (size_with tables b)
+  pub grows : size_of tables ≤ size_with tables b
+  pub reserve : FitsReserve old.geometry (size_with tables b)
   pub sequence : b.heading.sequence ≡ tables.next
   pub room : tables.next < 2 ^ 63
-  pub blocks : AllByRecursion (λ (e : Entry). e.block < size_of tables) b.heading.entries
+  pub blocks : AllByRecursion (λ (e : Entry). e.block < size_with tables b) b.heading.entries
   pub few : HasAtMost (batch_most old.geometry) b
   pub geometry : new.geometry ≡ old.geometry
   pub lawful : IsLawful new
@@ -126,14 +130,13 @@ abbrev pub written_in : DriveState → ℕ → ℕ
 written_in drive zone = length (content_at (contents drive.zones) zone).blocks
 
 -- the batch is the next one
-pub is_next : (disk : Mounted) (b : Batch) → Agrees disk → b.heading.size ≡ Some (size_of disk.tables) → b.heading.sequence ≡ disk.tables.next → AllByRecursion (λ (e : Entry). e.block < size_of disk.tables) b.heading.entries
-    → IsNext (disk.tables.next + 1) disk.tables.given (drive_logs disk.drive) (size_of disk.tables) b
-is_next disk b agrees size sequence blocks = record {
-  has = size;
-  grows = omega (arith, size-encoded disk agrees);
-  inside = blocks;
-  number = omega (arith, sequence);
-  greatest = rw sequence agrees.sound.numbers;
+is_next : (old new : DriveState) (tables : TablesView) (zone : ℕ) (b : Batch) → Agrees (mounted old tables) → AppendsBatch old new tables zone b → IsNext (tables.next + 1) tables.given (drive_logs old) (size_with tables b) b
+is_next old new tables zone b agrees a = record {
+  has = a.size;
+  grows = omega (arith, size-encoded (mounted old tables) agrees, a.grows);
+  inside = a.blocks;
+  number = omega (arith, a.sequence);
+  greatest = rw a.sequence agrees.sound.numbers;
 }
 
 -- the logs, and what they encode and where
@@ -142,7 +145,7 @@ record AfterAppend (old new : DriveState) (tables : TablesView) (zone : ℕ) (b 
   all_logs : AllByRecursion (HasLog new.geometry) (contents new.zones)
   in_range : zone < length (drive_logs old)
   brings : new_records (drive_logs old) zone b ≡ batch_records zone (written_in old zone) b
-  writes : Writes old.geometry.block old.geometry.size (tables.next + 1) tables.given (drive_logs old) zone (size_of tables) b
+  writes : Writes old.geometry.block old.geometry.size (tables.next + 1) tables.given (drive_logs old) zone (size_with tables b) b
 
 after_append : (old new : DriveState) (tables : TablesView) (zone : ℕ) (b : Batch) → Agrees (mounted old tables) → is_filling_at tables.roles zone ≡ true → AppendsBatch old new tables zone b → AfterAppend old new tables zone b
 after_append old new tables zone b agrees filling a =
@@ -161,12 +164,16 @@ after_append old new tables zone b agrees filling a =
       all_logs = rw a.geometry (grown.all_logs agrees.logs);
       in_range = range;
       brings = ap (λ (offset : ℕ). batch_records zone offset b) size;
-      writes = append_writes g.block g.size (tables.next + 1) tables.given zone (size_of tables) (drive_logs old) b range sound (next_is_last (tables.next + 1) tables.given zone (size_of tables) (drive_logs old) b range (is_next (mounted old tables) b agrees a.size a.sequence a.blocks));
+      writes = append_writes g.block g.size (tables.next + 1) tables.given zone (size_with tables b) (drive_logs old) b range sound (next_is_last (tables.next + 1) tables.given zone (size_with tables b) (drive_logs old) b range (is_next old new tables zone b agrees a));
     }
 
 -- a list that has the length already
-extended-same : {X : Type 0} (x : X) (size : ℕ) (xs : List X) → length xs ≡ size → extended x size xs ≡ xs
+pub extended-same : {X : Type 0} (x : X) (size : ℕ) (xs : List X) → length xs ≡ size → extended x size xs ≡ xs
 extended-same {X} x size xs e = let none : size - length xs ≡ 0 = omega (arith, e) in rw none (append-nil xs)
+
+-- a list that is filled up to a length has it
+pub length-extended : {X : Type 0} (x : X) (size : ℕ) (xs : List X) → length xs ≤ size → length (extended x size xs) ≡ size
+length-extended {X} x size xs le = omega (arith, le, length-append xs (replicate (size - length xs) x), length-replicate (size - length xs) x)
 
 length-over : {X : Type 0} (f : Option Record → X) (rs : List Record) (xs : List X) → length (over f rs xs) ≡ length xs
 length-over f [] xs = refl
@@ -176,14 +183,16 @@ length-over f (r ∷ rs) xs = length-set (over f rs xs) r.block (f (Some r)) ∙
 abbrev pub tables_after : TablesView → MapView → ℕ → Batch → TablesView
 tables_after tables map zone b = record { map = map; roles = wrote tables.roles zone (batch_size b); next = tables.next + 1; given = tables.given }
 
--- the map has the batch's places
+-- the map has the batch's size and its places
 pub record IsPlaced (old : DriveState) (tables : TablesView) (map : MapView) (zone : ℕ) (b : Batch) : Type 0 where
-  pub places : map.places ≡ over (place old.geometry.size) (batch_records zone (written_in old zone) b) tables.map.places
+  pub places : map.places ≡ over (place old.geometry.size) (batch_records zone (written_in old zone) b) (extended places.None (size_with tables b) tables.map.places)
   pub zones : map.zones ≡ tables.map.zones
   pub zone_size : map.zone_size ≡ tables.map.zone_size
 
-pub size-placed : (old : DriveState) (tables : TablesView) (map : MapView) (zone : ℕ) (b : Batch) → IsPlaced old tables map zone b → length map.places ≡ size_of tables
-size-placed old tables map zone b placed = ap length placed.places ∙ length-over (place old.geometry.size) (batch_records zone (written_in old zone) b) tables.map.places
+pub size-placed : (old : DriveState) (tables : TablesView) (map : MapView) (zone : ℕ) (b : Batch) → size_of tables ≤ size_with tables b → IsPlaced old tables map zone b → length map.places ≡ size_with tables b
+size-placed old tables map zone b grows placed =
+    let all = extended places.None (size_with tables b) tables.map.places in
+    ap length placed.places ∙ length-over (place old.geometry.size) (batch_records zone (written_in old zone) b) all ∙ length-extended places.None (size_with tables b) tables.map.places grows
 
 pub agrees_append : (old new : DriveState) (tables : TablesView) (map : MapView) (zone : ℕ) (b : Batch) → Agrees (mounted old tables) → is_filling_at tables.roles zone ≡ true
     → AppendsBatch old new tables zone b → IsPlaced old tables map zone b → Agrees (mounted new (tables_after tables map zone b))
@@ -191,15 +200,13 @@ agrees_append old new tables map zone b agrees filling a placed =
     let g = old.geometry in
     let logs = drive_logs old in
     let after = after_append old new tables zone b agrees filling a in
-    let long = size-placed old tables map zone b placed in
+    let long = size-placed old tables map zone b a.grows placed in
     let taken : length (batch_blocks g.block b) ≡ batch_size b = omega (arith, a.batch.body) in
-    let same : extended (place g.size None) (size_of tables) (map_of g.size tables.given logs) ≡ tables.map.places =
-    rw (← agrees.places) (extended-same (place g.size None) (size_of tables) tables.map.places refl) in
     let mapped : map.places ≡ map_of g.size tables.given (append_log logs zone b) =
-    placed.places ∙ rw (← after.brings, ← same) (sym after.writes.map_is) in
+    placed.places ∙ ap (λ (all : List Place). over (place g.size) (batch_records zone (written_in old zone) b) (extended places.None (size_with tables b) all)) agrees.places ∙ rw (← after.brings) (sym after.writes.map_is) in
     record {
       geometry = rw a.geometry agrees.geometry;
-      reserve = rw (a.geometry, long) agrees.reserve;
+      reserve = rw (a.geometry, long) a.reserve;
       lawful = a.lawful;
       logs = after.all_logs;
       sound = rw after.logs after.writes.sound;
@@ -212,14 +219,12 @@ agrees_append old new tables map zone b agrees filling a placed =
     }
 
 pub spelled_append : (old new : DriveState) (tables : TablesView) (zone : ℕ) (b : Batch) → Agrees (mounted old tables) → is_filling_at tables.roles zone ≡ true → AppendsBatch old new tables zone b
-    → (drive_logs new ≡ append_log (drive_logs old) zone b) × (spelled new tables.given ≡ over (shown old.geometry.block) (batch_records zone (written_in old zone) b) (spelled old tables.given))
+    → (drive_logs new ≡ append_log (drive_logs old) zone b)
+    × (spelled new tables.given ≡ over (shown old.geometry.block) (batch_records zone (written_in old zone) b) (extended (zero_block old.geometry.block) (size_with tables b) (spelled old tables.given)))
 unfolding spelled_array
 spelled_append old new tables zone b agrees filling a =
-    let g = old.geometry in
     let after = after_append old new tables zone b agrees filling a in
-    let long : length (array_of g.block tables.given (drive_logs old)) ≡ size_of tables = array_length g.block tables.given (drive_logs old) ∙ sym (size-encoded (mounted old tables) agrees) in
-    let same = extended-same (shown g.block None) (size_of tables) (array_of g.block tables.given (drive_logs old)) long in
-    (after.logs, rw (after.logs, a.geometry, ← after.brings) (after.writes.array_is ∙ ap (over (shown g.block) (new_records (drive_logs old) zone b)) same))
+    (after.logs, rw (after.logs, a.geometry, ← after.brings) after.writes.array_is)
 
 -- ---- the host zone is finished or sealed, and an empty zone is taken
 

@@ -8,21 +8,21 @@ use Rattle.batch_log.specs.declared.header.Entry.{Entry}
 use Rattle.batch_log.specs.Log.{data_count, one_unless}
 use Rattle.logical_map.specs.declared.place.Place.{Place}
 use Rattle.logical_map.specs.Places.{address_of}
-use Rattle.zone_choice.specs.Builder.{data_entries, entry_place, placed}
+use Rattle.zone_choice.specs.Builder.{entries_from, entry_place, placed}
 use Rattle.zone_choice.specs.Records.{entry_records, over, place, record_of}
 use Rattle.zone_choice.specs.Tables.{TablesView}
 
--- ---- data entries
+-- ---- entries of blocks that follow one another
 
-entries_more : (first count last more : ℕ) → last ≡ first + count → more ≡ count + 1 → data_entries first more ≡ data_entries first count ++ record { block = last; trim = false } ∷ []
-entries_more first count last zero e h = absurd (omega arith)
-entries_more first zero last (suc more) e h = let same : last ≡ first = omega arith in let none : more ≡ zero = omega arith in rw (same, none) refl
-entries_more first (suc count) last (suc more) e h = ap (λ (es : List Entry). record { block = first; trim = false } ∷ es) (entries_more (first + 1) count last more (omega arith) (omega arith))
+entries_more : (trim : Bool) (first count last more : ℕ) → last ≡ first + count → more ≡ count + 1 → entries_from trim first more ≡ entries_from trim first count ++ record { block = last; trim = trim } ∷ []
+entries_more trim first count last zero e h = absurd (omega arith)
+entries_more trim first zero last (suc more) e h = let same : last ≡ first = omega arith in let none : more ≡ zero = omega arith in rw (same, none) refl
+entries_more trim first (suc count) last (suc more) e h = ap (λ (es : List Entry). record { block = first; trim = trim } ∷ es) (entries_more trim (first + 1) count last more (omega arith) (omega arith))
 
 -- one entry more
-pub entries-more : (es : List Entry) (first count last : ℕ) → last ≡ first + count → es ++ data_entries first (count + 1) ≡ (es ++ data_entries first count) ++ record { block = last; trim = false } ∷ []
-entries-more es first count last e =
-    ap (λ (xs : List Entry). es ++ xs) (entries_more first count last (count + 1) e refl) ∙ sym (append_assoc es (data_entries first count) (record { block = last; trim = false } ∷ []))
+pub entries-more : (trim : Bool) (es : List Entry) (first count last : ℕ) → last ≡ first + count → es ++ entries_from trim first (count + 1) ≡ (es ++ entries_from trim first count) ++ record { block = last; trim = trim } ∷ []
+entries-more trim es first count last e =
+    ap (λ (xs : List Entry). es ++ xs) (entries_more trim first count last (count + 1) e refl) ∙ sym (append_assoc es (entries_from trim first count) (record { block = last; trim = trim } ∷ []))
 
 -- ---- places
 

@@ -15,17 +15,19 @@ use Rattle.drive_port.specs.declared.calls.PortFault.{PortFault}
 use Rattle.drive_port.specs.declared.calls.PortFault.TheVariants as port
 use Rattle.batch_log.specs.declared.header.Entry.{Entry}
 use Rattle.batch_log.specs.Header.{IsHeading, header_block}
-use Rattle.batch_log.specs.Log.{Batch, IsBatch, batch_blocks, batch_size, data_count, one_unless}
+use Rattle.batch_log.specs.Log.{Batch, IsBatch, batch_blocks, batch_size, data_count, one_unless, zero_block}
 use Rattle.batch_log.proofs.HeaderLaws.{header_length}
-use Rattle.logical_map.specs.Places.{MapView}
+use Rattle.logical_map.specs.Places.{IsReady, MapView}
 use Rattle.logical_map.specs.declared.place.Place.{Place}
+use Rattle.logical_map.specs.declared.place.Place.TheVariants as places
 use Rattle.zone_choice.specs.Agreement.{Agrees, Mounted, drive_logs, mounted, mounted_array, spelled}
 use Rattle.zone_choice.specs.Builder.{BuilderView, IsBuilt, built, placed}
-use Rattle.zone_choice.specs.Changes.{AppendLeaves, CanPlace, IsHalt, KeepsArray, Places, StopsInside, halt_of, told_over}
-use Rattle.zone_choice.specs.Records.{append_log, batch_records, entry_records, over, record_of, shown}
+use Rattle.zone_choice.specs.Changes.{AppendLeaves, CanPlace, IsHalt, KeepsArray, Places, StopsInside, halt_of, size_with, told_over}
+use Rattle.zone_choice.specs.Records.{append_log, batch_records, entry_records, over, place, record_of, shown}
 use Rattle.zone_choice.specs.Roles.{RolesView, fillings, wrote}
-use Rattle.zone_choice.specs.Tables.{MakesRoom, TablesView, size_of}
-use Rattle.zone_choice.proofs.AgreementLaws.{AppendsBatch, IsPlaced, agrees_append, agrees_mountable, agrees_room, agrees_same, size-placed, spelled_append, spelled_same, tables_after, written_in}
+use Rattle.zone_choice.specs.Sizes.{extended, size_or}
+use Rattle.zone_choice.specs.Tables.{GrowsTo, MakesRoom, TablesView, size_of}
+use Rattle.zone_choice.proofs.AgreementLaws.{AppendsBatch, IsPlaced, agrees_append, agrees_mountable, agrees_room, agrees_same, length-extended, size-placed, spelled_append, spelled_same, tables_after, written_in}
 use Rattle.zone_choice.proofs.AllLaws.{all-weaker}
 use Rattle.zone_choice.proofs.BuilderLaws.{placed-over, with_places}
 use Rattle.zone_choice.proofs.CommandLaws.{can_append, fillings-few, filling-in_range, zone-start}
@@ -146,14 +148,14 @@ address-fits old new tables zone start address builder bytes can start-is append
     omega (arith, appended.address_is, here, start-is, below, can.room, can.agrees.geometry.capacity, can.agrees.geometry.size)
 
 -- no zone that is being filled has more written than its number holds
-pub written-fits : (old : DriveState) (tables : TablesView) (zone blocks : ℕ) (builder : BuilderView) → CanPlace (mounted old tables) zone (built old.geometry.block builder) → blocks ≡ batch_size (built old.geometry.block builder)
-    → AllByRecursion (λ f. f.written + blocks < 2 ^ 32) (fillings tables.roles)
-written-fits old tables zone blocks builder can blocks-is =
+pub written-fits : (old : DriveState) (tables grown : TablesView) (zone blocks : ℕ) (builder : BuilderView) → CanPlace (mounted old tables) zone (built old.geometry.block builder) → blocks ≡ batch_size (built old.geometry.block builder) → grown.roles ≡ tables.roles
+    → AllByRecursion (λ f. f.written + blocks < 2 ^ 32) (fillings grown.roles)
+written-fits old tables grown zone blocks builder can blocks-is roles =
     let few = can.few in
     let transfer = can.agrees.geometry.transfer in
     let capacity = can.agrees.geometry.capacity in
     let size = can.agrees.geometry.size in
-    all-weaker (λ f. f.written ≤ old.geometry.capacity) (λ f. f.written + blocks < 2 ^ 32) (fillings tables.roles) (λ f le. omega arith) (fillings-few old tables can.agrees)
+    rw roles (all-weaker (λ f. f.written ≤ old.geometry.capacity) (λ f. f.written + blocks < 2 ^ 32) (fillings tables.roles) (λ f le. omega arith) (fillings-few old tables can.agrees))
 
 abbrev pub tables_placed : TablesView → ℕ → BuilderView → ℕ → ℕ → TablesView
 tables_placed tables zone builder address blocks = record {
@@ -165,6 +167,24 @@ tables_placed tables zone builder address blocks = record {
 
 abbrev advanced : TablesView → ℕ → ℕ → TablesView
 advanced tables zone blocks = record tables { roles = wrote tables.roles zone blocks; next = tables.next + 1 }
+
+-- its blocks are the disk's and are ready, once the disk has its size
+pub record GrownReady (grown : TablesView) (entries : List Entry) : Type 0 where
+  pub in_range : AllByRecursion (λ (e : Entry). e.block < size_of grown) entries
+  pub ready : AllByRecursion (λ (e : Entry). IsReady grown.map e.block) entries
+  pub short : size_of grown ≤ 2 ^ 31
+  pub next : grown.next < 2 ^ 63
+
+pub grown-ready : (old : DriveState) (tables grown : TablesView) (zone : ℕ) (builder : BuilderView) → CanPlace (mounted old tables) zone (built old.geometry.block builder) → GrowsTo tables (size_with tables (built old.geometry.block builder)) grown → GrownReady grown builder.heading.entries
+grown-ready old tables grown zone builder can grows =
+    let size = size_with tables (built old.geometry.block builder) in
+    let long : size_of grown ≡ size = ap length grows.places ∙ length-extended places.None size tables.map.places can.grows in
+    record {
+      in_range = all-weaker (λ (e : Entry). e.block < size_of tables) (λ (e : Entry). e.block < size_of grown) builder.heading.entries (λ e lt. omega (arith, lt, can.grows, long)) can.in_range;
+      ready = all-weaker (λ (e : Entry). IsReady tables.map e.block) (λ (e : Entry). IsReady grown.map e.block) builder.heading.entries (λ e is. grows.ready e.block is) can.ready;
+      short = omega (arith, long, can.reserve.1);
+      next = omega (arith, grows.next, can.next);
+    }
 
 -- how many blocks the batch takes
 pub size-built : (block_bytes blocks : ℕ) (builder : BuilderView) (entries : List Entry) → entries ≡ builder.heading.entries → blocks ≡ 1 + data_count entries → blocks ≡ batch_size (built block_bytes builder)
@@ -195,9 +215,11 @@ appends_batch : (old new : DriveState) (tables : TablesView) (zone : ℕ) (build
 appends_batch old new tables zone builder can geometry lawful appends = record {
   batch = built-batch old tables zone builder can;
   size = can.size;
+  grows = can.grows;
+  reserve = can.reserve;
   sequence = can.sequence;
   room = omega (arith, can.next);
-  blocks = can.in_range;
+  blocks = all-weaker (λ (e : Entry). e.block < size_of tables) (λ (e : Entry). e.block < size_with tables (built old.geometry.block builder)) builder.heading.entries (λ e lt. omega (arith, lt, can.grows)) can.in_range;
   few = can.few_entries;
   geometry = geometry;
   lawful = lawful;
@@ -211,13 +233,16 @@ told_anywhere size sequence zone header k body (e ∷ es) array =
     ap (λ (xs : List (List ℕ)). set xs e.block (shown size (Some (record_of sequence body zone header k e)))) (told_anywhere size sequence zone header (k + one_unless e.trim) body es array)
 
 -- what the drive encodes with the batch
-told-with : (old : DriveState) (tables : TablesView) (zone : ℕ) (b : Batch) → over (shown old.geometry.block) (batch_records zone (written_in old zone) b) (spelled old tables.given) ≡ told_over old.geometry.block b (mounted_array (mounted old tables))
-told-with old tables zone b = told_anywhere old.geometry.block b.heading.sequence zone (written_in old zone) 0 b.body b.heading.entries (spelled old tables.given)
+told-with : (old : DriveState) (tables : TablesView) (zone : ℕ) (b : Batch) → b.heading.size ≡ Some (size_with tables b)
+    → over (shown old.geometry.block) (batch_records zone (written_in old zone) b) (extended (zero_block old.geometry.block) (size_with tables b) (spelled old tables.given)) ≡ told_over old.geometry.block b (mounted_array (mounted old tables))
+told-with old tables zone b size =
+    let same : size_or (length (spelled old tables.given)) b.heading.size ≡ size_with tables b = ap (size_or (length (spelled old tables.given))) size in
+    rw same (told_anywhere old.geometry.block b.heading.sequence zone (written_in old zone) 0 b.body b.heading.entries (extended (zero_block old.geometry.block) (size_with tables b) (spelled old tables.given)))
 
-pub place_writes : (old new : DriveState) (tables after : TablesView) (zone start address blocks : ℕ) (builder : BuilderView) (bytes : List ℕ) → bytes ≡ builder.bytes → IsBuilt old.geometry.block builder → CanPlace (mounted old tables) zone (built old.geometry.block builder) → start ≡ zone * old.geometry.size
-    → Appended old new start bytes address → IsLawful new → blocks ≡ batch_size (built old.geometry.block builder) → after ≡ tables_placed tables zone builder address blocks
+pub place_writes : (old new : DriveState) (tables grown after : TablesView) (zone start address blocks : ℕ) (builder : BuilderView) (bytes : List ℕ) → bytes ≡ builder.bytes → IsBuilt old.geometry.block builder → CanPlace (mounted old tables) zone (built old.geometry.block builder) → start ≡ zone * old.geometry.size
+    → Appended old new start bytes address → IsLawful new → blocks ≡ batch_size (built old.geometry.block builder) → GrowsTo tables (size_with tables (built old.geometry.block builder)) grown → after ≡ tables_placed grown zone builder address blocks
     → Places (mounted old tables) (mounted new after) zone (built old.geometry.block builder)
-place_writes old new tables after zone start address blocks builder bytes bytes-are is can start-is appended lawful blocks-is after-is =
+place_writes old new tables grown after zone start address blocks builder bytes bytes-are is can start-is appended lawful blocks-is grows after-is =
     let g = old.geometry in
     let b = built g.block builder in
     let s = sized g builder can.agrees.geometry can.heading is in
@@ -225,15 +250,20 @@ place_writes old new tables after zone start address blocks builder bytes bytes-
     let a = appends_batch old new tables zone builder can appended.geometry lawful (rw (bytes-are, start-is, index, s.cut) at appended.contents) in
     let here : length (content_at (contents old.zones) (start / g.size)).blocks ≡ written_in old zone = rw (start-is, index) refl in
     let header : address ≡ zone * g.size + written_in old zone = omega (arith, appended.address_is, here, start-is) in
-    let map : MapView = record tables.map { places = placed address (address + 1) builder.heading.entries tables.map.places } in
+    let map : MapView = record grown.map { places = placed address (address + 1) builder.heading.entries grown.map.places } in
     let is_placed : IsPlaced old tables map zone b =
-    record { places = placed-over g.size b.heading.sequence zone (written_in old zone) 0 address (address + 1) b.body b.heading.entries tables.map.places header (omega (arith, header)); zones = refl; zone_size = refl } in
-    let same : after ≡ tables_after tables map zone b = after-is ∙ ap (λ (k : ℕ). tables_placed tables zone builder address k) blocks-is in
+    record {
+      places = placed-over g.size b.heading.sequence zone (written_in old zone) 0 address (address + 1) b.body b.heading.entries grown.map.places header (omega (arith, header)) ∙ ap (λ (all : List Place). over (place g.size) (batch_records zone (written_in old zone) b) all) grows.places;
+      zones = grows.zones;
+      zone_size = grows.zone_size;
+    } in
+    let same : after ≡ tables_after tables map zone b = after-is ∙ rw (blocks-is, grows.roles, grows.next, grows.given) refl in
     rw same (record {
       agrees = agrees_append old new tables map zone b can.agrees can.filling a is_placed;
       logs = (spelled_append old new tables zone b can.agrees can.filling a).0;
-      size = size-placed old tables map zone b is_placed;
-      array = (spelled_append old new tables zone b can.agrees can.filling a).1 ∙ told-with old tables zone b;
+      size = size-placed old tables map zone b can.grows is_placed;
+      places = rw (header, grows.places) refl;
+      array = (spelled_append old new tables zone b can.agrees can.filling a).1 ∙ told-with old tables zone b can.size;
       next = refl;
       given = refl;
       roles = refl;
@@ -268,7 +298,7 @@ stops_inside old new tables zone start builder is can start-is kept obeys = by k
     }
 
     whole : Appends (contents old.zones) (contents new.zones) old.geometry.capacity zone (batch_blocks old.geometry.block b) → StopsInside (mounted old tables) (mounted new tables) zone b
-    whole appends = made _ _ (left-whole old new tables zone b can.agrees can.filling (appends_batch old new tables zone builder can obeys.geometry obeys.lawful appends)) (inr (refl, told-with old tables zone b))
+    whole appends = made _ _ (left-whole old new tables zone b can.agrees can.filling (appends_batch old new tables zone builder can obeys.geometry obeys.lawful appends)) (inr (refl, told-with old tables zone b can.size))
 
     front : (j : ℕ) → j ≤ length (batch_blocks old.geometry.block b) → Appends (contents old.zones) (contents new.zones) old.geometry.capacity zone (take j (batch_blocks old.geometry.block b)) → StopsInside (mounted old tables) (mounted new tables) zone b
     front j few appends =

@@ -13,7 +13,7 @@ use Rattle.batch_log.specs.Log.{Batch, zero_block}
 use Rattle.zone_choice.specs.Roles.{empty_count, unused}
 use Rattle.zone_choice.specs.Tables.{TablesView, size_of}
 use Rattle.zone_choice.specs.Records.{Record, place, records, shown}
-use Rattle.zone_choice.specs.ZoneLogs.{HasLog, sequences, spelled_array, zone_log, zone_logs}
+use Rattle.zone_choice.specs.ZoneLogs.{HasLog, sequences, spelled_array, zone_logs}
 use Rattle.zone_choice.specs.Mountable.{IsInside}
 use Rattle.zone_choice.specs.Sizes.{encoded_size, greatest}
 use Rattle.zone_choice.specs.Reserve.{FitsReserve}

@@ -1,17 +1,17 @@
 -- Which drives can be mounted: where no Append was torn, where one was, and after the Resets of a mount.
-use Rattle.std.proofs.Common.{◌≡◌, ◌≢◌, ℕ, zero, suc, ◌+◌, ◌-◌, ◌≤◌, ◌<◌, ◌^◌, Bool, true, false, ◌&&◌, not, cond, List, [], ◌∷◌, length, set, get_or, refl, sym, ap, ◌∙◌, inl, inr, arith}
-use Rattle.std.specs.List.{AllByRecursion, count_by}
+use Rattle.std.proofs.Common.{◌≡◌, ◌≢◌, ℕ, zero, suc, ◌+◌, ◌-◌, ◌≤◌, ◌<◌, ◌^◌, Bool, true, false, cond, List, [], ◌∷◌, length, set, get_or, refl, sym, ap, ◌∙◌, inl, inr, arith}
+use Rattle.std.specs.List.{count_by}
 use Rattle.std.proofs.lemmas.List.{get_or-set_same, length-map, length-set, map-set, set-get_or}
 use Rattle.std.proofs.lemmas.List.Sums.{sum_by-set}
 use Rattle.zone_states.specs.declared.geometry.Geometry.{Geometry}
-use Rattle.drive_port.specs.Contents.{Content, Resets, content_at, emptied, finished, is_full, is_usable, nothing}
+use Rattle.drive_port.specs.Contents.{Content, Resets, content_at, emptied, finished, is_usable, nothing}
 use Rattle.drive_port.proofs.ClosingLaws.{contents-restarted, lawful-restarted}
 use Rattle.batch_log.specs.Log.{Batch, log_size}
 use Rattle.zone_choice.specs.Laws.{Emptied, FinishMounts, LowestResets, RestartMounts, SpareResets, TornMounts, VacantResets}
 use Rattle.zone_choice.specs.Mountable.{AreMountable, HoldDisk, is_partly_written}
 use Rattle.zone_choice.specs.Records.{without}
-use Rattle.zone_choice.specs.Repair.{CanRepair, Fits, HasAtMost, IsTornAt, live, live_data, moves}
-use Rattle.zone_choice.specs.Reserve.{FitsReserve, batch_most}
+use Rattle.zone_choice.specs.Repair.{CanRepair, Fits, IsTornAt, live, live_data, moves}
+use Rattle.zone_choice.specs.Reserve.{batch_most}
 use Rattle.zone_choice.specs.Sizes.{encoded_size}
 use Rattle.zone_choice.specs.Spare.{IsClearing, IsPart, cleared}
 use Rattle.zone_choice.specs.ZoneLogs.{HasLog, has_torn_tail, log_at, sequences, zone_log, zone_logs, zone_tails}

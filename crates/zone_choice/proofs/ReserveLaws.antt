@@ -1,5 +1,5 @@
 -- Quotients rounded up, and what moves take of a zone.
-use Rattle.std.proofs.Common.{◌≡◌, ℕ, ◌+◌, ◌-◌, ◌*◌, ◌^◌, ◌<◌, ◌≤◌, min, inl, inr, arith}
+use Rattle.std.proofs.Common.{◌≡◌, ℕ, ◌+◌, ◌-◌, ◌*◌, ◌^◌, ◌<◌, ◌≤◌, min, refl, inl, inr, arith}
 use Rattle.std.specs.Int.{div_ceil}
 use Rattle.std.proofs.lemmas.Grind.{div_ceil_times}
 use Rattle.std.proofs.lemmas.Nat.{mul-le}
@@ -7,7 +7,7 @@ use Rattle.std.proofs.lemmas.Bool.{cases_lt}
 use Rattle.std.proofs.Math.Nat.{add-mul, add-div_right, add-mod_right}
 use Rattle.zone_states.specs.declared.geometry.Geometry.{Geometry}
 use Rattle.zone_states.specs.Geometry.{IsInRange}
-use Rattle.zone_choice.specs.Reserve.{batch_most, fill, FitsReserve, IsQuota}
+use Rattle.zone_choice.specs.Reserve.{batch_most, fill, FitsReserve, IsQuota, most_size, quota_of}
 
 -- no more than m batches of k are wanted for at most m * k records
 pub div_ceil-le : (a k m : ℕ) → 0 < k → a ≤ m * k → div_ceil a k ≤ m
@@ -74,6 +74,18 @@ quota-is k capacity t q pos some t-is total = record {
 -- a batch has one entry at least
 pub positive-most : (geometry : Geometry) → IsInRange geometry → 1 ≤ batch_most geometry
 positive-most geometry range = elim range.block as (λ _. 1 ≤ batch_most geometry) [ inl e ↦ rw e (omega (arith, range.transfer)) | inr e ↦ rw e (omega (arith, range.transfer)) ]
+
+-- the quota of a drive is one
+pub quota-of : (geometry : Geometry) → IsInRange geometry → IsQuota (batch_most geometry) geometry.capacity (quota_of geometry)
+quota-of geometry range =
+    let room = geometry.capacity - 2 in
+    let headers = div_ceil room (batch_most geometry + 1) in
+    let few : headers ≤ room = div_ceil-le room (batch_most geometry + 1) room (omega arith) (omega (arith, mul-le room 1 room (batch_most geometry + 1) (omega arith) (omega arith))) in
+    quota-is (batch_most geometry) geometry.capacity headers (quota_of geometry) (omega (arith, positive-most geometry range)) range.capacity.0 refl (omega (arith, few))
+
+-- each number up to the greatest is within the reserve
+pub fits-most : (geometry : Geometry) (n : ℕ) → IsInRange geometry → 1 ≤ n → n ≤ most_size geometry → FitsReserve geometry n
+fits-most geometry n range some le = (some, omega (arith, le), (quota_of geometry, quota-of geometry range, omega (arith, le)))
 
 -- a quota is one at least
 quota-some : (k capacity q : ℕ) → 0 < k → 4 ≤ capacity → IsQuota k capacity q → 1 ≤ q

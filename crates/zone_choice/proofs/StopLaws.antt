@@ -1,29 +1,29 @@
 -- What a stop inside the Append of a batch leaves: the logs of before, or those with the batch, on a drive that can be mounted.
-use Rattle.std.proofs.Common.{◌≡◌, ◌≢◌, ℕ, nat_lt, ◌+◌, ◌-◌, ◌<◌, ◌≤◌, ◌^◌, Bool, true, false, cond, eqb, List, [], ◌++◌, length, take, set, get_or, Some, refl, sym, ap, ◌∙◌, inl, inr, arith}
-use Rattle.std.specs.List.{AllByRecursion, count_by}
-use Rattle.std.proofs.lemmas.Bool.{cases_eq, cases_lt}
-use Rattle.std.proofs.lemmas.List.{get_or-set_other, length-map, length-set, length-take, map-set, take_all}
-use Rattle.zone_states.specs.declared.geometry.Geometry.{Geometry}
+use Rattle.std.proofs.Common.{◌≡◌, ◌≢◌, ℕ, nat_lt, ◌+◌, ◌-◌, ◌<◌, ◌≤◌, ◌^◌, Bool, true, false, cond, eqb, List, ◌++◌, length, take, set, get_or, refl, inl, inr, arith}
+use Rattle.std.specs.List.{AllByRecursion}
+use Rattle.std.proofs.lemmas.Bool.{cases_eq}
+use Rattle.std.proofs.lemmas.List.{get_or-set_other, length-set}
 use Rattle.drive_port.specs.Contents.{Appends, Content, active, full, content_at, contents, filled, is_usable, nothing}
 use Rattle.drive_port.specs.Drive.{DriveState, IsLawful}
-use Rattle.batch_log.specs.Log.{Batch, IsBatch, batch_blocks, batch_size, log_size}
+use Rattle.batch_log.specs.Log.{Batch, IsBatch, batch_blocks, batch_size, zero_block}
 use Rattle.logical_map.specs.Places.{MapView}
-use Rattle.zone_choice.specs.Agreement.{Agrees, drive_logs, mounted, mounted_array, spelled}
-use Rattle.zone_choice.specs.Changes.{Encodes, sequence_end}
+use Rattle.logical_map.specs.declared.place.Place.TheVariants as places
+use Rattle.zone_choice.specs.Agreement.{Agrees, drive_logs, mounted, spelled}
+use Rattle.zone_choice.specs.Changes.{Encodes, sequence_end, size_with}
 use Rattle.zone_choice.specs.Laws.{OnlyTorn, SameLogs}
 use Rattle.zone_choice.specs.Mountable.{HoldDisk, IsMountable, is_partly_written}
 use Rattle.zone_choice.specs.Records.{append_log, batch_records, over, place, shown}
 use Rattle.zone_choice.specs.Repair.{HasAtMost}
-use Rattle.zone_choice.specs.Reserve.{FitsReserve, batch_most}
+use Rattle.zone_choice.specs.Reserve.{batch_most}
 use Rattle.zone_choice.specs.Roles.{fillings, is_filling_at}
+use Rattle.zone_choice.specs.Sizes.{extended}
 use Rattle.zone_choice.specs.Spare.{HasSpare}
-use Rattle.zone_choice.specs.Tables.{TablesView, size_of}
-use Rattle.zone_choice.specs.ZoneLogs.{HasLog, has_torn_tail, log_at, spelled_array, zone_log, zone_logs, zone_tails}
+use Rattle.zone_choice.specs.Tables.{TablesView}
+use Rattle.zone_choice.specs.ZoneLogs.{HasLog, log_at, spelled_array, zone_tails}
 use Rattle.zone_choice.proofs.AgreementLaws.{AppendsBatch, IsPlaced, agrees_append, agrees_mountable, no_tails, size-encoded, sound-weaker, spelled_append, written_in, zone-untorn}
-use Rattle.zone_choice.proofs.AllLaws.{all-at, all-set, all-weaker}
-use Rattle.zone_choice.proofs.CommandLaws.{zone-few}
+use Rattle.zone_choice.proofs.AllLaws.{all-at, all-set}
 use Rattle.zone_choice.proofs.ContentLaws.{all-usable, count-fillings, filling-log, roles-settled, settled-whole}
-use Rattle.zone_choice.proofs.MountLaws.{NoTails, torn_mounts}
+use Rattle.zone_choice.proofs.MountLaws.{torn_mounts}
 use Rattle.zone_choice.proofs.ReserveLaws.{positive-most}
 use Rattle.zone_choice.proofs.RolesLaws.{all-filling, few-fillings}
 use Rattle.zone_choice.proofs.ZoneLogLaws.{torn_logs}
@@ -120,10 +120,10 @@ left-torn old new tables zone j b agrees torn =
 
 -- the whole batch: tables that place it would agree with the drive
 pub left-whole : (old new : DriveState) (tables : TablesView) (zone : ℕ) (b : Batch) → Agrees (mounted old tables) → is_filling_at tables.roles zone ≡ true → AppendsBatch old new tables zone b
-    → Left new tables.given (append_log (drive_logs old) zone b) (over (shown old.geometry.block) (batch_records zone (written_in old zone) b) (spelled old tables.given))
+    → Left new tables.given (append_log (drive_logs old) zone b) (over (shown old.geometry.block) (batch_records zone (written_in old zone) b) (extended (zero_block old.geometry.block) (size_with tables b) (spelled old tables.given)))
 left-whole old new tables zone b agrees filling a =
     let array = spelled_append old new tables zone b agrees filling a in
-    let map : MapView = record tables.map { places = over (place old.geometry.size) (batch_records zone (written_in old zone) b) tables.map.places } in
+    let map : MapView = record tables.map { places = over (place old.geometry.size) (batch_records zone (written_in old zone) b) (extended places.None (size_with tables b) tables.map.places) } in
     let placed : IsPlaced old tables map zone b = record { places = refl; zones = refl; zone_size = refl } in
     record {
       encodes = record { logs_are = array.0; array_is = array.1 };

@@ -12,10 +12,16 @@ pub record BuilderView : Type 0 where
   pub heading : Heading
   pub bytes : List ℕ
 
--- data entries of that many blocks from one on
+-- entries of that many blocks from one on, all of them trims or all with data
+abbrev pub entries_from : Bool → ℕ → ℕ → List Entry
+entries_from trim first zero = []
+entries_from trim first (suc count) = record { block = first; trim = trim } ∷ entries_from trim (first + 1) count
+
 abbrev pub data_entries : ℕ → ℕ → List Entry
-data_entries first zero = []
-data_entries first (suc count) = record { block = first; trim = false } ∷ data_entries (first + 1) count
+data_entries first count = entries_from false first count
+
+abbrev pub trim_entries : ℕ → ℕ → List Entry
+trim_entries first count = entries_from true first count
 
 -- the batch that these bytes are, where the first block is its header and the others are its data
 abbrev pub built : ℕ → BuilderView → Batch

@@ -1,5 +1,5 @@
 -- What changes of a mounted disk: nothing that its array tells, or one batch more.
-use Rattle.std.specs.Prelude.{◌≡◌, ◌⊎◌, ℕ, ◌≤◌, ◌<◌, ◌+◌, ◌-◌, ◌^◌, true, List, length, Some, Result, Ok, Err}
+use Rattle.std.specs.Prelude.{◌≡◌, ◌⊎◌, ℕ, ◌≤◌, ◌<◌, ◌+◌, ◌-◌, ◌*◌, ◌^◌, true, List, length, Some, Result, Ok, Err}
 use Rattle.std.specs.List.{AllByRecursion}
 use Rattle.zone_states.specs.declared.geometry.Geometry.{Geometry}
 use Rattle.drive_port.specs.Drive.{DriveState}
@@ -10,16 +10,20 @@ use Rattle.drive_port.specs.declared.device.Halt.{Halt}
 use Rattle.drive_port.specs.declared.device.Halt.TheVariants as halt
 use Rattle.batch_log.specs.declared.header.Entry.{Entry}
 use Rattle.batch_log.specs.Header.{IsHeading}
-use Rattle.batch_log.specs.Log.{Batch, batch_size}
+use Rattle.batch_log.specs.Log.{Batch, batch_size, zero_block}
 use Rattle.logical_map.specs.Places.{IsReady}
+use Rattle.logical_map.specs.declared.place.Place.{Place}
+use Rattle.logical_map.specs.declared.place.Place.TheVariants as places
 use Rattle.zone_choice.specs.Agreement.{Agrees, Mounted, drive_logs, mounted_array, spelled}
 use Rattle.zone_choice.specs.Mountable.{IsMountable}
 use Rattle.zone_choice.specs.Repair.{HasAtMost}
-use Rattle.zone_choice.specs.Reserve.{batch_most}
+use Rattle.zone_choice.specs.Builder.{placed}
+use Rattle.zone_choice.specs.Reserve.{FitsReserve, batch_most}
+use Rattle.zone_choice.specs.Sizes.{extended, size_or}
 use Rattle.zone_choice.specs.Spare.{HasSpare}
 use Rattle.zone_choice.specs.Records.{append_log, batch_records, over, shown}
 use Rattle.zone_choice.specs.Roles.{empty_count, fillings, is_filling_at, wrote}
-use Rattle.zone_choice.specs.Tables.{size_of}
+use Rattle.zone_choice.specs.Tables.{TablesView, size_of}
 
 -- The tables agree with the drive as before, and the array, the map and the next sequence are the same; no command was refused, and nothing was appended. A zone that is kept empty stays so, and so does the second zone that is being filled.
 pub record KeepsArray (before after : Mounted) : Type 0 where
@@ -34,15 +38,29 @@ pub record KeepsArray (before after : Mounted) : Type 0 where
   pub refused : after.drive.refused ≡ before.drive.refused
   pub appended : after.drive.appended ≡ before.drive.appended
 
--- an array with what a batch says of its blocks: the data of its data entries, zeros for its trims
+-- the size that a disk has with a batch more, which says none below the disk's: that of the batch's header, or the disk's own where that says none
+abbrev pub size_with : TablesView → Batch → ℕ
+size_with tables batch = size_or (size_of tables) batch.heading.size
+
+-- An array with what a batch says, whose size is none below the array's. It has the size that the header says, with zeros in the blocks that are new; and of the batch's blocks it has the data of its data entries, zeros for its trims.
 abbrev pub told_over : ℕ → Batch → List (List ℕ) → List (List ℕ)
-told_over block_bytes batch array = over (shown block_bytes) (batch_records 0 0 batch) array
+told_over block_bytes batch array = over (shown block_bytes) (batch_records 0 0 batch) (extended (zero_block block_bytes) (size_or (length array) batch.heading.size) array)
+
+-- the address of the block that is written next to a zone
+abbrev pub next_address : DriveState → ℕ → ℕ
+next_address drive zone = zone * drive.geometry.size + length (content_at (contents drive.zones) zone).blocks
+
+-- the places of all blocks with a batch more, whose header is written next to a zone: those of its own blocks, and of the others what they were, none for blocks that are new
+abbrev pub placed_with : Mounted → ℕ → Batch → List Place
+placed_with before zone batch =
+    placed (next_address before.drive zone) (next_address before.drive zone + 1) batch.heading.entries (extended places.None (size_with before.tables batch) before.tables.map.places)
 
 -- One batch was appended to a zone: it is the last of the zone's log, the tables agree with the drive, and the array is the old one with what the batch says; no command was refused.
 pub record Places (before after : Mounted) (zone : ℕ) (batch : Batch) : Type 0 where
   pub agrees : Agrees after
   pub logs : drive_logs after.drive ≡ append_log (drive_logs before.drive) zone batch
-  pub size : size_of after.tables ≡ size_of before.tables
+  pub size : size_of after.tables ≡ size_with before.tables batch
+  pub places : after.tables.map.places ≡ placed_with before zone batch
   pub array : mounted_array after ≡ told_over before.drive.geometry.block batch (mounted_array before)
   pub next : after.tables.next ≡ before.tables.next + 1
   pub given : after.tables.given ≡ before.tables.given
@@ -55,13 +73,15 @@ pub record Places (before after : Mounted) (zone : ℕ) (batch : Batch) : Type 0
 abbrev pub sequence_end : Geometry → ℕ
 sequence_end geometry = 2 ^ 63 - geometry.capacity
 
--- What a batch needs to be appended to a zone. The zone is being filled and has room for it; the batch is the next one, with the disk's size, its blocks are the disk's and are ready to be placed. Where one zone alone may be open, no other is being filled.
+-- What a batch needs to be appended to a zone. The zone is being filled and has room for it; the batch is the next one, with a size not below the disk's and within the reserve, its blocks are the disk's and are ready to be placed. Where one zone alone may be open, no other is being filled.
 pub record CanPlace (before : Mounted) (zone : ℕ) (batch : Batch) : Type 0 where
   pub agrees : Agrees before
   pub filling : is_filling_at before.tables.roles zone ≡ true
   pub alone : (2 ≤ before.drive.geometry.open) ⊎ (length (fillings before.tables.roles) ≤ 1)
   pub heading : IsHeading before.drive.geometry.block batch.heading
-  pub size : batch.heading.size ≡ Some (size_of before.tables)
+  pub size : batch.heading.size ≡ Some (size_with before.tables batch)
+  pub grows : size_of before.tables ≤ size_with before.tables batch
+  pub reserve : FitsReserve before.drive.geometry (size_with before.tables batch)
   pub few : batch_size batch ≤ before.drive.geometry.transfer
   pub few_entries : HasAtMost (batch_most before.drive.geometry) batch
   pub room : length (content_at (contents before.drive.zones) zone).blocks + batch_size batch ≤ before.drive.geometry.capacity

@@ -11,9 +11,9 @@ use Rattle.zone_choice.specs.Mountable.{AreMountable, AreSound, HoldDisk, IsInsi
 use Rattle.zone_choice.specs.Records.{AllBelow, IsNewest, Record, append_log, new_records, newest, over, place, records, shown, without}
 use Rattle.zone_choice.specs.Repair.{HasAtMost, IsTornAt, live, live_data, moves}
 use Rattle.zone_choice.specs.Reserve.{batch_most}
-use Rattle.zone_choice.specs.Sizes.{IsGreatest, array_of, encoded_size, extended, greatest, map_of, told_of}
+use Rattle.zone_choice.specs.Sizes.{IsGreatest, array_of, encoded_size, extended, greatest, map_of}
 use Rattle.zone_choice.specs.Spare.{IsClearing, IsHalfClean, IsLowest, IsPart, IsSpare, IsVacant, cleared}
-use Rattle.zone_choice.specs.ZoneLogs.{HasLog, has_torn_tail, log_at, sequences, zone_log, zone_logs, zone_tails}
+use Rattle.zone_choice.specs.ZoneLogs.{HasLog, has_torn_tail, log_at, sequences, zone_logs, zone_tails}
 
 -- ---- records and sizes
 

@@ -21,3 +21,11 @@ pub record IsQuota (most capacity quota : ℕ) : Type 0 where
 abbrev pub FitsReserve : Geometry → ℕ → Type 0
 FitsReserve geometry n =
     (1 ≤ n) × (n ≤ 2 ^ 31) × ((quota : ℕ) × IsQuota (batch_most geometry) geometry.capacity quota × (n ≤ quota * (geometry.zones - 1)))
+
+-- the quota of a drive: of the blocks that may be written, a header goes off for each batch of greatest length
+abbrev pub quota_of : Geometry → ℕ
+quota_of geometry = geometry.capacity - 2 - div_ceil (geometry.capacity - 2) (batch_most geometry + 1)
+
+-- the greatest number of logical blocks that a drive can serve
+abbrev pub most_size : Geometry → ℕ
+most_size geometry = min (quota_of geometry * (geometry.zones - 1)) (2 ^ 31)

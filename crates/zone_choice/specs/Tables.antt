@@ -1,7 +1,9 @@
 -- What a mounted disk knows of its drive.
 use Rattle.std.specs.Prelude.{◌≡◌, ℕ, ◌+◌, ◌≤◌, ◌<◌, length}
 use Rattle.logical_map.specs.Places.{IsReady, MapView}
+use Rattle.logical_map.specs.declared.place.Place.TheVariants as places
 use Rattle.zone_choice.specs.Roles.{RolesView}
+use Rattle.zone_choice.specs.Sizes.{extended}
 
 -- where the newest record of each block lies, what the zones are for, the sequence of the next batch, and the number of logical blocks that the mount was given: the drive has as many where no header has a size
 pub record TablesView : Type 0 where
@@ -22,9 +24,19 @@ AreOfOneDrive map roles = length roles.empty ≡ map.zones
 abbrev pub AreReserved : MapView → ℕ → ℕ → Type 0
 AreReserved map first count = (block : ℕ) → first ≤ block → block < first + count → IsReady map block
 
--- more blocks may be ready to be placed, and all else is the same
+-- which blocks are ready to be placed may have changed, and all else is the same
 pub record MakesRoom (old new : TablesView) : Type 0 where
   pub places : new.map.places ≡ old.map.places
+  pub zones : new.map.zones ≡ old.map.zones
+  pub zone_size : new.map.zone_size ≡ old.map.zone_size
+  pub roles : new.roles ≡ old.roles
+  pub next : new.next ≡ old.next
+  pub given : new.given ≡ old.given
+
+-- The disk has that many blocks: those that are new have no place. Blocks that were ready to be placed still are, and all else is the same.
+pub record GrowsTo (old : TablesView) (blocks : ℕ) (new : TablesView) : Type 0 where
+  pub places : new.map.places ≡ extended places.None blocks old.map.places
+  pub ready : (block : ℕ) → IsReady old.map block → IsReady new.map block
   pub zones : new.map.zones ≡ old.map.zones
   pub zone_size : new.map.zone_size ≡ old.map.zone_size
   pub roles : new.roles ≡ old.roles

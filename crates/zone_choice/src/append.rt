@@ -1,11 +1,12 @@
-ghost use Rattle.std.specs.Prelude.{◌≡◌, ◌+◌, ◌*◌, ◌≤◌, ◌<◌, ◌^◌, ℕ, length, map, nat_eq};
+ghost use Rattle.std.specs.Prelude.{◌≡◌, ◌+◌, ◌*◌, ◌≤◌, ◌<◌, ◌^◌, ℕ, IfSome, length, map, nat_eq};
 ghost use Rattle.std.specs.List.{AllByRecursion, IsDistinct};
 ghost use Rattle.batch_log.specs.Log.{data_count, one_unless};
 ghost use Rattle.logical_map.specs.Places.{IsReady};
 ghost use Rattle.zone_choice.specs.Agreement.{mounted};
 ghost use Rattle.zone_choice.specs.Builder.{IsBuilt, built, entry_place, placed};
 ghost use Rattle.zone_choice.specs.Changes.{AppendLeaves, CanPlace, IsHalt, halt_of};
-ghost use Rattle.zone_choice.specs.Tables.{size_of};
+ghost use Rattle.zone_choice.specs.Sizes.{size_or};
+ghost use Rattle.zone_choice.specs.Tables.{GrowsTo, size_of};
 
 use crate::batch::BatchBuilder;
 use crate::tables::Tables;
@@ -66,8 +67,18 @@ fn place_blocks(tables: &mut Tables, entries: &[Entry], header: u64) -> u32
     (address - header) as u32
 }
 
-/// Appends a batch to a zone that is being filled, and notes where its blocks lie. All that it needs was
-/// allocated before. If the drive is out of memory, nothing changed. If it stops, the batch may be there,
+/// Gives the tables the size that the header of a batch says, if it says one.
+fn grow_to(tables: &mut Tables, size: Option<u32>)
+    requires { IfSome size (λ size. size_of tables.old ≤ size) }
+    ensures { GrowsTo tables.old (size_or (size_of tables.old) size) tables.new }
+{
+    if let Some(blocks) = size {
+        tables.grow(blocks);
+    }
+}
+
+/// Appends a batch to a zone that is being filled, and notes where its blocks lie and which size the disk
+/// has. All that it needs was allocated before. If the drive is out of memory, nothing changed. If it stops, the batch may be there,
 /// or a torn tail, and the tables are as they were.
 pub fn append_batch<D: Device>(
     alloc: Global,
@@ -78,11 +89,13 @@ pub fn append_batch<D: Device>(
 ) -> Result<(), Halt>
     requires built { IsBuilt (D.drive device.old).geometry.block batch.now }
     requires can { CanPlace (mounted (D.drive device.old) tables.old) zone (built (D.drive device.old).geometry.block batch.now) }
-    ensures { AppendLeaves (mounted (D.drive device.old) tables.old) (mounted (D.drive device.new) tables.new) zone (built (D.drive device.old).geometry.block batch.now) result }
+    ensures leaves { AppendLeaves (mounted (D.drive device.old) tables.old) (mounted (D.drive device.new) tables.new) zone (built (D.drive device.old).geometry.block batch.now) result }
+    ensures completed { (D.drive device.new).completed ≤ (D.drive device.old).completed + 1 }
 {
     let start = zone as u64 * device.geometry().size as u64;
     match append(alloc, device, start, batch.bytes()) {
         Ok(address) => {
+            grow_to(tables, batch.size());
             let blocks = place_blocks(tables, batch.entries(), address);
             tables.appended(zone, blocks);
             Ok(())

@@ -1,6 +1,6 @@
 ghost use Rattle.std.specs.Prelude.{◌≡◌, ◌⊎◌, ◌++◌, ◌+◌, ◌≤◌, ◌<◌, ◌^◌, ℕ, [], OnOk, length, replicate};
 ghost use Rattle.batch_log.specs.Header.{IsHeading, header_block};
-ghost use Rattle.zone_choice.specs.Builder.{data_entries};
+ghost use Rattle.zone_choice.specs.Builder.{data_entries, entries_from, trim_entries};
 
 use batch_log::{Entry, Header, Kind, header_bytes};
 use std::alloc::{AllocError, Global};
@@ -9,8 +9,8 @@ use std::marker::Model;
 /// The batch that is about to be appended: its header, and the bytes of its blocks. Both keep their room
 /// from one batch to the next.
 ///
-/// A batch is built in this order: `start`, a call of `name_data` for each run of blocks that it names,
-/// `encode`, and `fill` or `copy` for the data.
+/// A batch is built in this order: `start`, a call of `name_data` or `name_trims` for each run of blocks that it
+/// names, `encode`, and `fill` or `copy` for the data.
 #[derive(Drop)]
 pub struct BatchBuilder {
     header: Header,
@@ -59,11 +59,15 @@ impl BatchBuilder {
         requires { first + count < 2 ^ 32 }
         ensures { OnOk result (self.new.heading ≡ record self.old.heading { entries = self.old.heading.entries ++ data_entries first count }) }
     {
-        for i in 0..count {
-            let block = first as u64 + i as u64;
-            self.header.entries.push(Entry { block, trim: false })?;
-        }
-        Ok(())
+        self.name(first, count, false)
+    }
+
+    /// Names `count` blocks more, from `first` on, that the batch trims.
+    pub fn name_trims(&mut self, first: u32, count: u32) -> Result<(), AllocError>
+        requires { first + count < 2 ^ 32 }
+        ensures { OnOk result (self.new.heading ≡ record self.old.heading { entries = self.old.heading.entries ++ trim_entries first count }) }
+    {
+        self.name(first, count, true)
     }
 
     /// Writes the header block of the batch, `block_bytes` bytes: 512 or 4,096.
@@ -96,6 +100,23 @@ impl BatchBuilder {
         ensures bytes { OnOk result (self.new.bytes ≡ self.old.bytes ++ bytes.now) }
     {
         self.bytes.extend_from_slice(bytes)
+    }
+
+    fn name(&mut self, first: u32, count: u32, trim: bool) -> Result<(), AllocError>
+        requires { first + count < 2 ^ 32 }
+        ensures { OnOk result (self.new.heading ≡ record self.old.heading { entries = self.old.heading.entries ++ entries_from trim first count }) }
+    {
+        for i in 0..count {
+            let block = first as u64 + i as u64;
+            self.header.entries.push(Entry { block, trim })?;
+        }
+        Ok(())
+    }
+
+    pub(crate) fn size(&self) -> Option<u32>
+        ensures { result ≡ self.now.heading.size }
+    {
+        self.header.size
     }
 
     pub(crate) fn entries(&self) -> &[Entry]

@@ -10,7 +10,7 @@
 //! batch.name_data(2, 3)?;                                // blocks 2 to 4
 //! batch.encode(geometry.block)?;                         // the header block
 //! batch.fill(3 * geometry.block as usize, 0xaa)?;        // their data
-//! tables.reserve(2, 3)?;                                 // the last allocation
+//! tables.reserve(zone, 2, 3)?;                           // the last allocation
 //! append_batch(alloc, &mut tables, &mut drive, zone, &batch)?;
 //! ```
 //!

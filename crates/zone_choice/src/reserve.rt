@@ -1,6 +1,6 @@
 ghost use Rattle.std.specs.Prelude.{◌≡◌, ◌≤◌, ◌<◌, ◌↔◌, ℕ, IsTrue};
 ghost use Rattle.zone_states.specs.Geometry.{IsInRange};
-ghost use Rattle.zone_choice.specs.Reserve.{FitsReserve, IsQuota, batch_most, fill};
+ghost use Rattle.zone_choice.specs.Reserve.{FitsReserve, IsQuota, batch_most, fill, most_size, quota_of};
 
 use batch_log::entry_room;
 use zone_states::Geometry;
@@ -28,6 +28,7 @@ pub fn fill(geometry: &Geometry, records: u32) -> u64
 /// The greatest number of records whose move leaves two blocks of a zone free.
 fn quota(geometry: &Geometry) -> u64
     requires { IsInRange geometry.now }
+    ensures is { result ≡ quota_of geometry.now }
     ensures quota { IsQuota (batch_most geometry.now) geometry.now.capacity result }
     ensures below { result ≤ geometry.now.capacity }
 {
@@ -39,6 +40,7 @@ fn quota(geometry: &Geometry) -> u64
 /// The greatest number of logical blocks that a drive can serve. The geometry is one that `check` admits.
 pub fn most_blocks(geometry: &Geometry) -> u64
     requires { IsInRange geometry.now }
+    ensures is { result ≡ most_size geometry.now }
     ensures fits { FitsReserve geometry.now result }
     ensures most { (blocks : ℕ) → FitsReserve geometry.now blocks → blocks ≤ result }
 {

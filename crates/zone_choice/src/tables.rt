@@ -1,9 +1,10 @@
 ghost use Rattle.std.specs.Prelude.{◌≡◌, ◌≢◌, ◌≤◌, ◌<◌, ◌+◌, ◌^◌, IfNone, IfOk, IfSome, length, None, OnOk, replicate, slice_index_or, slice_set};
 ghost use Rattle.std.specs.List.{AllByRecursion};
+ghost use Rattle.logical_map.specs.Live.{first_record, live};
 ghost use Rattle.logical_map.specs.Places.{IsReady, Reserves, address_of};
 ghost use Rattle.logical_map.specs.declared.place.Place.TheVariants as places;
 ghost use Rattle.zone_choice.specs.Roles.{IsLowestEmpty, empty_count, fillings, sealed, taken, unused, wrote};
-ghost use Rattle.zone_choice.specs.Tables.{AreReserved, MakesRoom, size_of};
+ghost use Rattle.zone_choice.specs.Tables.{AreReserved, GrowsTo, MakesRoom, size_of};
 
 use crate::roles::{Filling, Roles};
 use logical_map::{Map, Place};
@@ -65,6 +66,22 @@ impl Tables {
         self.map.get(block)
     }
 
+    /// How many blocks have their newest record in a zone of the drive.
+    pub fn live(&self, zone: u32) -> u32
+        ensures { zone < self.now.map.zones → result ≡ live self.now.map zone }
+    {
+        self.map.live(zone)
+    }
+
+    /// The first of the blocks from `from` on that lie in a zone, with its place.
+    pub fn records_of(&mut self, zone: u32, from: u32) -> Option<(u32, Place)>
+        requires { zone < self.old.map.zones }
+        ensures first { result ≡ first_record self.old.map zone from }
+        ensures kept { self.new ≡ self.old }
+    {
+        self.map.records_of(zone, from)
+    }
+
     /// The sequence of the next batch, 2^63 at most.
     pub fn next(&self) -> u64
         ensures { result ≡ self.now.next }
@@ -79,14 +96,15 @@ impl Tables {
         self.roles.host()
     }
 
-    /// Makes room for the places of `count` blocks from `first` on. Where an allocation fails, there is room
-    /// for some of them.
-    pub fn reserve(&mut self, first: u32, count: u32) -> Result<(), AllocError>
+    /// Makes room for the places of `count` blocks from `first` on, and to note them in a zone. Where an
+    /// allocation fails, there is room for some of them.
+    pub fn reserve(&mut self, zone: u32, first: u32, count: u32) -> Result<(), AllocError>
         requires in_range { first + count ≤ size_of self.old }
         requires few { first + count < 2 ^ 32 }
         ensures ok { OnOk result (AreReserved self.new.map first count) }
         ensures kept { MakesRoom self.old self.new }
     {
+        self.map.reserve_in(zone, count)?;
         for block in first..first + count {
             self.map.reserve_for(block)?;
         }
@@ -106,6 +124,15 @@ impl Tables {
         ensures { self.new ≡ record self.old { roles = sealed self.old.roles } }
     {
         self.roles.seal();
+    }
+
+    /// Makes them the tables of a disk of that many blocks, of which the new ones are not written. It
+    /// allocates nothing.
+    pub(crate) fn grow(&mut self, blocks: u32)
+        requires { size_of self.old ≤ blocks }
+        ensures { GrowsTo self.old blocks self.new }
+    {
+        self.map.grow(blocks);
     }
 
     /// Places a block that room was made for.

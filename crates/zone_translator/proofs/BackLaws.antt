@@ -4,7 +4,6 @@ use Rattle.std.proofs.lemmas.Bool.Decides.{nat_tests}
 use Rattle.zone_translator.specs.declared.status.DiskStatus.{DiskStatus}
 use Rattle.zone_translator.specs.declared.status.DiskStatus.TheVariants.{Serving, Stopped}
 use Rattle.zone_translator.specs.Flat.{Answer, FlatCall, FlatDisk, blocks_from, read, replaced, with_nothing, write}
-use Rattle.zone_translator.proofs.FlatLaws.{length-replaced}
 
 pub blocks-replaced : {X : Type 0} (xs : List X) (first : ℕ) (ys : List X) → first + length ys ≤ length xs → take (length ys) (drop first (replaced xs first ys)) ≡ ys
 blocks-replaced [] zero [] le = refl
@@ -26,37 +25,37 @@ other-replaced (x ∷ xs) (y ∷ ys) zero (suc block) outside =
 
 -- a write of some blocks that is done was in range, and its blocks stand in the array
 record IsWritten (old : FlatDisk) (first : ℕ) (blocks : List (List ℕ)) (new : FlatDisk) : Type 0 where
-  within : nat_lt (length old.array) (first + length blocks) ≡ false
+  within : nat_lt old.size (first + length blocks) ≡ false
   array : new.array ≡ replaced old.array first blocks
+  size : new.size ≡ old.size
+  serves : old.status ≡ Serving
 
-is-written : (old new : FlatDisk) (first : ℕ) (blocks : List (List ℕ)) (past : Bool) (status : DiskStatus) → (length blocks == 0) ≡ false → nat_lt (length old.array) (first + length blocks) ≡ past → old.status ≡ status
+is-written : (old new : FlatDisk) (first : ℕ) (blocks : List (List ℕ)) (past : Bool) (status : DiskStatus) → (length blocks == 0) ≡ false → nat_lt old.size (first + length blocks) ≡ past → old.status ≡ status
     → FlatCall old (write first blocks) (with_nothing (Ok tt)) new → IsWritten old first blocks new
 is-written old new first blocks true status some past is call =
     let known = rw (some, past) at call in
     let answers = ap (λ (a : Answer). a.result) known.0 in absurd (cc)
 is-written old new first blocks false Serving some past is call =
     let begun = rw (some, past, is) at call in
-    record { within = past; array = begun.0.1 }
+    record { within = past; array = ap (λ (d : FlatDisk). d.array) begun.1; size = ap (λ (d : FlatDisk). d.size) begun.1; serves = is }
 is-written old new first blocks false Stopped some past is call =
     let known = rw (some, past, is) at call in
     let answers = ap (λ (a : Answer). a.result) known.0 in absurd (cc)
 
 -- a read of some blocks in range that is done shows them
-is-shown : (old new : FlatDisk) (first n : ℕ) (shown : List (List ℕ)) (status : DiskStatus) → (n == 0) ≡ false → nat_lt (length old.array) (first + n) ≡ false → old.status ≡ status
+is-shown : (old new : FlatDisk) (first n : ℕ) (shown : List (List ℕ)) (status : DiskStatus) → (n == 0) ≡ false → nat_lt old.size (first + n) ≡ false → old.status ≡ status
     → FlatCall old (read first n) (record { result = Ok tt; shown = shown }) new → shown ≡ blocks_from old.array first n
-is-shown old new first n shown Serving some past is call = let begun = rw (some, past, is) at call in begun.0.0
+is-shown old new first n shown Serving some past is call = let begun = rw (some, past, is) at call in begun.0
 is-shown old new first n shown Stopped some past is call =
     let known = rw (some, past, is) at call in
     let answers = ap (λ (a : Answer). a.result) known.0 in absurd (cc)
 
-pub written-reads-back : (old middle new : FlatDisk) (first : ℕ) (blocks shown : List (List ℕ)) → FlatCall old (write first blocks) (with_nothing (Ok tt)) middle
+pub written-reads-back : (old middle new : FlatDisk) (first : ℕ) (blocks shown : List (List ℕ)) → (old.status ≡ Serving → length old.array ≡ old.size) → FlatCall old (write first blocks) (with_nothing (Ok tt)) middle
     → FlatCall middle (read first (length blocks)) (record { result = Ok tt; shown = shown }) new → shown ≡ blocks
-written-reads-back old middle new first [] shown wrote reads = ap (λ (a : Answer). a.shown) reads.0
-written-reads-back old middle new first (b ∷ bs) shown wrote reads =
-    let n = length (b ∷ bs) in
+written-reads-back old middle new first [] shown whole wrote reads = ap (λ (a : Answer). a.shown) reads.0
+written-reads-back old middle new first (b ∷ bs) shown whole wrote reads =
     let some : (length (b ∷ bs) == 0) ≡ false = grind (arith, nat_tests) in
-    let is = is-written old middle first (b ∷ bs) (nat_lt (length old.array) (first + length (b ∷ bs))) old.status some refl refl wrote in
-    let long : length middle.array ≡ length old.array = rw is.array (length-replaced old.array first (b ∷ bs)) in
-    let within : nat_lt (length middle.array) (first + length (b ∷ bs)) ≡ false = rw long is.within in
-    let le : first + length (b ∷ bs) ≤ length old.array = grind (arith, nat_tests, is.within) in
+    let is = is-written old middle first (b ∷ bs) (nat_lt old.size (first + length (b ∷ bs))) old.status some refl refl wrote in
+    let within : nat_lt middle.size (first + length (b ∷ bs)) ≡ false = rw is.size is.within in
+    let le : first + length (b ∷ bs) ≤ length old.array = grind (arith, nat_tests, is.within, whole is.serves) in
     is-shown middle new first (length (b ∷ bs)) shown middle.status some within refl reads ∙ rw is.array (blocks-replaced old.array first (b ∷ bs) le)

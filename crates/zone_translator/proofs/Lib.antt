@@ -1,8 +1,12 @@
 pub mod RoomLaws
 pub mod FlatLaws
 pub mod BatchLaws
+pub mod ContentLaws
 pub mod ReadLaws
+pub mod ReportLaws
 pub mod DiskLaws
 pub mod MountLaws
 pub mod WriteLaws
+pub mod GrowthLaws
+pub mod CallLaws
 pub mod BackLaws

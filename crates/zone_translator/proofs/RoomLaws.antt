@@ -1,5 +1,5 @@
 -- The host zone is sealed and taken, and the array stays.
-use Rattle.std.proofs.Common.{◌≡◌, ◌⊎◌, ℕ, suc, ◌*◌, ◌/◌, ◌<◌, ◌≤◌, Bool, true, false, ◌||◌, cond, List, [], ◌∷◌, ◌++◌, length, get_or, Option, Some, None, Result, Ok, Err, refl, sym, ap, subst, ◌∙◌, inl, inr, arith}
+use Rattle.std.proofs.Common.{◌≡◌, ◌⊎◌, ℕ, suc, ◌*◌, ◌/◌, ◌<◌, ◌≤◌, Bool, true, false, ◌||◌, cond, List, [], ◌∷◌, ◌++◌, length, get_or, Option, Some, None, Result, Ok, Err, refl, ap, subst, ◌∙◌, inl, inr, arith}
 use Rattle.std.specs.List.{count_by, list_any}
 use Rattle.std.proofs.lemmas.Bool.{eq-eqb}
 use Rattle.std.proofs.lemmas.List.Sums.{sum_by-cons}
@@ -14,12 +14,12 @@ use Rattle.zone_choice.specs.Changes.{IsHalt, KeepsArray, halt_of}
 use Rattle.zone_choice.specs.Mountable.{IsMountable}
 use Rattle.zone_choice.specs.Roles.{IsLowestEmpty, RolesView, empty_count, fillings, is_at, is_filling_at, listed, sealed, taken}
 use Rattle.zone_choice.specs.Tables.{TablesView, size_of}
-use Rattle.zone_choice.proofs.AgreementLaws.{agrees_finish, agrees_mountable, agrees_same, agrees_seal, agrees_take, empty-spare, size-encoded, spare-taken, spelled_same, tables_with}
+use Rattle.zone_choice.proofs.AgreementLaws.{agrees_finish, agrees_mountable, agrees_same, agrees_seal, agrees_take, empty-spare, spare-taken, spelled_same, tables_with}
 use Rattle.zone_choice.proofs.ChangeLaws.{keeps-halt, keeps-join}
 use Rattle.zone_choice.proofs.CommandLaws.{can_finish, filling-few, filling-full, filling-in_range, none-active, zone-start}
 use Rattle.zone_choice.proofs.RolesLaws.{roles_with, second_list}
 use Rattle.zone_translator.specs.declared.fault.DiskFault.{DiskFault}
-use Rattle.zone_translator.specs.declared.fault.DiskFault.TheVariants.{OutOfRange, OutOfMemory, Stopped, Spent, NoRoom}
+use Rattle.zone_translator.specs.declared.fault.DiskFault.TheVariants.{OutOfRange, OutOfMemory, Stopped, Spent, NoRoom, Smaller, Reserve}
 use Rattle.zone_translator.specs.Changes.{AgreesWith, IsFilledUp, IsCause, RoomLeaves, StopKeeps, disk_fault, is_empty_usage}
 
 -- ---- a disk that serves
@@ -38,7 +38,6 @@ pub stops-agreed : (V : Type 0) (old new : DriveState) (tables other : TablesVie
 stops-agreed V old new tables other serves given size obeys = record {
   stopped = obeys.stops refl;
   mountable = rw (← given) (serves_mountable new other serves);
-  encoded = rw (← given, ← size) (sym (size-encoded (mounted new other) serves.agrees));
   size = refl;
   given = refl;
   next = refl;
@@ -51,7 +50,6 @@ pub stops-join : (a b c : Mounted) → KeepsArray a b → StopKeeps b c → Stop
 stops-join a b c kept stops = record {
   stopped = stops.stopped;
   mountable = stops.mountable;
-  encoded = stops.encoded;
   size = stops.size ∙ ap length kept.places;
   given = stops.given ∙ kept.given;
   next = stops.next ∙ kept.next;
@@ -67,6 +65,8 @@ room-join a b c (Err OutOfMemory) kept leaves = keeps-join a b c kept leaves
 room-join a b c (Err Stopped) kept leaves = (stops-join a b c kept leaves.0, leaves.1 ∙ kept.array)
 room-join a b c (Err Spent) kept leaves = keeps-join a b c kept leaves
 room-join a b c (Err NoRoom) kept leaves = keeps-join a b c kept leaves
+room-join a b c (Err Smaller) kept leaves = keeps-join a b c kept leaves
+room-join a b c (Err Reserve) kept leaves = keeps-join a b c kept leaves
 
 pub room-err : (V W : Type 0) (a b : Mounted) (fault : DiskFault) → RoomLeaves {V = V} a b (Err fault) → RoomLeaves {V = W} a b (Err fault)
 room-err V W a b OutOfRange leaves = leaves
@@ -74,6 +74,8 @@ room-err V W a b OutOfMemory leaves = leaves
 room-err V W a b Stopped leaves = leaves
 room-err V W a b Spent leaves = leaves
 room-err V W a b NoRoom leaves = leaves
+room-err V W a b Smaller leaves = leaves
+room-err V W a b Reserve leaves = leaves
 
 -- ---- the host zone
 

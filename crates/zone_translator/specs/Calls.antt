@@ -1,28 +1,30 @@
 -- What holds of the parts of a disk, and what a read gives.
-use Rattle.std.specs.Prelude.{◌≡◌, ℕ, ◌≤◌, ◌^◌, Bool, true, false, List, Option, Some, None, Result, Ok, Err, is_some}
-use Rattle.std.specs.List.{concat}
+use Rattle.std.specs.Prelude.{◌≡◌, ℕ, ◌≤◌, ◌^◌, ◌++◌, Bool, true, false, List, length, Option, Some, None, Result, Ok, Err, is_some}
+use Rattle.std.specs.List.{concat, flat_map}
+use Rattle.nvme_wire.specs.Descriptor.{descriptor_bytes, report_head_bytes}
+use Rattle.nvme_wire.specs.declared.command.ReportingOptions.TheVariants.{AnyState}
+use Rattle.zone_states.specs.declared.geometry.Geometry.{Geometry}
+use Rattle.zone_states.specs.Zone.{Zone}
+use Rattle.zone_report.specs.Report.{matching}
 use Rattle.zone_states.specs.Geometry.{IsInRange}
-use Rattle.drive_port.specs.Drive.{DriveState}
+use Rattle.drive_port.specs.Drive.{DriveState, IsClosing}
 use Rattle.zone_choice.specs.Tables.{TablesView, size_of}
-use Rattle.zone_choice.specs.Agreement.{drive_logs}
 use Rattle.zone_choice.specs.Mountable.{IsMountable}
-use Rattle.zone_choice.specs.Sizes.{encoded_size}
 use Rattle.zone_translator.specs.declared.fault.DiskFault.{DiskFault}
 use Rattle.zone_translator.specs.declared.fault.DiskFault.TheVariants as faults
 use Rattle.zone_translator.specs.declared.status.DiskStatus.{DiskStatus}
 use Rattle.zone_translator.specs.declared.status.DiskStatus.TheVariants.{Serving, Stopped}
 use Rattle.zone_translator.specs.Changes.{AgreesWith}
-use Rattle.zone_translator.specs.Flat.{Call, FlatCall, FlatDisk, count_of, first_of, known_answer, read}
+use Rattle.zone_translator.specs.Flat.{Call, FlatCall, FlatDisk, known_answer, read}
 
 -- a fact that is kept while a disk serves
 abbrev pub WhileServing : DiskStatus → Type 0 → Type 0
 WhileServing Serving Fact = Fact
 WhileServing Stopped Fact = Unit {0}
 
--- The drive of a disk has a geometry in range, can be mounted, and has the disk's size. While the disk serves, the tables agree with the drive; and it has answered `Stopped` only where the drive has stopped.
+-- The drive of a disk has a geometry in range, and can be mounted. While the disk serves, the tables agree with the drive; and it has answered `Stopped` only where the drive has stopped.
 pub record Holds (drive : DriveState) (tables : TablesView) (status : DiskStatus) : Type 0 where
   pub mountable : IsMountable drive tables.given
-  pub size : encoded_size tables.given (drive_logs drive) ≡ size_of tables
   pub geometry : IsInRange drive.geometry
   pub short : size_of tables ≤ 2 ^ 31
   pub agrees : WhileServing status (AgreesWith drive tables)
@@ -39,6 +41,11 @@ answer_before (Ok true) = Some (Ok tt)
 answer_before (Ok false) = None
 answer_before (Err fault) = Some (Err fault)
 
+-- the answer that a test of a growth stands for: that it goes on, or a refusal
+abbrev pub growth_before : Result (Unit {0}) DiskFault → Option (Result (Unit {0}) DiskFault)
+growth_before (Ok done) = None
+growth_before (Err fault) = Some (Err fault)
+
 -- a read of n blocks: what stands in the buffer are the bytes of the blocks that it shows
 pub record Reads (old : FlatDisk) (first n : ℕ) (result : Result (Unit {0}) DiskFault) (bytes : List ℕ) (new : FlatDisk) : Type 0 where
   pub shown : List (List ℕ)
@@ -47,4 +54,20 @@ pub record Reads (old : FlatDisk) (first n : ℕ) (result : Result (Unit {0}) Di
 
 -- whether the answer to a call is known before anything is done
 abbrev pub is_known : FlatDisk → Call → Bool
-is_known disk call = is_some (known_answer disk (first_of call) (count_of call))
+is_known disk call = is_some (known_answer disk call)
+
+-- whether a call with a result of its own was done, or why not
+abbrev pub done_of : {V : Type 0} → Result V DiskFault → Result (Unit {0}) DiskFault
+done_of (Ok value) = Ok tt
+done_of (Err fault) = Err fault
+
+-- a report of all zones: their number, and a descriptor of each
+abbrev pub whole_report : Geometry → List Zone → List ℕ
+whole_report geometry zones = report_head_bytes (record { zones = length zones }) ++ flat_map descriptor_bytes (matching geometry AnyState 0 zones)
+
+-- These bytes are a report of all zones, whole, as they were at a moment of the call: a closing of those before it, which those after it are a closing of.
+pub record ReportsAll (old : DriveState) (bytes : List ℕ) (new : DriveState) : Type 0 where
+  pub zones : List Zone
+  pub before : IsClosing old.zones zones
+  pub bytes_are : bytes ≡ whole_report old.geometry zones
+  pub after : IsClosing zones new.zones

@@ -1,7 +1,9 @@
--- The flat disk: an array of blocks, and what a conventional disk answers to a call.
-use Rattle.std.specs.Prelude.{◌≡◌, ℕ, zero, suc, ◌+◌, ◌≤◌, ◌==◌, nat_lt, if◌then◌else◌, Bool, true, false, List, [], ◌∷◌, length, take, drop, MatchOption, Option, Some, None, Result, Ok, Err}
+-- The flat disk: an array of blocks, and what a conventional disk that can grow answers to a call.
+use Rattle.std.specs.Prelude.{◌≡◌, ◌⊎◌, ℕ, zero, suc, ◌+◌, ◌≤◌, ◌==◌, nat_lt, if◌then◌else◌, Bool, true, false, List, [], ◌∷◌, length, replicate, take, drop, MatchOption, Option, Some, None, Result, Ok, Err}
+use Rattle.batch_log.specs.Log.{zero_block}
+use Rattle.zone_choice.specs.Sizes.{extended}
 use Rattle.zone_translator.specs.declared.fault.DiskFault.{DiskFault}
-use Rattle.zone_translator.specs.declared.fault.DiskFault.TheVariants.{OutOfRange, OutOfMemory, Stopped, Spent, NoRoom}
+use Rattle.zone_translator.specs.declared.fault.DiskFault.TheVariants.{OutOfRange, OutOfMemory, Stopped, Spent, NoRoom, Smaller, Reserve}
 use Rattle.zone_translator.specs.declared.status.DiskStatus.{DiskStatus}
 use Rattle.zone_translator.specs.declared.status.DiskStatus.TheVariants as statuses
 
@@ -24,57 +26,62 @@ pub record IsFront (old : List (List ℕ)) (first : ℕ) (blocks : List (List �
   pub within : done ≤ length blocks
   pub written : new ≡ replaced old first (take done blocks)
 
+-- ---- the disk
+
+-- An array, and whether the disk serves it or has answered `Stopped`. The size is the number of blocks that may be named: it is that of the array while the disk serves. `block` is how many bytes a block has, `most` the greatest size that the drive's reserve allows.
+pub record FlatDisk : Type 0 where
+  pub array : List (List ℕ)
+  pub size : ℕ
+  pub status : DiskStatus
+  pub block : ℕ
+  pub most : ℕ
+
 -- ---- calls
 
--- what a host asks of a disk: to show n blocks from one on, or to write these blocks from one on. A fill is a write of equal blocks.
+-- what a host asks of a disk: to show n blocks from a given one on, to write these blocks from a given one on, to have that many blocks, to clean for one turn, or to report the drive's zones
 pub data Call : Type 0 where
   read : ℕ → ℕ → Call
   write : ℕ → List (List ℕ) → Call
+  grow : ℕ → Call
+  idle : Call
+  report : Call
 
--- the first block that a call names
-abbrev pub first_of : Call → ℕ
-first_of (read first n) = first
-first_of (write first blocks) = first
+-- a fill of n blocks writes blocks of one byte
+abbrev pub fill : ℕ → ℕ → ℕ → ℕ → Call
+fill block_bytes first n byte = write first (replicate n (replicate block_bytes byte))
 
--- how many blocks it names
-abbrev pub count_of : Call → ℕ
-count_of (read first n) = n
-count_of (write first blocks) = length blocks
+-- a trim of n blocks makes them zeros
+abbrev pub trim : ℕ → ℕ → ℕ → Call
+trim block_bytes first n = write first (replicate n (zero_block block_bytes))
 
 -- the blocks that a call shows which is done
-abbrev pub shown_by : List (List ℕ) → Call → List (List ℕ)
-shown_by array (read first n) = blocks_from array first n
-shown_by array (write first blocks) = []
+abbrev pub shown_by : FlatDisk → Call → List (List ℕ)
+shown_by disk (read first n) = blocks_from disk.array first n
+shown_by disk call = []
 
--- the array after a call that is done
-abbrev pub after : List (List ℕ) → Call → List (List ℕ)
-after array (read first n) = array
-after array (write first blocks) = replaced array first blocks
+-- the disk after a call that is done: a write replaces its blocks, blocks that are new are zeros, and nothing else changes
+abbrev pub after : FlatDisk → Call → FlatDisk
+after disk (write first blocks) = record disk { array = replaced disk.array first blocks }
+after disk (grow size) = record disk { array = extended (zero_block disk.block) size disk.array; size = size }
+after disk call = disk
 
--- the array after a call that was refused on its way: a front of a write, and the same array after any other call
-abbrev pub IsAfterFront : List (List ℕ) → Call → List (List ℕ) → Type 0
-IsAfterFront array (read first n) new = new ≡ array
-IsAfterFront array (write first blocks) new = IsFront array first blocks new
+-- The array after a call that was refused on its way: a front of a write, and the same array after any other call. Where the drive stopped inside a growth, the array may have grown.
+abbrev pub IsAfterFront : FlatDisk → Call → DiskFault → List (List ℕ) → Type 0
+IsAfterFront disk (write first blocks) fault new = IsFront disk.array first blocks new
+IsAfterFront disk (grow size) Stopped new = (new ≡ disk.array) ⊎ (new ≡ extended (zero_block disk.block) size disk.array)
+IsAfterFront disk call fault new = new ≡ disk.array
 
--- by what a call may be refused on its way: a read by an allocation or a stop alone
+-- why a call may be refused on its way: any because an allocation failed or the drive stopped; a write and a growth also for lack of sequences or of zones
 abbrev pub may_refuse : Call → DiskFault → Bool
-may_refuse call OutOfRange = false
 may_refuse call OutOfMemory = true
 may_refuse call Stopped = true
 may_refuse (write first blocks) Spent = true
 may_refuse (write first blocks) NoRoom = true
-may_refuse (read first n) Spent = false
-may_refuse (read first n) NoRoom = false
+may_refuse (grow size) Spent = true
+may_refuse (grow size) NoRoom = true
+may_refuse call fault = false
 
 -- ---- answers
-
--- an array, and whether the disk serves it or has answered `Stopped`
-pub record FlatDisk : Type 0 where
-  pub array : List (List ℕ)
-  pub status : DiskStatus
-
-abbrev pub serving : List (List ℕ) → FlatDisk
-serving array = record { array = array; status = statuses.Serving }
 
 -- whether a call is done or why not, and the blocks that it showed
 pub record Answer : Type 0 where
@@ -90,26 +97,41 @@ abbrev pub answer_while : DiskStatus → Option (Result (Unit {0}) DiskFault)
 answer_while statuses.Serving = None
 answer_while statuses.Stopped = Some (Err Stopped)
 
--- The answer to a call of n blocks that is known before anything is done, in this order: a call of no block is done, one past the end is out of range, and a disk that answered `Stopped` does so again.
-abbrev pub known_answer : FlatDisk → ℕ → ℕ → Option (Result (Unit {0}) DiskFault)
-known_answer disk first n =
+-- Of a call that names n blocks, the answer that is known before anything is done, in this order: a call of no block is done, one past the end is out of range, and a disk that answered `Stopped` does so again.
+abbrev pub known_range : FlatDisk → ℕ → ℕ → Option (Result (Unit {0}) DiskFault)
+known_range disk first n =
     if n == 0 then Some (Ok tt)
-    else if nat_lt (length disk.array) (first + n) then Some (Err OutOfRange)
+    else if nat_lt disk.size (first + n) then Some (Err OutOfRange)
     else answer_while disk.status
+
+-- of a growth: a size below the disk's is refused, and then one above the reserve
+abbrev pub known_growth : FlatDisk → ℕ → Option (Result (Unit {0}) DiskFault)
+known_growth disk size =
+    if nat_lt size disk.size then Some (Err Smaller)
+    else if nat_lt disk.most size then Some (Err Reserve)
+    else answer_while disk.status
+
+-- the answer to a call that is known before anything is done
+abbrev pub known_answer : FlatDisk → Call → Option (Result (Unit {0}) DiskFault)
+known_answer disk (read first n) = known_range disk first n
+known_answer disk (write first blocks) = known_range disk first (length blocks)
+known_answer disk (grow size) = known_growth disk size
+known_answer disk call = answer_while disk.status
 
 -- a disk that answers `Stopped` serves no more
 abbrev pub status_after : Result (Unit {0}) DiskFault → DiskStatus
 status_after (Err Stopped) = statuses.Stopped
 status_after result = statuses.Serving
 
--- A call that was begun on a disk that serves: done, it shows its blocks, and the array is that after it; refused, it shows nothing, and a front of it is done.
+-- A call that was begun on a disk that serves: done, it shows its blocks, and the disk is that after it; refused, it shows nothing, and a front of it is done.
 abbrev pub Begun : FlatDisk → Call → Result (Unit {0}) DiskFault → List (List ℕ) → FlatDisk → Type 0
-Begun old call (Ok done) shown new = (shown ≡ shown_by old.array call) × (new.array ≡ after old.array call)
-Begun old call (Err fault) shown new = (may_refuse call fault ≡ true) × (shown ≡ []) × IsAfterFront old.array call new.array
+Begun old call (Ok done) shown new = (shown ≡ shown_by old call) × (new ≡ after old call)
+Begun old call (Err fault) shown new =
+    (may_refuse call fault ≡ true) × (shown ≡ []) × IsAfterFront old call fault new.array × (new ≡ record old { array = new.array; status = status_after (Err fault) })
 
 -- What a disk answers to a call, and what it is afterwards.
 abbrev pub FlatCall : FlatDisk → Call → Answer → FlatDisk → Type 0
 FlatCall old call answer new =
-    MatchOption (known_answer old (first_of call) (count_of call))
-    (Begun old call answer.result answer.shown new × (new.status ≡ status_after answer.result))
+    MatchOption (known_answer old call)
+    (Begun old call answer.result answer.shown new)
     (λ result. (answer ≡ with_nothing result) × (new ≡ old))

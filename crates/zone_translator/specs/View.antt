@@ -1,11 +1,15 @@
 -- What a disk is seen as, and what its calls keep.
-use Rattle.std.specs.Prelude.{◌≡◌, ℕ, ◌+◌, List}
+use Rattle.std.specs.Prelude.{◌≡◌, ℕ, ◌+◌, ◌≤◌, Bool, true, false, List, Option}
+use Rattle.std.specs.Int.{div_ceil}
 use Rattle.drive_port.specs.Drive.{DriveState}
 use Rattle.zone_choice.specs.Tables.{TablesView, size_of}
-use Rattle.zone_choice.specs.Agreement.{spelled}
+use Rattle.logical_map.specs.declared.place.Place.{Place}
+use Rattle.zone_choice.specs.Agreement.{drive_logs, spelled}
+use Rattle.zone_choice.specs.Sizes.{greatest, map_of}
 use Rattle.zone_choice.specs.Mountable.{IsMountable}
+use Rattle.zone_choice.specs.Reserve.{batch_most, most_size}
 use Rattle.zone_translator.specs.declared.fault.DiskFault.{DiskFault}
-use Rattle.zone_translator.specs.declared.fault.DiskFault.TheVariants.{OutOfRange}
+use Rattle.zone_translator.specs.declared.fault.DiskFault.TheVariants.{OutOfRange, Smaller, Reserve}
 use Rattle.zone_translator.specs.declared.status.DiskStatus.{DiskStatus}
 use Rattle.zone_translator.specs.Changes.{IsCause}
 use Rattle.zone_translator.specs.Flat.{FlatDisk}
@@ -32,19 +36,45 @@ given_size disk = disk.tables.given
 abbrev pub array_of : DiskView → List (List ℕ)
 array_of disk = spelled disk.drive (given_size disk)
 
-abbrev pub flat_of : DiskView → FlatDisk
-flat_of disk = record { array = array_of disk; status = disk.status }
+-- where the newest record of each block lies on the drive, by its logs
+abbrev pub places_of : DiskView → List Place
+places_of disk = map_of disk.drive.geometry.size (given_size disk) (drive_logs disk.drive)
 
--- What every call of a disk keeps, whatever it answers: its size, and a drive that can be mounted again. No command is refused, and the next sequence rises by one with each batch that is appended.
+-- the size that the headers on the drive say, if any does
+abbrev pub size_on : DiskView → Option ℕ
+size_on disk = greatest (drive_logs disk.drive)
+
+abbrev pub flat_of : DiskView → FlatDisk
+flat_of disk = record {
+  array = array_of disk;
+  size = disk_size disk;
+  status = disk.status;
+  block = disk.drive.geometry.block;
+  most = most_size disk.drive.geometry;
+}
+
+-- What every call of a disk keeps, whatever it answers: a drive that can be mounted again. No command is refused, and the next sequence rises by one with each batch that is appended.
 pub record KeepsDisk (old new : DiskView) : Type 0 where
-  pub size : disk_size new ≡ disk_size old
   pub given : given_size new ≡ given_size old
   pub geometry : new.drive.geometry ≡ old.drive.geometry
   pub mountable : IsMountable new.drive (given_size new)
   pub refused : new.drive.refused ≡ old.drive.refused
   pub next : next_sequence new + old.drive.appended ≡ next_sequence old + new.drive.appended
 
--- why a call was refused; of a range the call itself tells
+-- why a call was refused; of a range and of a size the call itself tells
 abbrev pub DiskCause : DiskView → DiskFault → Type 0
 DiskCause disk OutOfRange = Unit {0}
+DiskCause disk Smaller = Unit {0}
+DiskCause disk Reserve = Unit {0}
 DiskCause disk fault = IsCause disk.drive (next_sequence disk) fault
+
+-- ---- how many commands a call completes
+
+-- at most how many batches a write of n blocks has: one for each block; and one of trims: all but the last name as many as fit
+abbrev pub most_batches : Bool → DiskView → ℕ → ℕ
+most_batches true disk n = div_ceil n (batch_most disk.drive.geometry)
+most_batches false disk n = n
+
+-- the drive completes no more than that many commands
+abbrev pub Completes : DiskView → ℕ → DiskView → Type 0
+Completes old count new = new.drive.completed ≤ old.drive.completed + count

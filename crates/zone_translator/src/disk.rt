@@ -1,27 +1,32 @@
-ghost use Rattle.std.specs.Prelude.{◌≡◌, ◌+◌, ◌<◌, ◌≤◌, ◌++◌, ◌^◌, ◌*◌, [], IfErr, IfOk, OnOk, OnErr, false, true, length, replicate, slice_index_or, take};
+ghost use Rattle.std.specs.Prelude.{◌≡◌, ◌+◌, ◌<◌, ◌≤◌, ◌++◌, ◌^◌, ◌*◌, [], IfErr, IfOk, OnOk, OnErr, Some, count_by, false, true, length, replicate, slice_index_or, take};
 ghost use Rattle.drive_port.specs.Calls.{block_count, data_blocks};
+ghost use Rattle.logical_map.specs.Live.{lies_in};
+ghost use Rattle.logical_map.specs.declared.place.Place.TheVariants as places;
 ghost use Rattle.zone_choice.specs.Mountable.{IsMountable};
 ghost use Rattle.zone_choice.specs.Reserve.{FitsReserve};
 ghost use Rattle.zone_states.specs.Geometry.{IsInRange};
 ghost use Rattle.zone_states.specs.Zone.{cut_blocks};
-ghost use Rattle.zone_translator.specs.Calls.{Reads, answer_before, is_known, status_of};
-ghost use Rattle.zone_translator.specs.Changes.{IsCause};
-ghost use Rattle.zone_translator.specs.Flat.{FlatCall, IsFront, known_answer, read, replaced, status_after, with_nothing, write};
+ghost use Rattle.zone_translator.specs.Calls.{Reads, ReportsAll, answer_before, done_of, growth_before, is_known, status_of};
+ghost use Rattle.zone_translator.specs.Batches.{IsBatchCount, IsWhole, blocks_of, is_trim};
+ghost use Rattle.zone_translator.specs.Changes.{AreNamed, IsCause, Names};
+ghost use Rattle.zone_translator.specs.Flat.{FlatCall, IsFront, fill, grow, idle, known_growth, known_range, read, replaced, report, trim, with_nothing, write};
 ghost use Rattle.zone_translator.specs.declared.status.DiskStatus.TheVariants.{Serving};
 ghost use Rattle.batch_log.specs.Log.{zero_block};
 ghost use Rattle.zone_translator.specs.Mount.{IsFresh, KeepsDrive, MountRefuses};
 ghost use Rattle.zone_translator.specs.Read.{IsReadFault};
-ghost use Rattle.zone_translator.specs.View.{DiskCause, DiskView, KeepsDisk, array_of, disk_size, flat_of, given_size, next_sequence};
+ghost use Rattle.zone_translator.specs.View.{Completes, DiskCause, DiskView, KeepsDisk, array_of, disk_size, flat_of, given_size, most_batches, next_sequence, places_of, size_on};
 
 use crate::fault::DiskFault;
 use crate::mount::{MountFault, fresh_tables};
 use crate::read::{read_block, read_into};
+use crate::report::report_all;
 use crate::status::DiskStatus;
-use crate::write::{fill_batch, write_batch};
+use crate::write::{Content, grow_batch, next_batch};
 use drive_port::Device;
+use logical_map::Place;
 use std::alloc::Global;
 use std::marker::Model;
-use zone_choice::{BatchBuilder, Tables};
+use zone_choice::{BatchBuilder, Tables, most_blocks};
 
 /// An array of logical blocks above a zoned drive. A disk owns its drive, and gives it back.
 #[derive(Drop)]
@@ -99,9 +104,36 @@ impl<D: Device + Drop> Disk<D> {
     /// How many logical blocks there are.
     pub fn blocks(&self) -> u64
         ensures size { result ≡ disk_size self.now }
-        ensures array { length (array_of self.now) ≡ disk_size self.now }
+        ensures array { self.now.status ≡ Serving → length (array_of self.now) ≡ disk_size self.now }
     {
         self.tables.blocks() as u64
+    }
+
+    /// How many bytes a block has, 512 or 4,096.
+    pub fn block_bytes(&self) -> usize
+        ensures size { result ≡ self.now.drive.geometry.block }
+        ensures some { 0 < result }
+    {
+        self.device.geometry().block as usize
+    }
+
+    /// Where the newest record of a block lies on the drive. A block that no record names has no place, and
+    /// neither has one past the end. After `Stopped` it is the place that was known before.
+    pub fn place_of(&self, block: u64) -> Place
+        ensures { self.now.status ≡ Serving → result ≡ slice_index_or (places_of self.now) block places.None }
+    {
+        if block >= self.tables.blocks() as u64 {
+            return Place::None;
+        }
+        self.tables.place_of(block as u32)
+    }
+
+    /// How many blocks have their newest record in a zone: its live records; 0 for a zone that the drive has not.
+    /// After `Stopped` it is the number that was known before.
+    pub fn live(&self, zone: u32) -> u32
+        ensures { self.now.status ≡ Serving → zone < self.now.drive.geometry.zones → result ≡ count_by (lies_in self.now.drive.geometry.size zone) (places_of self.now) }
+    {
+        self.tables.live(zone)
     }
 
     /// Whether the disk serves calls, or has answered `Stopped`.
@@ -111,28 +143,33 @@ impl<D: Device + Drop> Disk<D> {
         self.status
     }
 
-    /// One batch of a fill. A refusal leaves a front of the blocks that are left, none but where the drive
-    /// stopped.
-    fn fill_some(&mut self, first: u32, left: u32, byte: u8) -> Result<u32, DiskFault>
+    /// One batch of a write. A refusal leaves none of the blocks that are left written; after a stop a front of
+    /// them may be.
+    fn write_some(&mut self, first: u32, left: u32, content: Content) -> Result<u32, DiskFault>
         requires some { 1 ≤ left }
         requires in_range { first + left ≤ disk_size self.old }
+        requires whole { IsWhole self.old.drive.geometry.block left content }
         requires serving { self.old.status ≡ Serving }
         ensures kept { KeepsDisk self.old self.new }
-        ensures count { IfOk result (λ count. (1 ≤ count) × (count ≤ left)) }
-        ensures ok { IfOk result (λ count. array_of self.new ≡ replaced (array_of self.old) first (take count (replicate left (replicate self.old.drive.geometry.block byte)))) }
+        ensures size { disk_size self.new ≡ disk_size self.old }
+        ensures count { IfOk result (λ count. (1 ≤ count) × (count ≤ left) × IsBatchCount self.old.drive.geometry (is_trim content.entry) left count) }
+        ensures ok { IfOk result (λ count. array_of self.new ≡ replaced (array_of self.old) first (take count (blocks_of self.old.drive.geometry.block left content.entry))) }
+        ensures names { IfOk result (λ count. Names (is_trim content.entry) (places_of self.old) first count (places_of self.new)) }
+        ensures says { OnOk result (size_on self.new ≡ Some (disk_size self.new)) }
         ensures serving { OnOk result (self.new.status ≡ Serving) }
         ensures status { IfErr result (λ fault. self.new.status ≡ status_of fault) }
-        ensures err { OnErr result (IsFront (array_of self.old) first (replicate left (replicate self.old.drive.geometry.block byte)) (array_of self.new)) }
+        ensures err { OnErr result (IsFront (array_of self.old) first (blocks_of self.old.drive.geometry.block left content.entry) (array_of self.new)) }
         ensures cause { IfErr result (λ fault. IsCause self.new.drive (next_sequence self.new) fault) }
+        ensures completed { Completes self.old 2 self.new }
     {
-        let written = fill_batch(
+        let written = next_batch(
             self.alloc,
             &mut self.tables,
             &mut self.device,
             &mut self.batch,
             first,
             left,
-            byte,
+            content,
         );
         match written {
             Ok(count) => Ok(count),
@@ -143,37 +180,30 @@ impl<D: Device + Drop> Disk<D> {
         }
     }
 
-    /// One batch of a write. A refusal leaves a front of the blocks that are left, none but where the drive
-    /// stopped.
-    fn write_some(&mut self, first: u32, left: u32, bytes: &[u8]) -> Result<u32, DiskFault>
-        requires some { 1 ≤ left }
-        requires in_range { first + left ≤ disk_size self.old }
-        requires whole { length bytes.now ≡ left * self.old.drive.geometry.block }
-        requires serving { self.old.status ≡ Serving }
+    /// Writes n blocks from `first` on, batch by batch.
+    fn write_all(&mut self, first: u64, blocks: u64, content: Content) -> Result<(), DiskFault>
+        requires whole { IsWhole self.old.drive.geometry.block blocks content }
+        ensures flat { FlatCall (flat_of self.old) (write first (blocks_of self.old.drive.geometry.block blocks content.entry)) (with_nothing result) (flat_of self.new) }
+        ensures untouched { is_known (flat_of self.old) (write first (blocks_of self.old.drive.geometry.block blocks content.entry)) ≡ true → self.new ≡ self.old }
+        ensures named { OnOk result (AreNamed (is_trim content.entry) (places_of self.new) first blocks) }
+        ensures says { OnOk result (1 ≤ blocks → size_on self.new ≡ Some (disk_size self.new)) }
         ensures kept { KeepsDisk self.old self.new }
-        ensures count { IfOk result (λ count. (1 ≤ count) × (count ≤ left)) }
-        ensures ok { IfOk result (λ count. array_of self.new ≡ replaced (array_of self.old) first (take count (cut_blocks self.old.drive.geometry.block left bytes.now))) }
-        ensures serving { OnOk result (self.new.status ≡ Serving) }
-        ensures status { IfErr result (λ fault. self.new.status ≡ status_of fault) }
-        ensures err { OnErr result (IsFront (array_of self.old) first (cut_blocks self.old.drive.geometry.block left bytes.now) (array_of self.new)) }
-        ensures cause { IfErr result (λ fault. IsCause self.new.drive (next_sequence self.new) fault) }
+        ensures cause { IfErr result (DiskCause self.new) }
+        ensures completed { Completes self.old (2 * most_batches (is_trim content.entry) self.old blocks) self.new }
     {
-        let written = write_batch(
-            self.alloc,
-            &mut self.tables,
-            &mut self.device,
-            &mut self.batch,
-            first,
-            left,
-            bytes,
-        );
-        match written {
-            Ok(count) => Ok(count),
-            Err(fault) => {
-                self.status = status_of(fault);
-                Err(fault)
+        if self.is_done(first, blocks)? {
+            return Ok(());
+        }
+        let block = self.device.geometry().block as usize;
+        let mut done = 0;
+        while done < blocks as u32 {
+            let rest = content.after(done as usize * block);
+            match self.write_some(first as u32 + done, blocks as u32 - done, rest) {
+                Ok(count) => done += count,
+                Err(fault) => return Err(fault),
             }
         }
+        Ok(())
     }
 
     /// One block of a read, shown after what `into` holds.
@@ -182,7 +212,9 @@ impl<D: Device + Drop> Disk<D> {
         requires serving { self.old.status ≡ Serving }
         ensures kept { KeepsDisk self.old self.new }
         ensures array { array_of self.new ≡ array_of self.old }
+        ensures size { disk_size self.new ≡ disk_size self.old }
         ensures ok { OnOk result (into.new.items ≡ into.old.items ++ slice_index_or (array_of self.old) block []) }
+        ensures completed { Completes self.old 1 self.new }
         ensures serving { OnOk result (self.new.status ≡ Serving) }
         ensures status { IfErr result (λ fault. self.new.status ≡ status_of fault) }
         ensures err { IfErr result (IsReadFault self.new.drive) }
@@ -202,7 +234,9 @@ impl<D: Device + Drop> Disk<D> {
         requires serving { self.old.status ≡ Serving }
         ensures kept { KeepsDisk self.old self.new }
         ensures array { array_of self.new ≡ array_of self.old }
+        ensures size { disk_size self.new ≡ disk_size self.old }
         ensures ok { OnOk result (into.new.items ≡ slice_index_or (array_of self.old) block []) }
+        ensures completed { Completes self.old 1 self.new }
         ensures serving { OnOk result (self.new.status ≡ Serving) }
         ensures status { IfErr result (λ fault. self.new.status ≡ status_of fault) }
         ensures err { IfErr result (IsReadFault self.new.drive) }
@@ -221,12 +255,14 @@ impl<D: Device + Drop> Disk<D> {
     /// Whether a read or a write of n blocks is done before it begins: it is where n is 0. One past the
     /// end is refused, and so is each once the disk has answered `Stopped`.
     fn is_done(&self, first: u64, blocks: u64) -> Result<bool, DiskFault>
-        ensures known { known_answer (flat_of self.now) first blocks ≡ answer_before result }
+        ensures known { known_range (flat_of self.now) first blocks ≡ answer_before result }
         ensures in_range { IfOk result (λ done. done ≡ false → (1 ≤ blocks) × (first + blocks ≤ disk_size self.now) × (self.now.status ≡ Serving)) }
         ensures cause { IfErr result (DiskCause self.now) }
         ensures mountable { IsMountable self.now.drive (given_size self.now) }
         ensures short { disk_size self.now ≤ 2 ^ 31 }
-        ensures long { length (array_of self.now) ≡ disk_size self.now }
+        ensures none { IfOk result (λ done. done ≡ true → blocks ≡ 0) }
+        ensures long { IfOk result (λ done. done ≡ false → length (array_of self.now) ≡ disk_size self.now) }
+        ensures range { IsInRange self.now.drive.geometry }
     {
         let size = self.tables.blocks() as u64;
         if blocks == 0 {
@@ -246,22 +282,15 @@ impl<D: Device + Drop> Disk<D> {
     /// After a refusal on its way a front of them is written. After `OutOfMemory`, `Spent` or `NoRoom` the
     /// disk goes on; after `Stopped` it needs a mount of the restarted drive, on which the front is found.
     pub fn fill(&mut self, first: u64, blocks: u64, byte: u8) -> Result<(), DiskFault>
-        ensures flat { FlatCall (flat_of self.old) (write first (replicate blocks (replicate self.old.drive.geometry.block byte))) (with_nothing result) (flat_of self.new) }
-        ensures untouched { is_known (flat_of self.old) (write first (replicate blocks (replicate self.old.drive.geometry.block byte))) ≡ true → self.new ≡ self.old }
+        ensures flat { FlatCall (flat_of self.old) (fill self.old.drive.geometry.block first blocks byte) (with_nothing result) (flat_of self.new) }
+        ensures stored { OnOk result (AreNamed false (places_of self.new) first blocks) }
+        ensures says { OnOk result (1 ≤ blocks → size_on self.new ≡ Some (disk_size self.new)) }
+        ensures untouched { is_known (flat_of self.old) (fill self.old.drive.geometry.block first blocks byte) ≡ true → self.new ≡ self.old }
         ensures kept { KeepsDisk self.old self.new }
         ensures cause { IfErr result (DiskCause self.new) }
+        ensures completed { Completes self.old (2 * blocks) self.new }
     {
-        if self.is_done(first, blocks)? {
-            return Ok(());
-        }
-        let mut done = 0;
-        while done < blocks as u32 {
-            match self.fill_some(first as u32 + done, blocks as u32 - done, byte) {
-                Ok(count) => done += count,
-                Err(fault) => return Err(fault),
-            }
-        }
-        Ok(())
+        self.write_all(first, blocks, Content::Byte(byte))
     }
 
     /// Writes these bytes from the block `first` on: any whole number of blocks.
@@ -270,24 +299,115 @@ impl<D: Device + Drop> Disk<D> {
     pub fn write(&mut self, first: u64, bytes: &[u8]) -> Result<(), DiskFault>
         requires whole { length bytes.now ≡ block_count self.old.drive.geometry bytes.now * self.old.drive.geometry.block }
         ensures flat { FlatCall (flat_of self.old) (write first (data_blocks self.old.drive.geometry bytes.now)) (with_nothing result) (flat_of self.new) }
+        ensures stored { OnOk result (AreNamed false (places_of self.new) first (block_count self.old.drive.geometry bytes.now)) }
+        ensures says { OnOk result (1 ≤ block_count self.old.drive.geometry bytes.now → size_on self.new ≡ Some (disk_size self.new)) }
         ensures untouched { is_known (flat_of self.old) (write first (data_blocks self.old.drive.geometry bytes.now)) ≡ true → self.new ≡ self.old }
         ensures kept { KeepsDisk self.old self.new }
         ensures cause { IfErr result (DiskCause self.new) }
+        ensures completed { Completes self.old (2 * block_count self.old.drive.geometry bytes.now) self.new }
     {
         let block = self.device.geometry().block as usize;
-        let blocks = (bytes.len() / block) as u64;
-        if self.is_done(first, blocks)? {
-            return Ok(());
+        self.write_all(first, (bytes.len() / block) as u64, Content::Bytes(bytes))
+    }
+
+    /// Makes `blocks` blocks from `first` on zeros, by records that say so: their old data is needed no more.
+    /// Blocks that were never written get such records, too.
+    ///
+    /// After a refusal on its way a front of the blocks is trimmed, as after one of a `fill`.
+    pub fn trim(&mut self, first: u64, blocks: u64) -> Result<(), DiskFault>
+        ensures flat { FlatCall (flat_of self.old) (trim self.old.drive.geometry.block first blocks) (with_nothing result) (flat_of self.new) }
+        ensures untouched { is_known (flat_of self.old) (trim self.old.drive.geometry.block first blocks) ≡ true → self.new ≡ self.old }
+        ensures trimmed { OnOk result (AreNamed true (places_of self.new) first blocks) }
+        ensures says { OnOk result (1 ≤ blocks → size_on self.new ≡ Some (disk_size self.new)) }
+        ensures kept { KeepsDisk self.old self.new }
+        ensures cause { IfErr result (DiskCause self.new) }
+        ensures completed { Completes self.old (2 * most_batches true self.old blocks) self.new }
+    {
+        self.write_all(first, blocks, Content::Trim)
+    }
+
+    /// Whether a growth to `blocks` blocks is refused before it begins.
+    fn check_growth(&self, blocks: u64) -> Result<(), DiskFault>
+        ensures known { known_growth (flat_of self.now) blocks ≡ growth_before result }
+        ensures grows { OnOk result ((disk_size self.now ≤ blocks) × FitsReserve self.now.drive.geometry blocks × (self.now.status ≡ Serving)) }
+        ensures cause { IfErr result (DiskCause self.now) }
+        ensures mountable { IsMountable self.now.drive (given_size self.now) }
+    {
+        if blocks < self.tables.blocks() as u64 {
+            return Err(DiskFault::Smaller);
         }
-        let mut done = 0;
-        while done < blocks as u32 {
-            let rest = &bytes[done as usize * block..];
-            match self.write_some(first as u32 + done, blocks as u32 - done, rest) {
-                Ok(count) => done += count,
-                Err(fault) => return Err(fault),
+        if blocks > most_blocks(&self.device.geometry()) {
+            return Err(DiskFault::Reserve);
+        }
+        match self.status {
+            DiskStatus::Serving => Ok(()),
+            DiskStatus::Stopped => Err(DiskFault::Stopped),
+        }
+    }
+
+    /// Makes it a disk of `blocks` blocks, as many as it has or more: those that are new read as zeros. The size
+    /// is written to the drive, also where it is the one that the disk has.
+    ///
+    /// After a refusal the disk has its old size. After `Stopped` the drive has the old size or the new one.
+    pub fn grow(&mut self, blocks: u64) -> Result<(), DiskFault>
+        ensures flat { FlatCall (flat_of self.old) (grow blocks) (with_nothing result) (flat_of self.new) }
+        ensures says { OnOk result (size_on self.new ≡ Some blocks) }
+        ensures written { OnOk result (self.new.drive.appended ≡ self.old.drive.appended + 1) }
+        ensures untouched { is_known (flat_of self.old) (grow blocks) ≡ true → self.new ≡ self.old }
+        ensures kept { KeepsDisk self.old self.new }
+        ensures cause { IfErr result (DiskCause self.new) }
+        ensures completed { Completes self.old 2 self.new }
+    {
+        self.check_growth(blocks)?;
+        let grown = grow_batch(
+            self.alloc,
+            &mut self.tables,
+            &mut self.device,
+            &mut self.batch,
+            blocks as u32,
+        );
+        match grown {
+            Ok(()) => Ok(()),
+            Err(fault) => {
+                self.status = status_of(fault);
+                Err(fault)
             }
         }
-        Ok(())
+    }
+
+    /// One turn of cleaning. There is nothing to clean yet.
+    pub fn idle(&mut self) -> Result<(), DiskFault>
+        ensures flat { FlatCall (flat_of self.old) idle (with_nothing result) (flat_of self.new) }
+        ensures nothing { self.new ≡ self.old }
+        ensures kept { KeepsDisk self.old self.new }
+        ensures cause { IfErr result (DiskCause self.new) }
+    {
+        match self.status {
+            DiskStatus::Serving => Ok(()),
+            DiskStatus::Stopped => Err(DiskFault::Stopped),
+        }
+    }
+
+    /// A report of all zones of the drive, as Zone Management Receive gives it (Zoned Namespace Command
+    /// Set 1.1, section 3.4.2): a head of 64 bytes and a descriptor of 64 bytes for each zone.
+    pub fn report(&mut self) -> Result<Vec<u8>, DiskFault>
+        ensures flat { FlatCall (flat_of self.old) report (with_nothing (done_of result)) (flat_of self.new) }
+        ensures untouched { is_known (flat_of self.old) report ≡ true → self.new ≡ self.old }
+        ensures zones { IfOk result (λ bytes. ReportsAll self.old.drive bytes.items self.new.drive) }
+        ensures kept { KeepsDisk self.old self.new }
+        ensures cause { IfErr result (DiskCause self.new) }
+        ensures completed { Completes self.old 1 self.new }
+    {
+        let DiskStatus::Serving = self.status else {
+            return Err(DiskFault::Stopped);
+        };
+        match report_all(self.alloc, &self.tables, &mut self.device) {
+            Ok(bytes) => Ok(bytes),
+            Err(fault) => {
+                self.status = status_of(fault);
+                Err(fault)
+            }
+        }
     }
 
     /// Shows `blocks` blocks from `first` on. `into` is empty after a refusal.
@@ -296,6 +416,7 @@ impl<D: Device + Drop> Disk<D> {
         ensures untouched { is_known (flat_of self.old) (read first blocks) ≡ true → self.new ≡ self.old }
         ensures kept { KeepsDisk self.old self.new }
         ensures cause { IfErr result (DiskCause self.new) }
+        ensures completed { Completes self.old blocks self.new }
     {
         into.clear();
         if self.is_done(first, blocks)? {

@@ -7,20 +7,28 @@ pub enum DiskFault {
     /// A block at or past the end of the disk was named. Nothing was sent, and nothing changed.
     #[error("a block at or past the end of the disk was named")]
     OutOfRange,
-    /// An allocation failed. A front of a write's blocks is in place, and the disk goes on.
+    /// An allocation failed. Of a write, a fill or a trim a front is in place, a growth is not done, and the disk
+    /// goes on.
     #[error("out of memory")]
     OutOfMemory,
-    /// The drive has stopped. A front of a write's blocks is in place.
+    /// The drive has stopped. Of a write, a fill or a trim a front is in place; of a growth only a mount can
+    /// tell whether it is done.
     #[error("the drive has stopped")]
     Stopped,
-    /// The sequence numbers that are left are kept for the repair of a zone, at a mount. A front of a
-    /// write's blocks is in place, and reads go on.
+    /// The sequence numbers that are left are kept for the repair of a zone, at a mount. Of a write, a fill or a
+    /// trim a front is in place, a growth is not done, and reads go on.
     #[error("no sequence number is left for a batch of the disk")]
     Spent,
     /// No zone is left for the host's batches: none is opened or Closed, and the last Empty one is
-    /// kept. A front of a write's blocks is in place, and reads go on.
+    /// kept. Of a write, a fill or a trim a front is in place, a growth is not done, and reads go on.
     #[error("no zone is left to write to")]
     NoRoom,
+    /// A growth to fewer blocks than the disk has. Nothing was sent, and nothing changed.
+    #[error("the disk has more blocks already")]
+    Smaller,
+    /// A growth to more blocks than the drive's reserve allows. Nothing was sent, and nothing changed.
+    #[error("the drive's reserve does not allow this number of logical blocks")]
+    Reserve,
 }
 
 impl From<AllocError> for DiskFault {

@@ -4,12 +4,14 @@
 //! `drive_port::Device`, and shows it as an array of blocks that can be read and written in any order.
 //!
 //! ```text
-//! let mut disk = match Disk::mount(alloc, drive, 9) {
+//! let mut disk = match Disk::mount(alloc, drive, 8) {
 //!     Ok(disk) => disk,
 //!     Err((fault, drive)) => return give_back(drive, fault),
 //! };
 //! disk.write(2, &bytes)?;          // from block 2 on
-//! disk.fill(5, 4, 0xaa)?;          // blocks 5 to 8
+//! disk.fill(5, 3, 0xaa)?;          // blocks 5 to 7
+//! disk.trim(6, 1)?;                // block 6 reads as zeros
+//! disk.grow(9)?;                   // one block more
 //! disk.read(2, 3, &mut shown)?;    // blocks 2 to 4
 //! let drive = disk.into_device();
 //! ```
@@ -25,6 +27,7 @@ mod fault;
 mod laws;
 mod mount;
 mod read;
+mod report;
 mod room;
 mod status;
 mod write;
@@ -32,5 +35,6 @@ mod write;
 pub use disk::Disk;
 pub use fault::DiskFault;
 pub use laws::{write_keeps_others, written_reads_back};
+pub use logical_map::Place;
 pub use mount::MountFault;
 pub use status::DiskStatus;

@@ -1,4 +1,4 @@
-ghost use Rattle.std.specs.Prelude.{◌≡◌, ◌≤◌, ◌++◌, ◌<◌, [], IfErr, OnOk, length, replicate, slice_index_or};
+ghost use Rattle.std.specs.Prelude.{◌≡◌, ◌≤◌, ◌+◌, ◌++◌, ◌<◌, [], IfErr, OnOk, length, replicate, slice_index_or};
 ghost use Rattle.zone_choice.specs.Agreement.{mounted, spelled};
 ghost use Rattle.zone_choice.specs.Changes.{KeepsArray};
 ghost use Rattle.zone_choice.specs.Tables.{size_of};
@@ -34,6 +34,7 @@ pub(crate) fn read_into<D: Device>(
     ensures kept { KeepsArray (mounted (D.drive device.old) tables.now) (mounted (D.drive device.new) tables.now) }
     ensures ok { OnOk result (into.new.items ≡ slice_index_or (spelled (D.drive device.old) tables.now.given) block []) }
     ensures err { IfErr result (IsReadFault (D.drive device.new)) }
+    ensures completed { (D.drive device.new).completed ≤ (D.drive device.old).completed + 1 }
 {
     let Place::At(address) = tables.place_of(block) else {
         into.clear();
@@ -60,6 +61,7 @@ pub(crate) fn read_block<D: Device>(
     ensures kept { KeepsArray (mounted (D.drive device.old) tables.now) (mounted (D.drive device.new) tables.now) }
     ensures ok { OnOk result (into.new.items ≡ into.old.items ++ slice_index_or (spelled (D.drive device.old) tables.now.given) block []) }
     ensures err { IfErr result (IsReadFault (D.drive device.new)) }
+    ensures completed { (D.drive device.new).completed ≤ (D.drive device.old).completed + 1 }
 {
     read_into(tables, device, block, buffer)?;
     into.extend_from_slice(buffer)?;

@@ -30,6 +30,7 @@ fn retire<D: Device>(
     requires few { (D.drive device.old).geometry.capacity < host.written + 2 }
     ensures leaves { RoomLeaves (mounted (D.drive device.old) tables.old) (mounted (D.drive device.new) tables.new) result }
     ensures ok { OnOk result (tables.new.roles.host ≡ None) }
+    ensures completed { (D.drive device.new).completed ≤ (D.drive device.old).completed + 1 }
     ensures err { IfErr result (λ fault. IsCause (D.drive device.new) tables.new.next fault) }
 {
     let geometry = device.geometry();
@@ -73,6 +74,7 @@ pub(crate) fn make_room<D: Device>(
     ensures leaves { RoomLeaves (mounted (D.drive device.old) tables.old) (mounted (D.drive device.new) tables.new) result }
     ensures ok { IfOk result (λ host. (tables.new.roles.host ≡ Some host) × HasRoom (D.drive device.new) host) }
     ensures err { IfErr result (λ fault. IsCause (D.drive device.new) tables.new.next fault) }
+    ensures completed { (D.drive device.new).completed ≤ (D.drive device.old).completed + 1 }
 {
     let Some(host) = tables.host() else {
         return take(tables, device);

@@ -9,6 +9,7 @@
 //! ok
 //! ```
 //!
+//! The lines are `read`, `fill`, `write`, `trim`, `idle` and `grow`, as `docs/formats.md` describes them.
 //! [`job_of`] reads the words of the command line, and [`run_job`] does what they ask for. What the replies
 //! are is promised by the runs below, [`run_trace`] and [`run_raw`]; the words, the zones that `--report`
 //! shows and the exit status are tested.

@@ -5,9 +5,10 @@ pub returns-clause-gives : goal.returns-clause-gives
 returns-clause-gives g c =
     let first = c.in-Ok.disk in
     let last = c.answer_lines-result.new.answerer.disk in
-    let kept = c.answer_lines-result.ensures.keeps.mounted c.in-Ok.ensures.mountable in
+    let made = c.in-Ok.ensures in
+    let kept = c.answer_lines-result.ensures.keeps.mounted made.mountable in
     let a = c.answer_lines-result.ensures in
-    let s = seen c.args.blocks (g.D.Device.drive c.args.device) first last c.in-Ok.ensures.drive c.in-Ok.ensures.size.1 c.in-Ok.ensures.size.2 kept.given in
+    let s = seen c.args.blocks (g.D.Device.drive c.args.device) first last made.drive made.size.1 made.size.0 made.size.2 kept.given in
     let ok = rw c.new-reader.ensures at a.ok in
     let err = rw c.new-reader.ensures at a.err in
     rw c.into_device.ensures

@@ -1,9 +1,10 @@
-use Rattle.std.proofs.Common.{sym, ◌∙◌, ap, arith, rules, ◌/◌, is_some, map, Some}
+use Rattle.std.proofs.Common.{◌≡◌, ◌≢◌, ℕ, sym, ◌∙◌, ap, arith, rules, ◌/◌, is_some, map, Some}
 use Rattle.std.specs.Option.{option_map}
 use Rattle.std.proofs.lemmas.Bool.{false≢true}
 use Rattle.std.proofs.lemmas.List.{length-map}
 use Rattle.logical_map.specs.Pages.{page_of, place_of}
 use Rattle.logical_map.proofs.Counting.{kept-raise, kept-set}
+use Rattle.logical_map.proofs.Listing.{listed-set, listed-shorter}
 use Rattle.logical_map.proofs.Showing.{sets, shown-some, length-shown, ready-at, is_at-other}
 use Rattle.logical_map.proofs.map.Map.set.Goals as goal
 
@@ -33,7 +34,7 @@ raise-requires c =
     let below = rw (← c.self.view_is) at c.requires.in_range in
     let found = ap (option_map (λ b. map place_of b.value)) (sym c.in-Some.ensures.value) ∙ ap (λ ws. Some (map place_of ws)) (sym c.deref_mut.ensures.value) in
     let was = c.put-old.ensures.old ∙ shown-some page c.self.inside.count c.args.block (map place_of c.deref_mut.result.now) (omega (arith, below, long)) found in
-    rw (c.zone_of-2.ensures, c.lower.ensures, c.zone_of.ensures, was) (kept-raise page c.self.inside.count c.self.inside.zones c.self.inside.zone_size c.args.block c.self.inside.counts.items c.args.place c.self.invariant (omega (arith, below, long)) (search rules))
+    rw (c.zone_of-zone.ensures, c.lower.ensures, c.zone_of-was.ensures, was) (kept-raise page c.self.inside.count c.self.inside.zones c.self.inside.zone_size c.args.block c.self.inside.counts.items c.args.place c.self.invariant.0 (omega (arith, below, long)) (search rules))
 
 pub invariant_of-self-2 : goal.invariant_of-self-2
 invariant_of-self-2 c =
@@ -44,6 +45,13 @@ invariant_of-self-2 c =
     let below = rw (← c.self.view_is) at c.requires.in_range in
     let found = ap (option_map (λ b. map place_of b.value)) (sym c.in-Some.ensures.value) ∙ ap (λ ws. Some (map place_of ws)) (sym c.deref_mut.ensures.value) in
     let was = c.put-old.ensures.old ∙ shown-some page c.self.inside.count c.args.block (map place_of c.deref_mut.result.now) (omega (arith, below, long)) found in
-    rw (c.raise.ensures, c.zone_of-2.ensures, c.lower.ensures, c.zone_of.ensures, was) (kept-set page (page_of (c.get_mut.follows.lender w)) c.self.inside.count c.self.inside.zones c.self.inside.zone_size c.args.block c.self.inside.counts.items (map place_of c.deref_mut.result.now) c.args.place c.self.invariant
-    (omega (arith, below, long)) (length-map c.deref_mut.result.now place_of ∙ c.put-old.ensures.long) found (ap (option_map (λ b. map place_of b.value)) u.1 ∙ ap Some c.put-old.ensures.set)
-    (λ m apart. ap (option_map (λ b. map place_of b.value)) (u.2 m (is_at-other (c.args.block / 256) m apart))))
+    let places' = ap (option_map (λ b. map place_of b.value)) u.1 ∙ ap Some c.put-old.ensures.set in
+    let long' = length-map c.deref_mut.result.now place_of ∙ c.put-old.ensures.long in
+    let others : (m : ℕ) → m ≢ c.args.block / 256 → page_of (c.get_mut.follows.lender w) m ≡ page m = λ m apart. ap (option_map (λ b. map place_of b.value)) (u.2 m (is_at-other (c.args.block / 256) m apart)) in
+    let follows = rw (c.zone_of-zone.ensures, c.zone_of-was.ensures, was) at c.note.ensures in
+    rw (c.raise.ensures, c.zone_of-zone.ensures, c.lower.ensures, c.zone_of-was.ensures, was) (
+      kept-set page (page_of (c.get_mut.follows.lender w)) c.self.inside.count c.self.inside.zones c.self.inside.zone_size c.args.block c.self.inside.counts.items (map place_of c.deref_mut.result.now) c.args.place c.self.invariant.0 (omega (arith, below, long)) long' found places' others,
+      listed-shorter (page_of (c.get_mut.follows.lender w)) c.self.inside.zone_size c.note.new.lists.items c.shorten.new.lists.items c.shorten.ensures
+          (listed-set page (page_of (c.get_mut.follows.lender w)) c.self.inside.count c.self.inside.zone_size c.args.block (map place_of c.deref_mut.result.now) c.args.place c.self.inside.lists.items c.note.new.lists.items
+          (omega (arith, below, long)) long' found places' others c.self.invariant.1 follows),
+    )

@@ -1,13 +1,14 @@
 use Rattle.std.proofs.Common.{◌≡◌, ◌<◌, ◌+◌, sym, arith}
 use Rattle.zone_translator.specs.View.{disk_size}
-use Rattle.zone_translator.proofs.DiskLaws.{known-none, known-past, known-stopped, length-array}
+use Rattle.zone_translator.proofs.CallLaws.{known-none, known-past, known-stopped}
+use Rattle.zone_translator.proofs.DiskLaws.{holds-agrees, length-array}
 use Rattle.zone_translator.proofs.disk.Disk.is_done.Goals.{then-blocks-size-via-then-blocks-size, then-blocks-size-via-else-blocks-size+then-first-size}
 use Rattle.zone_translator.proofs.disk.Disk.is_done.Goals as goal
 
 pub returns-then-blocks-size-clause-known : goal.returns-then-blocks-size-clause-known
 returns-then-blocks-size-clause-known g c =
     let size : disk_size c.args.self.now ≡ c.blocks-size.result = rw (← c.self.view_is) (sym c.blocks-size.ensures) in
-    known-past c.args.self.now c.args.first c.args.blocks (rw (← c.self.view_is) (length-array _ c.self.inside.tables c.self.inside.status c.self.invariant)) (omega arith)
+    known-past c.args.self.now c.args.first c.args.blocks (omega arith)
     (elim c.then-blocks-size.branch as (λ _. disk_size c.args.self.now < c.args.first + c.args.blocks) [
       | then-blocks-size-via-then-blocks-size w ↦ omega (arith, size)
       | then-blocks-size-via-else-blocks-size+then-first-size w ↦ omega (arith, size)
@@ -16,21 +17,13 @@ returns-then-blocks-size-clause-known g c =
 pub returns-in-Stopped-clause-known : goal.returns-in-Stopped-clause-known
 returns-in-Stopped-clause-known g c =
     let size : disk_size c.args.self.now ≡ c.blocks-size.result = rw (← c.self.view_is) (sym c.blocks-size.ensures) in
-    known-stopped c.args.self.now c.args.first c.args.blocks (rw (← c.self.view_is) (length-array _ c.self.inside.tables c.self.inside.status c.self.invariant)) (omega arith) (omega (arith, size)) (rw (← c.self.view_is) c.in-Stopped.is)
+    known-stopped c.args.self.now c.args.first c.args.blocks (omega arith) (omega (arith, size)) (rw (← c.self.view_is) c.in-Stopped.is)
 
 pub returns-in-Serving-clause-known : goal.returns-in-Serving-clause-known
 returns-in-Serving-clause-known g c =
     let size : disk_size c.args.self.now ≡ c.blocks-size.result = rw (← c.self.view_is) (sym c.blocks-size.ensures) in
-    known-none c.args.self.now c.args.first c.args.blocks (rw (← c.self.view_is) (length-array _ c.self.inside.tables c.self.inside.status c.self.invariant)) (omega arith) (omega (arith, size)) (rw (← c.self.view_is) c.in-Serving.is)
-
-pub returns-then-blocks-eq0-clause-long : goal.returns-then-blocks-eq0-clause-long
-returns-then-blocks-eq0-clause-long g c = rw (← c.self.view_is) (length-array _ c.self.inside.tables c.self.inside.status c.self.invariant)
-
-pub returns-then-blocks-size-clause-long : goal.returns-then-blocks-size-clause-long
-returns-then-blocks-size-clause-long g c = rw (← c.self.view_is) (length-array _ c.self.inside.tables c.self.inside.status c.self.invariant)
+    known-none c.args.self.now c.args.first c.args.blocks (omega arith) (omega (arith, size)) (rw (← c.self.view_is) c.in-Serving.is)
 
 pub returns-in-Serving-clause-long : goal.returns-in-Serving-clause-long
-returns-in-Serving-clause-long g c = rw (← c.self.view_is) (length-array _ c.self.inside.tables c.self.inside.status c.self.invariant)
-
-pub returns-in-Stopped-clause-long : goal.returns-in-Stopped-clause-long
-returns-in-Stopped-clause-long g c = rw (← c.self.view_is) (length-array _ c.self.inside.tables c.self.inside.status c.self.invariant)
+returns-in-Serving-clause-long g c =
+    rw (← c.self.view_is) (λ e. length-array _ c.self.inside.tables (holds-agrees _ c.self.inside.tables c.self.inside.status c.in-Serving.is c.self.invariant))

@@ -1,27 +1,49 @@
-use Rattle.std.proofs.Common.{◌∙◌, Err, [], refl, arith}
+use Rattle.std.proofs.Common.{◌≡◌, ◌∙◌, refl, arith}
 use Rattle.zone_translator.specs.View.{array_of}
-use Rattle.zone_translator.proofs.DiskLaws.{goes-begun, kept-join, read-alone, read-begun, read-refused, shown-more, status-refused}
+use Rattle.zone_translator.proofs.CallLaws.{goes-begun, read-done, read-one, read-refused, shown-more}
+use Rattle.zone_translator.proofs.DiskLaws.{kept-join}
 use Rattle.zone_translator.proofs.disk.Disk.read.Goals as goal
+
+pub read_one-requires-clause-in_range : goal.read_one-requires-clause-in_range
+read_one-requires-clause-in_range g c =
+    let range = c.in_ok-is_done.ensures.in_range c.if-branch.false in
+    omega (arith, range.1, c.loop-i.invariant.1)
 
 pub loop-i-preserved : goal.loop-i-preserved
 loop-i-preserved g c =
     let so_far = c.loop-i.invariant in
     let range = c.in_ok-is_done.ensures.in_range c.if-branch.false in (
       kept-join _ _ _ so_far.0 c.read_one.ensures.kept,
+      c.read_one.ensures.size ∙ so_far.1,
       c.in_default.ensures.serving,
-      c.read_one.ensures.array ∙ so_far.2,
-      shown-more (array_of c.args.self.now) c.args.first c.loop-i.i _ _ _ refl (omega (arith, range, c.is_done.ensures.long)) so_far.3 (rw so_far.2 at c.in_default.ensures.ok),
+      c.read_one.ensures.array ∙ so_far.3,
+      shown-more (array_of c.args.self.now) c.args.first c.loop-i.i _ _ _ refl (omega (arith, range.1, c.in_ok-is_done.ensures.long c.if-branch.false)) so_far.4 (rw so_far.3 at c.in_default.ensures.ok),
+      omega (arith, so_far.5, c.read_one.ensures.completed),
     )
 
 pub returns-then-blocks-eq1-clause-flat : goal.returns-then-blocks-eq1-clause-flat
 returns-then-blocks-eq1-clause-flat g c =
     let range = c.in_ok-is_done.ensures.in_range c.if-branch.false in
     let e = c.read_alone.ensures in
-    read-alone c.args.self.now c.read_alone.new.self c.args.first c.args.blocks c.read_alone.result _ c.is_done.ensures.long (goes-begun c.args.self.now c.args.first c.args.blocks c.in_ok-is_done.field-0 c.in_ok-is_done.ensures.known c.if-branch.false)
-    c.if-blocks-eq1.true (omega (arith, range.1, range.0)) e.array e.ok e.serving e.status e.err e.nothing
+    read-one c.args.self.now c.read_alone.new.self c.args.first c.args.blocks c.read_alone.result _ (goes-begun c.args.self.now c.args.first c.args.blocks c.in_ok-is_done.field-0 c.in_ok-is_done.ensures.known c.if-branch.false) range.2
+    c.if-blocks-eq1.true (omega (arith, range.1, range.0, c.in_ok-is_done.ensures.long c.if-branch.false)) e.array e.size e.kept.geometry e.ok e.serving e.status e.err e.nothing
 
 pub returns-in-Err-clause-flat : goal.returns-in-Err-clause-flat
 returns-in-Err-clause-flat g c =
     let so_far = c.loop-i.invariant in
-    read-begun c.args.self.now c.read_one.new.self c.args.first c.args.blocks (Err c.in-Err.fault) [] _ (goes-begun c.args.self.now c.args.first c.args.blocks c.in_ok-is_done.field-0 c.in_ok-is_done.ensures.known c.if-branch.false)
-    (read-refused c.args.self.now c.read_one.new.self c.args.first c.args.blocks c.in-Err.fault (c.read_one.ensures.array ∙ so_far.2) c.in-Err.ensures.err) (c.in-Err.ensures.status ∙ status-refused c.in-Err.fault) c.clear-in-Err.ensures.items
+    read-refused c.args.self.now c.read_one.new.self c.args.first c.args.blocks c.in-Err.fault _ (goes-begun c.args.self.now c.args.first c.args.blocks c.in_ok-is_done.field-0 c.in_ok-is_done.ensures.known c.if-branch.false)
+    c.clear-in-Err.ensures.items (c.read_one.ensures.array ∙ so_far.3) (c.read_one.ensures.size ∙ so_far.1) c.in-Err.ensures.status (c.read_one.ensures.kept.geometry ∙ so_far.0.geometry) c.in-Err.ensures.err
+
+pub returns-in-Err-clause-completed : goal.returns-in-Err-clause-completed
+returns-in-Err-clause-completed g c = omega (arith, c.loop-i.invariant.5, c.read_one.ensures.completed, c.loop-i-test.true)
+
+pub returns-clause-flat : goal.returns-clause-flat
+returns-clause-flat g c =
+    let so_far = c.loop-i.invariant in
+    let range = c.in_ok-is_done.ensures.in_range c.if-branch.false in
+    let all : c.loop-i.i ≡ c.args.blocks = omega (arith, c.loop-i-test.false, c.loop-i.auto.i-end) in
+    read-done c.args.self.now c.loop-i.self c.args.first c.args.blocks _ (goes-begun c.args.self.now c.args.first c.args.blocks c.in_ok-is_done.field-0 c.in_ok-is_done.ensures.known c.if-branch.false) range.2
+    (rw all at so_far.4) so_far.3 so_far.1 so_far.2 so_far.0.geometry
+
+pub returns-clause-completed : goal.returns-clause-completed
+returns-clause-completed g c = let all : c.loop-i.i ≡ c.args.blocks = omega (arith, c.loop-i-test.false, c.loop-i.auto.i-end) in omega (arith, c.loop-i.invariant.5, all)

@@ -1,0 +1,85 @@
+-- Bytes are what their digits decode to, and bytes that are encoded are decoded again.
+use Rattle.std.proofs.Common.{◌≡◌, ◌≢◌, ℕ, ◌+◌, ◌*◌, ◌/◌, ◌%◌, ◌≤◌, List, [], ◌∷◌, length, Option, Some, None, Result, Ok, Err, inl, inr, refl, sym, ap, ◌∙◌, arith}
+use Rattle.std.specs.Prelude.{MatchResult}
+use Rattle.std.specs.Result.{result_ok}
+use Rattle.std.proofs.lemmas.Bool.{cases_eq}
+use Rattle.hex.specs.Hex.{IsBytes, decode_pairs, decode_sized, digit_or_error, encode_lower, hex_digit_value, lower_digits, ◌>>=◌ as ◌>>=?◌}
+use Rattle.hex.specs.declared.error.FromHexError.{FromHexError}
+use Rattle.hex.proofs.HexLemmas.{IsDigits-lower_digits, decode_pairs-encode_with, decode_sized-odd, length-encode_with}
+use Rattle.hex.proofs.Pairs.{decode_sized-pairs}
+use Rattle.disk_files.specs.Words.{byte_of, bytes_of, data_of, ◌>>=◌}
+
+-- two digits, and the bytes after them
+pair_after : (high low i : ℕ) (h l : Option ℕ) (bytes : Option (List ℕ)) (decoded : Result (List ℕ) FromHexError) → bytes ≡ result_ok decoded
+    → ((h >>= (λ x. l >>= (λ y. Some (x * 16 + y)))) >>= (λ b. bytes >>= (λ bs. Some (b ∷ bs))))
+    ≡ result_ok ((digit_or_error high i h >>=? (λ (x : ℕ). digit_or_error low (i + 1) l >>=? (λ (y : ℕ). Ok (x * 16 + y)))) >>=? (λ (b : ℕ). decoded >>=? (λ (bs : List ℕ). Ok (b ∷ bs))))
+pair_after high low i None l bytes decoded e = refl
+pair_after high low i (Some x) None bytes decoded e = refl
+pair_after high low i (Some x) (Some y) bytes (Ok bs) e = rw e refl
+pair_after high low i (Some x) (Some y) bytes (Err error) e = rw e refl
+
+-- bytes are what their digits decode to
+pub bytes_of-decoded : (i : ℕ) (word : List ℕ) → bytes_of word ≡ result_ok (decode_pairs i word)
+unfolding decode_pairs
+bytes_of-decoded i [] = refl
+bytes_of-decoded i (high ∷ []) = refl
+bytes_of-decoded i (high ∷ low ∷ rest) =
+    pair_after high low i (hex_digit_value high) (hex_digit_value low) (bytes_of rest) (decode_pairs (i + 2) rest) (bytes_of-decoded (i + 2) rest)
+
+-- an odd number of digits stands for no bytes
+none_after : (byte : Option ℕ) (bytes : Option (List ℕ)) → bytes ≡ None → (byte >>= (λ b. bytes >>= (λ bs. Some (b ∷ bs)))) ≡ None
+none_after None bytes e = refl
+none_after (Some b) bytes e = rw e refl
+
+bytes_of-odd : (word : List ℕ) → length word % 2 ≡ 1 → bytes_of word ≡ None
+bytes_of-odd [] odd = absurd (omega arith)
+bytes_of-odd (high ∷ []) odd = refl
+bytes_of-odd (high ∷ low ∷ rest) odd = none_after (byte_of (high ∷ low ∷ [])) (bytes_of rest) (bytes_of-odd rest (omega arith))
+
+-- ---- data
+
+data_of-some : (word : List ℕ) → length word ≢ 0 → data_of word ≡ bytes_of word
+data_of-some [] some = absurd (some refl)
+data_of-some (digit ∷ digits) some = refl
+
+-- as many bytes as there are pairs
+data_of-decoded : (word : List ℕ) → length word ≢ 0 → data_of word ≡ result_ok (decode_sized word (length word / 2))
+data_of-decoded [] some = absurd (some refl)
+data_of-decoded (digit ∷ digits) some =
+    let word = digit ∷ digits in
+    elim (cases_eq (length word % 2) 1) [
+      | inl odd ↦ bytes_of-odd word odd ∙ rw (decode_sized-odd word (length word / 2) odd) refl
+      | inr even ↦ bytes_of-decoded 0 word ∙ rw (decode_sized-pairs word (length word / 2) (omega arith) refl) refl
+    ]
+
+-- data that was decoded into a slice, or was not
+data_of-at : (word : List ℕ) (count : ℕ) → length word ≢ 0 → count ≡ length word / 2 → data_of word ≡ result_ok (decode_sized word count)
+data_of-at word count some half = data_of-decoded word some ∙ ap (λ (n : ℕ). result_ok (decode_sized word n)) (sym half)
+
+decoded : (answer : Result (List ℕ) FromHexError) (result : Result (Unit {0}) FromHexError) (out : List ℕ)
+    → MatchResult answer (λ bytes. (result ≡ Ok tt) × (out ≡ bytes)) (λ error. result ≡ Err error) → result ≡ Ok tt → result_ok answer ≡ Some out
+decoded (Ok bytes) result out value e = ap (λ (bs : List ℕ). Some bs) (sym value.1)
+decoded (Err error) result out value e = absurd cc
+
+not_decoded : (answer : Result (List ℕ) FromHexError) (result : Result (Unit {0}) FromHexError) (out : List ℕ) (error : FromHexError)
+    → MatchResult answer (λ bytes. (result ≡ Ok tt) × (out ≡ bytes)) (λ error. result ≡ Err error) → result ≡ Err error → result_ok answer ≡ None
+not_decoded (Ok bytes) result out error value e = absurd cc
+not_decoded (Err other) result out error value e = refl
+
+module _ (word : List ℕ) (count : ℕ) (result : Result (Unit {0}) FromHexError) (out : List ℕ) (some : length word ≢ 0) (half : count ≡ length word / 2)
+    (value : MatchResult (decode_sized word count) (λ bytes. (result ≡ Ok tt) × (out ≡ bytes)) (λ error. result ≡ Err error)) where
+  pub data_of-Ok : result ≡ Ok tt → data_of word ≡ Some out
+  data_of-Ok e = data_of-at word count some half ∙ decoded (decode_sized word count) result out value e
+
+  pub data_of-Err : (error : FromHexError) → result ≡ Err error → data_of word ≡ None
+  data_of-Err error e = data_of-at word count some half ∙ not_decoded (decode_sized word count) result out error value e
+
+-- ---- bytes that are encoded
+
+pub bytes_of-encode_lower : (bytes : List ℕ) → IsBytes bytes → bytes_of (encode_lower bytes) ≡ Some bytes
+bytes_of-encode_lower bytes fits = bytes_of-decoded 0 (encode_lower bytes) ∙ rw (decode_pairs-encode_with lower_digits IsDigits-lower_digits 0 bytes fits) refl
+
+pub data_of-encode_lower : (bytes : List ℕ) → IsBytes bytes → 1 ≤ length bytes → data_of (encode_lower bytes) ≡ Some bytes
+data_of-encode_lower bytes fits some =
+    let digits : length (encode_lower bytes) ≢ 0 = λ none. absurd (omega (arith, some, none, length-encode_with lower_digits bytes)) in
+    data_of-some (encode_lower bytes) digits ∙ bytes_of-encode_lower bytes fits

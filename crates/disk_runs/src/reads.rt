@@ -1,0 +1,68 @@
+ghost use Rattle.std.specs.Prelude.{◌≡◌, ◌+◌, ◌^◌, ◌<◌, ◌≤◌, ◌++◌, ◌&&◌, [], IfErr, OnOk, Some, length, nat_lt};
+ghost use Rattle.disk_files.specs.Reply.{block_lines};
+ghost use Rattle.zone_translator.specs.Flat.{blocks_from, read};
+ghost use Rattle.zone_translator.specs.View.{array_of, disk_size, flat_of};
+ghost use Rattle.zone_translator.specs.declared.status.DiskStatus.TheVariants.{Serving};
+ghost use Rattle.disk_runs.specs.FlatLines.{RepliesTo, RequestStops, single};
+ghost use Rattle.disk_runs.specs.Run.{HasCause};
+ghost use Rattle.disk_runs.specs.Trace.{EndCause, KeepsServed};
+
+use crate::fault::RunFault;
+use disk_files::{block_line, ok_reply, out_of_range_reply};
+use drive_port::Device;
+use zone_translator::Disk;
+
+/// Whether a call of these blocks goes past the end of a disk. One of no block does not.
+fn is_past_end(size: u64, first: u64, blocks: u64) -> bool
+    ensures { result ≡ (nat_lt 0 blocks && nat_lt size (first + blocks)) }
+{
+    blocks > 0 && (blocks > size || first > size - blocks)
+}
+
+/// Puts the lines of blocks after what `reply` holds. Each block is read when its line is made, so that no
+/// more than one is held.
+fn show_blocks<D: Device + Drop>(
+    disk: &mut Disk<D>,
+    first: u64,
+    blocks: u64,
+    block: &mut Vec<u8>,
+    reply: &mut Vec<u8>,
+) -> Result<(), RunFault>
+    requires in_range { 0 < blocks → first + blocks ≤ disk_size disk.old }
+    requires array { disk.old.status ≡ Serving → length (array_of disk.old) ≡ disk_size disk.old }
+    requires small { first + blocks ≤ 2 ^ 64 }
+    ensures ok { OnOk result ((flat_of disk.new ≡ flat_of disk.old) × (0 < blocks → disk.old.status ≡ Serving)
+        × (reply.new.items ≡ reply.old.items ++ block_lines first (blocks_from (array_of disk.old) first blocks))) }
+    ensures err { IfErr result (λ fault. RequestStops (flat_of disk.old) (Some (single (read first blocks))) fault (flat_of disk.new)) }
+    ensures cause { IfErr result (HasCause (EndCause disk.new)) }
+    ensures keeps { KeepsServed disk.old disk.new }
+{
+    for i in 0..blocks {
+        if let Err(fault) = disk.read(first + i, 1, block) {
+            return Err(RunFault::Disk(fault));
+        }
+        block_line(first + i, block, reply)?;
+    }
+    Ok(())
+}
+
+/// Reads blocks, and puts the reply into `reply`, which is empty.
+pub(crate) fn read_blocks<D: Device + Drop>(
+    disk: &mut Disk<D>,
+    first: u64,
+    blocks: u64,
+    block: &mut Vec<u8>,
+    reply: &mut Vec<u8>,
+) -> Result<(), RunFault>
+    requires { reply.old.items ≡ [] }
+    ensures ok { OnOk result (RepliesTo (flat_of disk.old) (single (read first blocks)) reply.new.items (flat_of disk.new)) }
+    ensures err { IfErr result (λ fault. RequestStops (flat_of disk.old) (Some (single (read first blocks))) fault (flat_of disk.new)) }
+    ensures cause { IfErr result (HasCause (EndCause disk.new)) }
+    ensures keeps { KeepsServed disk.old disk.new }
+{
+    if is_past_end(disk.blocks(), first, blocks) {
+        return Ok(out_of_range_reply(reply)?);
+    }
+    show_blocks(disk, first, blocks, block, reply)?;
+    Ok(ok_reply(reply)?)
+}

@@ -1,0 +1,87 @@
+ghost use Rattle.std.specs.Prelude.{◌≡◌, ◌<◌, ◌≤◌, [], IfErr, OnOk, Some, is_some, true, vec_capacity};
+ghost use Rattle.zone_translator.specs.View.{DiskCause, flat_of};
+ghost use Rattle.disk_runs.specs.FlatLines.{AnswersRequest, IsUntold, RequestStops, Turns, asked, reply_of};
+ghost use Rattle.disk_runs.specs.Run.{HasCause};
+ghost use Rattle.disk_runs.specs.Trace.{EndCause, KeepsServed};
+
+use crate::fault::RunFault;
+use crate::reads::read_blocks;
+use disk_files::{TraceLine, ok_reply, out_of_range_reply, reserve_reply, smaller_reply};
+use drive_port::Device;
+use zone_translator::{Disk, DiskFault};
+
+/// The bytes of the longest reply but those of reads: `refused 1 OutOfRange`, and a line feed.
+pub(crate) const SHORT_REPLY: usize = 21;
+
+/// Whether a line asks for something of a disk whose blocks have this many bytes: the data of a `write` has
+/// to be whole blocks.
+pub(crate) fn is_request(line: TraceLine, bytes: &[u8], block_bytes: usize) -> bool
+    requires { 0 < block_bytes }
+    ensures { result ≡ is_some (asked block_bytes line bytes.now) }
+{
+    match line {
+        TraceLine::Write { .. } => bytes.len() % block_bytes == 0,
+        _ => true,
+    }
+}
+
+/// Puts the reply to a request that shows nothing into `reply`, which is empty and has room for it. A
+/// refusal without a reply is the fault.
+fn tell(done: Result<(), DiskFault>, reply: &mut Vec<u8>) -> Result<(), RunFault>
+    requires empty { reply.old.items ≡ [] }
+    requires room { SHORT_REPLY ≤ vec_capacity reply.old }
+    ensures ok { OnOk result (reply_of 0 [] done ≡ Some reply.new.items) }
+    ensures err { IfErr result (IsUntold done) }
+{
+    match done {
+        Ok(()) => ok_reply(reply).unwrap(),
+        Err(DiskFault::OutOfRange) => out_of_range_reply(reply).unwrap(),
+        Err(DiskFault::Smaller) => smaller_reply(reply).unwrap(),
+        Err(DiskFault::Reserve) => reserve_reply(reply).unwrap(),
+        Err(fault) => return Err(RunFault::Disk(fault)),
+    }
+    Ok(())
+}
+
+/// Gives the cleaner turns, up to one that is refused.
+fn clean<D: Device + Drop>(disk: &mut Disk<D>, turns: u32) -> Result<(), DiskFault>
+    ensures flat { Turns turns (flat_of disk.old) result (flat_of disk.new) }
+    ensures cause { IfErr result (DiskCause disk.new) }
+    ensures keeps { KeepsServed disk.old disk.new }
+{
+    for _turn in 0..turns {
+        disk.idle()?;
+    }
+    Ok(())
+}
+
+/// Does what a line asks for, and puts the reply into `reply`, which is empty and has room for a short one.
+/// A read leaves in `block` the block that it showed last.
+pub(crate) fn answer_request<D: Device + Drop>(
+    disk: &mut Disk<D>,
+    line: TraceLine,
+    bytes: &[u8],
+    block: &mut Vec<u8>,
+    reply: &mut Vec<u8>,
+) -> Result<(), RunFault>
+    requires asks { is_some (asked disk.old.drive.geometry.block line bytes.now) ≡ true }
+    requires empty { reply.old.items ≡ [] }
+    requires room { SHORT_REPLY ≤ vec_capacity reply.old }
+    ensures ok { OnOk result (AnswersRequest (flat_of disk.old) (asked disk.old.drive.geometry.block line bytes.now) reply.new.items (flat_of disk.new)) }
+    ensures err { IfErr result (λ fault. RequestStops (flat_of disk.old) (asked disk.old.drive.geometry.block line bytes.now) fault (flat_of disk.new)) }
+    ensures cause { IfErr result (HasCause (EndCause disk.new)) }
+    ensures keeps { KeepsServed disk.old disk.new }
+{
+    match line {
+        TraceLine::Read { first, blocks } => read_blocks(disk, first, blocks, block, reply),
+        TraceLine::Fill {
+            first,
+            blocks,
+            byte,
+        } => tell(disk.fill(first, blocks, byte), reply),
+        TraceLine::Write { first } => tell(disk.write(first, bytes), reply),
+        TraceLine::Trim { first, blocks } => tell(disk.trim(first, blocks), reply),
+        TraceLine::Idle { turns } => tell(clean(disk, turns), reply),
+        TraceLine::Grow { blocks } => tell(disk.grow(blocks), reply),
+    }
+}

@@ -1,0 +1,6 @@
+use Rattle.logical_map.specs.Lists.{NoBlockLies}
+use Rattle.logical_map.specs.Pages.{page_of}
+use Rattle.logical_map.proofs.map.first_placed.Given as goal
+
+abbrev pub invariant-loop-block : goal.invariant-loop-block
+invariant-loop-block l = NoBlockLies (page_of l.pages) l.zone_size l.zone l.from l.block

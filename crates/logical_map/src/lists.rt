@@ -1,0 +1,194 @@
+ghost use Rattle.std.specs.Prelude.{◌≡◌, ◌≤◌, OnOk, length, true, if◌then◌else◌};
+ghost use Rattle.std.specs.List.{Contains};
+ghost use Rattle.std.specs.List.Sorted.{IsNonDecreasing};
+ghost use Rattle.logical_map.specs.Lists.{Follows, IsFirstFrom, Notes, Shortens, fresh, listed, missing};
+ghost use Rattle.logical_map.specs.Live.{lies_in};
+ghost use Rattle.logical_map.specs.Pages.{page_of, place_in};
+
+use crate::pages::{Pages, lies_in, place_at};
+use std::alloc::{AllocError, Global};
+use std::marker::Model;
+
+/// The blocks of a zone, 4 bytes each: those that were placed there, in any order and perhaps more than once,
+/// while there was room for them. Some may lie elsewhere now.
+#[derive(Drop)]
+pub struct ZoneList {
+    blocks: Vec<u32>,
+    /// Whether the blocks ascend.
+    sorted: bool,
+    /// Whether each block that lies in the zone is among them.
+    whole: bool,
+}
+
+impl Model for ZoneList {
+    ghost use Rattle.std.specs.Prelude.{◌≡◌, true};
+    ghost use Rattle.std.specs.List.Sorted.{IsNonDecreasing};
+    ghost use Rattle.logical_map.specs.Lists.{ListView};
+
+    ghost Value = { ListView };
+
+    ghost view = { λ l. record { blocks = l.blocks.items; whole = l.whole } };
+
+    ghost invariant = { λ l. l.sorted ≡ true → IsNonDecreasing l.blocks.items };
+}
+
+impl ZoneList {
+    /// A list that says nothing, until it begins anew. It allocates nothing.
+    pub fn new(alloc: Global) -> ZoneList
+        ensures { result ≡ missing }
+    {
+        ZoneList {
+            blocks: Vec::new(alloc),
+            sorted: false,
+            whole: false,
+        }
+    }
+
+    /// Makes room for `count` blocks more. Where that wants memory, room is made for an eighth of the blocks at
+    /// least. The list of a zone in which no block lies begins anew.
+    pub fn make_room(&mut self, empty: bool, count: u32) -> Result<(), AllocError>
+        ensures { self.new ≡ (if empty then fresh else self.old) }
+    {
+        if empty {
+            self.blocks.clear();
+            self.sorted = false;
+            self.whole = true;
+        }
+        let more = count as usize;
+        if more <= self.blocks.capacity() - self.blocks.len() {
+            return Ok(());
+        }
+        self.blocks.reserve_exact(more.max(self.blocks.len() / 8))
+    }
+
+    /// Notes a block. Without room for it the list is not whole any more; nothing is allocated.
+    pub fn note(&mut self, block: u32)
+        ensures { Notes self.old block self.new }
+    {
+        if self.blocks.len() == self.blocks.capacity() {
+            self.whole = false;
+            return;
+        }
+        self.sorted = false;
+        self.blocks.push_reserved(block);
+    }
+
+    /// Whether each block that lies in the zone is among the blocks.
+    pub fn is_whole(&self) -> bool
+        ensures { result ≡ self.now.whole }
+    {
+        self.whole
+    }
+
+    /// The blocks.
+    pub fn blocks(&self) -> &[u32]
+        ensures { result.now ≡ self.now.blocks }
+    {
+        self.blocks.as_slice()
+    }
+
+    /// Brings the blocks in ascending order.
+    pub fn sort(&mut self)
+        ensures whole { self.new.whole ≡ self.old.whole }
+        ensures kept { (block : _) → Contains self.old.blocks block → Contains self.new.blocks block }
+        ensures ascends { IsNonDecreasing self.new.blocks }
+    {
+        if self.sorted {
+            return;
+        }
+        self.blocks.sort_unstable();
+        self.sorted = true;
+    }
+
+    /// Drops the blocks that lie elsewhere, those that are there twice, and the room that they took. It needs
+    /// no memory.
+    pub fn tidy(&mut self, pages: &Pages, zone_size: u32, zone: u64)
+        ensures whole { self.new.whole ≡ self.old.whole }
+        ensures kept { (block : _) → lies_in zone_size zone (place_in (page_of pages.now) block) ≡ true → Contains self.old.blocks block → Contains self.new.blocks block }
+    {
+        self.sorted = false;
+        self.blocks
+            .retain(|block| lies_in(zone_size, zone, place_at(pages, *block)));
+        self.blocks.sort_unstable();
+        self.blocks.dedup();
+        self.blocks.shrink_to_fit();
+    }
+}
+
+/// The position of the first of ascending blocks that is no lower than `from`, found by bisection.
+pub fn first_from(blocks: &[u32], from: u32) -> usize
+    requires { IsNonDecreasing blocks.now }
+    ensures { IsFirstFrom blocks.now from result }
+{
+    blocks.partition_point(|block| *block < from)
+}
+
+/// Makes lists until there are `count` of them, each of which says nothing.
+pub fn make_lists(alloc: Global, lists: &mut Vec<ZoneList>, count: usize) -> Result<(), AllocError>
+    ensures ok { OnOk result (count ≤ length lists.new.items) }
+    ensures kept { (zone : _) → listed lists.new.items zone ≡ listed lists.old.items zone }
+{
+    while lists.len() < count {
+        lists.push(ZoneList::new(alloc))?;
+    }
+    Ok(())
+}
+
+/// Notes a block that was moved from one zone to another on the list of the other.
+pub fn note(lists: &mut Vec<ZoneList>, was: Option<u64>, zone: Option<u64>, block: u32)
+    ensures { Follows lists.old.items was zone block lists.new.items }
+{
+    if zone == was {
+        return;
+    }
+    let Some(zone) = zone else {
+        return;
+    };
+    if zone >= lists.len() as u64 {
+        return;
+    }
+    lists[zone as usize].note(block);
+}
+
+/// Tidies the list of a zone that a block was moved out of, where no block lies there any more, or where it is
+/// longer than the zone and has more than twice the blocks that lie there.
+pub fn shorten(
+    lists: &mut Vec<ZoneList>,
+    pages: &Pages,
+    counts: &[u32],
+    zone_size: u32,
+    was: Option<u64>,
+    zone: Option<u64>,
+)
+    ensures { Shortens (page_of pages.now) zone_size lists.old.items lists.new.items }
+{
+    if was == zone {
+        return;
+    }
+    let Some(was) = was else {
+        return;
+    };
+    if was >= lists.len() as u64 || was >= counts.len() as u64 {
+        return;
+    }
+    let live = counts[was as usize];
+    let most = if live == 0 {
+        0
+    } else {
+        live.saturating_mul(2).max(zone_size)
+    };
+    if lists[was as usize].blocks().len() <= most as usize {
+        return;
+    }
+    lists[was as usize].tidy(pages, zone_size, was);
+}
+
+/// Whether a zone has a list that is whole.
+pub fn is_whole(lists: &[ZoneList], zone: usize) -> bool
+    ensures { result ≡ (listed lists.now zone).whole }
+{
+    if zone >= lists.len() {
+        return false;
+    }
+    lists[zone].is_whole()
+}

@@ -1,0 +1,309 @@
+-- The calls of a disk: their answers, and the flat disk after them.
+use Rattle.std.proofs.Common.{◌≡◌, ◌==◌, ℕ, nat_lt, zero, suc, ◌+◌, ◌-◌, ◌<◌, ◌≤◌, Bool, true, false, List, [], ◌∷◌, ◌++◌, length, take, drop, get_or, Some, None, Ok, Err, refl, sym, ap, ◌∙◌, inl, inr, arith, append_assoc, append-nil}
+use Rattle.std.specs.Prelude.{Result}
+use Rattle.std.specs.Int.{div_ceil}
+use Rattle.std.specs.List.{concat}
+use Rattle.std.specs.Result.{IfErr, OnErr, OnOk}
+use Rattle.std.proofs.lemmas.Bool.{cases_lt}
+use Rattle.std.proofs.lemmas.Bool.Decides.{nat_tests}
+use Rattle.std.proofs.lemmas.List.{get_or-drop, length-drop, length-take, take_all, take_more}
+use Rattle.zone_states.specs.Geometry.{IsInRange}
+use Rattle.drive_port.specs.Drive.{DriveState}
+use Rattle.batch_log.specs.Log.{zero_block}
+use Rattle.logical_map.specs.declared.place.Place.{Place}
+use Rattle.logical_map.specs.declared.place.Place.TheVariants as places
+use Rattle.zone_choice.specs.Reserve.{batch_most, most_size}
+use Rattle.zone_choice.specs.Sizes.{extended}
+use Rattle.zone_choice.proofs.ReserveLaws.{div_ceil-add, div_ceil-none, div_ceil-positive, positive-most}
+use Rattle.zone_translator.specs.declared.fault.DiskFault.{DiskFault}
+use Rattle.zone_translator.specs.declared.fault.DiskFault.TheVariants.{OutOfRange, OutOfMemory, Stopped, Spent, NoRoom, Smaller, Reserve}
+use Rattle.zone_translator.specs.declared.status.DiskStatus.{DiskStatus}
+use Rattle.zone_translator.specs.declared.status.DiskStatus.TheVariants as statuses
+use Rattle.zone_translator.specs.Batches.{IsBatchCount}
+use Rattle.zone_translator.specs.Calls.{Reads, answer_before, is_known, status_of}
+use Rattle.zone_translator.specs.Changes.{AreNamed, IsCause, Names, trims}
+use Rattle.zone_translator.specs.Flat.{Call, FlatCall, IsAfterFront, IsFront, answer_while, blocks_from, grow, known_answer, known_growth, known_range, may_refuse, read, replaced, report, status_after, with_nothing, write}
+use Rattle.zone_translator.specs.Read.{IsReadFault}
+use Rattle.zone_translator.specs.View.{DiskCause, DiskView, array_of, disk_size, flat_of, most_batches, next_sequence}
+use Rattle.zone_translator.proofs.FlatLaws.{replaced-append}
+
+-- ---- fronts of a write
+
+take-none : {X : Type 0} → (b : ℕ) → take {A = X} b [] ≡ []
+take-none zero = refl
+take-none (suc b) = refl
+
+take-more : {X : Type 0} → (a b : ℕ) (xs : List X) → take a xs ++ take b (drop a xs) ≡ take (a + b) xs
+take-more zero b xs = let e : 0 + b ≡ b = omega arith in rw e refl
+take-more {X} (suc a) b [] = let e : suc a + b ≡ suc (a + b) = omega arith in rw e (take-none {X = X} b)
+take-more {X} (suc a) b (x ∷ xs) = let e : suc a + b ≡ suc (a + b) = omega arith in rw e (ap (λ (ys : List X). x ∷ ys) (take-more a b xs))
+
+-- one batch more, of the blocks that were left
+pub written-more : (array now new : List (List ℕ)) (first done count next more : ℕ) (blocks left : List (List ℕ)) → now ≡ replaced array first (take done blocks) → next ≡ first + done → more ≡ done + count → done ≤ length blocks → left ≡ drop done blocks
+    → new ≡ replaced now next (take count left) → new ≡ replaced array first (take more blocks)
+written-more array now new first done count next more blocks left was next-is more-is le left-is is =
+    let so : new ≡ replaced (replaced array first (take done blocks)) next (take count (drop done blocks)) = rw (← was, ← left-is) is in
+    let both : take done blocks ++ take count (drop done blocks) ≡ take more blocks = rw more-is (take-more done count blocks) in
+    so ∙ replaced-append array first next (take done blocks) (take count (drop done blocks)) (omega (arith, next-is, length-take done blocks, le)) ∙ ap (λ (xs : List (List ℕ)). replaced array first xs) both
+
+-- what was done, where the next batch was refused with a front of the blocks that were left
+pub write-front : (array now new : List (List ℕ)) (first done next : ℕ) (blocks left : List (List ℕ)) → now ≡ replaced array first (take done blocks) → next ≡ first + done → done ≤ length blocks → left ≡ drop done blocks → IsFront now next left new
+    → IsFront array first blocks new
+write-front array now new first done next blocks left was next-is le left-is front = record {
+  done = done + front.done;
+  within = omega (arith, front.within, ap length left-is, length-drop done blocks, le);
+  written = written-more array now new first done front.done next (done + front.done) blocks left was next-is refl le left-is front.written;
+}
+
+-- ---- what is known beforehand
+
+pub known-past : (disk : DiskView) (first n : ℕ) → 0 < n → disk_size disk < first + n → known_range (flat_of disk) first n ≡ Some (Err OutOfRange)
+known-past disk first n some past =
+    let none : (n == 0) ≡ false = grind (arith, nat_tests, some) in
+    let lt : nat_lt (disk_size disk) (first + n) ≡ true = grind (arith, nat_tests, past) in
+    rw (none, lt) refl
+
+pub known-stopped : (disk : DiskView) (first n : ℕ) → 0 < n → first + n ≤ disk_size disk → disk.status ≡ statuses.Stopped → known_range (flat_of disk) first n ≡ Some (Err Stopped)
+known-stopped disk first n some within stopped =
+    let none : (n == 0) ≡ false = grind (arith, nat_tests, some) in
+    let lt : nat_lt (disk_size disk) (first + n) ≡ false = grind (arith, nat_tests, within) in
+    rw (none, lt, stopped) refl
+
+pub known-none : (disk : DiskView) (first n : ℕ) → 0 < n → first + n ≤ disk_size disk → disk.status ≡ statuses.Serving → known_range (flat_of disk) first n ≡ None
+known-none disk first n some within serves =
+    let none : (n == 0) ≡ false = grind (arith, nat_tests, some) in
+    let lt : nat_lt (disk_size disk) (first + n) ≡ false = grind (arith, nat_tests, within) in
+    rw (none, lt, serves) refl
+
+-- ---- the flat disk, part by part
+
+pub flat-is : (old new : DiskView) (array : List (List ℕ)) (size : ℕ) (status : DiskStatus) → array_of new ≡ array → disk_size new ≡ size → new.status ≡ status → new.drive.geometry ≡ old.drive.geometry
+    → flat_of new ≡ record { array = array; size = size; status = status; block = old.drive.geometry.block; most = most_size old.drive.geometry }
+flat-is old new array size status array-is size-is status-is geometry-is = rw (array-is, size-is, status-is, geometry-is) refl
+
+pub status-refused : (fault : DiskFault) → status_of fault ≡ status_after (Err fault)
+status-refused OutOfRange = refl
+status-refused OutOfMemory = refl
+status-refused Stopped = refl
+status-refused Spent = refl
+status-refused NoRoom = refl
+status-refused Smaller = refl
+status-refused Reserve = refl
+
+-- what is left of a disk by a refusal
+pub flat-refused : (old new : DiskView) (fault : DiskFault) → disk_size new ≡ disk_size old → new.status ≡ status_of fault → new.drive.geometry ≡ old.drive.geometry → flat_of new ≡ record (flat_of old) { array = array_of new; status = status_after (Err fault) }
+flat-refused old new fault size status geometry = flat-is old new (array_of new) (disk_size old) (status_after (Err fault)) refl size (status ∙ status-refused fault) geometry
+
+-- ---- causes
+
+pub cause-of : (disk : DiskView) (fault : DiskFault) → IsCause disk.drive (next_sequence disk) fault → DiskCause disk fault
+cause-of disk OutOfRange cause = tt
+cause-of disk OutOfMemory cause = cause
+cause-of disk Stopped cause = cause
+cause-of disk Spent cause = cause
+cause-of disk NoRoom cause = cause
+cause-of disk Smaller cause = tt
+cause-of disk Reserve cause = tt
+
+pub read-cause : (disk : DiskView) (fault : DiskFault) → IsReadFault disk.drive fault → DiskCause disk fault
+read-cause disk OutOfRange cause = tt
+read-cause disk OutOfMemory cause = tt
+read-cause disk Stopped cause = cause
+read-cause disk Spent cause = absurd cause
+read-cause disk NoRoom cause = absurd cause
+read-cause disk Smaller cause = tt
+read-cause disk Reserve cause = tt
+
+-- ---- the answers of a write
+
+-- a call that isn't done before it begins
+pub goes-begun : (old : DiskView) (first n : ℕ) (done : Bool) → known_range (flat_of old) first n ≡ answer_before (Ok done) → done ≡ false → known_range (flat_of old) first n ≡ None
+goes-begun old first n true known e = absurd (cc)
+goes-begun old first n false known e = known
+
+-- an answer that is known is given
+pub write-known : (old : DiskView) (first n : ℕ) (blocks : List (List ℕ)) (result : Result (Unit {0}) DiskFault) → length blocks ≡ n → known_range (flat_of old) first n ≡ Some result
+    → FlatCall (flat_of old) (write first blocks) (with_nothing result) (flat_of old)
+write-known old first n blocks result long known = rw (long, known) (refl, refl)
+
+-- and where none was known, nothing is said of it
+pub write-unknown : (old new : DiskView) (first n : ℕ) (blocks : List (List ℕ)) → length blocks ≡ n → known_range (flat_of old) first n ≡ None → is_known (flat_of old) (write first blocks) ≡ true → new ≡ old
+write-unknown old new first n blocks long none known = let e : false ≡ true = rw (long, none) at known in absurd (cc)
+
+pub write-done : (old new : DiskView) (first n done : ℕ) (blocks : List (List ℕ)) → length blocks ≡ n → known_range (flat_of old) first n ≡ None → old.status ≡ statuses.Serving → n ≤ done → array_of new ≡ replaced (array_of old) first (take done blocks) → disk_size new ≡ disk_size old
+    → new.status ≡ statuses.Serving → new.drive.geometry ≡ old.drive.geometry → FlatCall (flat_of old) (write first blocks) (with_nothing (Ok tt)) (flat_of new)
+write-done old new first n done blocks long known was most is size serves geometry =
+    let all : array_of new ≡ replaced (array_of old) first blocks = is ∙ ap (λ (xs : List (List ℕ)). replaced (array_of old) first xs) (take_all done blocks (omega (arith, long, most))) in
+    rw (long, known) (refl, flat-is old new (replaced (array_of old) first blocks) (disk_size old) old.status all size (serves ∙ sym was) geometry)
+
+may-refuse : (disk : DiskView) (first : ℕ) (blocks : List (List ℕ)) (fault : DiskFault) → IsCause disk.drive (next_sequence disk) fault → may_refuse (write first blocks) fault ≡ true
+may-refuse disk first blocks OutOfRange cause = absurd cause
+may-refuse disk first blocks OutOfMemory cause = refl
+may-refuse disk first blocks Stopped cause = refl
+may-refuse disk first blocks Spent cause = refl
+may-refuse disk first blocks NoRoom cause = refl
+may-refuse disk first blocks Smaller cause = absurd cause
+may-refuse disk first blocks Reserve cause = absurd cause
+
+pub write-refused : (old new : DiskView) (first n : ℕ) (blocks : List (List ℕ)) (fault : DiskFault) → length blocks ≡ n → known_range (flat_of old) first n ≡ None → IsFront (array_of old) first blocks (array_of new) → disk_size new ≡ disk_size old → new.status ≡ status_of fault
+    → new.drive.geometry ≡ old.drive.geometry → IsCause new.drive (next_sequence new) fault → FlatCall (flat_of old) (write first blocks) (with_nothing (Err fault)) (flat_of new)
+write-refused old new first n blocks fault long known front size status geometry cause =
+    rw (long, known) (may-refuse new first blocks fault cause, refl, front, flat-refused old new fault size status geometry)
+
+-- ---- batches of a write
+
+-- more blocks have records of the kind
+pub named-more : (trim : Bool) (now new : List Place) (first done next count more : ℕ) → next ≡ first + done → more ≡ done + count → AreNamed trim now first done → Names trim now next count new → AreNamed trim new first more
+named-more trim now new first done next count more next-is more-is before names block low high = elim (cases_lt block next) as (λ _. trims (get_or new block places.None) ≡ Some trim) [
+  | inl below ↦ rw (names.others block (inl below)) (before block low (omega (arith, below, next-is)))
+  | inr above ↦ names.named block above (omega (arith, high, next-is, more-is))
+]
+
+-- one batch is at least one of those that there may be
+pub batches-some : (trim : Bool) (disk : DiskView) (left : ℕ) → IsInRange disk.drive.geometry → 1 ≤ left → 1 ≤ most_batches trim disk left
+batches-some true disk left range some = div_ceil-positive left (batch_most disk.drive.geometry) (positive-most disk.drive.geometry range) some
+batches-some false disk left range some = some
+
+pub batches-less : (trim : Bool) (disk : DiskView) (left count : ℕ) → IsInRange disk.drive.geometry → 1 ≤ count → count ≤ left → IsBatchCount disk.drive.geometry trim left count → most_batches trim disk (left - count) + 1 ≤ most_batches trim disk left
+batches-less true disk left count range some le is =
+    let k = batch_most disk.drive.geometry in
+    let pos : 0 < k = positive-most disk.drive.geometry range in
+    elim (cases_lt left k) as (λ _. div_ceil (left - count) k + 1 ≤ div_ceil left k) [
+      | inl few ↦ (
+          let none : left - count ≡ 0 = omega (arith, is, few) in
+          rw none (omega (arith, div_ceil-none k pos, div_ceil-positive left k pos (omega (arith, some, le))))
+          )
+      | inr many ↦ (
+          let one : count ≡ k = omega (arith, is, many) in
+          let split : left ≡ (left - k) + k = omega (arith, many) in
+          rw one (omega (arith, ap (λ (m : ℕ). div_ceil m k) split, div_ceil-add (left - k) k pos))
+          )
+    ]
+batches-less false disk left count range some le is = omega (arith, some, le)
+
+-- ---- the answers of a growth
+
+pub growth-smaller : (disk : DiskView) (blocks : ℕ) → blocks < disk_size disk → known_growth (flat_of disk) blocks ≡ Some (Err Smaller)
+growth-smaller disk blocks less = let lt : nat_lt blocks (disk_size disk) ≡ true = grind (arith, nat_tests, less) in rw lt refl
+
+pub growth-reserve : (disk : DiskView) (blocks : ℕ) → disk_size disk ≤ blocks → most_size disk.drive.geometry < blocks → known_growth (flat_of disk) blocks ≡ Some (Err Reserve)
+growth-reserve disk blocks le more =
+    let not_less : nat_lt blocks (disk_size disk) ≡ false = grind (arith, nat_tests, le) in
+    let past : nat_lt (most_size disk.drive.geometry) blocks ≡ true = grind (arith, nat_tests, more) in
+    rw (not_less, past) refl
+
+pub growth-goes : (disk : DiskView) (blocks : ℕ) → disk_size disk ≤ blocks → blocks ≤ most_size disk.drive.geometry → known_growth (flat_of disk) blocks ≡ answer_while disk.status
+growth-goes disk blocks le few =
+    let not_less : nat_lt blocks (disk_size disk) ≡ false = grind (arith, nat_tests, le) in
+    let within : nat_lt (most_size disk.drive.geometry) blocks ≡ false = grind (arith, nat_tests, few) in
+    rw (not_less, within) refl
+
+pub growth-known : (old : DiskView) (blocks : ℕ) (result : Result (Unit {0}) DiskFault) → known_growth (flat_of old) blocks ≡ Some result → FlatCall (flat_of old) (grow blocks) (with_nothing result) (flat_of old)
+growth-known old blocks result known = rw known (refl, refl)
+
+pub growth-unknown : (old new : DiskView) (blocks : ℕ) → known_growth (flat_of old) blocks ≡ None → is_known (flat_of old) (grow blocks) ≡ true → new ≡ old
+growth-unknown old new blocks none known = let e : false ≡ true = rw none at known in absurd (cc)
+
+pub growth-done : (old new : DiskView) (blocks : ℕ) → known_growth (flat_of old) blocks ≡ None → array_of new ≡ extended (zero_block old.drive.geometry.block) blocks (array_of old) → disk_size new ≡ blocks → new.status ≡ old.status → new.drive.geometry ≡ old.drive.geometry
+    → FlatCall (flat_of old) (grow blocks) (with_nothing (Ok tt)) (flat_of new)
+growth-done old new blocks known array size status geometry =
+    rw known (refl, flat-is old new (extended (zero_block old.drive.geometry.block) blocks (array_of old)) blocks old.status array size status geometry)
+
+growth-refuse : (disk : DiskView) (blocks : ℕ) (fault : DiskFault) → IsCause disk.drive (next_sequence disk) fault → may_refuse (grow blocks) fault ≡ true
+growth-refuse disk blocks OutOfRange cause = absurd cause
+growth-refuse disk blocks OutOfMemory cause = refl
+growth-refuse disk blocks Stopped cause = refl
+growth-refuse disk blocks Spent cause = refl
+growth-refuse disk blocks NoRoom cause = refl
+growth-refuse disk blocks Smaller cause = absurd cause
+growth-refuse disk blocks Reserve cause = absurd cause
+
+pub growth-refused : (old new : DiskView) (blocks : ℕ) (fault : DiskFault) → known_growth (flat_of old) blocks ≡ None → IsAfterFront (flat_of old) (grow blocks) fault (array_of new) → disk_size new ≡ disk_size old → new.status ≡ status_of fault
+    → new.drive.geometry ≡ old.drive.geometry → IsCause new.drive (next_sequence new) fault → FlatCall (flat_of old) (grow blocks) (with_nothing (Err fault)) (flat_of new)
+growth-refused old new blocks fault known front size status geometry cause =
+    rw known (growth-refuse new blocks fault cause, refl, front, flat-refused old new fault size status geometry)
+
+-- ---- the answers of a read
+
+read-refuse : (drive : DriveState) (first n : ℕ) (fault : DiskFault) → IsReadFault drive fault → may_refuse (read first n) fault ≡ true
+read-refuse drive first n OutOfRange cause = absurd cause
+read-refuse drive first n OutOfMemory cause = refl
+read-refuse drive first n Stopped cause = refl
+read-refuse drive first n Spent cause = absurd cause
+read-refuse drive first n NoRoom cause = absurd cause
+read-refuse drive first n Smaller cause = absurd cause
+read-refuse drive first n Reserve cause = absurd cause
+
+pub read-done : (old new : DiskView) (first n : ℕ) (bytes : List ℕ) → known_range (flat_of old) first n ≡ None → old.status ≡ statuses.Serving → bytes ≡ concat (blocks_from (array_of old) first n) → array_of new ≡ array_of old → disk_size new ≡ disk_size old
+    → new.status ≡ statuses.Serving → new.drive.geometry ≡ old.drive.geometry → Reads (flat_of old) first n (Ok tt) bytes (flat_of new)
+read-done old new first n bytes known was shown array size serves geometry = record {
+  shown = blocks_from (array_of old) first n;
+  flat = rw known (refl, flat-is old new (array_of old) (disk_size old) old.status array size (serves ∙ sym was) geometry);
+  bytes_are = shown;
+}
+
+pub read-refused : (old new : DiskView) (first n : ℕ) (fault : DiskFault) (bytes : List ℕ) → known_range (flat_of old) first n ≡ None → bytes ≡ [] → array_of new ≡ array_of old → disk_size new ≡ disk_size old
+    → new.status ≡ status_of fault → new.drive.geometry ≡ old.drive.geometry → IsReadFault new.drive fault → Reads (flat_of old) first n (Err fault) bytes (flat_of new)
+read-refused old new first n fault bytes known none array size status geometry cause = record {
+  shown = [];
+  flat = rw known (read-refuse new.drive first n fault cause, refl, array, flat-refused old new fault size status geometry);
+  bytes_are = none;
+}
+
+pub read-known : (old : DiskView) (first n : ℕ) (result : Result (Unit {0}) DiskFault) (bytes : List ℕ) → known_range (flat_of old) first n ≡ Some result → bytes ≡ []
+    → Reads (flat_of old) first n result bytes (flat_of old)
+read-known old first n result bytes known none = record { shown = []; flat = rw known (refl, refl); bytes_are = none }
+
+pub read-unknown : (old new : DiskView) (first n : ℕ) → known_range (flat_of old) first n ≡ None → is_known (flat_of old) (read first n) ≡ true → new ≡ old
+read-unknown old new first n none known = let e : false ≡ true = rw none at known in absurd (cc)
+
+-- ---- one block more is shown
+
+concat-append : (xs : List (List ℕ)) (y : List ℕ) → concat (xs ++ y ∷ []) ≡ concat xs ++ y
+concat-append [] y = append-nil y
+concat-append (x ∷ xs) y = ap (λ (ys : List ℕ). x ++ ys) (concat-append xs y) ∙ sym (append_assoc x (concat xs) y)
+
+pub shown-more : (array : List (List ℕ)) (first count block : ℕ) (shown more : List ℕ) → block ≡ first + count → block < length array → shown ≡ concat (blocks_from array first count) → more ≡ shown ++ get_or array block []
+    → more ≡ concat (blocks_from array first (count + 1))
+shown-more array first count block shown more block-is lt is more-is =
+    let long : count < length (drop first array) = omega (arith, length-drop first array) in
+    let at : get_or (drop first array) count [] ≡ get_or array block [] = get_or-drop first array count [] ∙ ap (λ (k : ℕ). get_or array k []) (omega arith) in
+    more-is ∙ rw (is, ← at) (sym (concat-append (blocks_from array first count) (get_or (drop first array) count [])) ∙ ap concat (sym (take_more (drop first array) count [] long)))
+
+-- a read of one block
+pub one-shown : (array : List (List ℕ)) (first n : ℕ) (bytes : List ℕ) → n ≡ 1 → first < length array → bytes ≡ get_or array first [] → bytes ≡ concat (blocks_from array first n)
+one-shown array first n bytes one lt shown = rw one (shown-more array first 0 first [] bytes (omega arith) lt refl shown)
+
+pub read-one : (old new : DiskView) (first n : ℕ) (result : Result (Unit {0}) DiskFault) (bytes : List ℕ) → known_range (flat_of old) first n ≡ None → old.status ≡ statuses.Serving → n ≡ 1 → first < length (array_of old) → array_of new ≡ array_of old → disk_size new ≡ disk_size old
+    → new.drive.geometry ≡ old.drive.geometry → OnOk result (bytes ≡ get_or (array_of old) first []) → OnOk result (new.status ≡ statuses.Serving) → IfErr result (λ fault. new.status ≡ status_of fault) → IfErr result (IsReadFault new.drive) → OnErr result (bytes ≡ [])
+    → Reads (flat_of old) first n result bytes (flat_of new)
+read-one old new first n (Ok done) bytes known was one lt same size geometry ok serves status err nothing = read-done old new first n bytes known was (one-shown (array_of old) first n bytes one lt ok) same size serves geometry
+read-one old new first n (Err fault) bytes known was one lt same size geometry ok serves status err nothing = read-refused old new first n fault bytes known nothing same size status geometry err
+
+-- ---- the answers of a report and of a turn
+
+pub report-stopped : (old : DiskView) (call : Call) → known_answer (flat_of old) call ≡ answer_while old.status → old.status ≡ statuses.Stopped → FlatCall (flat_of old) call (with_nothing (Err Stopped)) (flat_of old)
+report-stopped old call known stopped = rw (known, stopped) (refl, refl)
+
+pub report-done : (old new : DiskView) → old.status ≡ statuses.Serving → array_of new ≡ array_of old → disk_size new ≡ disk_size old → new.status ≡ old.status → new.drive.geometry ≡ old.drive.geometry → FlatCall (flat_of old) report (with_nothing (Ok tt)) (flat_of new)
+report-done old new serves array size status geometry =
+    let none : known_answer (flat_of old) report ≡ None = ap answer_while serves in
+    rw none (refl, flat-is old new (array_of old) (disk_size old) old.status array size status geometry)
+
+report-refuse : (drive : DriveState) (fault : DiskFault) → IsReadFault drive fault → may_refuse report fault ≡ true
+report-refuse drive OutOfRange cause = absurd cause
+report-refuse drive OutOfMemory cause = refl
+report-refuse drive Stopped cause = refl
+report-refuse drive Spent cause = absurd cause
+report-refuse drive NoRoom cause = absurd cause
+report-refuse drive Smaller cause = absurd cause
+report-refuse drive Reserve cause = absurd cause
+
+pub report-refused : (old new : DiskView) (fault : DiskFault) → old.status ≡ statuses.Serving → array_of new ≡ array_of old → disk_size new ≡ disk_size old → new.status ≡ status_of fault → new.drive.geometry ≡ old.drive.geometry → IsReadFault new.drive fault
+    → FlatCall (flat_of old) report (with_nothing (Err fault)) (flat_of new)
+report-refused old new fault serves array size status geometry cause =
+    let none : known_answer (flat_of old) report ≡ None = ap answer_while serves in
+    rw none (report-refuse new.drive fault cause, refl, array, flat-refused old new fault size status geometry)
+
+pub report-unknown : (old new : DiskView) → old.status ≡ statuses.Serving → is_known (flat_of old) report ≡ true → new ≡ old
+report-unknown old new serves known = let e : false ≡ true = rw serves at known in absurd (cc)

@@ -1,0 +1,72 @@
+-- A report of all zones of a drive.
+use Rattle.std.proofs.Common.{◌≡◌, ℕ, suc, ◌+◌, ◌-◌, ◌*◌, ◌/◌, ◌<◌, ◌≤◌, false, List, [], ◌∷◌, length, take, Ok, Err, refl, ap, ◌∙◌, arith, append-nil}
+use Rattle.std.specs.List.{flat_map}
+use Rattle.std.proofs.lemmas.List.{take_all}
+use Rattle.std.proofs.lemmas.Nat.{mul-le}
+use Rattle.nvme_wire.specs.Descriptor.{descriptor_bytes}
+use Rattle.nvme_wire.specs.declared.command.ReportingOptions.TheVariants.{AnyState}
+use Rattle.zone_states.specs.declared.geometry.Geometry.{Geometry}
+use Rattle.zone_states.specs.Geometry.{IsInRange}
+use Rattle.zone_states.specs.Zone.{Zone}
+use Rattle.zone_report.specs.Report.{descriptor_room, matching, report}
+use Rattle.drive_port.specs.Calls.{IsNotRefused, Obeys, ReportGives, Reported}
+use Rattle.drive_port.specs.Contents.{SameContents}
+use Rattle.drive_port.specs.Drive.{DriveState}
+use Rattle.drive_port.specs.Step.{end_of}
+use Rattle.drive_port.specs.declared.calls.PortFault.{PortFault}
+use Rattle.drive_port.specs.declared.calls.PortFault.TheVariants as port
+use Rattle.drive_port.proofs.ClosingLaws.{length-closing}
+use Rattle.zone_choice.specs.Agreement.{mounted}
+use Rattle.zone_choice.specs.Changes.{KeepsArray}
+use Rattle.zone_choice.specs.Tables.{TablesView}
+use Rattle.zone_choice.proofs.ChangeLaws.{keeps-contents, keeps-halt, keeps-same}
+use Rattle.zone_translator.specs.Calls.{ReportsAll, whole_report}
+use Rattle.zone_translator.specs.Changes.{AgreesWith}
+use Rattle.zone_translator.proofs.ReadLaws.{ReadHalts}
+
+-- ---- the bytes
+
+length-matching : (geometry : Geometry) (number : ℕ) (zones : List Zone) → length (matching geometry AnyState number zones) ≡ length zones
+length-matching geometry number [] = refl
+length-matching geometry number (zone ∷ zones) = ap suc (length-matching geometry (number + 1) zones)
+
+-- there is room for all descriptors, and for nothing else
+whole-room : (zones dwords : ℕ) → dwords ≡ 16 * (1 + zones) → descriptor_room dwords ≡ zones
+whole-room zones dwords is = omega (arith, is)
+
+report-whole : (geometry : Geometry) (zones : List Zone) (dwords : ℕ) → 1 ≤ geometry.size → dwords ≡ 16 * (1 + length zones) → report geometry zones 0 AnyState false dwords ≡ whole_report geometry zones
+report-whole geometry zones dwords some is =
+    let start : 0 / geometry.size ≡ 0 = omega (arith, some) in
+    let named = matching geometry AnyState 0 zones in
+    let long = length-matching geometry 0 zones in
+    let room = whole-room (length zones) dwords is in
+    let taken : take (descriptor_room dwords) named ≡ named = take_all (descriptor_room dwords) named (omega (arith, long, room)) in
+    let none : 4 * dwords - 64 - 64 * length named ≡ 0 = omega (arith, long, is) in
+    rw (start, taken, none, append-nil (flat_map descriptor_bytes named), long) refl
+
+pub reports-all : (old new : DriveState) (dwords : ℕ) (bytes : List ℕ) → IsInRange old.geometry → length old.zones ≡ old.geometry.zones → dwords ≡ 16 * (1 + old.geometry.zones) → Reported old new 0 AnyState false dwords bytes → ReportsAll old bytes new
+reports-all old new dwords bytes range count is reported = record {
+  zones = reported.zones;
+  before = reported.before;
+  bytes_are = reported.bytes_are ∙ report-whole old.geometry reported.zones dwords (omega (arith, range.size, range.capacity)) (omega (arith, is, count, length-closing old.zones reported.zones reported.before));
+  after = reported.after;
+}
+
+-- ---- the drive
+
+-- the drive takes it
+can-report : (drive : DriveState) → IsInRange drive.geometry → 0 < end_of drive.geometry
+can-report drive range = let one : 1 * 1 ≤ drive.geometry.zones * drive.geometry.size = mul-le 1 1 drive.geometry.zones drive.geometry.size (omega (arith, range.zones)) (omega (arith, range.size, range.capacity)) in omega (arith, one)
+
+pub report_kept : (old new : DriveState) (tables : TablesView) (dwords : ℕ) (bytes : List ℕ) → AgreesWith old tables → SameContents old new → Obeys {V = Unit {0}} old (Ok tt) new → Reported old new 0 AnyState false dwords bytes → KeepsArray (mounted old tables) (mounted new tables)
+report_kept old new tables dwords bytes serves same obeys reported = keeps-contents old new tables serves.agrees same obeys.lawful reported.counts
+
+pub report_halts : (old new : DriveState) (tables : TablesView) (dwords : ℕ) (returned : List ℕ) (fault : PortFault) → AgreesWith old tables → ReportGives {V = Unit {0}} old 0 AnyState false dwords (Err fault) returned new → SameContents old new
+    → Obeys {V = Unit {0}} old (Err fault) new → (0 < end_of old.geometry → IsNotRefused {V = Unit {0}} (Err fault)) → ReadHalts old new tables fault
+report_halts old new tables dwords returned (port.Refused status) serves gives same obeys passed = absurd (passed (can-report old serves.agrees.geometry))
+report_halts old new tables dwords returned port.Memory serves gives same obeys passed = record { halt = tt; kept = keeps-halt old new tables gives.1.1 serves.agrees; cause = tt }
+report_halts old new tables dwords returned port.Stopped serves gives same obeys passed = record {
+  halt = tt;
+  kept = keeps-same old new tables serves.agrees same obeys.lawful (obeys.counts refl).refused (obeys.counts refl).appended;
+  cause = obeys.stops refl;
+}
