@@ -27,11 +27,11 @@ ok_text = codes "ok\n"
 abbrev pub out_of_range_text : List ℕ
 out_of_range_text = codes "refused 1 OutOfRange\n"
 
--- a disk has more blocks than it is to grow to
+-- the reply to a growth below the disk's size
 abbrev pub smaller_text : List ℕ
 smaller_text = codes "refused 7 Smaller\n"
 
--- the reserve allows no disk of so many blocks
+-- the reply to a growth above the reserve
 abbrev pub reserve_text : List ℕ
 reserve_text = codes "refused 8 Reserve\n"
 

@@ -24,8 +24,8 @@ pub fn out_of_range_reply(out: &mut Vec<u8>) -> Result<(), AllocError>
     out.extend_from_slice(b"refused 1 OutOfRange\n")
 }
 
-/// Puts the reply to a grow to fewer blocks after what `out` holds. Refused for memory, which is wanted only
-/// where `out` has too little room, `out` stays as it was.
+/// Puts the reply to a growth below the disk's size after what `out` holds. Refused for memory, which is wanted
+/// only where `out` has too little room, `out` stays as it was.
 pub fn smaller_reply(out: &mut Vec<u8>) -> Result<(), AllocError>
     ensures ok { OnOk result (out.new.items ≡ out.old.items ++ smaller_text) }
     ensures err { OnErr result (out.new.items ≡ out.old.items) }
@@ -34,7 +34,7 @@ pub fn smaller_reply(out: &mut Vec<u8>) -> Result<(), AllocError>
     out.extend_from_slice(b"refused 7 Smaller\n")
 }
 
-/// Puts the reply to a grow outside the reserve after what `out` holds. Refused for memory, which is wanted
+/// Puts the reply to a growth above the reserve after what `out` holds. Refused for memory, which is wanted
 /// only where `out` has too little room, `out` stays as it was.
 pub fn reserve_reply(out: &mut Vec<u8>) -> Result<(), AllocError>
     ensures ok { OnOk result (out.new.items ≡ out.old.items ++ reserve_text) }

@@ -61,7 +61,7 @@ impl Flat {
         Ok(flat)
     }
 
-    // Puts blocks of zeros behind the others, up to a size.
+    // Puts blocks of zeros after the others, up to a size.
     fn extend(&mut self, size: u64) -> Result<(), AllocError> {
         for _ in self.blocks.len() as u64..size {
             self.blocks.push(vec![in self.alloc; 0; self.block_bytes]?)?;
