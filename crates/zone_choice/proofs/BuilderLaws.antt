@@ -44,7 +44,7 @@ distinct-drop (suc i) [] distinct = tt
 distinct-drop (suc i) (e ∷ es) distinct = distinct-drop i es distinct.1
 
 -- the first of some entries is placed
-placed-first : (header address : ℕ) (e : Entry) (es : List Entry) (all : List Place) → IsDistinct nat_eq (blocks_named (e ∷ es)) → placed header address (e ∷ es) all ≡ placed header (address + one_unless e.trim) es (set all e.block (entry_place e.trim header address))
+pub placed-first : (header address : ℕ) (e : Entry) (es : List Entry) (all : List Place) → IsDistinct nat_eq (blocks_named (e ∷ es)) → placed header address (e ∷ es) all ≡ placed header (address + one_unless e.trim) es (set all e.block (entry_place e.trim header address))
 unfolding IsDistinct
 placed-first header address e es all distinct = placed-set header (address + one_unless e.trim) e.block (entry_place e.trim header address) es all distinct.0
 

@@ -23,14 +23,14 @@ pub log_size-append : (log : List Batch) (b : Batch) → log_size (log ++ b ∷ 
 log_size-append [] b = omega arith
 log_size-append (x ∷ log) b = omega (arith, log_size-append log b)
 
-log_size-some : (log : List Batch) → 1 ≤ log_size log → 1 ≤ length log
+pub log_size-some : (log : List Batch) → 1 ≤ log_size log → 1 ≤ length log
 log_size-some [] some = some
 log_size-some (b ∷ log) some = omega arith
 
-log_at-same : (logs : List (List Batch)) (zone : ℕ) (b : Batch) → zone < length logs → log_at (append_log logs zone b) zone ≡ log_at logs zone ++ b ∷ []
+pub log_at-same : (logs : List (List Batch)) (zone : ℕ) (b : Batch) → zone < length logs → log_at (append_log logs zone b) zone ≡ log_at logs zone ++ b ∷ []
 log_at-same logs zone b lt = get_or-set_same logs zone (log_at logs zone ++ b ∷ []) [] lt
 
-log_at-other : (logs : List (List Batch)) (zone k : ℕ) (b : Batch) → k ≢ zone → log_at (append_log logs zone b) k ≡ log_at logs k
+pub log_at-other : (logs : List (List Batch)) (zone k : ℕ) (b : Batch) → k ≢ zone → log_at (append_log logs zone b) k ≡ log_at logs k
 log_at-other logs zone k b other = get_or-set_other logs zone k (log_at logs zone ++ b ∷ []) [] other
 
 -- ---- blocks are written to a zone that is being filled
@@ -43,7 +43,7 @@ filled-usage capacity written blocks long = at (eqb (length blocks) capacity) re
     at false e = inl refl
 
 -- a zone whose content and log are the same
-same-filled : (capacity : ℕ) (old new : List Content) (logs logs' : List (List Batch)) (f : Filling) → content_at new f.zone ≡ content_at old f.zone → log_at logs' f.zone ≡ log_at logs f.zone → HoldsFilling capacity old logs f → HoldsFilling capacity new logs' f
+pub same-filled : (capacity : ℕ) (old new : List Content) (logs logs' : List (List Batch)) (f : Filling) → content_at new f.zone ≡ content_at old f.zone → log_at logs' f.zone ≡ log_at logs f.zone → HoldsFilling capacity old logs f → HoldsFilling capacity new logs' f
 same-filled capacity old new logs logs' f content log is = record { written = rw content is.written; usage = rw content is.usage; batches = rw log is.batches }
 
 grown-filled : (capacity : ℕ) (old new : List Content) (logs : List (List Batch)) (zone : ℕ) (blocks : List (List ℕ)) (batch : Batch) → Appends old new capacity zone blocks → length blocks ≡ batch_size batch → zone < length logs

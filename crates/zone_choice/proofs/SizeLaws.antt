@@ -30,12 +30,12 @@ larger-assoc (Some a) None z = refl
 larger-assoc (Some a) (Some b) None = refl
 larger-assoc (Some a) (Some b) (Some c) = ap (λ (n : ℕ). Some n) (omega arith)
 
-larger-comm : (x y : Option ℕ) → larger x y ≡ larger y x
+pub larger-comm : (x y : Option ℕ) → larger x y ≡ larger y x
 larger-comm None y = sym (larger-none y)
 larger-comm (Some a) None = refl
 larger-comm (Some a) (Some b) = ap (λ (n : ℕ). Some n) (omega arith)
 
-log_greatest-more : (log : List Batch) (b : Batch) → log_greatest (log ++ b ∷ []) ≡ larger (log_greatest log) b.heading.size
+pub log_greatest-more : (log : List Batch) (b : Batch) → log_greatest (log ++ b ∷ []) ≡ larger (log_greatest log) b.heading.size
 log_greatest-more [] b = larger-none b.heading.size
 log_greatest-more (x ∷ log) b = ap (larger x.heading.size) (log_greatest-more log b) ∙ larger-assoc x.heading.size (log_greatest log) b.heading.size
 
@@ -313,7 +313,7 @@ keeps-spare block_bytes limit n zone spare size logs batch lt apart sound next i
     ∙ ap (λ (xs : List (List ℕ)). over (shown block_bytes) (new_records logs zone batch) (extended (shown block_bytes None) size xs)) is ∙ sym b
 
 -- the first batch of a zone that has one stays the first
-first-append : (log : List Batch) (b : Batch) (before : Option ℕ) → IsBefore (first_sequence log) before → first_sequence (log ++ b ∷ []) ≡ first_sequence log
+pub first-append : (log : List Batch) (b : Batch) (before : Option ℕ) → IsBefore (first_sequence log) before → first_sequence (log ++ b ∷ []) ≡ first_sequence log
 first-append [] b before is = absurd is
 first-append (x ∷ log) b before is = refl
 

@@ -1,0 +1,135 @@
+-- The invariant of a clean lasts.
+use Rattle.std.proofs.Common.{◌≡◌, ◌≢◌, ◌⊎◌, ℕ, zero, suc, ◌+◌, ◌-◌, ◌*◌, ◌<◌, ◌≤◌, max, Bool, true, false, List, [], ◌∷◌, ◌++◌, map, length, set, get_or, take, drop, replicate, Option, Some, None, refl, sym, ap, subst, ◌∙◌, inl, inr, arith}
+use Rattle.std.specs.List.{AllByRecursion, slice_get}
+use Rattle.std.specs.Option.{option_map}
+use Rattle.std.proofs.lemmas.List.{length-append, length-take}
+use Rattle.zone_states.specs.declared.geometry.Geometry.{Geometry}
+use Rattle.drive_port.specs.Drive.{DriveState}
+use Rattle.logical_map.specs.Live.{blocks_in, first_record, lies_in, live, records_of}
+use Rattle.logical_map.specs.Places.{MapView}
+use Rattle.logical_map.specs.declared.place.Place.{Place}
+use Rattle.logical_map.specs.declared.place.Place.TheVariants as places
+use Rattle.zone_choice.specs.Agreement.{Agrees, Mounted, drive_logs, mounted, mounted_array}
+use Rattle.zone_choice.specs.Changes.{KeepsArray}
+use Rattle.zone_choice.specs.Reserve.{batch_most}
+use Rattle.zone_choice.specs.Spare.{HasSpare}
+use Rattle.zone_choice.specs.declared.roles.Second.TheVariants.{Destination}
+use Rattle.zone_choice.specs.Roles.{is_filling_at}
+use Rattle.zone_choice.proofs.CommandLaws.{filling-in_range}
+use Rattle.zone_choice.specs.Tables.{TablesView, size_of}
+use Rattle.zone_choice.specs.ZoneLogs.{log_at}
+use Rattle.batch_log.specs.Log.{Batch}
+use Rattle.zone_cleaner.specs.Clean.{AreMoves, CleanView, Gathers, HasRoomFor, IsClean, moved_to, turns_left, untaken}
+use Rattle.zone_cleaner.specs.LiveRecords.{LiveRecord, content_of, records_in}
+use Rattle.zone_cleaner.specs.Pending.{KeepsRoles, is_sealed_at}
+use Rattle.zone_cleaner.specs.Turns.{with_record}
+use Rattle.zone_cleaner.proofs.HistoryLaws.{moves-spare}
+use Rattle.zone_cleaner.proofs.RecordLaws.{length-records_in, live_in, live_in-split, takes-next, takes-none}
+use Rattle.zone_cleaner.proofs.SealedLaws.{sealed-apart, second-filling, zone-logs}
+
+-- ---- nothing that a clean depends on changes
+
+same-zones : (before after : Mounted) → Agrees before → KeepsArray before after → after.tables.map.zone_size ≡ before.tables.map.zone_size
+same-zones before after agrees kept = kept.agrees.zone_size ∙ ap (λ (g : Geometry). g.size) kept.geometry ∙ sym agrees.zone_size
+
+pub clean_kept : (before after : Mounted) (c : CleanView) → Agrees before → KeepsArray before after → KeepsRoles before after → IsClean before c → IsClean after c
+clean_kept before after c agrees kept roles is =
+    let zones = same-zones before after agrees kept in
+    record {
+      destination = is.destination;
+      second = kept.second ∙ is.second;
+      victim = roles.sealed c.victim is.victim;
+      gathers = record {
+        within = rw kept.places is.gathers.within;
+        few = rw kept.geometry is.gathers.few;
+        gathered = rw (kept.array, zones, kept.places) is.gathers.gathered;
+      };
+      room = rw (kept.geometry, zones, kept.places) is.room;
+      moves = rw (roles.logs, kept.geometry, kept.given) is.moves;
+    }
+
+-- the same turns are left
+pub turns_kept : (before after : Mounted) (c : CleanView) (most : ℕ) → Agrees before → KeepsArray before after → turns_left most after.tables (Some c) ≡ turns_left most before.tables (Some c)
+turns_kept before after c most agrees kept =
+    let zones = same-zones before after agrees kept in
+    rw (zones, kept.places, kept.second) refl
+
+-- ---- a stop
+
+-- at each moment of a clean the destination is vacant or half clean
+pub clean_spare : (disk : Mounted) (c : CleanView) → Agrees disk → IsClean disk c → HasSpare disk.drive.geometry.block disk.tables.given (drive_logs disk.drive)
+clean_spare disk c agrees is = by (log_at (drive_logs disk.drive) is.destination.zone) refl
+  where
+    filling : is_filling_at disk.tables.roles is.destination.zone ≡ true
+    filling = second-filling disk.tables.roles (Destination is.destination) is.second
+
+    apart : c.victim ≢ is.destination.zone
+    apart = sealed-apart disk.tables.roles c.victim is.destination.zone is.victim filling
+
+    below : is.destination.zone < length (drive_logs disk.drive)
+    below = omega (arith, filling-in_range disk.drive disk.tables is.destination.zone agrees filling, zone-logs disk.drive)
+
+    by : (log : List Batch) → log_at (drive_logs disk.drive) is.destination.zone ≡ log → HasSpare disk.drive.geometry.block disk.tables.given (drive_logs disk.drive)
+    by [] e = record { zone = is.destination.zone; in_range = below; spare = inl e }
+    by (x ∷ log) e = record { zone = is.destination.zone; in_range = below; spare = inr (moves-spare disk.drive.geometry.block disk.tables.given c.victim is.destination.zone (drive_logs disk.drive) apart is.moves x log e) }
+
+-- ---- a record is gathered
+
+found-parts : (f : ℕ → Place) (o : Option ℕ) (block : ℕ) (place : Place) → option_map {U = ℕ × Place} (λ b. (b, f b)) o ≡ Some (block, place) → (o ≡ Some block) × (place ≡ f block)
+found-parts f None block place e = absurd (cc)
+found-parts f (Some b) block place e =
+    let same : b ≡ block = ap (λ (p : Option (ℕ × Place)). number p) e in
+    let there : f b ≡ place = ap (λ (p : Option (ℕ × Place)). spot p) e in
+    (ap (λ (n : ℕ). Some n) same, sym there ∙ ap f same)
+  where
+    number : Option (ℕ × Place) → ℕ
+    number None = 0
+    number (Some p) = p.0
+
+    spot : Option (ℕ × Place) → Place
+    spot None = places.None
+    spot (Some p) = p.1
+
+-- of the gathered records no more than one Move takes, and one fewer is left
+pub record GatherGives (disk : Mounted) (c new : CleanView) : Type 0 where
+  pub clean : IsClean disk new
+  pub fewer : untaken disk.tables new + 1 ≡ untaken disk.tables c
+
+pub gather_gives : (disk : Mounted) (c : CleanView) (block : ℕ) (place : Place) → IsClean disk c → first_record disk.tables.map c.victim c.cursor ≡ Some (block, place) → length c.gathered < batch_most disk.drive.geometry
+    → GatherGives disk c (with_record c block (content_of (mounted_array disk) block place))
+gather_gives disk c block place is found few =
+    let m = disk.tables.map in
+    let parts = found-parts (λ b. get_or m.places b places.None) (slice_get (records_of m c.victim c.cursor) 0) block place found in
+    let took = takes-next (mounted_array disk) m.zone_size c.victim c.cursor block m.places is.gathers.within parts.0 in
+    let one : LiveRecord = record { block = block; content = content_of (mounted_array disk) block place } in
+    record {
+      clean = record {
+        destination = is.destination;
+        second = is.second;
+        victim = is.victim;
+        gathers = record {
+          within = omega (arith, took.below);
+          few = omega (arith, few, length-append c.gathered (one ∷ []));
+          gathered = ap (λ (rs : List LiveRecord). rs ++ one ∷ []) is.gathers.gathered ∙ rw parts.1 (sym took.more);
+        };
+        room = is.room;
+        moves = is.moves;
+      };
+      fewer = took.rest;
+    }
+
+none-parts : (f : ℕ → Place) (o : Option ℕ) → option_map {U = ℕ × Place} (λ b. (b, f b)) o ≡ None → o ≡ None
+none-parts f None e = refl
+none-parts f (Some b) e = absurd (cc)
+
+-- no record is left to take
+pub untaken_none : (disk : Mounted) (c : CleanView) → first_record disk.tables.map c.victim c.cursor ≡ None → untaken disk.tables c ≡ 0
+untaken_none disk c none =
+    let m = disk.tables.map in
+    takes-none m.zone_size c.victim c.cursor m.places (none-parts (λ b. get_or m.places b places.None) (slice_get (records_of m c.victim c.cursor) 0) none)
+
+-- the gathered records, and those not yet taken, are the live records of the victim
+pub live-parts : (disk : Mounted) (c : CleanView) → IsClean disk c → live disk.tables.map c.victim ≡ untaken disk.tables c + length c.gathered
+live-parts disk c is =
+    let m = disk.tables.map in
+    omega (arith, ap length is.gathers.gathered, length-records_in (mounted_array disk) m.zone_size c.victim 0 (take c.cursor m.places), live_in-split m.zone_size c.victim c.cursor m.places)

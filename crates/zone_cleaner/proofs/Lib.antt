@@ -1,0 +1,12 @@
+pub mod DeadLaws
+pub mod PlaceLaws
+pub mod RecordLaws
+pub mod MoveLaws
+pub mod BudgetLaws
+pub mod HistoryLaws
+pub mod SealedLaws
+pub mod CleanLaws
+pub mod StepLaws
+pub mod CarryLaws
+pub mod MovedLaws
+pub mod ResetLaws

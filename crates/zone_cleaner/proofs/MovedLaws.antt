@@ -1,0 +1,90 @@
+-- A Move is done: the clean goes on, with fewer turns left.
+use Rattle.std.proofs.Common.{◌≡◌, ◌≢◌, ℕ, zero, suc, ◌+◌, ◌<◌, ◌≤◌, max, true, List, [], ◌∷◌, drop, length, take, Option, Some, None, refl, sym, ap, ◌∙◌, arith}
+use Rattle.std.specs.Int.{div_ceil}
+use Rattle.std.specs.Option.{option_map}
+use Rattle.zone_states.specs.declared.geometry.Geometry.{Geometry}
+use Rattle.drive_port.specs.Drive.{DriveState}
+use Rattle.batch_log.specs.Log.{Batch, batch_size, data_count}
+use Rattle.logical_map.specs.declared.place.Place.{Place}
+use Rattle.zone_choice.specs.declared.roles.Filling.{Filling}
+use Rattle.zone_choice.specs.declared.roles.Second.{Second}
+use Rattle.zone_choice.specs.declared.roles.Second.TheVariants.{Destination}
+use Rattle.zone_choice.specs.Agreement.{Agrees, Mounted, drive_logs, mounted_array, spelled}
+use Rattle.zone_choice.specs.Changes.{Places}
+use Rattle.zone_choice.specs.Records.{append_log}
+use Rattle.zone_choice.specs.Reserve.{batch_most}
+use Rattle.zone_choice.specs.Roles.{RolesView, grown_second, is_filling_at, wrote}
+use Rattle.zone_choice.specs.Sizes.{array_of}
+use Rattle.zone_choice.specs.Tables.{TablesView, size_of}
+use Rattle.zone_choice.specs.ZoneLogs.{spelled_array}
+use Rattle.zone_choice.proofs.AgreementLaws.{size-encoded}
+use Rattle.zone_choice.proofs.CommandLaws.{filling-in_range}
+use Rattle.zone_cleaner.specs.Clean.{CleanView, IsClean, moved_to, turns_left, unwritten, untaken}
+use Rattle.zone_cleaner.specs.LiveRecords.{entries_of, move_of}
+use Rattle.zone_cleaner.specs.Pending.{is_sealed_at}
+use Rattle.zone_cleaner.specs.Turns.{MovesRecords, after_move}
+use Rattle.zone_cleaner.proofs.CarryLaws.{fits-move, grown-self, moved_places, told_same}
+use Rattle.zone_cleaner.proofs.CleanLaws.{live-parts}
+use Rattle.zone_cleaner.proofs.HistoryLaws.{moves-more}
+use Rattle.zone_cleaner.proofs.RecordLaws.{live_in}
+use Rattle.zone_cleaner.proofs.SealedLaws.{sealed-apart, sealed-holds, sealed-in_range, sealed-wrote, second-filling, zone-logs}
+use Rattle.zone_cleaner.proofs.StepLaws.{MoveDue}
+
+-- what a Move that is done gives
+pub record MoveGives (before after : Mounted) (c : CleanView) : Type 0 where
+  pub done : MovesRecords before c after
+  pub clean : IsClean after (after_move c)
+  pub fewer : turns_left (batch_most before.drive.geometry) after.tables (Some (after_move c)) < turns_left (batch_most before.drive.geometry) before.tables (Some c)
+
+-- the logs encode the array, before and after
+encoded : (disk : Mounted) → array_of disk.drive.geometry.block disk.tables.given (drive_logs disk.drive) ≡ mounted_array disk
+unfolding spelled_array
+encoded disk = refl
+
+-- fewer Moves are left, and as many records
+turns-less : (k u u' w w' a a' l l' g : ℕ) → u' ≡ u → l' ≡ u → l ≡ u + g → a ≡ w → a' ≡ w' → max (unwritten w') (div_ceil u k) < max (unwritten w) (div_ceil (u + g) k)
+    → u' + max (unwritten a') (div_ceil l' k) + 1 < u + max (unwritten a) (div_ceil l k) + 1
+turns-less k u u' w w' a a' l l' g left now parts was is fewer = rw (left, now, parts, was, is) (omega (arith, fewer))
+
+pub move_gives : (before after : Mounted) (c : CleanView) → Agrees before → (is : IsClean before c) → MoveDue before (batch_most before.drive.geometry) c
+    → Places before after is.destination.zone (move_of (size_of before.tables) before.tables.next c.victim c.gathered) → MoveGives before after c
+move_gives before after c agrees is due placed =
+    let g = before.drive.geometry in
+    let f = is.destination in
+    let logs = drive_logs before.drive in
+    let given = before.tables.given in
+    let size = size_of before.tables in
+    let b = move_of size before.tables.next c.victim c.gathered in
+    let filling = second-filling before.tables.roles (Destination f) is.second in
+    let apart = sealed-apart before.tables.roles c.victim f.zone is.victim filling in
+    let below : f.zone < length logs = omega (arith, filling-in_range before.drive before.tables f.zone agrees filling, zone-logs before.drive) in
+    let below' : c.victim < length logs = omega (arith, sealed-in_range before c.victim agrees is.victim, zone-logs before.drive) in
+    let same : mounted_array after ≡ mounted_array before = placed.array ∙ told_same before c agrees is in
+    let after_array : array_of g.block given (append_log logs f.zone b) ≡ mounted_array after = rw (← placed.logs, ← placed.geometry, ← placed.given) (encoded after) in
+    let moved = moved_places before c after.tables.map.places agrees is due placed.places in
+    let fits = fits-move before c agrees is due in
+    let zones : after.tables.map.zone_size ≡ before.tables.map.zone_size = placed.agrees.zone_size ∙ ap (λ (x : Geometry). x.size) placed.geometry ∙ sym agrees.zone_size in
+    let second : after.tables.roles.second ≡ Some (Destination (record { zone = f.zone; written = f.written + batch_size b; may_open = true })) =
+    ap (λ (r : RolesView). r.second) placed.roles ∙ ap (option_map (grown_second f.zone (batch_size b))) is.second ∙ ap (λ (x : Filling). Some (Destination x)) (grown-self f f.zone (batch_size b) refl) in
+    let count : batch_size b ≡ 1 + data_count (entries_of c.gathered) = omega arith in
+    let now : live_in after.tables.map.zone_size c.victim after.tables.map.places ≡ untaken before.tables c = ap (λ (z : ℕ). live_in z c.victim after.tables.map.places) zones ∙ moved.live_is in
+    let left : untaken after.tables (after_move c) ≡ untaken before.tables c = ap (λ (z : ℕ). live_in z c.victim (drop c.cursor after.tables.map.places)) zones ∙ ap (live_in before.tables.map.zone_size c.victim) moved.rest in
+    record {
+      done = record { destination = f; second = is.second; places = placed; array = same };
+      clean = record {
+        destination = record { zone = f.zone; written = f.written + batch_size b; may_open = true };
+        second = second;
+        victim = rw placed.roles (sealed-wrote before.tables.roles f.zone (batch_size b) c.victim is.victim);
+        gathers = record { within = omega (arith, is.gathers.within, moved.long); few = omega arith; gathered = rw (same, zones) (sym moved.taken) };
+        room = rw (placed.geometry, now, count) fits.after.room;
+        moves = rw (placed.logs, placed.geometry, placed.given) (moves-more g.block given c.victim f.zone size logs b below' below apart (record {
+          move = (refl, refl);
+          has = refl;
+          grows = omega (arith, size-encoded before agrees);
+          greatest = agrees.sound.numbers;
+          some = (sealed-holds before c.victim agrees is.victim).has_batch;
+          same = after_array ∙ same ∙ sym (encoded before);
+        }) is.moves);
+      };
+      fewer = turns-less (batch_most g) (untaken before.tables c) (untaken after.tables (after_move c)) f.written (f.written + (1 + data_count (entries_of c.gathered))) (moved_to before.tables.roles.second) (moved_to after.tables.roles.second) _ _ (length c.gathered) left now (live-parts before c is) (ap moved_to is.second) (ap moved_to second ∙ omega (arith, count)) fits.after.fewer;
+    }

@@ -1,0 +1,109 @@
+-- In which zone a block lies, by its place and by its newest record.
+use Rattle.std.proofs.Common.{◌≡◌, ◌≢◌, ℕ, zero, suc, ◌+◌, ◌-◌, ◌*◌, ◌/◌, ◌<◌, ◌≤◌, Bool, true, false, cond, eqb, List, [], ◌∷◌, ◌++◌, map, length, get_or, replicate, Option, Some, None, is_some, refl, sym, ap, ◌∙◌, arith, append-nil}
+use Rattle.std.specs.List.{AllByRecursion, count_by, flat_map}
+use Rattle.std.proofs.lemmas.Bool.{eq-eqb}
+use Rattle.std.proofs.lemmas.List.{length-append, length-map, length-replicate}
+use Rattle.std.proofs.lemmas.List.FromFn.{get_or-map-range_with_len}
+use Rattle.std.proofs.lemmas.List.Sums.{get_or-le-sum_by}
+use Rattle.std.proofs.lemmas.Nat.{div-mul-add}
+use Rattle.zone_states.specs.declared.geometry.Geometry.{Geometry}
+use Rattle.zone_states.specs.Zone.{IsLawfulZone, Zone}
+use Rattle.drive_port.specs.Drive.{DriveState}
+use Rattle.drive_port.specs.Contents.{Content, content_of, contents, is_full, nothing}
+use Rattle.batch_log.specs.declared.header.Entry.{Entry}
+use Rattle.batch_log.specs.Log.{Batch, IsBatch, IsLog, batch_blocks, batch_size, data_count, log_size, one_unless, zero_block}
+use Rattle.logical_map.specs.Live.{is_zone, lies_in, live, zone_of}
+use Rattle.logical_map.specs.declared.place.Place.{Place}
+use Rattle.logical_map.specs.declared.place.Place.TheVariants as places
+use Rattle.zone_choice.specs.Agreement.{Agrees, drive_logs, mounted}
+use Rattle.zone_choice.specs.Records.{Record, batch_records, entry_offset, entry_records, log_records, newest, place, records}
+use Rattle.zone_choice.specs.Sizes.{encoded_size}
+use Rattle.zone_choice.specs.Tables.{TablesView, size_of}
+use Rattle.zone_choice.specs.ZoneLogs.{HasLog, padding, readable, zone_log, zone_logs}
+use Rattle.zone_choice.proofs.AgreementLaws.{size-encoded}
+use Rattle.zone_choice.proofs.AllLaws.{all-append, all-from, all-weaker}
+use Rattle.zone_choice.proofs.CommandLaws.{zone-few}
+use Rattle.zone_cleaner.proofs.DeadLaws.{NotIn, OnRecord, on-newest}
+
+-- ---- records lie within their zone
+
+entries-within : (limit sequence zone header k : ℕ) (body : List (List ℕ)) (es : List Entry) → header + 1 + k + data_count es ≤ limit → AllByRecursion (λ (r : Record). r.offset < limit) (entry_records sequence body zone header k es)
+entries-within limit sequence zone header k body [] le = tt
+entries-within limit sequence zone header k body (e ∷ es) le = (one e.trim le, entries-within limit sequence zone header (k + one_unless e.trim) body es (omega (arith, le)))
+  where
+    one : (t : Bool) → header + 1 + k + (one_unless t + data_count es) ≤ limit → entry_offset t header k < limit
+    one true le = omega (arith, le)
+    one false le = omega (arith, le)
+
+log-within : (limit zone offset : ℕ) (log : List Batch) → offset + log_size log ≤ limit → AllByRecursion (λ (r : Record). r.offset < limit) (log_records zone offset log)
+log-within limit zone offset [] le = tt
+log-within limit zone offset (b ∷ bs) le =
+    all-append (λ (r : Record). r.offset < limit) (batch_records zone offset b) (log_records zone (offset + batch_size b) bs)
+    (entries-within limit b.heading.sequence zone offset 0 b.body b.heading.entries (omega (arith, le)))
+    (log-within limit zone (offset + batch_size b) bs (omega (arith, le)))
+
+length-log : (size : ℕ) (log : List Batch) → AllByRecursion (IsBatch size) log → length (flat_map (batch_blocks size) log) ≡ log_size log
+length-log size [] all = refl
+length-log size (b ∷ bs) all = omega (arith, length-append (batch_blocks size b) (flat_map (batch_blocks size) bs), length-log size bs all.1, all.0.body)
+
+length-readable : (geometry : Geometry) (content : Content) → length content.blocks ≤ geometry.capacity → length (readable geometry content) ≤ geometry.capacity
+length-readable geometry content le = at (is_full content.usage)
+  where
+    at : (b : Bool) → length (content.blocks ++ padding geometry b (length content.blocks)) ≤ geometry.capacity
+    at true = omega (arith, le, length-append content.blocks (replicate (geometry.capacity - length content.blocks) (zero_block geometry.block)), length-replicate (geometry.capacity - length content.blocks) (zero_block geometry.block))
+    at false = omega (arith, le, ap length (append-nil content.blocks))
+
+-- a zone's batches take no more than its capacity
+pub log-few : (geometry : Geometry) (content : Content) → HasLog geometry content → length content.blocks ≤ geometry.capacity → log_size (zone_log geometry content) ≤ geometry.capacity
+log-few geometry content has le =
+    let log = zone_log geometry content in
+    let total : length (readable geometry content) ≡ log_size log + length has.tail = ap length has.front.spelled ∙ omega (arith, length-append (flat_map (batch_blocks geometry.block) log) has.tail, length-log geometry.block log has.front.batches) in
+    omega (arith, total, length-readable geometry content le)
+
+records-within : (geometry : Geometry) (first : ℕ) (zones : List Content) → AllByRecursion (HasLog geometry) zones → AllByRecursion (λ (c : Content). length c.blocks ≤ geometry.capacity) zones
+    → AllByRecursion (λ (r : Record). r.offset < geometry.capacity) (records first (zone_logs geometry zones))
+records-within geometry first [] has few = tt
+records-within geometry first (c ∷ cs) has few =
+    all-append (λ (r : Record). r.offset < geometry.capacity) (log_records first 0 (zone_log geometry c)) (records (suc first) (zone_logs geometry cs))
+    (log-within geometry.capacity first 0 (zone_log geometry c) (omega (arith, log-few geometry c has.0 few.0))) (records-within geometry (suc first) cs has.1 few.1)
+
+drive-within : (drive : DriveState) (tables : TablesView) → Agrees (mounted drive tables) → AllByRecursion (λ (r : Record). r.offset < drive.geometry.size) (records 0 (drive_logs drive))
+drive-within drive tables agrees =
+    let g = drive.geometry in
+    let few = all-from (λ (c : Content). length c.blocks ≤ g.capacity) (contents drive.zones) nothing (λ i lt. zone-few drive i agrees.lawful (omega (arith, lt, length-map drive.zones content_of))) in
+    all-weaker (λ (r : Record). r.offset < g.capacity) (λ (r : Record). r.offset < g.size) (records 0 (drive_logs drive)) (λ r lt. omega (arith, lt, agrees.geometry.capacity)) (records-within g 0 (contents drive.zones) agrees.logs few)
+
+-- ---- the zone of a place
+
+lies-record : (size zone : ℕ) (r : Record) → r.offset < size → lies_in size zone (place size (Some r)) ≡ eqb r.zone zone
+lies-record size zone r lt = by (is_some r.content)
+  where
+    at : (r.zone * size + r.offset) / size ≡ r.zone
+    at = div-mul-add r.zone size r.offset lt
+
+    by : (b : Bool) → lies_in size zone (cond b (places.At (r.zone * size + r.offset)) (places.Trimmed (r.zone * size + r.offset))) ≡ eqb r.zone zone
+    by true = ap (λ (k : ℕ). eqb k zone) at
+    by false = ap (λ (k : ℕ). eqb k zone) at
+
+pub count-none : {X : Type 0} (p : X → Bool) (xs : List X) (i : ℕ) (d : X) → count_by p xs ≡ 0 → i < length xs → p (get_or xs i d) ≡ false
+count-none {X} p xs i d none lt = by (p (get_or xs i d)) refl
+  where
+    by : (b : Bool) → p (get_or xs i d) ≡ b → b ≡ false
+    by false e = refl
+    by true e =
+        let one : cond {A = ℕ} (p (get_or xs i d)) 1 0 ≡ 1 = rw e refl in
+        absurd (omega (arith, one, none, get_or-le-sum_by (λ (x : X). cond {A = ℕ} (p x) 1 0) xs i d lt))
+
+-- where no block lies in a zone, no newest record does
+pub dead-zone : (drive : DriveState) (tables : TablesView) (zone : ℕ) → Agrees (mounted drive tables) → live tables.map zone ≡ 0 → (block : ℕ) → block < encoded_size tables.given (drive_logs drive) → NotIn zone (newest block (records 0 (drive_logs drive)))
+dead-zone drive tables zone agrees none block below =
+    let g = drive.geometry in
+    let rs = records 0 (drive_logs drive) in
+    let size = encoded_size tables.given (drive_logs drive) in
+    let mapped : get_or tables.map.places block places.None ≡ place g.size (newest block rs) = rw agrees.places (get_or-map-range_with_len (λ (l : ℕ). place g.size (newest l rs)) 0 size block block places.None below (omega arith)) in
+    let out : lies_in tables.map.zone_size zone (get_or tables.map.places block places.None) ≡ false = count-none (lies_in tables.map.zone_size zone) tables.map.places block places.None none (omega (arith, below, size-encoded (mounted drive tables) agrees)) in
+    by (newest block rs) (on-newest (λ (r : Record). r.offset < g.size) block rs (drive-within drive tables agrees)) (rw (mapped, agrees.zone_size) at out)
+  where
+    by : (o : Option Record) → OnRecord (λ (r : Record). r.offset < drive.geometry.size) o → lies_in drive.geometry.size zone (place drive.geometry.size o) ≡ false → NotIn zone o
+    by None within out = tt
+    by (Some r) within out = λ same. (let yes = lies-record drive.geometry.size zone r within ∙ eq-eqb r.zone zone same in absurd (cc))

@@ -1,0 +1,99 @@
+-- What is known where a step is due.
+use Rattle.std.proofs.Common.{◌≡◌, ℕ, zero, suc, ◌+◌, ◌<◌, ◌≤◌, Bool, true, false, cond, ltb, List, [], ◌∷◌, length, Option, Some, None, refl, ap, ◌∙◌, arith}
+use Rattle.std.proofs.lemmas.Bool.{ltb-false, ltb-true}
+use Rattle.drive_port.specs.Drive.{DriveState}
+use Rattle.logical_map.specs.Live.{first_record}
+use Rattle.logical_map.specs.declared.place.Place.{Place}
+use Rattle.logical_map.specs.declared.place.Place.TheVariants as places
+use Rattle.zone_choice.specs.Agreement.{Mounted}
+use Rattle.zone_cleaner.specs.declared.step.Step.{Step}
+use Rattle.zone_cleaner.specs.declared.step.Step.TheVariants.{Gather, Move, Reset}
+use Rattle.zone_cleaner.specs.Clean.{CleanView, moved_to, untaken}
+use Rattle.zone_cleaner.specs.LiveRecords.{LiveRecord}
+use Rattle.zone_cleaner.specs.Turns.{last_step, next_step, step_of}
+use Rattle.zone_cleaner.proofs.CleanLaws.{untaken_none}
+
+number : Step → ℕ
+number (Gather block place) = block
+number step = 0
+
+spot : Step → Place
+spot (Gather block place) = place
+spot step = places.None
+
+-- ---- a record is gathered
+
+pub record GatherDue (disk : Mounted) (most : ℕ) (c : CleanView) (block : ℕ) (place : Place) : Type 0 where
+  pub few : length c.gathered < most
+  pub found : first_record disk.tables.map c.victim c.cursor ≡ Some (block, place)
+
+last-not_gather : (written : ℕ) (rs : List LiveRecord) (block : ℕ) (place : Place) → last_step written rs ≡ Gather block place → ⊥
+last-not_gather zero rs block place e = let bad : Move ≡ Gather block place = e in absurd (cc)
+last-not_gather (suc written) [] block place e = let bad : Reset ≡ Gather block place = e in absurd (cc)
+last-not_gather (suc written) (r ∷ rs) block place e = let bad : Move ≡ Gather block place = e in absurd (cc)
+
+pub gather-due : (disk : Mounted) (most : ℕ) (c : CleanView) (block : ℕ) (place : Place) → next_step most disk.tables c ≡ Gather block place → GatherDue disk most c block place
+unfolding number spot
+gather-due disk most c block place e = by (ltb (length c.gathered) most) refl (first_record disk.tables.map c.victim c.cursor) refl e
+  where
+    last : Step
+    last = last_step (moved_to disk.tables.roles.second) c.gathered
+
+    by : (b : Bool) → ltb (length c.gathered) most ≡ b → (o : Option (ℕ × Place)) → first_record disk.tables.map c.victim c.cursor ≡ o → cond b (step_of o last) Move ≡ Gather block place → GatherDue disk most c block place
+    by false is o o-is e = let bad : Move ≡ Gather block place = e in absurd (cc)
+    by true is None o-is e = absurd (last-not_gather (moved_to disk.tables.roles.second) c.gathered block place e)
+    by true is (Some found) o-is e =
+        let pair : ℕ × Place = (block, place) in
+        let one : found.0 ≡ block = ap number e in
+        let two : found.1 ≡ place = ap spot e in
+        let same : found ≡ pair = rw (← one, ← two) refl in
+        record { few = ltb-true (length c.gathered) most is; found = o-is ∙ ap (λ (p : ℕ × Place). Some p) same }
+
+-- ---- a Move, or the Reset
+
+-- a Move is due where no more records fit, or none is left; and one in any case
+pub record MoveDue (disk : Mounted) (most : ℕ) (c : CleanView) : Type 0 where
+  pub whole : 0 < untaken disk.tables c → length c.gathered ≡ most
+  pub some : 0 < moved_to disk.tables.roles.second → 0 < length c.gathered
+
+last-some : (written : ℕ) (rs : List LiveRecord) → last_step written rs ≡ Move → 0 < written → 0 < length rs
+last-some zero rs e some = absurd (omega arith)
+last-some (suc written) [] e some = let bad : Reset ≡ Move = e in absurd (cc)
+last-some (suc written) (r ∷ rs) e some = omega arith
+
+pub move-due : (disk : Mounted) (most : ℕ) (c : CleanView) → next_step most disk.tables c ≡ Move → 1 ≤ most → length c.gathered ≤ most → MoveDue disk most c
+move-due disk most c e one few = by (ltb (length c.gathered) most) refl (first_record disk.tables.map c.victim c.cursor) refl e
+  where
+    last : Step
+    last = last_step (moved_to disk.tables.roles.second) c.gathered
+
+    by : (b : Bool) → ltb (length c.gathered) most ≡ b → (o : Option (ℕ × Place)) → first_record disk.tables.map c.victim c.cursor ≡ o → cond b (step_of o last) Move ≡ Move → MoveDue disk most c
+    by false is o o-is e =
+        let full : most ≤ length c.gathered = ltb-false (length c.gathered) most is in
+        record { whole = λ left. omega (arith, full, few); some = λ moved. omega (arith, full, one) }
+    by true is None o-is e =
+        let none = untaken_none disk c o-is in
+        record { whole = λ left. absurd (omega (arith, left, none)); some = last-some (moved_to disk.tables.roles.second) c.gathered e }
+    by true is (Some found) o-is e = let bad : Gather found.0 found.1 ≡ Move = e in absurd (cc)
+
+-- the Reset is due where all records are moved, and a Move was written
+pub record ResetDue (disk : Mounted) (c : CleanView) : Type 0 where
+  pub taken : untaken disk.tables c ≡ 0
+  pub none : length c.gathered ≡ 0
+  pub moved : 0 < moved_to disk.tables.roles.second
+
+last-reset : (written : ℕ) (rs : List LiveRecord) → last_step written rs ≡ Reset → (length rs ≡ 0) × (0 < written)
+last-reset zero rs e = let bad : Move ≡ Reset = e in absurd (cc)
+last-reset (suc written) [] e = (refl, omega arith)
+last-reset (suc written) (r ∷ rs) e = let bad : Move ≡ Reset = e in absurd (cc)
+
+pub reset-due : (disk : Mounted) (most : ℕ) (c : CleanView) → next_step most disk.tables c ≡ Reset → ResetDue disk c
+reset-due disk most c e = by (ltb (length c.gathered) most) refl (first_record disk.tables.map c.victim c.cursor) refl e
+  where
+    last : Step
+    last = last_step (moved_to disk.tables.roles.second) c.gathered
+
+    by : (b : Bool) → ltb (length c.gathered) most ≡ b → (o : Option (ℕ × Place)) → first_record disk.tables.map c.victim c.cursor ≡ o → cond b (step_of o last) Move ≡ Reset → ResetDue disk c
+    by false is o o-is e = let bad : Move ≡ Reset = e in absurd (cc)
+    by true is None o-is e = let parts = last-reset (moved_to disk.tables.roles.second) c.gathered e in record { taken = untaken_none disk c o-is; none = parts.0; moved = parts.1 }
+    by true is (Some found) o-is e = let bad : Gather found.0 found.1 ≡ Reset = e in absurd (cc)

@@ -1,0 +1,91 @@
+-- A clean: the live records of one zone, the victim, are moved to another, the destination; then the victim is emptied.
+use Rattle.std.specs.Prelude.{◌≡◌, ◌≢◌, ℕ, zero, suc, ◌+◌, ◌≤◌, max, true, List, [], ◌∷◌, count_by, drop, length, take, Option, Some, None}
+use Rattle.std.specs.Int.{div_ceil}
+use Rattle.std.specs.List.{AllByRecursion}
+use Rattle.drive_port.specs.Drive.{DriveState}
+use Rattle.batch_log.specs.Log.{Batch}
+use Rattle.logical_map.specs.Live.{lies_in, live}
+use Rattle.zone_choice.specs.declared.roles.Filling.{Filling}
+use Rattle.zone_choice.specs.declared.roles.Second.{Second}
+use Rattle.zone_choice.specs.declared.roles.Second.TheVariants.{Next, Destination}
+use Rattle.zone_choice.specs.Agreement.{Agrees, Mounted, drive_logs, mounted_array}
+use Rattle.zone_choice.specs.Reserve.{batch_most}
+use Rattle.zone_choice.specs.Roles.{RolesView, empty_count}
+use Rattle.zone_choice.specs.Sizes.{larger, log_greatest}
+use Rattle.zone_choice.specs.Spare.{IsBefore, IsMoveFrom, IsSpare, first_sequence}
+use Rattle.zone_choice.specs.Tables.{TablesView, size_of}
+use Rattle.zone_choice.specs.ZoneLogs.{log_at}
+use Rattle.zone_cleaner.specs.LiveRecords.{LiveRecord, records_in}
+use Rattle.zone_cleaner.specs.Pending.{is_sealed_at}
+
+-- What a running clean knows: its victim; the first block that it has not looked at yet; and the records gathered for the next Move, of blocks before that one.
+pub record CleanView : Type 0 where
+  pub victim : ℕ
+  pub cursor : ℕ
+  pub gathered : List LiveRecord
+
+-- ---- what is left to do
+
+-- how many blocks are written to the destination
+abbrev pub moved_to : Option Second → ℕ
+moved_to (Some (Destination filling)) = filling.written
+moved_to second = 0
+
+-- one Move is written in any case
+abbrev pub unwritten : ℕ → ℕ
+unwritten zero = 1
+unwritten (suc written) = 0
+
+-- how many live records of the victim were not taken yet
+abbrev pub untaken : TablesView → CleanView → ℕ
+untaken tables clean = count_by (lies_in tables.map.zone_size clean.victim) (drop clean.cursor tables.map.places)
+
+-- how many Moves are left, of that many records at most
+abbrev pub moves_left : ℕ → TablesView → CleanView → ℕ
+moves_left most tables clean = max (unwritten (moved_to tables.roles.second)) (div_ceil (live tables.map clean.victim) most)
+
+-- how many turns are left: one for each record to take and for each Move, and the last
+abbrev pub turns_left : ℕ → TablesView → Option CleanView → ℕ
+turns_left most tables None = 0
+turns_left most tables (Some clean) = untaken tables clean + moves_left most tables clean + 1
+
+-- ---- what holds between two turns
+
+-- The gathered records are the live records of the victim, of all blocks before the cursor: no more than one Move takes.
+pub record Gathers (disk : Mounted) (clean : CleanView) : Type 0 where
+  pub within : clean.cursor ≤ size_of disk.tables
+  pub few : length clean.gathered ≤ batch_most disk.drive.geometry
+  pub gathered : clean.gathered ≡ records_in (mounted_array disk) disk.tables.map.zone_size clean.victim 0 (take clean.cursor disk.tables.map.places)
+
+-- a zone's first batch is older than that of another, whose batches say no smaller size; a zone without a batch says nothing yet
+abbrev pub Follows : List Batch → List Batch → Type 0
+Follows old [] = Unit {0}
+Follows old (batch ∷ log) = IsBefore (first_sequence old) (first_sequence (batch ∷ log)) × (larger (log_greatest old) (log_greatest (batch ∷ log)) ≡ log_greatest (batch ∷ log))
+
+-- All batches of the destination are Moves from the victim, and come after its batches. Without them the array is the same: so a mount can empty the destination at any moment of a clean.
+pub record AreMoves (block_bytes n : ℕ) (logs : List (List Batch)) (victim destination : ℕ) : Type 0 where
+  pub moves : AllByRecursion (IsMoveFrom victim) (log_at logs destination)
+  pub follows : Follows (log_at logs victim) (log_at logs destination)
+  pub spare : IsSpare block_bytes n logs destination
+
+-- with all records that are left, and a header for each Move, two blocks of the destination stay free
+abbrev pub HasRoomFor : ℕ → ℕ → ℕ → ℕ → Type 0
+HasRoomFor capacity most written records = written + max (unwritten written) (records + div_ceil records most) + 2 ≤ capacity
+
+-- a clean runs: its victim is sealed, and the second zone is its destination
+pub record IsClean (disk : Mounted) (clean : CleanView) : Type 0 where
+  pub destination : Filling
+  pub second : disk.tables.roles.second ≡ Some (Destination destination)
+  pub victim : is_sealed_at disk.tables.roles clean.victim ≡ true
+  pub gathers : Gathers disk clean
+  pub room : HasRoomFor disk.drive.geometry.capacity (batch_most disk.drive.geometry) destination.written (live disk.tables.map clean.victim)
+  pub moves : AreMoves disk.drive.geometry.block disk.tables.given (drive_logs disk.drive) clean.victim destination.zone
+
+abbrev pub IsNoDestination : Option Second → Type 0
+IsNoDestination (Some (Destination filling)) = ⊥
+IsNoDestination second = Unit {0}
+
+-- a clean runs; or none does, and a zone is kept empty
+abbrev pub Cleans : Mounted → Option CleanView → Type 0
+Cleans disk None = (1 ≤ empty_count disk.tables.roles) × IsNoDestination disk.tables.roles.second
+Cleans disk (Some clean) = IsClean disk clean

@@ -1,0 +1,4 @@
+pub mod Pending
+pub mod LiveRecords
+pub mod Clean
+pub mod Turns

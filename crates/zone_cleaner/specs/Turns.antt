@@ -1,0 +1,69 @@
+-- What each turn of a clean does, and when a clean starts.
+use Rattle.std.specs.Prelude.{◌≡◌, ℕ, zero, suc, ◌+◌, ◌≤◌, nat_lt, if◌then◌else◌, true, List, [], ◌∷◌, ◌++◌, length, Option, Some, None, Result, Ok, Err}
+use Rattle.drive_port.specs.Drive.{DriveState}
+use Rattle.logical_map.specs.Live.{first_record, live}
+use Rattle.logical_map.specs.declared.place.Place.{Place}
+use Rattle.zone_choice.specs.declared.roles.Filling.{Filling}
+use Rattle.zone_choice.specs.declared.roles.Second.TheVariants.{Destination}
+use Rattle.zone_choice.specs.Agreement.{Agrees, Mounted, drive_logs, mounted_array}
+use Rattle.zone_choice.specs.Changes.{KeepsArray, Places, sequence_end}
+use Rattle.zone_choice.specs.Mountable.{IsMountable}
+use Rattle.zone_choice.specs.Records.{without}
+use Rattle.zone_choice.specs.Reserve.{batch_most, fill}
+use Rattle.zone_choice.specs.Tables.{TablesView, size_of}
+use Rattle.zone_cleaner.specs.declared.step.Step.{Step}
+use Rattle.zone_cleaner.specs.declared.step.Step.TheVariants.{Gather, Move, Reset}
+use Rattle.zone_cleaner.specs.declared.fault.CleanFault.{CleanFault}
+use Rattle.zone_cleaner.specs.declared.fault.CleanFault.TheVariants as faults
+use Rattle.zone_cleaner.specs.Clean.{CleanView, moved_to}
+use Rattle.zone_cleaner.specs.LiveRecords.{LiveRecord, content_of, move_of}
+use Rattle.zone_cleaner.specs.Pending.{clean_ended}
+
+-- ---- which step is next
+
+-- where all records are taken: the last Move, one in any case; and then the Reset
+abbrev pub last_step : ℕ → List LiveRecord → Step
+last_step (suc written) [] = Reset
+last_step written records = Move
+
+abbrev pub step_of : Option (ℕ × Place) → Step → Step
+step_of None last = last
+step_of (Some found) last = Gather found.0 found.1
+
+-- A Move takes as many records as fit; before it they are gathered, in ascending order of their blocks.
+abbrev pub next_step : ℕ → TablesView → CleanView → Step
+next_step most tables clean =
+    if nat_lt (length clean.gathered) most then step_of (first_record tables.map clean.victim clean.cursor) (last_step (moved_to tables.roles.second) clean.gathered) else Move
+
+-- ---- what a step that is done leaves
+
+abbrev pub with_record : CleanView → ℕ → Option (List ℕ) → CleanView
+with_record clean block content = record { victim = clean.victim; cursor = block + 1; gathered = clean.gathered ++ record { block = block; content = content } ∷ [] }
+
+abbrev pub after_move : CleanView → CleanView
+after_move clean = record { victim = clean.victim; cursor = clean.cursor; gathered = [] }
+
+-- the gathered records were appended to the destination as one Move, which says what the array has
+pub record MovesRecords (before : Mounted) (clean : CleanView) (after : Mounted) : Type 0 where
+  pub destination : Filling
+  pub second : before.tables.roles.second ≡ Some (Destination destination)
+  pub places : Places before after destination.zone (move_of (size_of before.tables) before.tables.next clean.victim clean.gathered)
+  pub array : mounted_array after ≡ mounted_array before
+
+-- the victim is empty, the destination is the next host zone, and the array is the same
+pub record EmptiesVictim (before after : Mounted) (victim : ℕ) : Type 0 where
+  pub agrees : Agrees after
+  pub logs : drive_logs after.drive ≡ without (drive_logs before.drive) victim
+  pub array : mounted_array after ≡ mounted_array before
+  pub places : after.tables.map.places ≡ before.tables.map.places
+  pub next : after.tables.next ≡ before.tables.next
+  pub given : after.tables.given ≡ before.tables.given
+  pub roles : after.tables.roles ≡ clean_ended before.tables.roles victim
+  pub geometry : after.drive.geometry ≡ before.drive.geometry
+  pub refused : after.drive.refused ≡ before.drive.refused
+  pub appended : after.drive.appended ≡ before.drive.appended
+
+abbrev pub StepDone : Step → Mounted → CleanView → Mounted → Option CleanView → Type 0
+StepDone (Gather block place) before clean after new = KeepsArray before after × (after.tables ≡ before.tables) × (new ≡ Some (with_record clean block (content_of (mounted_array before) block place)))
+StepDone Move before clean after new = MovesRecords before clean after × (new ≡ Some (after_move clean))
+StepDone Reset before clean after new = EmptiesVictim before after clean.victim × (new ≡ None)

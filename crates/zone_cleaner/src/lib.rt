@@ -1,0 +1,8 @@
+//! The cleaner.
+#![tactic(auto)]
+
+mod fault;
+mod step;
+
+pub use fault::CleanFault;
+pub use step::Step;
