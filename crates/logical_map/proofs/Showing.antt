@@ -88,6 +88,12 @@ placed-ready page n block h placed = ready-at page n block h ∙ there (page (bl
     there Option.None e = absurd (placed (none-at page block e))
     there (Some q) e = ap is_some e
 
+pub shown-ready : (page : ℕ → Option (List Place)) (n block : ℕ) → get_or (shown page n) block places.None ≢ places.None → get_or (ready page n) block false ≡ true
+shown-ready page n block placed = elim (cases_lt block n) as (λ _. get_or (ready page n) block false ≡ true) [
+  | inl below ↦ placed-ready page n block below (λ none. placed (shown-at page n block below ∙ none))
+  | inr past ↦ absurd (placed (get_or_past (shown page n) block places.None (omega (arith, past, length-shown page n))))
+]
+
 pub ready-past : (page : ℕ → Option (List Place)) (n block : ℕ) → n ≤ block → get_or (ready page n) block false ≡ false
 ready-past page n block h = get_or_past (ready page n) block false (omega (arith, length-map-range_with_len (λ b. is_some (page (b / 256))) 0 n))
 

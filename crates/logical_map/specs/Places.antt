@@ -1,5 +1,5 @@
 -- A list of places, and which of its blocks are ready to be set.
-use Rattle.std.specs.Prelude.{◌≡◌, ℕ, ◌-◌, Bool, true, false, List, ◌++◌, length, replicate, slice_index_or}
+use Rattle.std.specs.Prelude.{◌≡◌, ◌≢◌, ℕ, ◌-◌, Bool, true, false, List, ◌++◌, length, replicate, slice_index_or}
 use Rattle.logical_map.specs.declared.place.Place.{Place}
 use Rattle.logical_map.specs.declared.place.Place.TheVariants as places
 
@@ -18,6 +18,10 @@ pub record MapView : Type 0 where
 
 abbrev pub IsReady : MapView → ℕ → Type 0
 IsReady m block = slice_index_or m.ready block false ≡ true
+
+-- each block that has a place is ready
+abbrev pub ArePlacedReady : MapView → Type 0
+ArePlacedReady m = (block : ℕ) → slice_index_or m.places block places.None ≢ places.None → IsReady m block
 
 -- one block more may be ready, and no place changes
 pub record Reserves (old : MapView) (block : ℕ) (new : MapView) : Type 0 where

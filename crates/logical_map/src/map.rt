@@ -3,7 +3,7 @@ ghost use Rattle.logical_map.specs.Counts.{lowered, raised};
 ghost use Rattle.logical_map.specs.Lists.{FindsBlock, FindsThere};
 ghost use Rattle.logical_map.specs.Live.{first_record, lies_in, live, records_of, zone_of};
 ghost use Rattle.logical_map.specs.Pages.{page_of, place_in, place_of};
-ghost use Rattle.logical_map.specs.Places.{Grows, IsReady, Reserves, address_of};
+ghost use Rattle.logical_map.specs.Places.{ArePlacedReady, Grows, IsReady, Reserves, address_of};
 ghost use Rattle.logical_map.specs.declared.place.Place.TheVariants as places;
 
 use crate::lists::{ZoneList, first_from, is_whole, make_lists, note, shorten};
@@ -106,9 +106,11 @@ impl Map {
     }
 
     /// Makes room to note `count` blocks more in a zone, so that `records_of` finds the blocks that are moved
-    /// there without a walk over the map. A zone past the end of the drive needs none.
+    /// there without a walk over the map. A zone past the end of the drive needs none. Blocks that have a place
+    /// are ready to be placed again.
     pub fn reserve_in(&mut self, zone: u32, count: u32) -> Result<(), AllocError>
-        ensures { self.new ≡ self.old }
+        ensures kept { self.new ≡ self.old }
+        ensures ready { ArePlacedReady self.old }
     {
         if zone >= self.zones {
             return Ok(());

@@ -83,6 +83,13 @@ impl Roles {
         self.host
     }
 
+    /// The second zone that is being filled.
+    pub fn second(&self) -> Option<Second>
+        ensures { result ≡ self.now.second }
+    {
+        self.second
+    }
+
     /// Makes the lowest empty zone the host zone, unless it is the last empty one.
     pub fn take_empty(&mut self) -> Option<u32>
         ensures some { IfSome result (λ zone. IsLowestEmpty self.old zone × (2 ≤ empty_count self.old) × (self.new ≡ taken self.old zone)) }

@@ -1,12 +1,12 @@
 ghost use Rattle.std.specs.Prelude.{◌≡◌, ◌≢◌, ◌≤◌, ◌<◌, ◌+◌, ◌^◌, IfNone, IfOk, IfSome, length, None, OnOk, replicate, slice_index_or, slice_set};
 ghost use Rattle.std.specs.List.{AllByRecursion};
 ghost use Rattle.logical_map.specs.Live.{first_record, live};
-ghost use Rattle.logical_map.specs.Places.{IsReady, Reserves, address_of};
+ghost use Rattle.logical_map.specs.Places.{ArePlacedReady, IsReady, Reserves, address_of};
 ghost use Rattle.logical_map.specs.declared.place.Place.TheVariants as places;
 ghost use Rattle.zone_choice.specs.Roles.{IsLowestEmpty, empty_count, fillings, sealed, taken, unused, wrote};
 ghost use Rattle.zone_choice.specs.Tables.{AreReserved, GrowsTo, MakesRoom, size_of};
 
-use crate::roles::{Filling, Roles};
+use crate::roles::{Filling, Roles, Second};
 use logical_map::{Map, Place};
 use std::alloc::{AllocError, Global};
 use std::marker::Model;
@@ -96,6 +96,13 @@ impl Tables {
         self.roles.host()
     }
 
+    /// The second zone that is being filled.
+    pub fn second(&self) -> Option<Second>
+        ensures { result ≡ self.now.roles.second }
+    {
+        self.roles.second()
+    }
+
     /// Makes room for the places of `count` blocks from `first` on, and to note them in a zone. Where an
     /// allocation fails, there is room for some of them.
     pub fn reserve(&mut self, zone: u32, first: u32, count: u32) -> Result<(), AllocError>
@@ -109,6 +116,15 @@ impl Tables {
             self.map.reserve_for(block)?;
         }
         Ok(())
+    }
+
+    /// Makes room to note `count` blocks more in a zone. Blocks that lie somewhere already need no more to be
+    /// placed there.
+    pub fn reserve_moves(&mut self, zone: u32, count: u32) -> Result<(), AllocError>
+        ensures kept { self.new ≡ self.old }
+        ensures ready { ArePlacedReady self.old.map }
+    {
+        self.map.reserve_in(zone, count)
     }
 
     /// Makes the lowest empty zone the host zone, unless it is the last empty one.

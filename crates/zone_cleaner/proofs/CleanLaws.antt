@@ -133,3 +133,12 @@ pub live-parts : (disk : Mounted) (c : CleanView) → IsClean disk c → live di
 live-parts disk c is =
     let m = disk.tables.map in
     omega (arith, ap length is.gathers.gathered, length-records_in (mounted_array disk) m.zone_size c.victim 0 (take c.cursor m.places), live_in-split m.zone_size c.victim c.cursor m.places)
+
+-- the next record lies past the cursor
+pub gather-next : (disk : Mounted) (c : CleanView) (block : ℕ) (place : Place) → IsClean disk c → first_record disk.tables.map c.victim c.cursor ≡ Some (block, place)
+    → (block < size_of disk.tables) × (c.cursor ≤ block) × (place ≡ get_or disk.tables.map.places block places.None)
+gather-next disk c block place is found =
+    let m = disk.tables.map in
+    let parts = found-parts (λ b. get_or m.places b places.None) (slice_get (records_of m c.victim c.cursor) 0) block place found in
+    let took = takes-next (mounted_array disk) m.zone_size c.victim c.cursor block m.places is.gathers.within parts.0 in
+    (took.below, took.after, parts.1)

@@ -10,3 +10,6 @@ pub mod StepLaws
 pub mod CarryLaws
 pub mod MovedLaws
 pub mod ResetLaws
+pub mod EntryLaws
+pub mod FetchLaws
+pub mod FailLaws

@@ -69,7 +69,7 @@ entry-block block (Some content) = refl
 pub without-own : (rs : List LiveRecord) → without_all (entries_of rs) rs ≡ []
 without-own [] = refl
 without-own (r ∷ rs) =
-    let here : eqb r.block (entry_of r.block r.content).block ≡ true = eq-eqb r.block (entry_of r.block r.content).block (sym (entry-block r.block r.content)) in
+    let here : eqb (entry_of r.block r.content).block r.block ≡ true = eq-eqb (entry_of r.block r.content).block r.block (entry-block r.block r.content) in
     ap (λ (b : Bool). without_all (entries_of rs) (cond b rs (r ∷ without_block (entry_of r.block r.content).block rs))) here ∙ without-own rs
 
 -- the addresses of a batch lie in another zone

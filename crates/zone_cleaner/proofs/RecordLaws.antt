@@ -212,13 +212,13 @@ say-the-array array bytes size zone first (p ∷ ps) each =
 
 -- ---- a block is placed elsewhere
 
-skip-one : (b : Bool) (block : ℕ) (r : LiveRecord) (rs : List LiveRecord) → (eqb r.block block ≡ false) → one_more b r (without_block block rs) ≡ without_block block (one_more b r rs)
+skip-one : (b : Bool) (block : ℕ) (r : LiveRecord) (rs : List LiveRecord) → (eqb block r.block ≡ false) → one_more b r (without_block block rs) ≡ without_block block (one_more b r rs)
 skip-one true block r rs apart = rw apart refl
 skip-one false block r rs apart = refl
 
 absent : (low high block : ℕ) (rs : List LiveRecord) → block < low → AreBetween low high rs → without_block block rs ≡ rs
 absent low high block [] lt all = refl
-absent low high block (r ∷ rs) lt all = rw (ne_eqb r.block block (λ same. omega (arith, same, all.0.0, lt))) (ap (λ (l : List LiveRecord). r ∷ l) (absent low high block rs lt all.1))
+absent low high block (r ∷ rs) lt all = rw (ne_eqb block r.block (λ same. omega (arith, same, all.0.0, lt))) (ap (λ (l : List LiveRecord). r ∷ l) (absent low high block rs lt all.1))
 
 -- its record is no longer there
 pub records_in-set : (array : List (List ℕ)) (size zone first k block : ℕ) (ps : List Place) (p : Place) → block ≡ first + k → lies_in size zone p ≡ false → records_in array size zone first (set ps k p) ≡ without_block block (records_in array size zone first ps)
@@ -229,10 +229,10 @@ records_in-set array size zone first zero block (q ∷ ps) p e away =
   where
     by : (b : Bool) → without_block block (records_in array size zone (first + 1) ps) ≡ records_in array size zone (first + 1) ps
         → records_in array size zone (first + 1) ps ≡ without_block block (one_more b (record { block = first; content = content_of array first q }) (records_in array size zone (first + 1) ps))
-    by true none = let here : eqb first block ≡ true = eq-eqb first block (omega (arith, e)) in rw here refl
+    by true none = let here : eqb block first ≡ true = eq-eqb block first (omega (arith, e)) in rw here refl
     by false none = sym none
 records_in-set array size zone first (suc k) block (q ∷ ps) p e away =
-    let other : eqb first block ≡ false = ne_eqb first block (λ same. omega (arith, same, e)) in
+    let other : eqb block first ≡ false = ne_eqb block first (λ same. omega (arith, same, e)) in
     ap (one_more (lies_in size zone q) (record { block = first; content = content_of array first q })) (records_in-set array size zone (first + 1) k block ps p (omega (arith, e)) away)
     ∙ skip-one (lies_in size zone q) block (record { block = first; content = content_of array first q }) (records_in array size zone (first + 1) ps) other
 

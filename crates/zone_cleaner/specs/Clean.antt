@@ -89,3 +89,7 @@ IsNoDestination second = Unit {0}
 abbrev pub Cleans : Mounted → Option CleanView → Type 0
 Cleans disk None = (1 ≤ empty_count disk.tables.roles) × IsNoDestination disk.tables.roles.second
 Cleans disk (Some clean) = IsClean disk clean
+
+-- a clean that was just started
+abbrev pub started : ℕ → CleanView
+started victim = record { victim = victim; cursor = 0; gathered = [] }

@@ -1,4 +1,5 @@
 pub mod Pending
 pub mod LiveRecords
+pub mod Gathered
 pub mod Clean
 pub mod Turns

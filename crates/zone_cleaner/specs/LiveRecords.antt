@@ -27,7 +27,7 @@ records_in array zone_size zone first (place ∷ all) =
 -- all records but that of one block
 abbrev pub without_block : ℕ → List LiveRecord → List LiveRecord
 without_block block [] = []
-without_block block (r ∷ rs) = if r.block == block then rs else r ∷ without_block block rs
+without_block block (r ∷ rs) = if block == r.block then rs else r ∷ without_block block rs
 
 -- ---- the Move that repeats them
 

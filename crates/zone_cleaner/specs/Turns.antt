@@ -1,6 +1,8 @@
 -- What each turn of a clean does, and when a clean starts.
 use Rattle.std.specs.Prelude.{◌≡◌, ℕ, zero, suc, ◌+◌, ◌≤◌, nat_lt, if◌then◌else◌, true, List, [], ◌∷◌, ◌++◌, length, Option, Some, None, Result, Ok, Err}
 use Rattle.drive_port.specs.Drive.{DriveState}
+use Rattle.drive_port.specs.declared.device.Halt.{Halt}
+use Rattle.drive_port.specs.declared.device.Halt.TheVariants as halt
 use Rattle.logical_map.specs.Live.{first_record, live}
 use Rattle.logical_map.specs.declared.place.Place.{Place}
 use Rattle.zone_choice.specs.declared.roles.Filling.{Filling}
@@ -17,7 +19,7 @@ use Rattle.zone_cleaner.specs.declared.fault.CleanFault.{CleanFault}
 use Rattle.zone_cleaner.specs.declared.fault.CleanFault.TheVariants as faults
 use Rattle.zone_cleaner.specs.Clean.{CleanView, moved_to}
 use Rattle.zone_cleaner.specs.LiveRecords.{LiveRecord, content_of, move_of}
-use Rattle.zone_cleaner.specs.Pending.{clean_ended}
+use Rattle.zone_cleaner.specs.Pending.{KeepsRoles, clean_ended}
 
 -- ---- which step is next
 
@@ -67,3 +69,43 @@ abbrev pub StepDone : Step → Mounted → CleanView → Mounted → Option Clea
 StepDone (Gather block place) before clean after new = KeepsArray before after × (after.tables ≡ before.tables) × (new ≡ Some (with_record clean block (content_of (mounted_array before) block place)))
 StepDone Move before clean after new = MovesRecords before clean after × (new ≡ Some (after_move clean))
 StepDone Reset before clean after new = EmptiesVictim before after clean.victim × (new ≡ None)
+
+-- ---- a step that is not done
+
+-- nothing that the clean depends on changed: the drive may have completed a Read or a Close
+abbrev pub KeepsClean : Mounted → Mounted → Type 0
+KeepsClean before after = KeepsArray before after × KeepsRoles before after
+
+-- The drive stopped inside the step: it can be mounted, and its array is the same.
+pub record StopsClean (before after : Mounted) : Type 0 where
+  pub stopped : after.drive.stopped ≡ true
+  pub mountable : IsMountable after.drive after.tables.given
+  pub array : mounted_array after ≡ mounted_array before
+  pub size : size_of after.tables ≡ size_of before.tables
+  pub given : after.tables.given ≡ before.tables.given
+  pub next : after.tables.next ≡ before.tables.next
+  pub geometry : after.drive.geometry ≡ before.drive.geometry
+  pub refused : after.drive.refused ≡ before.drive.refused
+  pub appended : after.drive.appended ≡ before.drive.appended
+
+-- what a step leaves that was not done, by its fault: no sequence is left for a Move where this is said, and nothing was sent
+abbrev pub StepFails : CleanFault → Mounted → Mounted → Type 0
+StepFails faults.OutOfMemory before after = KeepsClean before after
+StepFails faults.Stopped before after = StopsClean before after
+StepFails faults.Spent before after = (after ≡ before) × (sequence_end before.drive.geometry ≤ before.tables.next)
+
+-- what a step leaves, by its answer: the clean goes on from here, or it has ended; where the step was not done, it is as it was
+abbrev pub StepLeaves : Step → Mounted → CleanView → Result (Unit {0}) CleanFault → Mounted → Option CleanView → Type 0
+StepLeaves step before clean (Ok done) after new = StepDone step before clean after new
+StepLeaves step before clean (Err fault) after new = StepFails fault before after × (new ≡ Some clean)
+
+-- what a halt of the drive is to a clean
+abbrev pub clean_fault : Halt → CleanFault
+clean_fault halt.Memory = faults.OutOfMemory
+clean_fault halt.Stopped = faults.Stopped
+
+-- why a record is not read
+abbrev pub IsReadFault : DriveState → CleanFault → Type 0
+IsReadFault drive faults.OutOfMemory = Unit {0}
+IsReadFault drive faults.Stopped = drive.stopped ≡ true
+IsReadFault drive faults.Spent = ⊥

@@ -1,0 +1,64 @@
+-- A step that is not done leaves the clean as it was.
+use Rattle.std.proofs.Common.{◌≡◌, ℕ, ◌+◌, ◌<◌, ◌≤◌, ◌^◌, true, List, [], ◌∷◌, length, Option, Some, refl, ap, arith}
+use Rattle.std.specs.List.{AllByRecursion}
+use Rattle.drive_port.specs.Drive.{DriveState}
+use Rattle.drive_port.specs.Contents.{SameContents}
+use Rattle.logical_map.specs.declared.place.Place.{Place}
+use Rattle.zone_choice.specs.Agreement.{Agrees, Mounted, drive_logs, mounted, mounted_array}
+use Rattle.zone_choice.specs.Changes.{KeepsArray}
+use Rattle.zone_choice.specs.Reserve.{batch_most}
+use Rattle.zone_choice.specs.Tables.{TablesView, size_of}
+use Rattle.zone_choice.proofs.AgreementLaws.{agrees_mountable}
+use Rattle.zone_cleaner.specs.declared.fault.CleanFault.{CleanFault}
+use Rattle.zone_cleaner.specs.declared.fault.CleanFault.TheVariants as faults
+use Rattle.zone_cleaner.specs.declared.step.Step.TheVariants.{Gather}
+use Rattle.zone_cleaner.specs.Clean.{CleanView, IsClean}
+use Rattle.zone_cleaner.specs.LiveRecords.{LiveRecord}
+use Rattle.zone_cleaner.specs.Pending.{KeepsRoles}
+use Rattle.zone_cleaner.specs.Turns.{IsReadFault, KeepsClean, StepFails, StopsClean, next_step}
+use Rattle.zone_cleaner.proofs.CarryLaws.{gathered-below}
+use Rattle.zone_cleaner.proofs.CleanLaws.{clean_kept, clean_spare, gather-next}
+use Rattle.zone_cleaner.proofs.RecordLaws.{AreBetween}
+use Rattle.zone_cleaner.proofs.StepLaws.{gather-due}
+
+-- the same contents, and the same tables
+pub roles-same : (old new : DriveState) (tables : TablesView) → SameContents old new → KeepsRoles (mounted old tables) (mounted new tables)
+roles-same old new tables same = record { logs = rw (same.geometry, same.contents) refl; sealed = λ zone is. is }
+
+pub stops_kept : (before after : Mounted) (c : CleanView) → Agrees before → IsClean before c → KeepsClean before after → after.drive.stopped ≡ true → StopsClean before after
+stops_kept before after c agrees is kept stopped = record {
+  stopped = stopped;
+  mountable = agrees_mountable after.drive after.tables kept.0.agrees (clean_spare after c kept.0.agrees (clean_kept before after c agrees kept.0 kept.1 is));
+  array = kept.0.array;
+  size = ap length kept.0.places;
+  given = kept.0.given;
+  next = kept.0.next;
+  geometry = kept.0.geometry;
+  refused = kept.0.refused;
+  appended = kept.0.appended;
+}
+
+-- a record that was not read
+pub read_fails : (before after : Mounted) (c : CleanView) (fault : CleanFault) → Agrees before → IsClean before c → KeepsClean before after → IsReadFault after.drive fault → StepFails fault before after
+read_fails before after c faults.OutOfMemory agrees is kept cause = kept
+read_fails before after c faults.Stopped agrees is kept cause = stops_kept before after c agrees is kept cause
+read_fails before after c faults.Spent agrees is kept cause = absurd cause
+
+-- what is known of the next record
+pub record NextRecord (disk : Mounted) (c : CleanView) (block : ℕ) : Type 0 where
+  pub in_range : block < size_of disk.tables
+  pub above : AllByRecursion (λ (r : LiveRecord). r.block < block) c.gathered
+  pub few : block + 1 < 2 ^ 32
+
+pub next_record : (disk : Mounted) (c : CleanView) (block : ℕ) (place : Place) → Agrees disk → IsClean disk c → next_step (batch_most disk.drive.geometry) disk.tables c ≡ Gather block place → NextRecord disk c block
+next_record disk c block place agrees is due =
+    let next = gather-next disk c block place is (gather-due disk (batch_most disk.drive.geometry) c block place due).found in
+    record {
+      in_range = next.0;
+      above = go c.gathered next.1 (gathered-below disk c is);
+      few = omega (arith, next.0, agrees.reserve.1);
+    }
+  where
+    go : (rs : List LiveRecord) → c.cursor ≤ block → AreBetween 0 c.cursor rs → AllByRecursion (λ (r : LiveRecord). r.block < block) rs
+    go [] le all = tt
+    go (r ∷ rs) le all = (omega (arith, all.0.1, le), go rs le all.1)

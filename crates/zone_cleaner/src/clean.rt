@@ -1,0 +1,160 @@
+ghost use Rattle.std.specs.Prelude.{◌≡◌, ◌⊎◌, ◌≤◌, ◌<◌, ◌+◌, ◌^◌, List, [], length, IfOk, IfErr, OnOk, OnErr, Some, slice_index_or};
+ghost use Rattle.std.specs.List.{AllByRecursion};
+ghost use Rattle.std.specs.Option.{option_map};
+ghost use Rattle.drive_port.specs.Contents.{SameContents};
+ghost use Rattle.logical_map.specs.Places.{ArePlacedReady};
+ghost use Rattle.logical_map.specs.declared.place.Place.TheVariants as places;
+ghost use Rattle.zone_choice.specs.Agreement.{Agrees, mounted, spelled};
+ghost use Rattle.zone_choice.specs.Builder.{IsBuilt, built};
+ghost use Rattle.zone_choice.specs.Changes.{KeepsArray};
+ghost use Rattle.zone_choice.specs.Reserve.{batch_most};
+ghost use Rattle.zone_choice.specs.Tables.{size_of};
+ghost use Rattle.zone_cleaner.specs.Clean.{IsClean, moved_to, started};
+ghost use Rattle.zone_cleaner.specs.LiveRecords.{LiveRecord, content_of, move_of, without_block};
+ghost use Rattle.zone_cleaner.specs.Turns.{IsReadFault, StepLeaves, clean_fault, last_step, next_step, with_record};
+
+use crate::fault::CleanFault;
+use crate::gathered::Gathered;
+use crate::step::Step;
+use batch_log::Kind;
+use drive_port::{Device, Halt, append, read};
+use logical_map::Place;
+use std::alloc::{AllocError, Global};
+use std::marker::Model;
+use zone_choice::{BatchBuilder, Second, Tables, append_batch, halt_of};
+
+/// A clean that runs: the live records of one zone, the victim, are moved to another, and then the victim is
+/// emptied.
+#[derive(Drop)]
+pub struct Clean {
+    victim: u32,
+    /// The first block that was not looked at yet.
+    cursor: u32,
+    gathered: Gathered,
+}
+
+impl Model for Clean {
+    ghost use Rattle.zone_cleaner.specs.Clean.{CleanView};
+
+    ghost Value = { CleanView };
+
+    ghost view = { λ c. record { victim = c.victim; cursor = c.cursor; gathered = c.gathered } };
+}
+
+/// What a halt of the drive is to a clean.
+fn fault_of(halt: Halt) -> CleanFault
+    ensures { result ≡ clean_fault halt }
+{
+    match halt {
+        Halt::Memory => CleanFault::OutOfMemory,
+        Halt::Stopped => CleanFault::Stopped,
+    }
+}
+
+/// What a Move says of a block that lies at a place: its data, or none for a trim.
+fn fetch<D: Device>(
+    alloc: Global,
+    tables: &Tables,
+    device: &mut D,
+    block: u32,
+    place: Place,
+) -> Result<Option<Vec<u8>>, CleanFault>
+    requires agrees { Agrees (mounted (D.drive device.old) tables.now) }
+    requires in_range { block < size_of tables.now }
+    requires place { place ≡ slice_index_or tables.now.map.places block places.None }
+    ensures kept { KeepsArray (mounted (D.drive device.old) tables.now) (mounted (D.drive device.new) tables.now) }
+    ensures same { SameContents (D.drive device.old) (D.drive device.new) }
+    ensures ok { IfOk result (λ content. option_map (λ v. v.items) content ≡ content_of (spelled (D.drive device.old) tables.now.given) block place) }
+    ensures err { IfErr result (IsReadFault (D.drive device.new)) }
+    ensures completed { (D.drive device.new).completed ≤ (D.drive device.old).completed + 1 }
+{
+    let Place::At(address) = place else {
+        return Ok(None);
+    };
+    let mut bytes = Vec::new(alloc);
+    if let Err(fault) = read(device, address, 1, &mut bytes) {
+        return Err(fault_of(halt_of(fault)));
+    }
+    Ok(Some(bytes))
+}
+
+impl Clean {
+    /// A clean of a victim, of which nothing is done yet. It allocates nothing.
+    pub fn new(alloc: Global, victim: u32) -> Clean
+        ensures { result ≡ started victim }
+    {
+        Clean {
+            victim,
+            cursor: 0,
+            gathered: Gathered::new(alloc),
+        }
+    }
+
+    /// Takes a block out of the gathered records, if it is there. It allocates nothing.
+    pub fn forget(&mut self, block: u32)
+        ensures { self.new ≡ record self.old { gathered = without_block block self.old.gathered } }
+    {
+        self.gathered.forget(block);
+    }
+
+    /// Gathers the record of a block, which lies in the victim.
+    fn gather<D: Device>(
+        &mut self,
+        alloc: Global,
+        tables: &Tables,
+        device: &mut D,
+        block: u32,
+        place: Place,
+    ) -> Result<(), CleanFault>
+        requires agrees { Agrees (mounted (D.drive device.old) tables.now) }
+        requires clean { IsClean (mounted (D.drive device.old) tables.now) self.old }
+        requires due { next_step (batch_most (D.drive device.old).geometry) tables.now self.old ≡ Step.Gather block place }
+        ensures leaves { StepLeaves (Step.Gather block place) (mounted (D.drive device.old) tables.now) self.old result (mounted (D.drive device.new) tables.now) (Some self.new) }
+        ensures completed { (D.drive device.new).completed ≤ (D.drive device.old).completed + 1 }
+    {
+        match fetch(alloc, tables, device, block, place) {
+            Ok(content) => self.push(block, content),
+            Err(fault) => Err(fault),
+        }
+    }
+
+    /// Adds a record to those that are gathered.
+    fn push(&mut self, block: u32, content: Option<Vec<u8>>) -> Result<(), CleanFault>
+        requires above { AllByRecursion (λ r. r.block < block) self.old.gathered }
+        requires few { block + 1 < 2 ^ 32 }
+        ensures ok { OnOk result (self.new ≡ with_record self.old block (option_map (λ v. v.items) content)) }
+        ensures err { IfErr result (λ fault. (fault ≡ CleanFault.OutOfMemory) × (self.new ≡ self.old)) }
+    {
+        self.gathered.push(block, content)?;
+        self.cursor = block + 1;
+        Ok(())
+    }
+
+    /// What the clean does next.
+    fn next_step(&self, tables: &mut Tables, most: u32) -> Step
+        requires { self.now.victim < tables.old.map.zones }
+        ensures step { result ≡ next_step most tables.old self.now }
+        ensures kept { tables.new ≡ tables.old }
+    {
+        if self.gathered.len() >= most as usize {
+            return Step::Move;
+        }
+        if let Some((block, place)) = tables.records_of(self.victim, self.cursor) {
+            return Step::Gather(block, place);
+        }
+        last_step(tables.second(), self.gathered.len())
+    }
+}
+
+/// What a clean does next whose records are all taken, by the second zone and the number of gathered records.
+fn last_step(second: Option<Second>, gathered: usize) -> Step
+    ensures { (rs : List LiveRecord) → length rs ≡ gathered → result ≡ last_step (moved_to second) rs }
+{
+    if gathered > 0 {
+        return Step::Move;
+    }
+    match second {
+        Some(Second::Destination(filling)) if filling.written > 0 => Step::Reset,
+        _ => Step::Move,
+    }
+}
