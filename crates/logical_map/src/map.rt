@@ -118,15 +118,16 @@ impl Map {
         self.lists[zone as usize].make_room(empty, count)
     }
 
-    /// Sets the place of a block that room was made for. It allocates nothing.
-    pub fn set(&mut self, block: u32, place: Place)
+    /// Sets the place of a block that room was made for, and answers the old one. It allocates nothing.
+    pub fn set(&mut self, block: u32, place: Place) -> Place
         requires in_range { block < length self.old.places }
         requires ready { IsReady self.old block }
         requires fits { address_of place + 1 < 2 ^ 63 }
-        ensures { self.new ≡ record self.old { places = slice_set self.old.places block place } }
+        ensures set { self.new ≡ record self.old { places = slice_set self.old.places block place } }
+        ensures old { result ≡ slice_index_or self.old.places block places.None }
     {
         let Some(page) = self.pages.get_mut(&(block / PAGE)) else {
-            return;
+            return Place::None;
         };
         let old = put(page, (block % PAGE) as usize, place);
         let was = zone_of(self.zone_size, old);
@@ -142,6 +143,7 @@ impl Map {
             was,
             zone,
         );
+        old
     }
 
     /// How many blocks lie in a zone of the drive.
@@ -274,7 +276,7 @@ mod tests {
         let fresh = map.get(last);
         map.reserve_for(last)?;
         map.reserve_in(2, 1)?;
-        map.set(last, Place::At(9));
+        assert_eq!(rt; map.set(last, Place::At(9)), Place::None);
         assert_eq!(rt;
             (fresh, map.get(last), map.get(last - 1)),
             (Place::None, Place::At(9), Place::None)
