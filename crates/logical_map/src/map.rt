@@ -1,7 +1,7 @@
 ghost use Rattle.std.specs.Prelude.{◌≡◌, ◌≢◌, ◌<◌, ◌≤◌, ◌+◌, ◌/◌, ◌^◌, length, map, slice_get, slice_index, slice_index_or, slice_set, replicate, IfSome, OnOk, OnErr};
 ghost use Rattle.logical_map.specs.Counts.{lowered, raised};
 ghost use Rattle.logical_map.specs.Lists.{FindsBlock, FindsThere};
-ghost use Rattle.logical_map.specs.Live.{first_record, lies_in, live, records_of, zone_of};
+ghost use Rattle.logical_map.specs.Live.{first_record, lies_in, live, records_of, zone_in, zone_of};
 ghost use Rattle.logical_map.specs.Pages.{page_of, place_in, place_of};
 ghost use Rattle.logical_map.specs.Places.{Grows, IsReady, Reserves, address_of};
 ghost use Rattle.logical_map.specs.declared.place.Place.TheVariants as places;
@@ -144,6 +144,17 @@ impl Map {
             zone,
         );
         old
+    }
+
+    /// The zone of the drive that a place lies in, if it lies in one.
+    pub fn zone_of(&self, place: Place) -> Option<u32>
+        ensures { result ≡ zone_in self.now place }
+    {
+        let zone = zone_of(self.zone_size, place)?;
+        if zone < self.zones as u64 {
+            return Some(zone as u32);
+        }
+        None
     }
 
     /// How many blocks lie in a zone of the drive.
