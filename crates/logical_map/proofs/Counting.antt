@@ -13,11 +13,11 @@ use Rattle.logical_map.specs.Live.{is_zone, lies_in, zone_of}
 use Rattle.logical_map.specs.Pages.{shown}
 use Rattle.logical_map.proofs.Showing.{length-shown, none-at, none_from-reserve, none_from-set, shown-empty, shown-grow, shown-reserve, shown-set}
 
-length-raised : (here : Option ℕ) (counts : List ℕ) → length (raised here counts) ≡ length counts
+pub length-raised : (here : Option ℕ) (counts : List ℕ) → length (raised here counts) ≡ length counts
 length-raised Option.None counts = refl
 length-raised (Some zone) counts = length-set counts zone (get_or counts zone 0 + 1)
 
-length-lowered : (here : Option ℕ) (counts : List ℕ) → length (lowered here counts) ≡ length counts
+pub length-lowered : (here : Option ℕ) (counts : List ℕ) → length (lowered here counts) ≡ length counts
 length-lowered Option.None counts = refl
 length-lowered (Some zone) counts = length-set counts zone (get_or counts zone 0 - 1)
 
@@ -35,20 +35,20 @@ lowered-at (Some other) counts zone h = elim (cases_eq zone other) as (λ _. get
   | inr n ↦ rw (ne_eqb other zone (λ e. n (sym e)), get_or-set_other counts other zone (get_or counts other 0 - 1) 0 n) (omega arith)
 ]
 
-live-set : (size : ℕ) (all : List Place) (zone block : ℕ) (place : Place) → block < length all
+pub live-set : (size : ℕ) (all : List Place) (zone block : ℕ) (place : Place) → block < length all
     → count_by (lies_in size zone) (set all block place) + cond (lies_in size zone (get_or all block places.None)) 1 0 ≡ count_by (lies_in size zone) all + cond (lies_in size zone place) 1 0
 live-set size all zone block place h = sum_by-set (λ p. cond (lies_in size zone p) 1 0) all block place places.None h
 
-abbrev AreCounts : ℕ → List Place → List ℕ → Type 0
+abbrev pub AreCounts : ℕ → List Place → List ℕ → Type 0
 AreCounts size all counts = (zone : ℕ) → zone < length counts → get_or counts zone 0 ≡ count_by (lies_in size zone) all
 
 -- the count of a zone, where the old place of a block is no longer counted
-lowered-live : (size : ℕ) (all : List Place) (counts : List ℕ) (zone block : ℕ) (place : Place) → AreCounts size all counts → block < length all → zone < length counts
+pub lowered-live : (size : ℕ) (all : List Place) (counts : List ℕ) (zone block : ℕ) (place : Place) → AreCounts size all counts → block < length all → zone < length counts
     → get_or (lowered (zone_of size (get_or all block places.None)) counts) zone 0 + cond (lies_in size zone place) 1 0 ≡ count_by (lies_in size zone) (set all block place)
 lowered-live size all counts zone block place are h below =
     omega (arith, lowered-at (zone_of size (get_or all block places.None)) counts zone below, are zone below, live-set size all zone block place h, get_or-le-sum_by (λ p. cond (lies_in size zone p) 1 0) all block places.None h)
 
-counts-set : (size : ℕ) (all : List Place) (counts : List ℕ) (block : ℕ) (place : Place) → AreCounts size all counts → block < length all
+pub counts-set : (size : ℕ) (all : List Place) (counts : List ℕ) (block : ℕ) (place : Place) → AreCounts size all counts → block < length all
     → AreCounts size (set all block place) (raised (zone_of size place) (lowered (zone_of size (get_or all block places.None)) counts))
 counts-set size all counts block place are h = λ zone below.
     let old = zone_of size (get_or all block places.None) in
@@ -74,10 +74,10 @@ can_raise size all counts block place are h few = if_some (zone_of size place) (
 -- ---- what the map keeps
 
 -- blocks that have no place lie in no zone
-live-none : (size n zone : ℕ) → count_by (lies_in size zone) (replicate n places.None) ≡ 0
+pub live-none : (size n zone : ℕ) → count_by (lies_in size zone) (replicate n places.None) ≡ 0
 live-none size n zone = omega (arith, sum_by-replicate (λ p. cond (lies_in size zone p) 1 0) n places.None)
 
-live-grow : (size n zone : ℕ) (all : List Place) → count_by (lies_in size zone) (all ++ replicate n places.None) ≡ count_by (lies_in size zone) all
+pub live-grow : (size n zone : ℕ) (all : List Place) → count_by (lies_in size zone) (all ++ replicate n places.None) ≡ count_by (lies_in size zone) all
 live-grow size n zone all = omega (arith, sum_by-append (λ p. cond (lies_in size zone p) 1 0) all (replicate n places.None), live-none size n zone)
 
 live-same : (size zone : ℕ) (xs ys : List Place) → xs ≡ ys → count_by (lies_in size zone) xs ≡ count_by (lies_in size zone) ys

@@ -1,5 +1,5 @@
 -- Which blocks lie in a zone.
-use Rattle.std.specs.Prelude.{ℕ, ◌+◌, ◌/◌, ◌==◌, if◌then◌else◌, Bool, false, List, [], ◌∷◌, drop, count_by, slice_get, slice_index_or, Option, Some, None}
+use Rattle.std.specs.Prelude.{ℕ, ◌+◌, ◌/◌, ◌==◌, if◌then◌else◌, Bool, false, nat_lt, List, [], ◌∷◌, drop, count_by, slice_get, slice_index_or, Option, Some, None}
 use Rattle.std.specs.Option.{option_map}
 use Rattle.logical_map.specs.declared.place.Place.{Place}
 use Rattle.logical_map.specs.declared.place.Place.TheVariants as places
@@ -17,6 +17,15 @@ is_zone (Some other) zone = other == zone
 
 abbrev pub lies_in : ℕ → ℕ → Place → Bool
 lies_in zone_size zone place = is_zone (zone_of zone_size place) zone
+
+-- the zone, if a drive with that many zones has it
+abbrev pub zone_below : ℕ → Option ℕ → Option ℕ
+zone_below zones None = None
+zone_below zones (Some zone) = if nat_lt zone zones then Some zone else None
+
+-- the zone of the drive that a place lies in
+abbrev pub zone_in : MapView → Place → Option ℕ
+zone_in map place = zone_below map.zones (zone_of map.zone_size place)
 
 -- how many live records a zone has: one for each block that lies in it
 abbrev pub live : MapView → ℕ → ℕ

@@ -1,7 +1,7 @@
 ghost use Rattle.std.specs.Prelude.{◌≡◌, ◌≢◌, ◌<◌, ◌≤◌, ◌+◌, ◌/◌, ◌^◌, length, map, slice_get, slice_index, slice_index_or, slice_set, replicate, IfSome, OnOk, OnErr};
 ghost use Rattle.logical_map.specs.Counts.{lowered, raised};
 ghost use Rattle.logical_map.specs.Lists.{FindsBlock, FindsThere};
-ghost use Rattle.logical_map.specs.Live.{first_record, lies_in, live, records_of, zone_of};
+ghost use Rattle.logical_map.specs.Live.{first_record, lies_in, live, records_of, zone_in, zone_of};
 ghost use Rattle.logical_map.specs.Pages.{page_of, place_in, place_of};
 ghost use Rattle.logical_map.specs.Places.{ArePlacedReady, Grows, IsReady, Reserves, address_of};
 ghost use Rattle.logical_map.specs.declared.place.Place.TheVariants as places;
@@ -120,15 +120,16 @@ impl Map {
         self.lists[zone as usize].make_room(empty, count)
     }
 
-    /// Sets the place of a block that room was made for. It allocates nothing.
-    pub fn set(&mut self, block: u32, place: Place)
+    /// Sets the place of a block that room was made for, and answers the old one. It allocates nothing.
+    pub fn set(&mut self, block: u32, place: Place) -> Place
         requires in_range { block < length self.old.places }
         requires ready { IsReady self.old block }
         requires fits { address_of place + 1 < 2 ^ 63 }
-        ensures { self.new ≡ record self.old { places = slice_set self.old.places block place } }
+        ensures set { self.new ≡ record self.old { places = slice_set self.old.places block place } }
+        ensures old { result ≡ slice_index_or self.old.places block places.None }
     {
         let Some(page) = self.pages.get_mut(&(block / PAGE)) else {
-            return;
+            return Place::None;
         };
         let old = put(page, (block % PAGE) as usize, place);
         let was = zone_of(self.zone_size, old);
@@ -144,6 +145,18 @@ impl Map {
             was,
             zone,
         );
+        old
+    }
+
+    /// The zone of the drive that a place lies in, if it lies in one.
+    pub fn zone_of(&self, place: Place) -> Option<u32>
+        ensures { result ≡ zone_in self.now place }
+    {
+        let zone = zone_of(self.zone_size, place)?;
+        if zone < self.zones as u64 {
+            return Some(zone as u32);
+        }
+        None
     }
 
     /// How many blocks lie in a zone of the drive.
@@ -276,7 +289,7 @@ mod tests {
         let fresh = map.get(last);
         map.reserve_for(last)?;
         map.reserve_in(2, 1)?;
-        map.set(last, Place::At(9));
+        assert_eq!(rt; map.set(last, Place::At(9)), Place::None);
         assert_eq!(rt;
             (fresh, map.get(last), map.get(last - 1)),
             (Place::None, Place::At(9), Place::None)

@@ -2,6 +2,8 @@ pub mod NewestLaws
 pub mod ReserveLaws
 pub mod ZoneLogLaws
 pub mod RolesLaws
+pub mod EmptyLaws
+pub mod MarkLaws
 pub mod AllLaws
 pub mod SizeLaws
 pub mod ClearingLaws

@@ -1,19 +1,14 @@
--- Zones that are being filled, and counts of empty zones.
-use Rattle.std.proofs.Common.{◌≡◌, ◌≢◌, ℕ, suc, ◌+◌, ◌-◌, ◌<◌, ◌≤◌, Bool, true, false, ◌||◌, cond, eqb, List, [], ◌∷◌, ◌++◌, map, length, set, get_or, Option, Some, None, refl, sym, ap, subst, ◌∙◌, inl, inr, arith}
-use Rattle.std.specs.List.{AllByRecursion, count_by, list_any}
+-- Zones that are being filled.
+use Rattle.std.proofs.Common.{◌≡◌, ◌≢◌, ℕ, ◌+◌, ◌<◌, ◌≤◌, Bool, true, false, ◌||◌, cond, eqb, List, [], ◌∷◌, ◌++◌, map, length, set, get_or, Option, Some, None, refl, sym, ap, subst, ◌∙◌, arith}
+use Rattle.std.specs.List.{AllByRecursion, list_any}
 use Rattle.std.specs.Option.{option_map}
-use Rattle.std.proofs.lemmas.Bool.{cases_eq, eqb-true}
+use Rattle.std.proofs.lemmas.Bool.{eqb-true}
 use Rattle.std.proofs.lemmas.List.{get_or-set_same, get_or-set_other, length-set}
-use Rattle.std.proofs.lemmas.List.Sums.{sum_by-set}
 use Rattle.zone_choice.specs.declared.roles.Filling.{Filling}
 use Rattle.zone_choice.specs.declared.roles.Second.{Second}
 use Rattle.zone_choice.specs.declared.roles.Second.TheVariants.{Next, Destination}
-use Rattle.zone_choice.specs.Roles.{AreApart, AreCounted, Differ, IsOccupied, RolesView, filling_of, fillings, grown, grown_second, is_at, is_filling_at, listed, sealed, taken, wrote}
+use Rattle.zone_choice.specs.Roles.{AreApart, Differ, IsOccupied, RolesView, filling_of, fillings, grown, grown_second, is_at, is_filling_at, listed, sealed, taken, wrote}
 use Rattle.zone_choice.proofs.AllLaws.{all-parts, all-weaker}
-
-pub count-none : (xs : List Bool) → ((k : ℕ) → get_or xs k false ≡ false) → count_by (λ b. b) xs ≡ 0
-count-none [] none = refl
-count-none (x ∷ xs) none = let here : x ≡ false = none 0 in rw here (count-none xs (λ k. none (suc k)))
 
 pub all-map : {X Y : Type 0} (P : Y → Type 0) (f : X → Y) (xs : List X) → AllByRecursion (λ x. P (f x)) xs → AllByRecursion P (map f xs)
 all-map P f [] all = tt
@@ -102,7 +97,7 @@ apart-seal roles apart = record { occupied = (all-parts (IsOccupied roles.empty)
 
 -- ---- an empty zone becomes the host zone
 
-occupied-set : (empties : List Bool) (zone : ℕ) (f : Filling) → zone < length empties → get_or empties zone false ≡ true → IsOccupied empties f → IsOccupied (set empties zone false) f
+pub occupied-set : (empties : List Bool) (zone : ℕ) (f : Filling) → zone < length empties → get_or empties zone false ≡ true → IsOccupied empties f → IsOccupied (set empties zone false) f
 occupied-set empties zone f lt here o =
     let other : f.zone ≢ zone = λ e. (let no = o.not_empty in let yes : get_or empties f.zone false ≡ true = rw e here in absurd (cc)) in
     record { in_range = omega (arith, o.in_range, length-set empties zone false); not_empty = get_or-set_other empties zone f.zone false false other ∙ o.not_empty }
@@ -121,31 +116,3 @@ apart-take roles zone apart lt here =
       );
       differ = differ-take roles.empty zone roles.second here second;
     }
-
--- ---- counts of empty zones
-
--- one empty zone fewer
-pub counted-take : (roles : RolesView) (count lowest zone : ℕ) → AreCounted roles count lowest → zone < length roles.empty → get_or roles.empty zone false ≡ true
-    → ((other : ℕ) → other < zone → get_or roles.empty other false ≡ false)
-    → AreCounted (taken roles zone) (count - 1) (zone + 1)
-counted-take roles count lowest zone was lt here below =
-    let empty = roles.empty in
-    let fewer : count_by (λ (b : Bool). b) (set empty zone false) + 1 ≡ count_by (λ (b : Bool). b) empty + 0 = rw here at (sum_by-set (λ (b : Bool). cond {A = ℕ} b 1 0) empty zone false false lt) in
-    let long : length (set empty zone false) ≡ length empty = length-set empty zone false in
-    let gone : get_or (set empty zone false) zone false ≡ false = get_or-set_same empty zone false false lt in
-    record {
-      few = omega (arith, was.few, long);
-      count_is = omega (arith, was.count_is, fewer);
-      none_below = λ k h. elim (cases_eq k zone) as (λ _. get_or (set empty zone false) k false ≡ false) [
-        | inl same ↦ rw same gone
-        | inr other ↦ rw (get_or-set_other empty zone k false false other) (below k (omega arith))
-      ];
-      short = omega (arith, long);
-      apart = apart-take roles zone was.apart lt here;
-    }
-
-pub counted-seal : (roles : RolesView) (count lowest : ℕ) → AreCounted roles count lowest → AreCounted (sealed roles) count lowest
-counted-seal roles count lowest was = record { few = was.few; count_is = was.count_is; none_below = was.none_below; short = was.short; apart = apart-seal roles was.apart }
-
-pub counted-wrote : (roles : RolesView) (count lowest zone blocks : ℕ) → AreCounted roles count lowest → AreCounted (wrote roles zone blocks) count lowest
-counted-wrote roles count lowest zone blocks was = record { few = was.few; count_is = was.count_is; none_below = was.none_below; short = was.short; apart = apart-wrote roles zone blocks was.apart }

@@ -1,5 +1,5 @@
 -- What the zones of a drive are for.
-use Rattle.std.specs.Prelude.{◌≡◌, ◌≢◌, ℕ, ◌+◌, ◌^◌, ◌<◌, ◌≤◌, ◌==◌, if◌then◌else◌, Bool, true, false, List, [], ◌∷◌, ◌++◌, length, count_by, replicate, slice_index_or, slice_set, Option, Some, None}
+use Rattle.std.specs.Prelude.{◌≡◌, ◌≢◌, ℕ, ◌+◌, ◌^◌, ◌<◌, ◌≤◌, ◌==◌, if◌then◌else◌, Bool, true, false, not, ◌&&◌, nat_lt, List, [], ◌∷◌, ◌++◌, length, count_by, replicate, slice_index_or, slice_set, Option, Some, None}
 use Rattle.std.specs.List.{list_any, AllByRecursion}
 use Rattle.std.specs.Option.{option_map}
 use Rattle.zone_choice.specs.declared.roles.Filling.{Filling}
@@ -50,10 +50,18 @@ pub record AreApart (roles : RolesView) : Type 0 where
   pub occupied : AllByRecursion (IsOccupied roles.empty) (fillings roles)
   pub differ : Differ roles.host roles.second
 
-pub record IsLowestEmpty (roles : RolesView) (zone : ℕ) : Type 0 where
-  pub in_range : zone < length roles.empty
-  pub is_empty : is_empty_at roles zone ≡ true
-  pub lowest : (other : ℕ) → other < zone → is_empty_at roles other ≡ false
+-- a sealed zone is not empty, and not being filled
+abbrev pub is_sealed_at : RolesView → ℕ → Bool
+is_sealed_at roles zone = nat_lt zone (length roles.empty) && (not (is_empty_at roles zone) && not (is_filling_at roles zone))
+
+-- the lowest of the zones that are marked as empty
+pub record IsLowestIn (empty : List Bool) (zone : ℕ) : Type 0 where
+  pub in_range : zone < length empty
+  pub is_empty : slice_index_or empty zone false ≡ true
+  pub lowest : (other : ℕ) → other < zone → slice_index_or empty other false ≡ false
+
+abbrev pub IsLowestEmpty : RolesView → ℕ → Type 0
+IsLowestEmpty roles zone = IsLowestIn roles.empty zone
 
 -- the zone is the host zone now, with nothing written
 abbrev pub taken : RolesView → ℕ → RolesView
@@ -62,6 +70,31 @@ taken roles zone = record { empty = slice_set roles.empty zone false; host = Som
 -- the host zone is sealed
 abbrev pub sealed : RolesView → RolesView
 sealed roles = record { empty = roles.empty; host = None; second = roles.second }
+
+-- the zone is the destination now, with nothing written
+abbrev pub with_destination : RolesView → ℕ → RolesView
+with_destination roles zone = record { empty = slice_set roles.empty zone false; host = roles.host; second = Some (Destination (record { zone = zone; written = 0; may_open = false })) }
+
+-- the second zone, after the last Move to it
+abbrev pub moved_to : Second → Second
+moved_to (Next filling) = Next filling
+moved_to (Destination filling) = Next filling
+
+-- a clean has ended: its victim is empty, and its destination is the next zone
+abbrev pub clean_ended : RolesView → ℕ → RolesView
+clean_ended roles victim = record { empty = slice_set roles.empty victim true; host = roles.host; second = option_map moved_to roles.second }
+
+abbrev pub next_of : Option Second → Option Filling
+next_of (Some (Next filling)) = Some filling
+next_of second = None
+
+-- the next zone, if there is one, is the host zone now
+abbrev pub with_next : RolesView → Option Filling → RolesView
+with_next roles None = roles
+with_next roles (Some filling) = record { empty = roles.empty; host = Some filling; second = None }
+
+abbrev pub promoted : RolesView → RolesView
+promoted roles = with_next roles (next_of roles.second)
 
 -- a zone with this number has that many more blocks written, and the drive may hold it open
 abbrev pub grown : ℕ → ℕ → Filling → Filling
@@ -77,12 +110,21 @@ wrote roles zone blocks =
     record { empty = roles.empty; host = option_map (grown zone blocks) roles.host; second = option_map (grown_second zone blocks) roles.second }
 
 -- the number of empty zones, and one below which no zone is empty
-pub record AreCounted (roles : RolesView) (count lowest : ℕ) : Type 0 where
-  pub few : length roles.empty < 2 ^ 32
-  pub count_is : count ≡ count_by (λ b. b) roles.empty
-  pub none_below : (zone : ℕ) → zone < lowest → slice_index_or roles.empty zone false ≡ false
-  pub short : lowest ≤ length roles.empty
-  pub apart : AreApart roles
+pub record AreCounted (empty : List Bool) (count lowest : ℕ) : Type 0 where
+  pub few : length empty < 2 ^ 32
+  pub count_is : count ≡ count_by (λ b. b) empty
+  pub none_below : (zone : ℕ) → zone < lowest → slice_index_or empty zone false ≡ false
+  pub short : lowest ≤ length empty
+
+-- the zones that are sealed are marked, and no others
+pub record AreMarked (roles : RolesView) (marks : List Bool) : Type 0 where
+  pub long : length marks ≡ length roles.empty
+  pub each : (zone : ℕ) → slice_index_or marks zone false ≡ is_sealed_at roles zone
+
+-- one zone more is marked, if there is one
+abbrev pub marked : List Bool → Option Filling → List Bool
+marked marks None = marks
+marked marks (Some filling) = slice_set marks filling.zone true
 
 -- all zones are empty
 abbrev pub unused : ℕ → RolesView

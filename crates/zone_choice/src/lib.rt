@@ -25,6 +25,7 @@
 
 mod append;
 mod batch;
+mod empties;
 mod laws;
 mod reserve;
 mod roles;

@@ -1,8 +1,9 @@
-ghost use Rattle.std.specs.Prelude.{◌≡◌, ◌≤◌, ◌<◌, ◌+◌, ◌^◌, ℕ, IfOk, IfSome, IfNone, None, Some, false, replicate, true};
+ghost use Rattle.std.specs.Prelude.{◌≡◌, ◌≤◌, ◌<◌, ◌+◌, ◌^◌, ℕ, IfOk, IfSome, IfNone, None, Some, false, length, replicate, slice_index_or, true};
 ghost use Rattle.std.specs.List.{AllByRecursion};
-ghost use Rattle.zone_choice.specs.Roles.{IsLowestEmpty, RolesView, empty_count, filling_of, fillings, grown, grown_second, is_empty_at, listed, sealed, taken, unused, wrote};
+ghost use Rattle.zone_choice.specs.Roles.{AreMarked, IsLowestEmpty, clean_ended, empty_count, filling_of, fillings, grown, grown_second, is_sealed_at, listed, marked, moved_to, next_of, promoted, sealed, taken, unused, with_destination, wrote};
 ghost use Rattle.std.specs.Option.{option_map};
 
+use crate::empties::EmptyZones;
 use std::alloc::{AllocError, Global};
 use std::marker::Model;
 
@@ -29,26 +30,35 @@ pub enum Second {
 /// zone, to which the host's batches go, and a *second* one, or *sealed*.
 #[derive(Drop)]
 pub struct Roles {
-    empty: Vec<bool>,
-    /// How many zones are empty.
-    count: u32,
-    /// No zone below is empty.
-    lowest: u32,
+    empty: EmptyZones,
+    /// Which zones are sealed.
+    sealed: Vec<bool>,
     host: Option<Filling>,
     second: Option<Second>,
 }
 
 impl Model for Roles {
-    ghost use Rattle.zone_choice.specs.Roles.{AreCounted, RolesView};
+    ghost use Rattle.zone_choice.specs.Roles.{AreApart, AreMarked, RolesView};
 
     ghost Value = { RolesView };
 
-    ghost view = { λ r. record { empty = r.empty.items; host = r.host; second = r.second } };
+    ghost view = { λ r. record { empty = r.empty; host = r.host; second = r.second } };
 
-    ghost invariant = { λ r. AreCounted (record { empty = r.empty.items; host = r.host; second = r.second }) r.count r.lowest };
+    ghost invariant = { λ r. AreApart (record { empty = r.empty; host = r.host; second = r.second }) × AreMarked (record { empty = r.empty; host = r.host; second = r.second }) r.sealed.items };
 }
 
 impl Filling {
+    /// A zone to which nothing is written yet.
+    fn new(zone: u32) -> Filling
+        ensures { result ≡ record { zone = zone; written = 0; may_open = false } }
+    {
+        Filling {
+            zone,
+            written: 0,
+            may_open: false,
+        }
+    }
+
     /// Counts blocks that were written to the zone with this number, if it is this one.
     fn wrote(&mut self, zone: u32, blocks: u32)
         requires { self.old.written + blocks < 2 ^ 32 }
@@ -66,14 +76,26 @@ impl Roles {
     pub fn new(alloc: Global, zones: u32) -> Result<Roles, AllocError>
         ensures { IfOk result (λ r. r ≡ unused zones) }
     {
-        let empty = vec![in alloc; true; zones as usize]?;
         Ok(Roles {
-            empty,
-            count: zones,
-            lowest: 0,
+            empty: EmptyZones::new(alloc, zones)?,
+            sealed: vec![in alloc; false; zones as usize]?,
             host: None,
             second: None,
         })
+    }
+
+    /// How many zones are empty.
+    pub fn empty_count(&self) -> u32
+        ensures { result ≡ empty_count self.now }
+    {
+        self.empty.count()
+    }
+
+    /// Which zones are sealed.
+    pub fn sealed(&self) -> &[bool]
+        ensures { AreMarked self.now result.now }
+    {
+        self.sealed.as_slice()
     }
 
     /// The host zone.
@@ -83,7 +105,7 @@ impl Roles {
         self.host
     }
 
-    /// The second zone that is being filled.
+    /// The next zone or the destination.
     pub fn second(&self) -> Option<Second>
         ensures { result ≡ self.now.second }
     {
@@ -95,27 +117,59 @@ impl Roles {
         ensures some { IfSome result (λ zone. IsLowestEmpty self.old zone × (2 ≤ empty_count self.old) × (self.new ≡ taken self.old zone)) }
         ensures none { IfNone result ((empty_count self.old < 2) × (self.new ≡ self.old)) }
     {
-        if self.count < 2 {
+        if self.empty.count() < 2 {
             return None;
         }
-        let Some(zone) = self.lowest_empty() else {
+        let Some(zone) = self.empty.take_lowest() else {
             return None;
         };
-        self.empty[zone as usize] = false;
-        self.count -= 1;
-        self.lowest = zone + 1;
-        self.host = Some(Filling {
-            zone,
-            written: 0,
-            may_open: false,
-        });
+        mark(&mut self.sealed, self.host);
+        self.host = Some(Filling::new(zone));
         Some(zone)
+    }
+
+    /// Makes the lowest empty zone the destination, where there is no second zone.
+    pub fn take_destination(&mut self) -> Option<u32>
+        requires { self.old.second ≡ None }
+        ensures some { IfSome result (λ zone. IsLowestEmpty self.old zone × (self.new ≡ with_destination self.old zone)) }
+        ensures none { IfNone result ((empty_count self.old ≡ 0) × (self.new ≡ self.old)) }
+    {
+        let Some(zone) = self.empty.take_lowest() else {
+            return None;
+        };
+        self.second = Some(Second::Destination(Filling::new(zone)));
+        Some(zone)
+    }
+
+    /// Makes the victim of a clean, a sealed zone, an empty one, and the destination the next zone.
+    pub fn end_clean(&mut self, victim: u32)
+        requires { is_sealed_at self.old victim ≡ true }
+        ensures { self.new ≡ clean_ended self.old victim }
+    {
+        self.empty.give_back(victim);
+        self.sealed[victim as usize] = false;
+        moved_to(&mut self.second);
+    }
+
+    /// Makes the next zone the host zone, where there is none. Nothing changes if there is no next zone.
+    pub fn promote(&mut self) -> Option<Filling>
+        requires { self.old.host ≡ None }
+        ensures next { result ≡ next_of self.old.second }
+        ensures promoted { self.new ≡ promoted self.old }
+    {
+        let Some(Second::Next(filling)) = self.second else {
+            return None;
+        };
+        self.second = None;
+        self.host = Some(filling);
+        Some(filling)
     }
 
     /// Seals the host zone, if there is one.
     pub fn seal(&mut self)
         ensures { self.new ≡ sealed self.old }
     {
+        mark(&mut self.sealed, self.host);
         self.host = None;
     }
 
@@ -127,17 +181,24 @@ impl Roles {
         grow(&mut self.host, zone, blocks);
         grow_second(&mut self.second, zone, blocks);
     }
+}
 
-    fn lowest_empty(&self) -> Option<u32>
-        ensures some { IfSome result (IsLowestEmpty self.now) }
-        ensures none { IfNone result ((zone : ℕ) → is_empty_at self.now zone ≡ false) }
-    {
-        for zone in self.lowest..self.empty.len() as u32 {
-            if self.empty[zone as usize] {
-                return Some(zone);
-            }
-        }
-        None
+/// Marks a zone as sealed, if there is one.
+fn mark(marks: &mut Vec<bool>, filling: Option<Filling>)
+    requires { IfSome filling (λ filling. filling.zone < length marks.old.items) }
+    ensures { marks.new.items ≡ marked marks.old.items filling }
+{
+    if let Some(filling) = filling {
+        marks[filling.zone as usize] = true;
+    }
+}
+
+/// Makes a destination the next zone.
+fn moved_to(second: &mut Option<Second>)
+    ensures { second.new ≡ option_map moved_to second.old }
+{
+    if let Some(Second::Destination(filling)) = *second {
+        *second = Some(Second::Next(filling));
     }
 }
 

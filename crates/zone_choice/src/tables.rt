@@ -1,9 +1,9 @@
-ghost use Rattle.std.specs.Prelude.{◌≡◌, ◌≢◌, ◌≤◌, ◌<◌, ◌+◌, ◌^◌, IfNone, IfOk, IfSome, length, None, OnOk, replicate, slice_index_or, slice_set};
+ghost use Rattle.std.specs.Prelude.{◌≡◌, ◌≢◌, ◌≤◌, ◌<◌, ◌+◌, ◌^◌, IfNone, IfOk, IfSome, length, None, OnOk, replicate, slice_index_or, slice_set, true};
 ghost use Rattle.std.specs.List.{AllByRecursion};
 ghost use Rattle.logical_map.specs.Live.{first_record, live};
 ghost use Rattle.logical_map.specs.Places.{ArePlacedReady, IsReady, Reserves, address_of};
 ghost use Rattle.logical_map.specs.declared.place.Place.TheVariants as places;
-ghost use Rattle.zone_choice.specs.Roles.{IsLowestEmpty, empty_count, fillings, sealed, taken, unused, wrote};
+ghost use Rattle.zone_choice.specs.Roles.{IsLowestEmpty, clean_ended, empty_count, fillings, is_sealed_at, next_of, promoted, sealed, taken, unused, with_destination, wrote};
 ghost use Rattle.zone_choice.specs.Tables.{AreReserved, GrowsTo, MakesRoom, size_of};
 
 use crate::roles::{Filling, Roles, Second};
@@ -96,11 +96,18 @@ impl Tables {
         self.roles.host()
     }
 
-    /// The second zone that is being filled.
+    /// The next zone or the destination.
     pub fn second(&self) -> Option<Second>
         ensures { result ≡ self.now.roles.second }
     {
         self.roles.second()
+    }
+
+    /// How many zones are empty.
+    pub fn empty_count(&self) -> u32
+        ensures { result ≡ empty_count self.now.roles }
+    {
+        self.roles.empty_count()
     }
 
     /// Makes room for the places of `count` blocks from `first` on, and to note them in a zone. Where an
@@ -133,6 +140,32 @@ impl Tables {
         ensures none { IfNone result ((empty_count self.old.roles < 2) × (self.new ≡ self.old)) }
     {
         self.roles.take_empty()
+    }
+
+    /// Makes the lowest empty zone the destination, where there is no second zone.
+    pub fn take_destination(&mut self) -> Option<u32>
+        requires { self.old.roles.second ≡ None }
+        ensures some { IfSome result (λ zone. IsLowestEmpty self.old.roles zone × (self.new ≡ record self.old { roles = with_destination self.old.roles zone })) }
+        ensures none { IfNone result ((empty_count self.old.roles ≡ 0) × (self.new ≡ self.old)) }
+    {
+        self.roles.take_destination()
+    }
+
+    /// Makes the victim of a clean, a sealed zone, an empty one, and the destination the next zone.
+    pub fn end_clean(&mut self, victim: u32)
+        requires { is_sealed_at self.old.roles victim ≡ true }
+        ensures { self.new ≡ record self.old { roles = clean_ended self.old.roles victim } }
+    {
+        self.roles.end_clean(victim);
+    }
+
+    /// Makes the next zone the host zone, where there is none. Nothing changes if there is no next zone.
+    pub fn promote(&mut self) -> Option<Filling>
+        requires { self.old.roles.host ≡ None }
+        ensures next { result ≡ next_of self.old.roles.second }
+        ensures promoted { self.new ≡ record self.old { roles = promoted self.old.roles } }
+    {
+        self.roles.promote()
     }
 
     /// Seals the host zone, if there is one.

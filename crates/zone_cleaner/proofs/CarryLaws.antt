@@ -32,7 +32,7 @@ use Rattle.zone_choice.proofs.ReadLaws.{HoldsPlace, holds_place}
 use Rattle.zone_choice.proofs.ReserveLaws.{positive-most}
 use Rattle.zone_cleaner.specs.Clean.{AreMoves, CleanView, HasRoomFor, IsClean, moved_to, turns_left, unwritten, untaken}
 use Rattle.zone_cleaner.specs.LiveRecords.{LiveRecord, content_of, data_of, entries_of, entry_of, move_of, records_in}
-use Rattle.zone_cleaner.specs.Pending.{is_sealed_at}
+use Rattle.zone_choice.specs.Roles.{is_sealed_at}
 use Rattle.zone_cleaner.specs.Turns.{after_move}
 use Rattle.zone_cleaner.proofs.BudgetLaws.{AfterMove, after-move}
 use Rattle.zone_cleaner.proofs.CleanLaws.{live-parts}

@@ -21,7 +21,8 @@ use Rattle.zone_choice.specs.ZoneLogs.{log_at}
 use Rattle.batch_log.specs.Log.{Batch}
 use Rattle.zone_cleaner.specs.Clean.{AreMoves, CleanView, Gathers, HasRoomFor, IsClean, moved_to, turns_left, untaken}
 use Rattle.zone_cleaner.specs.LiveRecords.{LiveRecord, content_of, records_in}
-use Rattle.zone_cleaner.specs.Pending.{KeepsRoles, is_sealed_at}
+use Rattle.zone_cleaner.specs.Pending.{KeepsRoles}
+use Rattle.zone_choice.specs.Roles.{is_sealed_at}
 use Rattle.zone_cleaner.specs.Turns.{with_record}
 use Rattle.zone_cleaner.proofs.HistoryLaws.{moves-spare}
 use Rattle.zone_cleaner.proofs.RecordLaws.{length-records_in, live_in, live_in-split, takes-next, takes-none}

@@ -21,7 +21,7 @@ use Rattle.zone_choice.proofs.AgreementLaws.{size-encoded}
 use Rattle.zone_choice.proofs.CommandLaws.{filling-in_range}
 use Rattle.zone_cleaner.specs.Clean.{CleanView, IsClean, moved_to, turns_left, unwritten, untaken}
 use Rattle.zone_cleaner.specs.LiveRecords.{entries_of, move_of}
-use Rattle.zone_cleaner.specs.Pending.{is_sealed_at}
+use Rattle.zone_choice.specs.Roles.{is_sealed_at}
 use Rattle.zone_cleaner.specs.Turns.{MovesRecords, after_move}
 use Rattle.zone_cleaner.proofs.CarryLaws.{fits-move, grown-self, moved_places, told_same}
 use Rattle.zone_cleaner.proofs.CleanLaws.{live-parts}

@@ -12,7 +12,7 @@ use Rattle.zone_choice.specs.Agreement.{Agrees, HoldsFilling, IsSealed, Mounted,
 use Rattle.zone_choice.specs.Roles.{RolesView, filling_of, fillings, is_at, is_empty_at, is_filling_at, listed, wrote}
 use Rattle.zone_choice.specs.ZoneLogs.{zone_log}
 use Rattle.zone_choice.proofs.RolesLaws.{filling_at-wrote, second_list}
-use Rattle.zone_cleaner.specs.Pending.{is_sealed_at}
+use Rattle.zone_choice.specs.Roles.{is_sealed_at}
 
 pub record SealedZone (roles : RolesView) (zone : ℕ) : Type 0 where
   pub in_range : zone < length roles.empty

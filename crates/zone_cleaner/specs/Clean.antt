@@ -16,7 +16,7 @@ use Rattle.zone_choice.specs.Spare.{IsBefore, IsMoveFrom, IsSpare, first_sequenc
 use Rattle.zone_choice.specs.Tables.{TablesView, size_of}
 use Rattle.zone_choice.specs.ZoneLogs.{log_at}
 use Rattle.zone_cleaner.specs.LiveRecords.{LiveRecord, records_in}
-use Rattle.zone_cleaner.specs.Pending.{is_sealed_at}
+use Rattle.zone_choice.specs.Roles.{is_sealed_at}
 
 -- What a running clean knows: its victim; the first block that it has not looked at yet; and the records gathered for the next Move, of blocks before that one.
 pub record CleanView : Type 0 where

@@ -19,7 +19,8 @@ use Rattle.zone_cleaner.specs.declared.fault.CleanFault.{CleanFault}
 use Rattle.zone_cleaner.specs.declared.fault.CleanFault.TheVariants as faults
 use Rattle.zone_cleaner.specs.Clean.{CleanView, moved_to}
 use Rattle.zone_cleaner.specs.LiveRecords.{LiveRecord, content_of, move_of}
-use Rattle.zone_cleaner.specs.Pending.{KeepsRoles, clean_ended}
+use Rattle.zone_cleaner.specs.Pending.{KeepsRoles}
+use Rattle.zone_choice.specs.Roles.{clean_ended}
 
 -- ---- which step is next
 

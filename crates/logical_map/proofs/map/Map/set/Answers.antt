@@ -8,8 +8,8 @@ use Rattle.logical_map.proofs.Listing.{listed-set, listed-shorter}
 use Rattle.logical_map.proofs.Showing.{sets, shown-some, length-shown, ready-at, is_at-other}
 use Rattle.logical_map.proofs.map.Map.set.Goals as goal
 
-pub returns : goal.returns
-returns c =
+pub returns-clause-set : goal.returns-clause-set
+returns-clause-set c =
     let w = Rattle.std.specs.Box.with_value c.in-Some.page.now c.put-old.new.page in
     let h = c.get_mut.follows.holds w in
     let u = h.3 (search rules) in
@@ -19,6 +19,13 @@ returns c =
     rw (← c.self.view_is) (sets page page' c.self.inside.count c.self.inside.zones c.self.inside.zone_size c.args.block (map place_of c.deref_mut.result.now) c.args.place (omega (arith, below, length-shown page c.self.inside.count)) (length-map c.deref_mut.result.now place_of ∙ c.put-old.ensures.long)
     (ap (option_map (λ b. map place_of b.value)) (sym c.in-Some.ensures.value) ∙ ap (λ ws. Some (map place_of ws)) (sym c.deref_mut.ensures.value)) (ap (option_map (λ b. map place_of b.value)) u.1 ∙ ap Some c.put-old.ensures.set)
     (λ m apart. ap (option_map (λ b. map place_of b.value)) (u.2 m (is_at-other (c.args.block / 256) m apart))))
+
+pub returns-clause-old : goal.returns-clause-old
+returns-clause-old c =
+    let page = page_of c.self.inside.pages in
+    let below = rw (← c.self.view_is) at c.requires.in_range in
+    let found = ap (option_map (λ b. map place_of b.value)) (sym c.in-Some.ensures.value) ∙ ap (λ ws. Some (map place_of ws)) (sym c.deref_mut.ensures.value) in
+    rw (← c.self.view_is) (c.put-old.ensures.old ∙ shown-some page c.self.inside.count c.args.block (map place_of c.deref_mut.result.now) (omega (arith, below, length-shown page c.self.inside.count)) found)
 
 pub returns-in_default : goal.returns-in_default
 returns-in_default c =
