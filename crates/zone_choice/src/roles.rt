@@ -1,6 +1,6 @@
 ghost use Rattle.std.specs.Prelude.{◌≡◌, ◌≤◌, ◌<◌, ◌+◌, ◌^◌, ℕ, IfOk, IfSome, IfNone, None, Some, false, replicate, true};
 ghost use Rattle.std.specs.List.{AllByRecursion};
-ghost use Rattle.zone_choice.specs.Roles.{IsLowestEmpty, RolesView, empty_count, filling_of, fillings, grown, grown_second, is_empty_at, listed, sealed, taken, unused, wrote};
+ghost use Rattle.zone_choice.specs.Roles.{IsLowestEmpty, RolesView, closed_beside, closed_unless, empty_count, filling_of, fillings, grown, is_empty_at, is_open_beside, listed, open_beside, sealed, second_with, taken, unused, wrote};
 ghost use Rattle.std.specs.Option.{option_map};
 
 use std::alloc::{AllocError, Global};
@@ -57,6 +57,33 @@ impl Filling {
         if self.zone == zone {
             self.written += blocks;
             self.may_open = true;
+        }
+    }
+
+    /// Notes that the drive does not hold it open, unless it is the zone with this number.
+    fn closed_unless(&mut self, zone: u32)
+        ensures { self.new ≡ closed_unless zone self.old }
+    {
+        if self.zone != zone {
+            self.may_open = false;
+        }
+    }
+
+    /// Whether it is another zone than this one, and the drive may hold it open.
+    fn is_open_beside(&self, zone: u32) -> bool
+        ensures { result ≡ is_open_beside zone self.now }
+    {
+        self.zone != zone && self.may_open
+    }
+}
+
+impl Second {
+    fn filling(self) -> Filling
+        ensures { result ≡ filling_of self }
+    {
+        match self {
+            Second::Next(filling) => filling,
+            Second::Destination(filling) => filling,
         }
     }
 }
@@ -121,6 +148,30 @@ impl Roles {
         grow_second(&mut self.second, zone, blocks);
     }
 
+    /// The zone that is being filled beside this one, if the drive may hold it open.
+    pub fn open_beside(&self, zone: u32) -> Option<Filling>
+        ensures { result ≡ open_beside self.now zone }
+    {
+        if let Some(host) = self.host {
+            if host.is_open_beside(zone) {
+                return Some(host);
+            }
+        }
+        let second = self.second?.filling();
+        if second.is_open_beside(zone) {
+            return Some(second);
+        }
+        None
+    }
+
+    /// Notes that the zones that are being filled beside this one were closed.
+    pub fn closed_beside(&mut self, zone: u32)
+        ensures { self.new ≡ closed_beside self.old zone }
+    {
+        close_unless(&mut self.host, zone);
+        close_second_unless(&mut self.second, zone);
+    }
+
     fn lowest_empty(&self) -> Option<u32>
         ensures some { IfSome result (IsLowestEmpty self.now) }
         ensures none { IfNone result ((zone : ℕ) → is_empty_at self.now zone ≡ false) }
@@ -145,11 +196,29 @@ fn grow(filling: &mut Option<Filling>, zone: u32, blocks: u32)
 
 fn grow_second(second: &mut Option<Second>, zone: u32, blocks: u32)
     requires { AllByRecursion (λ filling. filling.written + blocks < 2 ^ 32) (listed (option_map filling_of second.old)) }
-    ensures { second.new ≡ option_map (grown_second zone blocks) second.old }
+    ensures { second.new ≡ option_map (second_with (grown zone blocks)) second.old }
 {
     match second {
         Some(Second::Next(filling)) => filling.wrote(zone, blocks),
         Some(Second::Destination(filling)) => filling.wrote(zone, blocks),
+        None => {}
+    }
+}
+
+fn close_unless(filling: &mut Option<Filling>, zone: u32)
+    ensures { filling.new ≡ option_map (closed_unless zone) filling.old }
+{
+    if let Some(filling) = filling {
+        filling.closed_unless(zone);
+    }
+}
+
+fn close_second_unless(second: &mut Option<Second>, zone: u32)
+    ensures { second.new ≡ option_map (second_with (closed_unless zone)) second.old }
+{
+    match second {
+        Some(Second::Next(filling)) => filling.closed_unless(zone),
+        Some(Second::Destination(filling)) => filling.closed_unless(zone),
         None => {}
     }
 }
