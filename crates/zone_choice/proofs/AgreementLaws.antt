@@ -15,21 +15,22 @@ use Rattle.logical_map.specs.declared.place.Place.TheVariants as places
 use Rattle.zone_choice.specs.declared.roles.Filling.{Filling}
 use Rattle.zone_choice.specs.declared.roles.Second.{Second}
 use Rattle.zone_choice.specs.Records.{Record, append_log, batch_records, new_records, over, place, shown}
-use Rattle.zone_choice.specs.Changes.{size_with}
+use Rattle.zone_choice.specs.Changes.{size_with, tables_closed}
 use Rattle.zone_choice.specs.Repair.{HasAtMost}
 use Rattle.zone_choice.specs.Reserve.{FitsReserve, batch_most}
 use Rattle.zone_choice.specs.Sizes.{encoded_size, extended, map_of}
 use Rattle.zone_choice.specs.Spare.{HasSpare}
 use Rattle.zone_choice.specs.ZoneLogs.{HasLog, has_torn_tail, log_at, sequences, spelled_array, zone_log, zone_logs, zone_tails}
 use Rattle.zone_choice.specs.Mountable.{AreSound, IsMountable, is_partly_written}
-use Rattle.zone_choice.specs.Roles.{RolesView, empty_count, fillings, is_empty_at, is_filling_at, taken, wrote}
+use Rattle.zone_choice.specs.Roles.{RolesView, closed_unless, empty_count, fillings, is_empty_at, is_filling_at, taken, wrote}
 use Rattle.zone_choice.specs.Tables.{MakesRoom, TablesView, size_of}
 use Rattle.zone_choice.specs.Agreement.{Agrees, HoldsFilling, Mounted, RolesAgree, drive_logs, mounted, spelled}
 use Rattle.zone_choice.specs.Laws.{IsNext, Writes}
 use Rattle.zone_choice.proofs.AllLaws.{all-at, all-weaker}
-use Rattle.zone_choice.proofs.ContentLaws.{all-usable, count-fillings, few-write, filling-log, roles-finish, roles-seal, roles-settled, roles-take, roles-write, settled-whole}
+use Rattle.zone_choice.proofs.ContentLaws.{all-usable, count-fillings, few-write, filling-log, roles-close, roles-finish, roles-seal, roles-settled, roles-take, roles-write, settled-whole}
 use Rattle.zone_choice.proofs.MountLaws.{NoTails, untorn_mounts}
-use Rattle.zone_choice.proofs.RolesLaws.{all-filling, few-fillings, filling-occupied, roles_with}
+use Rattle.zone_choice.proofs.OpenLaws.{OpensNone, OpensOnly, ShutBeside, all-tells_closed, all-tells_grown, emptied-shut, tells-kept}
+use Rattle.zone_choice.proofs.RolesLaws.{all-filling, all-with, closed-zone, few-fillings, filling-occupied, roles_with, second_list}
 use Rattle.zone_choice.proofs.SizeLaws.{append_writes, array_length, next_is_last, told-length}
 use Rattle.zone_choice.proofs.ZoneLogLaws.{append_logs, finish_logs, full-untorn, log_at-zone, readable-not_full, tail-at, zone_log-read}
 
@@ -50,8 +51,8 @@ size-encoded disk agrees = ap length agrees.places ∙ told-length (place disk.d
 
 -- ---- commands that change no content
 
-pub agrees_same : (old new : DriveState) (tables : TablesView) → SameContents old new → IsLawful new → Agrees (mounted old tables) → Agrees (mounted new tables)
-agrees_same old new tables same lawful agrees = record {
+pub agrees_same : (old new : DriveState) (tables : TablesView) → SameContents old new → OpensNone old.zones new.zones → IsLawful new → Agrees (mounted old tables) → Agrees (mounted new tables)
+agrees_same old new tables same opens lawful agrees = record {
   geometry = rw same.geometry agrees.geometry;
   reserve = rw same.geometry agrees.reserve;
   lawful = lawful;
@@ -63,7 +64,28 @@ agrees_same old new tables same lawful agrees = record {
   places = rw (same.geometry, same.contents) agrees.places;
   roles = rw (same.geometry, same.contents) agrees.roles;
   few = rw (same.geometry, same.contents) agrees.few;
+  open_zones = tells-kept old.zones new.zones (fillings tables.roles) opens agrees.open_zones;
 }
+
+-- and the tables say that the zones beside one are closed, as they are
+pub agrees_close : (old new : DriveState) (tables : TablesView) (zone : ℕ) → SameContents old new → OpensNone old.zones new.zones → IsLawful new → AllByRecursion (ShutBeside new.zones zone) (fillings tables.roles) → Agrees (mounted old tables) → Agrees (mounted new (tables_closed tables zone))
+agrees_close old new tables zone same opens lawful shut agrees =
+    let now = agrees_same old new tables same opens lawful agrees in
+    let logs = drive_logs new in
+    record {
+      geometry = now.geometry;
+      reserve = now.reserve;
+      lawful = now.lawful;
+      logs = now.logs;
+      sound = now.sound;
+      next = now.next;
+      zones = now.zones;
+      zone_size = now.zone_size;
+      places = now.places;
+      roles = roles-close new.geometry.capacity (contents new.zones) logs tables.roles zone now.roles;
+      few = all-with (λ z. AllByRecursion (HasAtMost (batch_most new.geometry)) (log_at logs z)) (closed_unless zone) (closed-zone zone) tables.roles now.few;
+      open_zones = all-tells_closed new.zones zone tables.roles now.open_zones shut;
+    }
 
 pub spelled_same : (old new : DriveState) (n : ℕ) → SameContents old new → spelled new n ≡ spelled old n
 spelled_same old new n same = rw (same.geometry, same.contents) refl
@@ -124,6 +146,7 @@ pub record AppendsBatch (old new : DriveState) (tables : TablesView) (zone : ℕ
   pub geometry : new.geometry ≡ old.geometry
   pub lawful : IsLawful new
   pub appends : Appends (contents old.zones) (contents new.zones) old.geometry.capacity zone (batch_blocks old.geometry.block b)
+  pub opens : OpensOnly zone old.zones new.zones
 
 -- how many blocks of a zone are written
 abbrev pub written_in : DriveState → ℕ → ℕ
@@ -216,6 +239,7 @@ agrees_append old new tables map zone b agrees filling a placed =
       places = rw (after.logs, a.geometry) mapped;
       roles = rw (after.logs, a.geometry) (roles-write g.capacity (contents old.zones) (contents new.zones) logs tables.roles zone (batch_blocks g.block b) b agrees.roles filling a.appends taken after.in_range);
       few = rw (after.logs, a.geometry) (few-write (batch_most g) logs tables.roles zone b after.in_range a.few agrees.few);
+      open_zones = all-tells_grown old.zones new.zones zone (batch_size b) tables.roles a.opens agrees.open_zones;
     }
 
 pub spelled_append : (old new : DriveState) (tables : TablesView) (zone : ℕ) (b : Batch) → Agrees (mounted old tables) → is_filling_at tables.roles zone ≡ true → AppendsBatch old new tables zone b
@@ -230,10 +254,10 @@ spelled_append old new tables zone b agrees filling a =
 
 pub agrees_finish : (old new : DriveState) (map : MapView) (empties : List Bool) (host : Filling) (second : Option Second) (next given : ℕ)
     → Agrees (mounted old (tables_with map (roles_with empties (Some host) second) next given)) → 1 ≤ host.written → host.written < old.geometry.capacity
-    → new.geometry ≡ old.geometry → IsLawful new → Finishes (contents old.zones) (contents new.zones) host.zone
+    → new.geometry ≡ old.geometry → IsLawful new → Finishes (contents old.zones) (contents new.zones) host.zone → OpensNone old.zones new.zones
     → Agrees (mounted new (tables_with map (roles_with empties None second) next given)) × (drive_logs new ≡ drive_logs old) × (spelled new given ≡ spelled old given)
 unfolding spelled_array
-agrees_finish old new map empties host second next given agrees some room geometry lawful finishes =
+agrees_finish old new map empties host second next given agrees some room geometry lawful finishes opens =
     let g = old.geometry in
     let zones = contents old.zones in
     let has : HasLog g (content_at zones host.zone) = all-at (HasLog g) zones host.zone nothing agrees.logs finishes.in_range in
@@ -253,6 +277,7 @@ agrees_finish old new map empties host second next given agrees some room geomet
         places = rw (logs, geometry) agrees.places;
         roles = rw (logs, geometry) (roles-finish g.capacity zones (contents new.zones) (drive_logs old) empties host second agrees.roles finishes some);
         few = rw (logs, geometry) agrees.few.1;
+        open_zones = tells-kept old.zones new.zones (second_list second) opens agrees.open_zones.1;
       },
       logs,
       rw (logs, geometry) refl,
@@ -278,6 +303,7 @@ agrees_seal drive map empties host second next given agrees some is_full = recor
   places = agrees.places;
   roles = roles-seal drive.geometry.capacity (contents drive.zones) (drive_logs drive) empties host second agrees.roles is_full some;
   few = agrees.few.1;
+  open_zones = agrees.open_zones.1;
 }
 
 pub zone_log-emptied : (geometry : Geometry) → zone_log geometry emptied ≡ []
@@ -302,6 +328,7 @@ agrees_take drive map empties second zone next given agrees lt here = record {
   places = agrees.places;
   roles = roles-take drive.geometry.capacity (contents drive.zones) (drive_logs drive) empties second zone agrees.roles lt here (vacant-emptied drive.geometry (contents drive.zones) zone (agrees.roles.empty zone here));
   few = (rw (vacant-emptied drive.geometry (contents drive.zones) zone (agrees.roles.empty zone here)) tt, agrees.few);
+  open_zones = ((λ no. emptied-shut drive.zones zone (agrees.roles.empty zone here)), agrees.open_zones);
 }
 
 -- of two empty zones one is left
@@ -324,6 +351,7 @@ agrees_room drive old new room agrees = record {
   places = rw (room.places, room.given) agrees.places;
   roles = rw room.roles agrees.roles;
   few = rw room.roles agrees.few;
+  open_zones = rw room.roles agrees.open_zones;
 }
 
 -- ---- a disk's drive can be mounted again at any moment

@@ -1,6 +1,7 @@
 -- What commands change of a mounted disk: a halt nothing, an Append of a batch what the batch says.
-use Rattle.std.proofs.Common.{◌≡◌, ◌⊎◌, ℕ, zero, suc, ◌+◌, ◌*◌, ◌/◌, ◌<◌, ◌≤◌, ◌^◌, List, [], ◌∷◌, length, take, drop, set, Some, Err, refl, sym, ap, ◌∙◌, inl, inr, arith}
+use Rattle.std.proofs.Common.{◌≡◌, ◌⊎◌, ℕ, zero, suc, ◌+◌, ◌*◌, ◌/◌, ◌<◌, ◌≤◌, ◌^◌, List, [], ◌∷◌, length, take, drop, set, Some, Ok, Err, refl, sym, ap, ◌∙◌, inl, inr, arith}
 use Rattle.std.specs.List.{AllByRecursion}
+use Rattle.std.specs.Option.{option_map}
 use Rattle.std.proofs.lemmas.Bool.{cases_lt}
 use Rattle.std.proofs.lemmas.List.{length-append, take_all, take_at}
 use Rattle.std.proofs.lemmas.Nat.{div-mul-add, mul-le}
@@ -9,6 +10,7 @@ use Rattle.zone_states.specs.declared.geometry.Geometry.{Geometry}
 use Rattle.zone_states.specs.Geometry.{IsInRange}
 use Rattle.zone_states.specs.Zone.{cut_blocks}
 use Rattle.drive_port.specs.Calls.{Appended, AppendedFront, AppendGives, AppendKeeps, CanAppend, IsNotRefused, IsWholeBlocks, Obeys, block_count}
+use Rattle.drive_port.specs.Calls.{AppendLeaves as PortLeaves}
 use Rattle.drive_port.specs.Contents.{Appends, Counts, SameContents, content_at, contents}
 use Rattle.drive_port.specs.Drive.{DriveState, IsLawful}
 use Rattle.drive_port.specs.declared.calls.PortFault.{PortFault}
@@ -22,34 +24,37 @@ use Rattle.logical_map.specs.declared.place.Place.{Place}
 use Rattle.logical_map.specs.declared.place.Place.TheVariants as places
 use Rattle.zone_choice.specs.Agreement.{Agrees, Mounted, drive_logs, mounted, mounted_array, spelled}
 use Rattle.zone_choice.specs.Builder.{BuilderView, IsBuilt, built, placed}
-use Rattle.zone_choice.specs.Changes.{AppendLeaves, CanPlace, IsHalt, KeepsArray, Places, StopsInside, halt_of, size_with, told_over}
+use Rattle.zone_choice.specs.Changes.{AppendLeaves, CanPlace, IsHalt, KeepsArray, Places, StopsInside, halt_of, roles_alone, size_with, told_over}
 use Rattle.zone_choice.specs.Records.{append_log, batch_records, entry_records, over, place, record_of, shown}
-use Rattle.zone_choice.specs.Roles.{RolesView, fillings, wrote}
+use Rattle.zone_choice.specs.Roles.{RolesView, closed, fillings, second_with, wrote}
 use Rattle.zone_choice.specs.Sizes.{extended, size_or}
 use Rattle.zone_choice.specs.Tables.{GrowsTo, MakesRoom, TablesView, size_of}
-use Rattle.zone_choice.proofs.AgreementLaws.{AppendsBatch, IsPlaced, agrees_append, agrees_mountable, agrees_room, agrees_same, length-extended, size-placed, spelled_append, spelled_same, tables_after, written_in}
+use Rattle.zone_choice.proofs.AgreementLaws.{AppendsBatch, IsPlaced, agrees_append, agrees_room, agrees_same, length-extended, size-placed, spelled_append, spelled_same, tables_after, written_in}
 use Rattle.zone_choice.proofs.AllLaws.{all-weaker}
 use Rattle.zone_choice.proofs.BuilderLaws.{placed-over, with_places}
 use Rattle.zone_choice.proofs.CommandLaws.{can_append, fillings-few, filling-in_range, zone-start}
-use Rattle.zone_choice.proofs.StopLaws.{Left, left-torn, left-whole}
+use Rattle.zone_choice.proofs.OpenLaws.{OpensNone, OpensOnly, append-opens}
+use Rattle.zone_choice.proofs.StopLaws.{Left, left-same, left-torn, left-whole}
 
 -- ---- nothing changes
 
 pub keeps-refl : (drive : DriveState) (tables : TablesView) → Agrees (mounted drive tables) → KeepsArray (mounted drive tables) (mounted drive tables)
-keeps-refl drive tables agrees = record { agrees = agrees; array = refl; places = refl; next = refl; given = refl; spare = λ some. some; second = refl; geometry = refl; refused = refl; appended = refl }
+keeps-refl drive tables agrees = record { agrees = agrees; logs = refl; array = refl; places = refl; next = refl; given = refl; spare = λ some. some; sealed = λ zone is. is; second = refl; geometry = refl; refused = refl; appended = refl }
 
 pub keeps-halt : (old new : DriveState) (tables : TablesView) → new ≡ old → Agrees (mounted old tables) → KeepsArray (mounted old tables) (mounted new tables)
 keeps-halt old new tables same agrees = rw same (keeps-refl old tables agrees)
 
--- a command that changes no content
-pub keeps-same : (old new : DriveState) (tables : TablesView) → Agrees (mounted old tables) → SameContents old new → IsLawful new → new.refused ≡ old.refused → new.appended ≡ old.appended → KeepsArray (mounted old tables) (mounted new tables)
-keeps-same old new tables agrees same lawful refused appended = record {
-  agrees = agrees_same old new tables same lawful agrees;
+-- a command that changes no content and opens no zone
+pub keeps-same : (old new : DriveState) (tables : TablesView) → Agrees (mounted old tables) → SameContents old new → OpensNone old.zones new.zones → IsLawful new → new.refused ≡ old.refused → new.appended ≡ old.appended → KeepsArray (mounted old tables) (mounted new tables)
+keeps-same old new tables agrees same opens lawful refused appended = record {
+  agrees = agrees_same old new tables same opens lawful agrees;
+  logs = rw (same.geometry, same.contents) refl;
   array = spelled_same old new tables.given same;
   places = refl;
   next = refl;
   given = refl;
   spare = λ some. some;
+  sealed = λ zone is. is;
   second = refl;
   geometry = same.geometry;
   refused = refused;
@@ -57,17 +62,19 @@ keeps-same old new tables agrees same lawful refused appended = record {
 }
 
 -- and was counted
-pub keeps-contents : (old new : DriveState) (tables : TablesView) → Agrees (mounted old tables) → SameContents old new → IsLawful new → Counts old new 0 → KeepsArray (mounted old tables) (mounted new tables)
-keeps-contents old new tables agrees same lawful counts = keeps-same old new tables agrees same lawful counts.refused (omega (arith, counts.appended))
+pub keeps-contents : (old new : DriveState) (tables : TablesView) → Agrees (mounted old tables) → SameContents old new → OpensNone old.zones new.zones → IsLawful new → Counts old new 0 → KeepsArray (mounted old tables) (mounted new tables)
+keeps-contents old new tables agrees same opens lawful counts = keeps-same old new tables agrees same opens lawful counts.refused (omega (arith, counts.appended))
 
 pub keeps-join : (a b c : Mounted) → KeepsArray a b → KeepsArray b c → KeepsArray a c
 keeps-join a b c p q = record {
   agrees = q.agrees;
+  logs = q.logs ∙ p.logs;
   array = q.array ∙ p.array;
   places = q.places ∙ p.places;
   next = q.next ∙ p.next;
   given = q.given ∙ p.given;
   spare = λ some. q.spare (p.spare some);
+  sealed = λ zone is. q.sealed zone (p.sealed zone is);
   second = q.second ∙ p.second;
   geometry = q.geometry ∙ p.geometry;
   refused = q.refused ∙ p.refused;
@@ -78,12 +85,14 @@ keeps-join a b c p q = record {
 pub keeps-room : (drive : DriveState) (old new : TablesView) → MakesRoom old new → Agrees (mounted drive old) → KeepsArray (mounted drive old) (mounted drive new)
 keeps-room drive old new room agrees = record {
   agrees = agrees_room drive old new room agrees;
+  logs = refl;
   array = ap (λ (n : ℕ). spelled drive n) room.given;
   places = room.places;
   next = room.next;
   given = room.given;
   spare = λ some. rw room.roles some;
-  second = ap (λ (r : RolesView). r.second) room.roles;
+  sealed = λ zone is. rw room.roles is;
+  second = ap (λ (r : RolesView). option_map (second_with closed) r.second) room.roles;
   geometry = refl;
   refused = refl;
   appended = refl;
@@ -131,11 +140,11 @@ whole_blocks old tables zone builder bytes bytes-are is can =
     })
 
 -- and the drive takes it
-place_can : (old : DriveState) (tables : TablesView) (zone start : ℕ) (builder : BuilderView) → IsBuilt old.geometry.block builder → CanPlace (mounted old tables) zone (built old.geometry.block builder) → start ≡ zone * old.geometry.size
+place_can : (old : DriveState) (tables : TablesView) (zone start : ℕ) (builder : BuilderView) → IsBuilt old.geometry.block builder → CanPlace (mounted old tables) zone (built old.geometry.block builder) → roles_alone old.geometry tables.roles zone ≡ tables.roles → start ≡ zone * old.geometry.size
     → CanAppend old start (block_count old.geometry builder.bytes)
-place_can old tables zone start builder is can start-is =
+place_can old tables zone start builder is can alone start-is =
     let s = sized old.geometry builder can.agrees.geometry can.heading is in
-    can_append old tables zone start (block_count old.geometry builder.bytes) can.agrees can.filling can.alone start-is (omega (arith, s.count_is)) (omega (arith, s.count_is, can.few)) (omega (arith, s.count_is, can.room))
+    can_append old tables zone start (block_count old.geometry builder.bytes) can.agrees can.filling alone start-is (omega (arith, s.count_is)) (omega (arith, s.count_is, can.few)) (omega (arith, s.count_is, can.room))
 
 -- where a batch lies
 pub address-fits : (old new : DriveState) (tables : TablesView) (zone start address : ℕ) (builder : BuilderView) (bytes : List ℕ) → CanPlace (mounted old tables) zone (built old.geometry.block builder) → start ≡ zone * old.geometry.size
@@ -211,8 +220,8 @@ built-batch : (old : DriveState) (tables : TablesView) (zone : ℕ) (builder : B
 built-batch old tables zone builder can = record { heading = can.heading; body = length-cut old.geometry.block (data_count builder.heading.entries) (drop old.geometry.block builder.bytes) }
 
 appends_batch : (old new : DriveState) (tables : TablesView) (zone : ℕ) (builder : BuilderView) → CanPlace (mounted old tables) zone (built old.geometry.block builder) → new.geometry ≡ old.geometry → IsLawful new
-    → Appends (contents old.zones) (contents new.zones) old.geometry.capacity zone (batch_blocks old.geometry.block (built old.geometry.block builder)) → AppendsBatch old new tables zone (built old.geometry.block builder)
-appends_batch old new tables zone builder can geometry lawful appends = record {
+    → Appends (contents old.zones) (contents new.zones) old.geometry.capacity zone (batch_blocks old.geometry.block (built old.geometry.block builder)) → OpensOnly zone old.zones new.zones → AppendsBatch old new tables zone (built old.geometry.block builder)
+appends_batch old new tables zone builder can geometry lawful appends opens = record {
   batch = built-batch old tables zone builder can;
   size = can.size;
   grows = can.grows;
@@ -224,6 +233,7 @@ appends_batch old new tables zone builder can geometry lawful appends = record {
   geometry = geometry;
   lawful = lawful;
   appends = appends;
+  opens = opens;
 }
 
 -- what a batch says of the array does not depend on where it lies
@@ -239,15 +249,16 @@ told-with old tables zone b size =
     let same : size_or (length (spelled old tables.given)) b.heading.size ≡ size_with tables b = ap (size_or (length (spelled old tables.given))) size in
     rw same (told_anywhere old.geometry.block b.heading.sequence zone (written_in old zone) 0 b.body b.heading.entries (extended (zero_block old.geometry.block) (size_with tables b) (spelled old tables.given)))
 
-pub place_writes : (old new : DriveState) (tables grown after : TablesView) (zone start address blocks : ℕ) (builder : BuilderView) (bytes : List ℕ) → bytes ≡ builder.bytes → IsBuilt old.geometry.block builder → CanPlace (mounted old tables) zone (built old.geometry.block builder) → start ≡ zone * old.geometry.size
-    → Appended old new start bytes address → IsLawful new → blocks ≡ batch_size (built old.geometry.block builder) → GrowsTo tables (size_with tables (built old.geometry.block builder)) grown → after ≡ tables_placed grown zone builder address blocks
+pub place_writes : (old new : DriveState) (tables grown after : TablesView) (zone start address blocks : ℕ) (builder : BuilderView) (bytes : List ℕ) → bytes ≡ builder.bytes → IsBuilt old.geometry.block builder → CanPlace (mounted old tables) zone (built old.geometry.block builder) → roles_alone old.geometry tables.roles zone ≡ tables.roles → start ≡ zone * old.geometry.size
+    → Appended old new start bytes address → PortLeaves old start bytes (Ok address) new → IsLawful new → blocks ≡ batch_size (built old.geometry.block builder) → GrowsTo tables (size_with tables (built old.geometry.block builder)) grown → after ≡ tables_placed grown zone builder address blocks
     → Places (mounted old tables) (mounted new after) zone (built old.geometry.block builder)
-place_writes old new tables grown after zone start address blocks builder bytes bytes-are is can start-is appended lawful blocks-is grows after-is =
+place_writes old new tables grown after zone start address blocks builder bytes bytes-are is can alone start-is appended leaves lawful blocks-is grows after-is =
     let g = old.geometry in
     let b = built g.block builder in
     let s = sized g builder can.agrees.geometry can.heading is in
     let index = (zone-start zone g.size can.agrees.geometry.size.0).0 in
-    let a = appends_batch old new tables zone builder can appended.geometry lawful (rw (bytes-are, start-is, index, s.cut) at appended.contents) in
+    let opens = append-opens old new start bytes (Ok address) leaves in
+    let a = appends_batch old new tables zone builder can appended.geometry lawful (rw (bytes-are, start-is, index, s.cut) at appended.contents) (rw (start-is, index) at opens) in
     let here : length (content_at (contents old.zones) (start / g.size)).blocks ≡ written_in old zone = rw (start-is, index) refl in
     let header : address ≡ zone * g.size + written_in old zone = omega (arith, appended.address_is, here, start-is) in
     let map : MapView = record grown.map { places = placed address (address + 1) builder.heading.entries grown.map.places } in
@@ -266,7 +277,7 @@ place_writes old new tables grown after zone start address blocks builder bytes 
       array = (spelled_append old new tables zone b can.agrees can.filling a).1 ∙ told-with old tables zone b can.size;
       next = refl;
       given = refl;
-      roles = refl;
+      roles = rw alone refl;
       geometry = appended.geometry;
       refused = appended.counts.refused;
       appended = appended.counts.appended;
@@ -276,9 +287,15 @@ place_writes old new tables grown after zone start address blocks builder bytes 
 
 -- a halt that left the contents, or a front of the batch
 stops_inside : (old new : DriveState) (tables : TablesView) (zone start : ℕ) (builder : BuilderView) → IsBuilt old.geometry.block builder → CanPlace (mounted old tables) zone (built old.geometry.block builder) → start ≡ zone * old.geometry.size
-    → SameContents old new ⊎ AppendedFront old new start builder.bytes → Obeys {V = ℕ} old (Err port.Stopped) new → StopsInside (mounted old tables) (mounted new tables) zone (built old.geometry.block builder)
-stops_inside old new tables zone start builder is can start-is kept obeys = by kept
+    → SameContents old new ⊎ AppendedFront old new start builder.bytes → PortLeaves old start builder.bytes (Err port.Stopped) new → Obeys {V = ℕ} old (Err port.Stopped) new → StopsInside (mounted old tables) (mounted new tables) zone (built old.geometry.block builder)
+stops_inside old new tables zone start builder is can start-is kept leaves obeys = by kept
   where
+    opens : OpensOnly (start / old.geometry.size) old.zones new.zones
+    opens = append-opens old new start builder.bytes (Err port.Stopped) leaves
+
+    index : start / old.geometry.size ≡ zone
+    index = rw start-is (zone-start zone old.geometry.size can.agrees.geometry.size.0).0
+
     b : Batch
     b = built old.geometry.block builder
 
@@ -286,7 +303,7 @@ stops_inside old new tables zone start builder is can start-is kept obeys = by k
         → StopsInside (mounted old tables) (mounted new tables) zone b
     made logs array left which = record {
       stopped = obeys.stops refl;
-      tables = refl;
+      tables = inl refl;
       left = elim which [
         | inl same ↦ inl (rw (← same.0, ← same.1) left.encodes)
         | inr more ↦ inr (rw (← more.0, ← more.1) left.encodes)
@@ -298,7 +315,7 @@ stops_inside old new tables zone start builder is can start-is kept obeys = by k
     }
 
     whole : Appends (contents old.zones) (contents new.zones) old.geometry.capacity zone (batch_blocks old.geometry.block b) → StopsInside (mounted old tables) (mounted new tables) zone b
-    whole appends = made _ _ (left-whole old new tables zone b can.agrees can.filling (appends_batch old new tables zone builder can obeys.geometry obeys.lawful appends)) (inr (refl, told-with old tables zone b can.size))
+    whole appends = made _ _ (left-whole old new tables zone b can.agrees can.filling (appends_batch old new tables zone builder can obeys.geometry obeys.lawful appends (rw index at opens))) (inr (refl, told-with old tables zone b can.size))
 
     front : (j : ℕ) → j ≤ length (batch_blocks old.geometry.block b) → Appends (contents old.zones) (contents new.zones) old.geometry.capacity zone (take j (batch_blocks old.geometry.block b)) → StopsInside (mounted old tables) (mounted new tables) zone b
     front j few appends =
@@ -318,9 +335,7 @@ stops_inside old new tables zone start builder is can start-is kept obeys = by k
 
     by : SameContents old new ⊎ AppendedFront old new start builder.bytes → StopsInside (mounted old tables) (mounted new tables) zone b
     by (inl same) =
-        let agrees = agrees_same old new tables same obeys.lawful can.agrees in
-        made (drive_logs old) (spelled old tables.given)
-        (record { encodes = record { logs_are = rw (same.geometry, same.contents) refl; array_is = spelled_same old new tables.given same }; mountable = λ spare. agrees_mountable new tables agrees spare }) (inl (refl, refl))
+        made (drive_logs old) (spelled old tables.given) (left-same old new tables same obeys.lawful can.agrees) (inl (refl, refl))
     by (inr some) =
         let g = old.geometry in
         let s = sized g builder can.agrees.geometry can.heading is in
@@ -332,10 +347,10 @@ pub record Halted (old new : DriveState) (tables : TablesView) (zone : ℕ) (b :
   pub halt : IsHalt fault
   pub leaves : AppendLeaves (mounted old tables) (mounted new tables) zone b (Err (halt_of fault))
 
-pub place_halts : (old new : DriveState) (tables : TablesView) (zone start : ℕ) (builder : BuilderView) (bytes : List ℕ) (fault : PortFault) → bytes ≡ builder.bytes → IsBuilt old.geometry.block builder → CanPlace (mounted old tables) zone (built old.geometry.block builder) → start ≡ zone * old.geometry.size
-    → AppendGives old start bytes (Err fault) new → AppendKeeps old start bytes (Err fault) new → Obeys {V = ℕ} old (Err fault) new → (CanAppend old start (block_count old.geometry bytes) → IsNotRefused {V = ℕ} (Err fault))
+pub place_halts : (old new : DriveState) (tables : TablesView) (zone start : ℕ) (builder : BuilderView) (bytes : List ℕ) (fault : PortFault) → bytes ≡ builder.bytes → IsBuilt old.geometry.block builder → CanPlace (mounted old tables) zone (built old.geometry.block builder) → roles_alone old.geometry tables.roles zone ≡ tables.roles → start ≡ zone * old.geometry.size
+    → AppendGives old start bytes (Err fault) new → AppendKeeps old start bytes (Err fault) new → PortLeaves old start bytes (Err fault) new → Obeys {V = ℕ} old (Err fault) new → (CanAppend old start (block_count old.geometry bytes) → IsNotRefused {V = ℕ} (Err fault))
     → Halted old new tables zone (built old.geometry.block builder) fault
-place_halts old new tables zone start builder bytes (port.Refused status) bytes-are is can start-is gives kept obeys passed =
-    absurd (passed (rw bytes-are (place_can old tables zone start builder is can start-is)))
-place_halts old new tables zone start builder bytes port.Memory bytes-are is can start-is gives kept obeys passed = record { halt = tt; leaves = rw gives.1.1.1 refl }
-place_halts old new tables zone start builder bytes port.Stopped bytes-are is can start-is gives kept obeys passed = record { halt = tt; leaves = stops_inside old new tables zone start builder is can start-is (rw bytes-are at kept) obeys }
+place_halts old new tables zone start builder bytes (port.Refused status) bytes-are is can alone start-is gives kept leaves obeys passed =
+    absurd (passed (rw bytes-are (place_can old tables zone start builder is can alone start-is)))
+place_halts old new tables zone start builder bytes port.Memory bytes-are is can alone start-is gives kept leaves obeys passed = record { halt = tt; leaves = inl (ap (λ (d : DriveState). mounted d tables) gives.1.1.1) }
+place_halts old new tables zone start builder bytes port.Stopped bytes-are is can alone start-is gives kept leaves obeys passed = record { halt = tt; leaves = stops_inside old new tables zone start builder is can start-is (rw bytes-are at kept) (rw bytes-are at leaves) obeys }

@@ -1,8 +1,8 @@
 -- A drive takes the commands of a disk whose tables agree with it.
-use Rattle.std.proofs.Common.{◌≡◌, ◌≢◌, ◌⊎◌, ℕ, zero, suc, ◌+◌, ◌*◌, ◌/◌, ◌%◌, ◌<◌, ◌≤◌, Bool, true, false, ◌||◌, cond, eqb, List, [], ◌∷◌, length, set, get_or, refl, sym, ap, ◌∙◌, inl, inr, arith}
+use Rattle.std.proofs.Common.{◌≡◌, ◌≢◌, ◌⊎◌, ℕ, zero, suc, nat_lt, ◌+◌, ◌*◌, ◌/◌, ◌%◌, ◌<◌, ◌≤◌, Bool, true, false, ◌||◌, cond, eqb, List, [], ◌∷◌, length, set, get_or, refl, sym, ap, ◌∙◌, inl, inr, arith}
 use Rattle.std.specs.List.{AllByRecursion, count_by, list_any, remove}
 use Rattle.std.proofs.Math.ListN.{get_or-map}
-use Rattle.std.proofs.lemmas.Bool.{cases_eq, eqb-true, ne_eqb}
+use Rattle.std.proofs.lemmas.Bool.{cases_eq, eqb-true, ltb-true, ne_eqb}
 use Rattle.std.proofs.lemmas.List.{get_or-set_other, get_or-set_same, length-map, length-set}
 use Rattle.std.proofs.lemmas.List.Sums.{sum_by-cons}
 use Rattle.std.proofs.lemmas.Nat.{div-mul-add, mod-mul-add, mul-le}
@@ -11,24 +11,26 @@ use Rattle.nvme_wire.specs.declared.zone_state.ZoneState.{ZoneState}
 use Rattle.nvme_wire.specs.declared.zone_state.ZoneState.TheVariants as states
 use Rattle.zone_states.specs.Transition.{is_active, is_open}
 use Rattle.zone_states.specs.Zone.{IsLawfulZone, MayHold, Zone}
-use Rattle.drive_port.specs.Calls.{CanAppend, CanFinish}
+use Rattle.drive_port.specs.Calls.{CanAppend, CanClose, CanFinish}
 use Rattle.drive_port.specs.Drive.{DriveState, IsLawful, active_count, open_count}
 use Rattle.drive_port.specs.Contents.{Content, full, content_at, content_of, contents, is_usable, is_writable, nothing, usage_of}
 use Rattle.drive_port.specs.Step.{nowhere, zone_at}
 use Rattle.batch_log.specs.Log.{Batch}
 use Rattle.zone_choice.specs.declared.roles.Filling.{Filling}
 use Rattle.zone_choice.specs.Agreement.{Agrees, HoldsFilling, RolesAgree, drive_logs, mounted}
-use Rattle.zone_choice.specs.Roles.{IsOccupied, RolesView, fillings, is_at, is_filling_at}
+use Rattle.zone_choice.specs.Roles.{IsOccupied, RolesView, closed_beside, fillings, is_at, is_filling_at}
+use Rattle.zone_choice.specs.Changes.{roles_alone}
 use Rattle.zone_choice.specs.Tables.{TablesView}
 use Rattle.zone_choice.proofs.AllLaws.{all-at}
 use Rattle.zone_choice.proofs.ContentLaws.{IsSettled, all-usable, count-fillings, count-zero, filling-writable, roles-settled}
+use Rattle.zone_choice.proofs.OpenLaws.{all-shut, noted-shut}
 use Rattle.zone_choice.proofs.RolesLaws.{few-fillings, filling-occupied}
 
 -- the content of a zone, by its place in the list of zones
 pub content-zone : (zones : List Zone) (zone : ℕ) → content_at (contents zones) zone ≡ content_of (zone_at zones zone)
 content-zone zones zone = get_or-map content_of zones zone nowhere
 
-settled-closed : (state : ZoneState) → IsSettled (usage_of state) → is_active state ≡ false
+pub settled-closed : (state : ZoneState) → IsSettled (usage_of state) → is_active state ≡ false
 settled-closed states.Empty h = refl
 settled-closed states.ImplicitlyOpened h = elim h as (λ _. true ≡ false) [ inl e ↦ cc | inr e ↦ cc ]
 settled-closed states.ExplicitlyOpened h = elim h as (λ _. true ≡ false) [ inl e ↦ cc | inr e ↦ cc ]
@@ -37,7 +39,7 @@ settled-closed states.ReadOnly h = refl
 settled-closed states.Full h = refl
 settled-closed states.Offline h = refl
 
-inactive-shut : (state : ZoneState) → is_active state ≡ false → is_open state ≡ false
+pub inactive-shut : (state : ZoneState) → is_active state ≡ false → is_open state ≡ false
 inactive-shut states.Empty h = refl
 inactive-shut states.ImplicitlyOpened h = h
 inactive-shut states.ExplicitlyOpened h = h
@@ -114,19 +116,37 @@ start-below zone zones size some lt = omega (arith, mul-le (zone + 1) size zones
 pub filling-in_range : (drive : DriveState) (tables : TablesView) (zone : ℕ) → Agrees (mounted drive tables) → is_filling_at tables.roles zone ≡ true → zone < length drive.zones
 filling-in_range drive tables zone agrees here = omega (arith, (filling-occupied tables.roles zone agrees.roles.apart here).0, agrees.roles.count, length-map drive.zones content_of)
 
+-- ---- the drive takes them
+
 -- among the other zones at most one is active
 others_active : (drive : DriveState) (tables : TablesView) (zone : ℕ) → Agrees (mounted drive tables) → is_filling_at tables.roles zone ≡ true
-    → (active_count (remove drive.zones zone) + 1 ≤ length (fillings tables.roles)) × (open_count (remove drive.zones zone) + 1 ≤ length (fillings tables.roles))
+    → active_count (remove drive.zones zone) + 1 ≤ length (fillings tables.roles)
 others_active drive tables zone agrees here =
-    let lt = filling-in_range drive tables zone agrees here in
-    let inactive = λ (k : ℕ) (below : k < length drive.zones) (out : is_filling_at tables.roles k ≡ false). others-inactive drive.geometry.capacity drive.zones (drive_logs drive) tables.roles k agrees.roles below out in (
-      count-others (λ (z : Zone). is_active z.state) drive.zones (fillings tables.roles) zone nowhere refl lt here (few-fillings tables.roles) inactive,
-      count-others (λ (z : Zone). is_open z.state) drive.zones (fillings tables.roles) zone nowhere refl lt here (few-fillings tables.roles) (λ k below out. inactive-shut (zone_at drive.zones k).state (inactive k below out)),
-    )
+    count-others (λ (z : Zone). is_active z.state) drive.zones (fillings tables.roles) zone nowhere refl (filling-in_range drive tables zone agrees here) here (few-fillings tables.roles)
+    (λ k below out. others-inactive drive.geometry.capacity drive.zones (drive_logs drive) tables.roles k agrees.roles below out)
 
--- an Append to a zone that is being filled, which has room for it
+others_open : (drive : DriveState) (tables : TablesView) (zone : ℕ) → Agrees (mounted drive tables) → is_filling_at tables.roles zone ≡ true → open_count (remove drive.zones zone) + 1 ≤ length (fillings tables.roles)
+others_open drive tables zone agrees here =
+    count-others (λ (z : Zone). is_open z.state) drive.zones (fillings tables.roles) zone nowhere refl (filling-in_range drive tables zone agrees here) here (few-fillings tables.roles)
+    (λ k below out. inactive-shut (zone_at drive.zones k).state (others-inactive drive.geometry.capacity drive.zones (drive_logs drive) tables.roles k agrees.roles below out))
+
+-- none is open where the tables say so
+none_open : (drive : DriveState) (tables : TablesView) (zone : ℕ) → Agrees (mounted drive tables) → is_filling_at tables.roles zone ≡ true → closed_beside tables.roles zone ≡ tables.roles → open_count (remove drive.zones zone) ≡ 0
+none_open drive tables zone agrees here noted =
+    let lt = filling-in_range drive tables zone agrees here in
+    count-remove (λ (z : Zone). is_open z.state) drive.zones zone nowhere refl lt ∙ count-zero (λ (z : Zone). is_open z.state) (set drive.zones zone nowhere) nowhere (λ k below. at k (cases_eq k zone) lt (omega (arith, below, length-set drive.zones zone nowhere)))
+  where
+    filled : (k : ℕ) → k ≢ zone → k < length drive.zones → (b : Bool) → is_filling_at tables.roles k ≡ b → is_open (zone_at drive.zones k).state ≡ false
+    filled k other below true e = all-shut drive.zones zone (fillings tables.roles) (noted-shut drive.zones tables.roles zone noted agrees.open_zones) k other e
+    filled k other below false e = inactive-shut (zone_at drive.zones k).state (others-inactive drive.geometry.capacity drive.zones (drive_logs drive) tables.roles k agrees.roles below e)
+
+    at : (k : ℕ) → (k ≡ zone) ⊎ (k ≢ zone) → zone < length drive.zones → k < length drive.zones → is_open (get_or (set drive.zones zone nowhere) k nowhere).state ≡ false
+    at k (inl same) lt below = rw (same, get_or-set_same drive.zones zone nowhere nowhere lt) refl
+    at k (inr other) lt below = rw (get_or-set_other drive.zones zone k nowhere nowhere other) (filled k other below (is_filling_at tables.roles k) refl)
+
+-- an Append to a zone that is being filled, which has room for it; where the drive holds one zone open at most, no other is being filled that may be open
 pub can_append : (drive : DriveState) (tables : TablesView) (zone start count : ℕ)
-    → Agrees (mounted drive tables) → is_filling_at tables.roles zone ≡ true → (2 ≤ drive.geometry.open) ⊎ (length (fillings tables.roles) ≤ 1)
+    → Agrees (mounted drive tables) → is_filling_at tables.roles zone ≡ true → roles_alone drive.geometry tables.roles zone ≡ tables.roles
     → start ≡ zone * drive.geometry.size → 1 ≤ count → count ≤ drive.geometry.transfer → length (content_at (contents drive.zones) zone).blocks + count ≤ drive.geometry.capacity
     → CanAppend drive start count
 can_append drive tables zone start count agrees here alone start-is some few room =
@@ -135,7 +155,6 @@ can_append drive tables zone start count agrees here alone start-is some few roo
     let index : start / size ≡ zone = rw start-is at.0 in
     let lt = filling-in_range drive tables zone agrees here in
     let content = content-zone drive.zones zone in
-    let others = others_active drive tables zone agrees here in
     let two = few-fillings tables.roles in
     record {
       aligned = rw start-is at.1;
@@ -143,9 +162,13 @@ can_append drive tables zone start count agrees here alone start-is some few roo
       few = few;
       writable = rw (index, ← ap (λ (c : Content). c.usage) content) (filling-writable drive.geometry.capacity (contents drive.zones) (drive_logs drive) tables.roles zone agrees.roles here (omega arith));
       room = rw (index, ← ap (λ (c : Content). c.blocks) content) room;
-      active = rw index (omega (arith, others.0, two, agrees.geometry.active));
-      open_zones = rw index (elim alone as (λ _. open_count (remove drive.zones zone) < drive.geometry.open) [ inl more ↦ omega (arith, others.1, two, more) | inr one ↦ omega (arith, others.1, one, agrees.geometry.open_zones) ]);
+      active = rw index (omega (arith, others_active drive tables zone agrees here, two, agrees.geometry.active));
+      open_zones = rw index (by (nat_lt 1 drive.geometry.open) refl alone);
     }
+  where
+    by : (b : Bool) → nat_lt 1 drive.geometry.open ≡ b → cond b tables.roles (closed_beside tables.roles zone) ≡ tables.roles → open_count (remove drive.zones zone) < drive.geometry.open
+    by true e alone = omega (arith, others_open drive tables zone agrees here, few-fillings tables.roles, ltb-true 1 drive.geometry.open e)
+    by false e alone = omega (arith, none_open drive tables zone agrees here alone, agrees.geometry.open_zones)
 
 -- a Finish of a zone that is being filled
 pub can_finish : (drive : DriveState) (tables : TablesView) (zone start : ℕ) → Agrees (mounted drive tables) → is_filling_at tables.roles zone ≡ true → start ≡ zone * drive.geometry.size → CanFinish drive start
@@ -160,6 +183,32 @@ can_finish drive tables zone start agrees here start-is =
       aligned = rw start-is at.1;
       in_range = rw (start-is, ← agrees.lawful.count) (start-below zone (length drive.zones) size agrees.geometry.size.0 lt);
       usable = rw (index, ← ap (λ (c : Content). c.usage) content) (all-at (λ (c : Content). is_usable c.usage ≡ true) (contents drive.zones) zone nothing usable (omega (arith, lt, length-map drive.zones content_of)));
+    }
+
+active-written : (state : ZoneState) (capacity written : ℕ) → MayHold state capacity written → is_writable (usage_of state) ≡ true → 1 ≤ written → is_active state ≡ true
+active-written states.Empty capacity written h w some = absurd (omega arith)
+active-written states.ImplicitlyOpened capacity written h w some = refl
+active-written states.ExplicitlyOpened capacity written h w some = refl
+active-written states.Closed capacity written h w some = refl
+active-written states.ReadOnly capacity written h w some = absurd (cc)
+active-written states.Full capacity written h w some = absurd (cc)
+active-written states.Offline capacity written h w some = absurd (cc)
+
+-- a Close of a zone that is being filled, may be open and isn't full
+pub can_close : (drive : DriveState) (tables : TablesView) (f : Filling) (start : ℕ) → Agrees (mounted drive tables) → f.zone < length drive.zones → HoldsFilling drive.geometry.capacity (contents drive.zones) (drive_logs drive) f → f.may_open ≡ true → f.written ≢ drive.geometry.capacity
+    → start ≡ f.zone * drive.geometry.size → CanClose drive start
+can_close drive tables f start agrees lt is may other start-is =
+    let size = drive.geometry.size in
+    let at = zone-start f.zone size agrees.geometry.size.0 in
+    let index : start / size ≡ f.zone = rw start-is at.0 in
+    let here = content-zone drive.zones f.zone in
+    let one = all-at (IsLawfulZone drive.geometry) drive.zones f.zone nowhere agrees.lawful.zones lt in
+    let writable : is_writable (content_at (contents drive.zones) f.zone).usage ≡ true = elim is.usage as (λ _. is_writable (content_at (contents drive.zones) f.zone).usage ≡ true) [ inl w ↦ w | inr h ↦ absurd (other h.1) ] in
+    let long : length (zone_at drive.zones f.zone).blocks ≡ f.written = rw here at is.written in
+    record {
+      aligned = rw start-is at.1;
+      in_range = rw (start-is, ← agrees.lawful.count) (start-below f.zone (length drive.zones) size agrees.geometry.size.0 lt);
+      active = rw index (active-written (zone_at drive.zones f.zone).state drive.geometry.capacity (length (zone_at drive.zones f.zone).blocks) one.written (rw here at writable) (omega (arith, long, is.opened may)));
     }
 
 -- ---- how far a zone is written

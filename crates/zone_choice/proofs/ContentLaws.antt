@@ -11,11 +11,11 @@ use Rattle.zone_choice.specs.declared.roles.Second.{Second}
 use Rattle.zone_choice.specs.Agreement.{HoldsFilling, IsSealed, RolesAgree}
 use Rattle.zone_choice.specs.Mountable.{is_partly_written}
 use Rattle.zone_choice.specs.Records.{append_log}
-use Rattle.zone_choice.specs.Roles.{Differ, RolesView, filling_of, fillings, grown, is_at, is_empty_at, is_filling_at, taken, wrote}
+use Rattle.zone_choice.specs.Roles.{Differ, RolesView, closed, closed_beside, closed_unless, filling_of, fillings, grown, is_at, is_empty_at, is_filling_at, taken, wrote}
 use Rattle.zone_choice.specs.ZoneLogs.{log_at}
 use Rattle.zone_choice.specs.Repair.{HasAtMost}
 use Rattle.zone_choice.proofs.AllLaws.{all-append, all-from, all-weaker}
-use Rattle.zone_choice.proofs.RolesLaws.{all-filling, all-map, apart-seal, apart-take, apart-wrote, filling-occupied, filling_at-wrote, fillings-wrote, roles_with, second_list}
+use Rattle.zone_choice.proofs.RolesLaws.{all-filling, all-map, all-with, apart-seal, apart-take, apart-with, closed-zone, filling-occupied, filling_at-with, fillings-with, grown-zone, roles_with, second_list}
 
 -- ---- the log of a zone, with a batch more
 
@@ -44,7 +44,7 @@ filled-usage capacity written blocks long = at (eqb (length blocks) capacity) re
 
 -- a zone whose content and log are the same
 pub same-filled : (capacity : ℕ) (old new : List Content) (logs logs' : List (List Batch)) (f : Filling) → content_at new f.zone ≡ content_at old f.zone → log_at logs' f.zone ≡ log_at logs f.zone → HoldsFilling capacity old logs f → HoldsFilling capacity new logs' f
-same-filled capacity old new logs logs' f content log is = record { written = rw content is.written; usage = rw content is.usage; batches = rw log is.batches }
+same-filled capacity old new logs logs' f content log is = record { written = rw content is.written; usage = rw content is.usage; batches = rw log is.batches; opened = is.opened }
 
 grown-filled : (capacity : ℕ) (old new : List Content) (logs : List (List Batch)) (zone : ℕ) (blocks : List (List ℕ)) (batch : Batch) → Appends old new capacity zone blocks → length blocks ≡ batch_size batch → zone < length logs
     → (f : Filling) → HoldsFilling capacity old logs f → HoldsFilling capacity new (append_log logs zone batch) (grown zone (batch_size batch) f)
@@ -62,6 +62,7 @@ grown-filled capacity old new logs zone blocks batch appends size lt f is = at (
           written = rw there long;
           usage = rw there (filled-usage capacity (f.written + batch_size batch) ((content_at old zone).blocks ++ blocks) long);
           batches = rw log (omega (arith, log_size-append (log_at logs f.zone) batch, is.batches));
+          opened = λ may. omega arith;
         }
     at false e =
         let made = filled capacity ((content_at old zone).blocks ++ blocks) in
@@ -76,13 +77,13 @@ roles-write capacity old new logs roles zone blocks batch agree here appends siz
     let other = λ (k : ℕ) (ne : k ≢ zone). (let e : content_at new k ≡ content_at old k = rw appends.zones (get_or-set_other old zone k made nothing ne) in e) in
     record {
       count = rw appends.zones (agree.count ∙ sym (length-set old zone made));
-      apart = apart-wrote roles zone (batch_size batch) agree.apart;
-      fillings_are = subst (AllByRecursion (HoldsFilling capacity new (append_log logs zone batch))) (sym (fillings-wrote roles zone (batch_size batch)))
+      apart = apart-with (grown zone (batch_size batch)) (grown-zone zone (batch_size batch)) roles agree.apart;
+      fillings_are = subst (AllByRecursion (HoldsFilling capacity new (append_log logs zone batch))) (sym (fillings-with (grown zone (batch_size batch)) roles))
           (all-map (HoldsFilling capacity new (append_log logs zone batch)) (grown zone (batch_size batch)) (fillings roles)
           (all-weaker (HoldsFilling capacity old logs) (λ f. HoldsFilling capacity new (append_log logs zone batch) (grown zone (batch_size batch) f)) (fillings roles) (grown-filled capacity old new logs zone blocks batch appends size lt) agree.fillings_are));
       empty = λ k is_empty. other k (λ same. let no = there.1 in let yes = rw same at is_empty in absurd (cc)) ∙ agree.empty k is_empty;
       sealed_are = λ k below not_empty not_filling.
-          let was : is_filling_at roles k ≡ false = sym (filling_at-wrote roles zone (batch_size batch) k) ∙ not_filling in
+          let was : is_filling_at roles k ≡ false = sym (filling_at-with (grown zone (batch_size batch)) (grown-zone zone (batch_size batch)) roles k) ∙ not_filling in
           let ne : k ≢ zone = λ same. (let yes = rw (← same) at here in absurd (cc)) in
           let old_sealed = agree.sealed_are k (rw (appends.zones, length-set) at below) not_empty was in
           record { usage = rw (other k ne) old_sealed.usage; has_batch = rw (log_at-other logs zone k batch ne) old_sealed.has_batch };
@@ -142,7 +143,7 @@ roles-take capacity zones logs empties second zone agree lt here no_log =
     record {
       count = length-set empties zone false ∙ agree.count;
       apart = apart-take (roles_with empties None second) zone agree.apart lt here;
-      fillings_are = (record { written = rw there refl; usage = rw there (inl refl); batches = rw no_log refl }, agree.fillings_are);
+      fillings_are = (record { written = rw there refl; usage = rw there (inl refl); batches = rw no_log refl; opened = λ may. absurd (cc) }, agree.fillings_are);
       empty = λ k is_empty. elim (cases_eq k zone) as (λ _. content_at zones k ≡ emptied) [
         | inl same ↦ rw same there
         | inr other ↦ agree.empty k (rw (get_or-set_other empties zone k false false other) at is_empty)
@@ -153,6 +154,25 @@ roles-take capacity zones logs empties second zone agree lt here no_log =
           agree.sealed_are k below (rw (get_or-set_other empties zone k false false other) at not_empty) (rw (ne_eqb zone k apart) at not_filling);
     }
 
+-- ---- zones are closed
+
+closed-filled : (capacity : ℕ) (zones : List Content) (logs : List (List Batch)) (zone : ℕ) (f : Filling) → HoldsFilling capacity zones logs f → HoldsFilling capacity zones logs (closed_unless zone f)
+closed-filled capacity zones logs zone f is = at (eqb f.zone zone)
+  where
+    at : (b : Bool) → HoldsFilling capacity zones logs (cond b f (closed f))
+    at true = is
+    at false = record { written = is.written; usage = is.usage; batches = is.batches; opened = λ may. absurd (cc) }
+
+pub roles-close : (capacity : ℕ) (zones : List Content) (logs : List (List Batch)) (roles : RolesView) (zone : ℕ) → RolesAgree capacity zones logs roles → RolesAgree capacity zones logs (closed_beside roles zone)
+roles-close capacity zones logs roles zone agree = record {
+  count = agree.count;
+  apart = apart-with (closed_unless zone) (closed-zone zone) roles agree.apart;
+  fillings_are = subst (AllByRecursion (HoldsFilling capacity zones logs)) (sym (fillings-with (closed_unless zone) roles))
+      (all-map (HoldsFilling capacity zones logs) (closed_unless zone) (fillings roles) (all-weaker (HoldsFilling capacity zones logs) (λ f. HoldsFilling capacity zones logs (closed_unless zone f)) (fillings roles) (closed-filled capacity zones logs zone) agree.fillings_are));
+  empty = agree.empty;
+  sealed_are = λ k below not_empty not_filling. agree.sealed_are k below not_empty (sym (filling_at-with (closed_unless zone) (closed-zone zone) roles k) ∙ not_filling);
+}
+
 -- ---- batches with few entries
 
 abbrev AtMost : ℕ → List (List Batch) → Filling → Type 0
@@ -162,19 +182,12 @@ pub few-write : (most : ℕ) (logs : List (List Batch)) (roles : RolesView) (zon
     → AllByRecursion (λ (f : Filling). AllByRecursion (HasAtMost most) (log_at logs f.zone)) (fillings roles)
     → AllByRecursion (λ (f : Filling). AllByRecursion (HasAtMost most) (log_at (append_log logs zone b) f.zone)) (fillings (wrote roles zone (batch_size b)))
 few-write most logs roles zone b lt few all =
-    subst (AllByRecursion (AtMost most (append_log logs zone b))) (sym (fillings-wrote roles zone (batch_size b)))
-    (all-map (AtMost most (append_log logs zone b)) (grown zone (batch_size b)) (fillings roles) (all-weaker (AtMost most logs) (λ f. AtMost most (append_log logs zone b) (grown zone (batch_size b) f)) (fillings roles) one all))
+    all-with (λ z. AllByRecursion (HasAtMost most) (log_at (append_log logs zone b) z)) (grown zone (batch_size b)) (grown-zone zone (batch_size b)) roles
+    (all-weaker (AtMost most logs) (AtMost most (append_log logs zone b)) (fillings roles) (λ f is. at f.zone (cases_eq f.zone zone) is) all)
   where
     at : (k : ℕ) → (k ≡ zone) ⊎ (k ≢ zone) → AllByRecursion (HasAtMost most) (log_at logs k) → AllByRecursion (HasAtMost most) (log_at (append_log logs zone b) k)
     at k (inl same) is = rw (same, log_at-same logs zone b lt) (all-append (HasAtMost most) (log_at logs zone) (b ∷ []) (rw same at is) (few, tt))
     at k (inr other) is = rw (log_at-other logs zone k b other) is
-
-    grown_zone : (f : Filling) (c : Bool) → (cond c (record { zone = f.zone; written = f.written + batch_size b; may_open = true }) f).zone ≡ f.zone
-    grown_zone f true = refl
-    grown_zone f false = refl
-
-    one : (f : Filling) → AtMost most logs f → AtMost most (append_log logs zone b) (grown zone (batch_size b) f)
-    one f is = rw (grown_zone f (eqb f.zone zone)) (at f.zone (cases_eq f.zone zone) is)
 
 -- the log of a zone that is being filled takes all its blocks
 pub filling-log : (capacity : ℕ) (zones : List Content) (logs : List (List Batch)) (roles : RolesView) (zone : ℕ) → RolesAgree capacity zones logs roles → is_filling_at roles zone ≡ true

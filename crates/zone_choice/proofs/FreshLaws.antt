@@ -111,6 +111,7 @@ fresh_agrees drive tables n range reserve lawful all fresh =
       places = rw (fresh.given, fresh-greatest g zones all) (fresh.places ∙ rw (fresh-records g 0 zones all) (sym (told-none (place g.size) 0 n)));
       roles = rw (fresh.roles ∙ ap unused count) (fresh-roles g.capacity zones (drive_logs drive) all);
       few = rw fresh.roles tt;
+      open_zones = rw fresh.roles tt;
     }
 
 -- all its zones are empty

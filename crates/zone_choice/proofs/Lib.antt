@@ -15,8 +15,11 @@ pub mod SequenceLaws
 pub mod BuilderLaws
 pub mod ChangeLaws
 pub mod ContentLaws
+pub mod OpenLaws
 pub mod AgreementLaws
 pub mod CommandLaws
+pub mod CloseLaws
+pub mod AloneLaws
 pub mod ReadLaws
 pub mod WholeLaws
 pub mod FreshLaws

@@ -7,9 +7,9 @@ use Rattle.std.proofs.lemmas.List.{get_or-set_same, get_or-set_other, length-set
 use Rattle.zone_choice.specs.declared.roles.Filling.{Filling}
 use Rattle.zone_choice.specs.declared.roles.Second.{Second}
 use Rattle.zone_choice.specs.declared.roles.Second.TheVariants.{Next, Destination}
-use Rattle.zone_choice.specs.Roles.{AreApart, AreMarked, Differ, IsLowestIn, IsOccupied, RolesView, clean_ended, filling_of, fillings, is_at, is_empty_at, is_filling_at, is_sealed_at, listed, marked, moved_to, promoted, taken, unused, with_destination}
+use Rattle.zone_choice.specs.Roles.{AreApart, AreMarked, Differ, IsLowestIn, IsOccupied, RolesView, clean_ended, filling_of, fillings, is_at, is_empty_at, is_filling_at, is_sealed_at, listed, marked, moved_to, promoted, sealed, taken, unused, with_destination, with_fillings}
 use Rattle.zone_choice.proofs.FreshLaws.{replicate-at}
-use Rattle.zone_choice.proofs.RolesLaws.{occupied-set, roles_with, second_list}
+use Rattle.zone_choice.proofs.RolesLaws.{KeepsZone, filling_at-with, occupied-set, roles_with, second_list}
 
 -- ---- sealed zones
 
@@ -197,3 +197,34 @@ pub marked-promoted : (empties : List Bool) (second : Option Second) (marks : Li
 marked-promoted empties None marks was = was
 marked-promoted empties (Some (Next f)) marks was = record { long = was.long; each = was.each }
 marked-promoted empties (Some (Destination f)) marks was = was
+
+-- ---- a sealed zone stays so
+
+-- where the zones that are being filled change, but for their numbers
+pub sealed-with : (change : Filling → Filling) → KeepsZone change → (roles : RolesView) (zone : ℕ) → is_sealed_at roles zone ≡ true → is_sealed_at (with_fillings change roles) zone ≡ true
+sealed-with change keeps roles zone is =
+    let was = sealed-parts roles zone is in
+    sealed-made (with_fillings change roles) zone was.in_range was.not_empty (filling_at-with change keeps roles zone ∙ was.not_filling)
+
+-- where the host zone is sealed
+pub sealed-seal : (roles : RolesView) (zone : ℕ) → is_sealed_at roles zone ≡ true → is_sealed_at (sealed roles) zone ≡ true
+sealed-seal roles zone is =
+    let was = sealed-parts roles zone is in
+    sealed-made (sealed roles) zone was.in_range was.not_empty (out roles.host was.not_filling)
+  where
+    rest : (b : Bool) → (b || list_any (is_at zone) (second_list roles.second)) ≡ false → list_any (is_at zone) (second_list roles.second) ≡ false
+    rest true e = absurd (cc)
+    rest false e = e
+
+    out : (host : Option Filling) → list_any (is_at zone) (listed host ++ second_list roles.second) ≡ false → list_any (is_at zone) (second_list roles.second) ≡ false
+    out None e = e
+    out (Some h) e = rest (eqb h.zone zone) e
+
+-- where an empty zone becomes the host zone
+pub sealed-take : (roles : RolesView) (zone taken_zone : ℕ) → roles.host ≡ None → is_empty_at roles taken_zone ≡ true → is_sealed_at roles zone ≡ true → is_sealed_at (taken roles taken_zone) zone ≡ true
+sealed-take roles zone taken_zone none empty is =
+    let was = sealed-parts roles zone is in
+    let ne : zone ≢ taken_zone = λ same. (let yes = rw (← same) at empty in let no = was.not_empty in absurd (cc)) in
+    let other : eqb taken_zone zone ≡ false = ne_eqb taken_zone zone (λ same. ne (sym same)) in
+    let here : list_any (is_at zone) (listed None ++ second_list roles.second) ≡ false = rw none at was.not_filling in
+    sealed-made (taken roles taken_zone) zone (omega (arith, was.in_range, length-set roles.empty taken_zone false)) (get_or-set_other roles.empty taken_zone zone false false ne ∙ was.not_empty) (ap (λ (b : Bool). b || list_any (is_at zone) (second_list roles.second)) other ∙ here)

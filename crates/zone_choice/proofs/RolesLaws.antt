@@ -7,7 +7,7 @@ use Rattle.std.proofs.lemmas.List.{get_or-set_same, get_or-set_other, length-set
 use Rattle.zone_choice.specs.declared.roles.Filling.{Filling}
 use Rattle.zone_choice.specs.declared.roles.Second.{Second}
 use Rattle.zone_choice.specs.declared.roles.Second.TheVariants.{Next, Destination}
-use Rattle.zone_choice.specs.Roles.{AreApart, Differ, IsOccupied, RolesView, filling_of, fillings, grown, grown_second, is_at, is_filling_at, listed, sealed, taken, wrote}
+use Rattle.zone_choice.specs.Roles.{AreApart, Differ, IsOccupied, RolesView, closed, closed_beside, closed_unless, filling_of, fillings, grown, is_at, is_filling_at, listed, sealed, second_with, taken, with_fillings}
 use Rattle.zone_choice.proofs.AllLaws.{all-parts, all-weaker}
 
 pub all-map : {X Y : Type 0} (P : Y → Type 0) (f : X → Y) (xs : List X) → AllByRecursion (λ x. P (f x)) xs → AllByRecursion P (map f xs)
@@ -45,50 +45,104 @@ filling-occupied roles zone apart some =
     all-filling (λ z. (z < length roles.empty) × (get_or roles.empty z false ≡ false)) (fillings roles) zone
     (all-weaker (IsOccupied roles.empty) (λ f. (f.zone < length roles.empty) × (get_or roles.empty f.zone false ≡ false)) (fillings roles) (λ f o. (o.in_range, o.not_empty)) apart.occupied) some
 
+-- ---- they are changed, but not which zones they are
+
+abbrev pub KeepsZone : (Filling → Filling) → Type 0
+KeepsZone change = (f : Filling) → (change f).zone ≡ f.zone
+
+fillings_with : (change : Filling → Filling) (host : Option Filling) (second : Option Second) → listed (option_map change host) ++ second_list (option_map (second_with change) second) ≡ map change (listed host ++ second_list second)
+fillings_with change None None = refl
+fillings_with change None (Some (Next s)) = refl
+fillings_with change None (Some (Destination s)) = refl
+fillings_with change (Some h) None = refl
+fillings_with change (Some h) (Some (Next s)) = refl
+fillings_with change (Some h) (Some (Destination s)) = refl
+
+pub fillings-with : (change : Filling → Filling) (roles : RolesView) → fillings (with_fillings change roles) ≡ map change (fillings roles)
+fillings-with change roles = fillings_with change roles.host roles.second
+
+any-with : (change : Filling → Filling) → KeepsZone change → (k : ℕ) (fs : List Filling) → list_any (is_at k) (map change fs) ≡ list_any (is_at k) fs
+any-with change keeps k [] = refl
+any-with change keeps k (f ∷ fs) = rw (any-with change keeps k fs) (ap (λ (z : ℕ). eqb z k || list_any (is_at k) fs) (keeps f))
+
+pub filling_at-with : (change : Filling → Filling) → KeepsZone change → (roles : RolesView) (k : ℕ) → is_filling_at (with_fillings change roles) k ≡ is_filling_at roles k
+filling_at-with change keeps roles k = ap (list_any (is_at k)) (fillings-with change roles) ∙ any-with change keeps k (fillings roles)
+
+differ-with : (change : Filling → Filling) → KeepsZone change → (host : Option Filling) (second : Option Second) → Differ host second → Differ (option_map change host) (option_map (second_with change) second)
+differ-with change keeps None None h = tt
+differ-with change keeps None (Some s) h = tt
+differ-with change keeps (Some f) None h = tt
+differ-with change keeps (Some f) (Some (Next s)) h = λ e. h (sym (keeps f) ∙ e ∙ keeps s)
+differ-with change keeps (Some f) (Some (Destination s)) h = λ e. h (sym (keeps f) ∙ e ∙ keeps s)
+
+-- what depends on their zones alone holds of all of them
+pub all-with : (P : ℕ → Type 0) (change : Filling → Filling) → KeepsZone change → (roles : RolesView) → AllByRecursion (λ f. P f.zone) (fillings roles) → AllByRecursion (λ f. P f.zone) (fillings (with_fillings change roles))
+all-with P change keeps roles all =
+    subst (AllByRecursion (λ f. P f.zone)) (sym (fillings-with change roles))
+    (all-map (λ f. P f.zone) change (fillings roles) (all-weaker (λ f. P f.zone) (λ f. P (change f).zone) (fillings roles) (λ f is. subst P (sym (keeps f)) is) all))
+
+pub apart-with : (change : Filling → Filling) → KeepsZone change → (roles : RolesView) → AreApart roles → AreApart (with_fillings change roles)
+apart-with change keeps roles apart = record {
+  occupied = subst (AllByRecursion (IsOccupied roles.empty)) (sym (fillings-with change roles))
+      (all-map (IsOccupied roles.empty) change (fillings roles) (all-weaker (IsOccupied roles.empty) (λ f. IsOccupied roles.empty (change f)) (fillings roles) (λ f o. record { in_range = rw keeps o.in_range; not_empty = rw keeps o.not_empty }) apart.occupied));
+  differ = differ-with change keeps roles.host roles.second apart.differ;
+}
+
 -- ---- more is written
 
-pub grown-zone : (zone blocks : ℕ) (f : Filling) → (grown zone blocks f).zone ≡ f.zone
+pub grown-zone : (zone blocks : ℕ) → KeepsZone (grown zone blocks)
 grown-zone zone blocks f = at (eqb f.zone zone)
   where
     at : (b : Bool) → (cond b (record { zone = f.zone; written = f.written + blocks; may_open = true }) f).zone ≡ f.zone
     at true = refl
     at false = refl
 
-fillings_wrote : (zone blocks : ℕ) (host : Option Filling) (second : Option Second)
-    → listed (option_map (grown zone blocks) host) ++ second_list (option_map (grown_second zone blocks) second) ≡ map (grown zone blocks) (listed host ++ second_list second)
-fillings_wrote zone blocks None None = refl
-fillings_wrote zone blocks None (Some (Next s)) = refl
-fillings_wrote zone blocks None (Some (Destination s)) = refl
-fillings_wrote zone blocks (Some h) None = refl
-fillings_wrote zone blocks (Some h) (Some (Next s)) = refl
-fillings_wrote zone blocks (Some h) (Some (Destination s)) = refl
+-- ---- zones are closed
 
-pub fillings-wrote : (roles : RolesView) (zone blocks : ℕ) → fillings (wrote roles zone blocks) ≡ map (grown zone blocks) (fillings roles)
-fillings-wrote roles zone blocks = fillings_wrote zone blocks roles.host roles.second
+pub closed-zone : (zone : ℕ) → KeepsZone (closed_unless zone)
+closed-zone zone f = at (eqb f.zone zone)
+  where
+    at : (b : Bool) → (cond b f (closed f)).zone ≡ f.zone
+    at true = refl
+    at false = refl
 
-any-grown : (k zone blocks : ℕ) (fs : List Filling) → list_any (is_at k) (map (grown zone blocks) fs) ≡ list_any (is_at k) fs
-any-grown k zone blocks [] = refl
-any-grown k zone blocks (f ∷ fs) = rw (any-grown k zone blocks fs) (ap (λ (z : ℕ). eqb z k || list_any (is_at k) fs) (grown-zone zone blocks f))
+closed-twice : (zone : ℕ) (f : Filling) → closed_unless zone (closed_unless zone f) ≡ closed_unless zone f
+closed-twice zone f = at (eqb f.zone zone) refl
+  where
+    at : (b : Bool) → eqb f.zone zone ≡ b → closed_unless zone (cond b f (closed f)) ≡ cond b f (closed f)
+    at true e = rw e refl
+    at false e = rw e refl
 
-pub filling_at-wrote : (roles : RolesView) (zone blocks k : ℕ) → is_filling_at (wrote roles zone blocks) k ≡ is_filling_at roles k
-filling_at-wrote roles zone blocks k = ap (list_any (is_at k)) (fillings-wrote roles zone blocks) ∙ any-grown k zone blocks (fillings roles)
+option-closed_twice : (zone : ℕ) (host : Option Filling) → option_map (closed_unless zone) (option_map (closed_unless zone) host) ≡ option_map (closed_unless zone) host
+option-closed_twice zone None = refl
+option-closed_twice zone (Some f) = ap (λ (g : Filling). Some g) (closed-twice zone f)
 
-differ-wrote : (zone blocks : ℕ) (host : Option Filling) (second : Option Second) → Differ host second → Differ (option_map (grown zone blocks) host) (option_map (grown_second zone blocks) second)
-differ-wrote zone blocks None None h = tt
-differ-wrote zone blocks None (Some s) h = tt
-differ-wrote zone blocks (Some f) None h = tt
-differ-wrote zone blocks (Some f) (Some (Next s)) h = λ e. h (sym (grown-zone zone blocks f) ∙ e ∙ grown-zone zone blocks s)
-differ-wrote zone blocks (Some f) (Some (Destination s)) h = λ e. h (sym (grown-zone zone blocks f) ∙ e ∙ grown-zone zone blocks s)
+second-closed_twice : (zone : ℕ) (second : Option Second) → option_map (second_with (closed_unless zone)) (option_map (second_with (closed_unless zone)) second) ≡ option_map (second_with (closed_unless zone)) second
+second-closed_twice zone None = refl
+second-closed_twice zone (Some (Next f)) = ap (λ (g : Filling). Some (Next g)) (closed-twice zone f)
+second-closed_twice zone (Some (Destination f)) = ap (λ (g : Filling). Some (Destination g)) (closed-twice zone f)
 
-occupied-grown : (empties : List Bool) (zone blocks : ℕ) (f : Filling) → IsOccupied empties f → IsOccupied empties (grown zone blocks f)
-occupied-grown empties zone blocks f o = record { in_range = rw grown-zone o.in_range; not_empty = rw grown-zone o.not_empty }
+-- closing them again changes nothing
+pub closed_beside-twice : (roles : RolesView) (zone : ℕ) → closed_beside (closed_beside roles zone) zone ≡ closed_beside roles zone
+closed_beside-twice roles zone =
+    ap (λ (h : Option Filling). roles_with roles.empty h (option_map (second_with (closed_unless zone)) (option_map (second_with (closed_unless zone)) roles.second))) (option-closed_twice zone roles.host)
+    ∙ ap (λ (s : Option Second). roles_with roles.empty (option_map (closed_unless zone) roles.host) s) (second-closed_twice zone roles.second)
 
-pub apart-wrote : (roles : RolesView) (zone blocks : ℕ) → AreApart roles → AreApart (wrote roles zone blocks)
-apart-wrote roles zone blocks apart = record {
-  occupied = subst (AllByRecursion (IsOccupied roles.empty)) (sym (fillings-wrote roles zone blocks))
-      (all-map (IsOccupied roles.empty) (grown zone blocks) (fillings roles) (all-weaker (IsOccupied roles.empty) (λ f. IsOccupied roles.empty (grown zone blocks f)) (fillings roles) (occupied-grown roles.empty zone blocks) apart.occupied));
-  differ = differ-wrote zone blocks roles.host roles.second apart.differ;
-}
+closed-unless : (zone : ℕ) (f : Filling) → closed (closed_unless zone f) ≡ closed f
+closed-unless zone f = at (eqb f.zone zone)
+  where
+    at : (b : Bool) → closed (cond b f (closed f)) ≡ closed f
+    at true = refl
+    at false = refl
+
+-- whether the second zone may be open is all that changes of it
+second-closed : (zone : ℕ) (second : Option Second) → option_map (second_with closed) (option_map (second_with (closed_unless zone)) second) ≡ option_map (second_with closed) second
+second-closed zone None = refl
+second-closed zone (Some (Next f)) = ap (λ (g : Filling). Some (Next g)) (closed-unless zone f)
+second-closed zone (Some (Destination f)) = ap (λ (g : Filling). Some (Destination g)) (closed-unless zone f)
+
+pub same-second : (roles : RolesView) (zone : ℕ) → option_map (second_with closed) (closed_beside roles zone).second ≡ option_map (second_with closed) roles.second
+same-second roles zone = second-closed zone roles.second
 
 -- ---- the host zone is sealed
 

@@ -3,7 +3,7 @@ use Rattle.std.proofs.Common.{◌≡◌, ◌≢◌, ℕ, nat_lt, ◌+◌, ◌-�
 use Rattle.std.specs.List.{AllByRecursion}
 use Rattle.std.proofs.lemmas.Bool.{cases_eq}
 use Rattle.std.proofs.lemmas.List.{get_or-set_other, length-set}
-use Rattle.drive_port.specs.Contents.{Appends, Content, active, full, content_at, contents, filled, is_usable, nothing}
+use Rattle.drive_port.specs.Contents.{Appends, Content, SameContents, active, full, content_at, contents, filled, is_usable, nothing}
 use Rattle.drive_port.specs.Drive.{DriveState, IsLawful}
 use Rattle.batch_log.specs.Log.{Batch, IsBatch, batch_blocks, batch_size, zero_block}
 use Rattle.logical_map.specs.Places.{MapView}
@@ -20,7 +20,7 @@ use Rattle.zone_choice.specs.Sizes.{extended}
 use Rattle.zone_choice.specs.Spare.{HasSpare}
 use Rattle.zone_choice.specs.Tables.{TablesView}
 use Rattle.zone_choice.specs.ZoneLogs.{HasLog, log_at, spelled_array, zone_tails}
-use Rattle.zone_choice.proofs.AgreementLaws.{AppendsBatch, IsPlaced, agrees_append, agrees_mountable, no_tails, size-encoded, sound-weaker, spelled_append, written_in, zone-untorn}
+use Rattle.zone_choice.proofs.AgreementLaws.{AppendsBatch, IsPlaced, agrees_append, agrees_mountable, no_tails, size-encoded, sound-weaker, spelled_append, spelled_same, written_in, zone-untorn}
 use Rattle.zone_choice.proofs.AllLaws.{all-at, all-set}
 use Rattle.zone_choice.proofs.ContentLaws.{all-usable, count-fillings, filling-log, roles-settled, settled-whole}
 use Rattle.zone_choice.proofs.MountLaws.{torn_mounts}
@@ -117,6 +117,13 @@ left-torn old new tables zone j b agrees torn =
       encodes = record { logs_are = logs; array_is = rw (logs, torn.geometry) refl };
       mountable = λ spare. torn_mountable old new tables zone j b agrees torn (rw (logs, torn.geometry) at spare);
     }
+
+-- the drive holds what it did
+pub left-same : (old new : DriveState) (tables : TablesView) → SameContents old new → IsLawful new → Agrees (mounted old tables) → Left new tables.given (drive_logs old) (spelled old tables.given)
+left-same old new tables same lawful agrees = record {
+  encodes = record { logs_are = rw (same.geometry, same.contents) refl; array_is = spelled_same old new tables.given same };
+  mountable = λ spare. record { lawful = lawful; holds = rw (same.geometry, same.contents) (agrees_mountable old tables agrees (rw (same.geometry, same.contents) at spare)).holds };
+}
 
 -- the whole batch: tables that place it would agree with the drive
 pub left-whole : (old new : DriveState) (tables : TablesView) (zone : ℕ) (b : Batch) → Agrees (mounted old tables) → is_filling_at tables.roles zone ≡ true → AppendsBatch old new tables zone b

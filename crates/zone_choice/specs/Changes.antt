@@ -1,9 +1,10 @@
 -- What changes of a mounted disk: nothing that its array tells, or one batch more.
-use Rattle.std.specs.Prelude.{◌≡◌, ◌⊎◌, ℕ, ◌≤◌, ◌<◌, ◌+◌, ◌-◌, ◌*◌, ◌^◌, true, List, length, Some, Result, Ok, Err}
+use Rattle.std.specs.Prelude.{◌≡◌, ◌⊎◌, ℕ, ◌≤◌, ◌<◌, ◌+◌, ◌-◌, ◌*◌, ◌^◌, ◌==◌, nat_lt, if◌then◌else◌, true, List, length, Option, Some, None, Result, Ok, Err}
 use Rattle.std.specs.List.{AllByRecursion}
+use Rattle.std.specs.Option.{option_map}
 use Rattle.zone_states.specs.declared.geometry.Geometry.{Geometry}
 use Rattle.drive_port.specs.Drive.{DriveState}
-use Rattle.drive_port.specs.Contents.{content_at, contents}
+use Rattle.drive_port.specs.Contents.{SameContents, content_at, contents}
 use Rattle.drive_port.specs.declared.calls.PortFault.{PortFault}
 use Rattle.drive_port.specs.declared.calls.PortFault.TheVariants as port
 use Rattle.drive_port.specs.declared.device.Halt.{Halt}
@@ -14,7 +15,8 @@ use Rattle.batch_log.specs.Log.{Batch, batch_size, zero_block}
 use Rattle.logical_map.specs.Places.{IsReady}
 use Rattle.logical_map.specs.declared.place.Place.{Place}
 use Rattle.logical_map.specs.declared.place.Place.TheVariants as places
-use Rattle.zone_choice.specs.Agreement.{Agrees, Mounted, drive_logs, mounted_array, spelled}
+use Rattle.zone_choice.specs.declared.roles.Filling.{Filling}
+use Rattle.zone_choice.specs.Agreement.{Agrees, Mounted, drive_logs, mounted, mounted_array, spelled}
 use Rattle.zone_choice.specs.Mountable.{IsMountable}
 use Rattle.zone_choice.specs.Repair.{HasAtMost}
 use Rattle.zone_choice.specs.Builder.{placed}
@@ -22,18 +24,20 @@ use Rattle.zone_choice.specs.Reserve.{FitsReserve, batch_most}
 use Rattle.zone_choice.specs.Sizes.{extended, size_or}
 use Rattle.zone_choice.specs.Spare.{HasSpare}
 use Rattle.zone_choice.specs.Records.{append_log, batch_records, over, shown}
-use Rattle.zone_choice.specs.Roles.{empty_count, fillings, is_filling_at, wrote}
+use Rattle.zone_choice.specs.Roles.{RolesView, closed, closed_beside, empty_count, is_filling_at, is_sealed_at, open_beside, second_with, wrote}
 use Rattle.zone_choice.specs.Tables.{TablesView, size_of}
 
--- The tables agree with the drive as before, and the array, the map and the next sequence are the same; no command was refused, and nothing was appended. A zone that is kept empty stays so, and so does the second zone that is being filled.
+-- The tables agree with the drive as before, and the logs, the array, the map and the next sequence are the same; no command was refused, and nothing was appended. A zone that is kept empty stays so, and so does one that is sealed; the second zone that is being filled is the same, but for whether it may be open.
 pub record KeepsArray (before after : Mounted) : Type 0 where
   pub agrees : Agrees after
+  pub logs : drive_logs after.drive ≡ drive_logs before.drive
   pub array : mounted_array after ≡ mounted_array before
   pub places : after.tables.map.places ≡ before.tables.map.places
   pub next : after.tables.next ≡ before.tables.next
   pub given : after.tables.given ≡ before.tables.given
   pub spare : 1 ≤ empty_count before.tables.roles → 1 ≤ empty_count after.tables.roles
-  pub second : after.tables.roles.second ≡ before.tables.roles.second
+  pub sealed : (zone : ℕ) → is_sealed_at before.tables.roles zone ≡ true → is_sealed_at after.tables.roles zone ≡ true
+  pub second : option_map (second_with closed) after.tables.roles.second ≡ option_map (second_with closed) before.tables.roles.second
   pub geometry : after.drive.geometry ≡ before.drive.geometry
   pub refused : after.drive.refused ≡ before.drive.refused
   pub appended : after.drive.appended ≡ before.drive.appended
@@ -55,6 +59,52 @@ abbrev pub placed_with : Mounted → ℕ → Batch → List Place
 placed_with before zone batch =
     placed (next_address before.drive zone) (next_address before.drive zone + 1) batch.heading.entries (extended places.None (size_with before.tables batch) before.tables.map.places)
 
+-- ---- an open limit of 1
+
+-- The roles with this zone as the only one that may be open, at an open limit of 1. At a greater limit they stay.
+abbrev pub roles_alone : Geometry → RolesView → ℕ → RolesView
+roles_alone geometry roles zone = if nat_lt 1 geometry.open then roles else closed_beside roles zone
+
+-- how many commands close a zone that may be open: a full one is not
+abbrev pub close_count : ℕ → Option Filling → ℕ
+close_count capacity None = 0
+close_count capacity (Some filling) = if filling.written == capacity then 0 else 1
+
+-- how many commands come before an Append to a zone: at an open limit of 1 a Close of the zone beside it, if that may be open
+abbrev pub closes_before : Geometry → RolesView → ℕ → ℕ
+closes_before geometry roles zone = if nat_lt 1 geometry.open then 0 else close_count geometry.capacity (open_beside roles zone)
+
+-- the tables, which say that the zone beside this one is closed
+abbrev pub tables_closed : TablesView → ℕ → TablesView
+tables_closed tables zone = record tables { roles = closed_beside tables.roles zone }
+
+-- The tables agree with the drive, which holds what it did; no command was refused, and nothing was appended.
+pub record KeepsContents (before after : Mounted) : Type 0 where
+  pub agrees : Agrees after
+  pub same : SameContents before.drive after.drive
+  pub refused : after.drive.refused ≡ before.drive.refused
+  pub appended : after.drive.appended ≡ before.drive.appended
+
+-- At an open limit of 1 the zone beside this one was closed, and the tables say so.
+pub record ClosesBeside (before after : Mounted) (zone : ℕ) : Type 0 where
+  pub limit : before.drive.geometry.open < 2
+  pub tables : after.tables ≡ tables_closed before.tables zone
+  pub kept : KeepsContents before after
+
+-- What a Close of the zone beside this one leaves, if one is needed, by its answer. The tables did not change; where it was done, those agree with the drive that say so.
+abbrev pub CloseLeaves : DriveState → TablesView → ℕ → DriveState → Result (Unit {0}) Halt → Type 0
+CloseLeaves old tables zone new (Ok done) = KeepsContents (mounted old tables) (mounted new (tables_closed tables zone))
+CloseLeaves old tables zone new (Err halt.Memory) = new ≡ old
+CloseLeaves old tables zone new (Err halt.Stopped) = (new.stopped ≡ true) × KeepsContents (mounted old tables) (mounted new tables)
+
+-- what is left where a zone is to be the only one that may be open, at an open limit of 1, by the answer
+abbrev pub AloneLeaves : Mounted → Mounted → ℕ → Result (Unit {0}) Halt → Type 0
+AloneLeaves before after zone (Ok done) = (after.tables.roles ≡ roles_alone before.drive.geometry before.tables.roles zone) × ((after ≡ before) ⊎ ClosesBeside before after zone)
+AloneLeaves before after zone (Err halt.Memory) = after ≡ before
+AloneLeaves before after zone (Err halt.Stopped) = (after.drive.stopped ≡ true) × (after.tables ≡ before.tables) × KeepsContents before after
+
+-- ---- a batch is appended
+
 -- One batch was appended to a zone: it is the last of the zone's log, the tables agree with the drive, and the array is the old one with what the batch says; no command was refused.
 pub record Places (before after : Mounted) (zone : ℕ) (batch : Batch) : Type 0 where
   pub agrees : Agrees after
@@ -64,7 +114,7 @@ pub record Places (before after : Mounted) (zone : ℕ) (batch : Batch) : Type 0
   pub array : mounted_array after ≡ told_over before.drive.geometry.block batch (mounted_array before)
   pub next : after.tables.next ≡ before.tables.next + 1
   pub given : after.tables.given ≡ before.tables.given
-  pub roles : after.tables.roles ≡ wrote before.tables.roles zone (batch_size batch)
+  pub roles : after.tables.roles ≡ wrote (roles_alone before.drive.geometry before.tables.roles zone) zone (batch_size batch)
   pub geometry : after.drive.geometry ≡ before.drive.geometry
   pub refused : after.drive.refused ≡ before.drive.refused
   pub appended : after.drive.appended ≡ before.drive.appended + 1
@@ -73,11 +123,10 @@ pub record Places (before after : Mounted) (zone : ℕ) (batch : Batch) : Type 0
 abbrev pub sequence_end : Geometry → ℕ
 sequence_end geometry = 2 ^ 63 - geometry.capacity
 
--- What a batch needs to be appended to a zone. The zone is being filled and has room for it; the batch is the next one, with a size not below the disk's and within the reserve, its blocks are the disk's and are ready to be placed. Where one zone alone may be open, no other is being filled.
+-- What a batch needs to be appended to a zone. The zone is being filled and has room for it; the batch is the next one, with a size not below the disk's and within the reserve, its blocks are the disk's and are ready to be placed.
 pub record CanPlace (before : Mounted) (zone : ℕ) (batch : Batch) : Type 0 where
   pub agrees : Agrees before
   pub filling : is_filling_at before.tables.roles zone ≡ true
-  pub alone : (2 ≤ before.drive.geometry.open) ⊎ (length (fillings before.tables.roles) ≤ 1)
   pub heading : IsHeading before.drive.geometry.block batch.heading
   pub size : batch.heading.size ≡ Some (size_with before.tables batch)
   pub grows : size_of before.tables ≤ size_with before.tables batch
@@ -95,10 +144,10 @@ pub record Encodes (drive : DriveState) (n : ℕ) (logs : List (List Batch)) (ar
   pub logs_are : drive_logs drive ≡ logs
   pub array_is : spelled drive n ≡ array
 
--- The drive stopped inside the Append of a batch, or before it or after it: it encodes what it did, or that with the batch. If a zone is spare, it can be mounted.
+-- The drive stopped inside the Append of a batch, or before it or after it: it encodes what it did, or that with the batch. If a zone is spare, it can be mounted. The tables are the same, but that they may say that the zone beside was closed.
 pub record StopsInside (before after : Mounted) (zone : ℕ) (batch : Batch) : Type 0 where
   pub stopped : after.drive.stopped ≡ true
-  pub tables : after.tables ≡ before.tables
+  pub tables : (after.tables ≡ before.tables) ⊎ ((before.drive.geometry.open < 2) × (after.tables ≡ tables_closed before.tables zone))
   pub left : Encodes after.drive before.tables.given (drive_logs before.drive) (mounted_array before)
       ⊎ Encodes after.drive before.tables.given (append_log (drive_logs before.drive) zone batch) (told_over before.drive.geometry.block batch (mounted_array before))
   pub mountable : HasSpare before.drive.geometry.block before.tables.given (drive_logs after.drive) → IsMountable after.drive before.tables.given
@@ -106,10 +155,10 @@ pub record StopsInside (before after : Mounted) (zone : ℕ) (batch : Batch) : T
   pub refused : after.drive.refused ≡ before.drive.refused
   pub appended : after.drive.appended ≡ before.drive.appended
 
--- what an Append of a batch leaves, by its answer
+-- what an Append of a batch leaves, by its answer: where an allocation fails, the zone beside may have been closed
 abbrev pub AppendLeaves : Mounted → Mounted → ℕ → Batch → Result (Unit {0}) Halt → Type 0
 AppendLeaves before after zone batch (Ok done) = Places before after zone batch
-AppendLeaves before after zone batch (Err halt.Memory) = after ≡ before
+AppendLeaves before after zone batch (Err halt.Memory) = (after ≡ before) ⊎ ClosesBeside before after zone
 AppendLeaves before after zone batch (Err halt.Stopped) = StopsInside before after zone batch
 
 -- a fault of a command that was not refused

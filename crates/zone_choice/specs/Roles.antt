@@ -1,6 +1,6 @@
 -- What the zones of a drive are for.
 use Rattle.std.specs.Prelude.{◌≡◌, ◌≢◌, ℕ, ◌+◌, ◌^◌, ◌<◌, ◌≤◌, ◌==◌, if◌then◌else◌, Bool, true, false, not, ◌&&◌, nat_lt, List, [], ◌∷◌, ◌++◌, length, count_by, replicate, slice_index_or, slice_set, Option, Some, None}
-use Rattle.std.specs.List.{list_any, AllByRecursion}
+use Rattle.std.specs.List.{find, list_any, AllByRecursion}
 use Rattle.std.specs.Option.{option_map}
 use Rattle.zone_choice.specs.declared.roles.Filling.{Filling}
 use Rattle.zone_choice.specs.declared.roles.Second.{Second}
@@ -100,14 +100,37 @@ promoted roles = with_next roles (next_of roles.second)
 abbrev pub grown : ℕ → ℕ → Filling → Filling
 grown zone blocks filling = if filling.zone == zone then record { zone = filling.zone; written = filling.written + blocks; may_open = true } else filling
 
-abbrev pub grown_second : ℕ → ℕ → Second → Second
-grown_second zone blocks (Next filling) = Next (grown zone blocks filling)
-grown_second zone blocks (Destination filling) = Destination (grown zone blocks filling)
+-- the second zone that is being filled, changed
+abbrev pub second_with : (Filling → Filling) → Second → Second
+second_with change (Next filling) = Next (change filling)
+second_with change (Destination filling) = Destination (change filling)
+
+-- each zone that is being filled, changed
+abbrev pub with_fillings : (Filling → Filling) → RolesView → RolesView
+with_fillings change roles = record { empty = roles.empty; host = option_map change roles.host; second = option_map (second_with change) roles.second }
 
 -- blocks were written to a zone
 abbrev pub wrote : RolesView → ℕ → ℕ → RolesView
-wrote roles zone blocks =
-    record { empty = roles.empty; host = option_map (grown zone blocks) roles.host; second = option_map (grown_second zone blocks) roles.second }
+wrote roles zone blocks = with_fillings (grown zone blocks) roles
+
+-- another zone than the one with this number, which the drive may hold open
+abbrev pub is_open_beside : ℕ → Filling → Bool
+is_open_beside zone filling = not (filling.zone == zone) && filling.may_open
+
+-- the zone that is being filled beside this one, if the drive may hold it open
+abbrev pub open_beside : RolesView → ℕ → Option Filling
+open_beside roles zone = find (is_open_beside zone) (fillings roles)
+
+-- the drive doesn't hold it open
+abbrev pub closed : Filling → Filling
+closed filling = record { zone = filling.zone; written = filling.written; may_open = false }
+
+abbrev pub closed_unless : ℕ → Filling → Filling
+closed_unless zone filling = if filling.zone == zone then filling else closed filling
+
+-- the zones that are being filled beside this one were closed
+abbrev pub closed_beside : RolesView → ℕ → RolesView
+closed_beside roles zone = with_fillings (closed_unless zone) roles
 
 -- the number of empty zones, and one below which no zone is empty
 pub record AreCounted (empty : List Bool) (count lowest : ℕ) : Type 0 where

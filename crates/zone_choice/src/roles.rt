@@ -1,6 +1,6 @@
 ghost use Rattle.std.specs.Prelude.{◌≡◌, ◌≤◌, ◌<◌, ◌+◌, ◌^◌, ℕ, IfOk, IfSome, IfNone, None, Some, false, length, replicate, slice_index_or, true};
 ghost use Rattle.std.specs.List.{AllByRecursion};
-ghost use Rattle.zone_choice.specs.Roles.{AreMarked, IsLowestEmpty, clean_ended, empty_count, filling_of, fillings, grown, grown_second, is_sealed_at, listed, marked, moved_to, next_of, promoted, sealed, taken, unused, with_destination, wrote};
+ghost use Rattle.zone_choice.specs.Roles.{AreMarked, IsLowestEmpty, clean_ended, closed_beside, closed_unless, empty_count, filling_of, fillings, grown, is_open_beside, is_sealed_at, listed, marked, moved_to, next_of, open_beside, promoted, sealed, second_with, taken, unused, with_destination, wrote};
 ghost use Rattle.std.specs.Option.{option_map};
 
 use crate::empties::EmptyZones;
@@ -67,6 +67,33 @@ impl Filling {
         if self.zone == zone {
             self.written += blocks;
             self.may_open = true;
+        }
+    }
+
+    /// Notes that the drive does not hold it open, unless it is the zone with this number.
+    fn closed_unless(&mut self, zone: u32)
+        ensures { self.new ≡ closed_unless zone self.old }
+    {
+        if self.zone != zone {
+            self.may_open = false;
+        }
+    }
+
+    /// Whether it is another zone than this one, and the drive may hold it open.
+    fn is_open_beside(&self, zone: u32) -> bool
+        ensures { result ≡ is_open_beside zone self.now }
+    {
+        self.zone != zone && self.may_open
+    }
+}
+
+impl Second {
+    fn filling(self) -> Filling
+        ensures { result ≡ filling_of self }
+    {
+        match self {
+            Second::Next(filling) => filling,
+            Second::Destination(filling) => filling,
         }
     }
 }
@@ -181,6 +208,30 @@ impl Roles {
         grow(&mut self.host, zone, blocks);
         grow_second(&mut self.second, zone, blocks);
     }
+
+    /// The zone that is being filled beside this one, if the drive may hold it open.
+    pub fn open_beside(&self, zone: u32) -> Option<Filling>
+        ensures { result ≡ open_beside self.now zone }
+    {
+        if let Some(host) = self.host {
+            if host.is_open_beside(zone) {
+                return Some(host);
+            }
+        }
+        let second = self.second?.filling();
+        if second.is_open_beside(zone) {
+            return Some(second);
+        }
+        None
+    }
+
+    /// Notes that the zones that are being filled beside this one were closed.
+    pub fn closed_beside(&mut self, zone: u32)
+        ensures { self.new ≡ closed_beside self.old zone }
+    {
+        close_unless(&mut self.host, zone);
+        close_second_unless(&mut self.second, zone);
+    }
 }
 
 /// Marks a zone as sealed, if there is one.
@@ -213,11 +264,29 @@ fn grow(filling: &mut Option<Filling>, zone: u32, blocks: u32)
 
 fn grow_second(second: &mut Option<Second>, zone: u32, blocks: u32)
     requires { AllByRecursion (λ filling. filling.written + blocks < 2 ^ 32) (listed (option_map filling_of second.old)) }
-    ensures { second.new ≡ option_map (grown_second zone blocks) second.old }
+    ensures { second.new ≡ option_map (second_with (grown zone blocks)) second.old }
 {
     match second {
         Some(Second::Next(filling)) => filling.wrote(zone, blocks),
         Some(Second::Destination(filling)) => filling.wrote(zone, blocks),
+        None => {}
+    }
+}
+
+fn close_unless(filling: &mut Option<Filling>, zone: u32)
+    ensures { filling.new ≡ option_map (closed_unless zone) filling.old }
+{
+    if let Some(filling) = filling {
+        filling.closed_unless(zone);
+    }
+}
+
+fn close_second_unless(second: &mut Option<Second>, zone: u32)
+    ensures { second.new ≡ option_map (second_with (closed_unless zone)) second.old }
+{
+    match second {
+        Some(Second::Next(filling)) => filling.closed_unless(zone),
+        Some(Second::Destination(filling)) => filling.closed_unless(zone),
         None => {}
     }
 }

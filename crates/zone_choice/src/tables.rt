@@ -3,7 +3,7 @@ ghost use Rattle.std.specs.List.{AllByRecursion};
 ghost use Rattle.logical_map.specs.Live.{first_record, live};
 ghost use Rattle.logical_map.specs.Places.{ArePlacedReady, IsReady, Reserves, address_of};
 ghost use Rattle.logical_map.specs.declared.place.Place.TheVariants as places;
-ghost use Rattle.zone_choice.specs.Roles.{IsLowestEmpty, clean_ended, empty_count, fillings, is_sealed_at, next_of, promoted, sealed, taken, unused, with_destination, wrote};
+ghost use Rattle.zone_choice.specs.Roles.{IsLowestEmpty, clean_ended, closed_beside, empty_count, fillings, is_sealed_at, next_of, open_beside, promoted, sealed, taken, unused, with_destination, wrote};
 ghost use Rattle.zone_choice.specs.Tables.{AreReserved, GrowsTo, MakesRoom, size_of};
 
 use crate::roles::{Filling, Roles, Second};
@@ -173,6 +173,20 @@ impl Tables {
         ensures { self.new ≡ record self.old { roles = sealed self.old.roles } }
     {
         self.roles.seal();
+    }
+
+    /// The zone that is being filled beside this one, if the drive may hold it open.
+    pub(crate) fn open_beside(&self, zone: u32) -> Option<Filling>
+        ensures { result ≡ open_beside self.now.roles zone }
+    {
+        self.roles.open_beside(zone)
+    }
+
+    /// Notes that the zones that are being filled beside this one were closed.
+    pub(crate) fn closed_beside(&mut self, zone: u32)
+        ensures { self.new ≡ record self.old { roles = closed_beside self.old.roles zone } }
+    {
+        self.roles.closed_beside(zone);
     }
 
     /// Makes them the tables of a disk of that many blocks, of which the new ones are not written. It

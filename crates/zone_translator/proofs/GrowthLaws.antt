@@ -1,11 +1,11 @@
 -- A growth: an empty batch that says the new size.
-use Rattle.std.proofs.Common.{◌≡◌, ◌⊎◌, ℕ, ◌+◌, ◌*◌, ◌≤◌, true, [], length, Some, Result, Err, refl, sym, ap, subst, ◌∙◌, inl, inr, arith, append-nil}
+use Rattle.std.proofs.Common.{◌≡◌, ◌⊎◌, ℕ, ◌+◌, ◌*◌, ◌≤◌, true, [], length, Some, Result, Err, refl, sym, ap, ◌∙◌, inl, inr, arith, append-nil}
 use Rattle.zone_states.specs.declared.geometry.Geometry.{Geometry}
 use Rattle.drive_port.specs.Drive.{DriveState}
 use Rattle.drive_port.specs.declared.device.Halt.{Halt}
 use Rattle.drive_port.specs.declared.device.Halt.TheVariants as halt
 use Rattle.batch_log.specs.Header.{Heading, header_block}
-use Rattle.batch_log.specs.Log.{Batch, batch_size, data_count, zero_block}
+use Rattle.batch_log.specs.Log.{Batch, data_count, zero_block}
 use Rattle.zone_choice.specs.declared.roles.Filling.{Filling}
 use Rattle.zone_choice.specs.Agreement.{Mounted, mounted, mounted_array, spelled}
 use Rattle.zone_choice.specs.Builder.{BuilderView, IsBuilt, built, entries_from}
@@ -14,13 +14,14 @@ use Rattle.zone_choice.specs.Changes.{AppendLeaves as ChoiceLeaves}
 use Rattle.zone_choice.specs.Reserve.{FitsReserve}
 use Rattle.zone_choice.specs.Sizes.{extended, size_or}
 use Rattle.zone_choice.specs.Tables.{TablesView, size_of}
-use Rattle.zone_choice.proofs.ChangeLaws.{large-block}
+use Rattle.zone_choice.proofs.AloneLaws.{memory-keeps, stops-tables}
+use Rattle.zone_choice.proofs.ChangeLaws.{keeps-join, large-block}
 use Rattle.zone_translator.specs.Batches.{IsRoom, host_heading}
 use Rattle.zone_translator.specs.declared.fault.DiskFault.{DiskFault}
 use Rattle.zone_translator.specs.declared.fault.DiskFault.TheVariants.{OutOfRange, OutOfMemory, Stopped, Spent, NoRoom, Smaller, Reserve}
 use Rattle.zone_translator.specs.Changes.{AgreesWith, GrowLeaves, Grows, IsCause, RoomLeaves, disk_fault}
 use Rattle.zone_translator.proofs.RoomLaws.{serves-kept, stops-join}
-use Rattle.zone_translator.proofs.WriteLaws.{append_stops, appended-size, built-batch, can_place, second-wrote}
+use Rattle.zone_translator.proofs.WriteLaws.{append_stops, appended-size, built-batch, can_place, serves-placed}
 
 -- its batch, without an entry, is built and can be appended
 pub record IsGrowthBatch (disk : Mounted) (host : Filling) (size : ℕ) (builder : BuilderView) : Type 0 where
@@ -59,7 +60,7 @@ pub growth-writes : (a b c : DriveState) (t u v : TablesView) (host : Filling) (
 growth-writes a b c t u v host size builder serves kept next placed =
     let here = serves-kept a b t u serves kept in
     record {
-      serves = record { agrees = placed.agrees; spare = rw placed.roles here.spare; alone = rw placed.roles (second-wrote u.roles host.zone (batch_size (built b.geometry.block builder)) here.alone) };
+      serves = serves-placed b c u v host.zone (built b.geometry.block builder) here placed;
       size_is = placed.size ∙ ap (size_or (size_of u)) next.size_is;
       given = placed.given ∙ kept.given;
       array = placed.array ∙ next.tells ∙ rw (kept.array, kept.geometry) refl;
@@ -73,14 +74,15 @@ growth-writes a b c t u v host size builder serves kept next placed =
 pub growth-halts : (a b c : DriveState) (t u v : TablesView) (host : Filling) (size : ℕ) (builder : BuilderView) (fault : Halt) → AgreesWith a t → KeepsArray (mounted a t) (mounted b u) → IsGrowthBatch (mounted b u) host size builder
     → ChoiceLeaves (mounted b u) (mounted c v) host.zone (built b.geometry.block builder) (Err fault)
     → GrowLeaves (mounted a t) (mounted c v) size (Err (disk_fault fault)) × IsCause c v.next (disk_fault fault)
-growth-halts a b c t u v host size builder halt.Memory serves kept next leaves = (subst (KeepsArray (mounted a t)) (sym leaves) kept, tt)
+growth-halts a b c t u v host size builder halt.Memory serves kept next leaves =
+    (keeps-join (mounted a t) (mounted b u) (mounted c v) kept (memory-keeps (mounted b u) (mounted c v) host.zone (built b.geometry.block builder) kept.agrees leaves), tt)
 growth-halts a b c t u v host size builder halt.Stopped serves kept next leaves =
     let here = serves-kept a b t u serves kept in
     let left : (spelled c u.given ≡ mounted_array (mounted a t)) ⊎ (spelled c u.given ≡ extended (zero_block a.geometry.block) size (mounted_array (mounted a t))) = elim leaves.left [
       | inl same ↦ inl (same.array_is ∙ kept.array)
       | inr more ↦ inr (more.array_is ∙ next.tells ∙ rw (kept.array, kept.geometry) refl)
     ] in
-    ((stops-join (mounted a t) (mounted b u) (mounted c v) kept (append_stops b c u v host.zone (built b.geometry.block builder) here next.can leaves), rw leaves.tables left), leaves.stopped)
+    ((stops-join (mounted a t) (mounted b u) (mounted c v) kept (append_stops b c u v host.zone (built b.geometry.block builder) here next.can leaves), rw (stops-tables (mounted b u) (mounted c v) host.zone (built b.geometry.block builder) leaves).given left), leaves.stopped)
 
 growth-without : (a b : Mounted) (size : ℕ) (fault : DiskFault) → RoomLeaves {V = Filling} a b (Err fault) → GrowLeaves a b size (Err fault)
 growth-without a b size OutOfRange leaves = leaves

@@ -3,7 +3,7 @@ use Rattle.std.proofs.Common.{◌≡◌, ◌≢◌, ℕ, ◌+◌, replicate, len
 use Rattle.std.proofs.lemmas.List.{length-replicate}
 use Rattle.zone_states.specs.declared.geometry.Geometry.{Geometry}
 use Rattle.zone_states.specs.Geometry.{IsInRange}
-use Rattle.drive_port.specs.Drive.{DriveState, IsLawful}
+use Rattle.drive_port.specs.Drive.{DriveState, IsClosing, IsLawful}
 use Rattle.drive_port.specs.Contents.{SameContents}
 use Rattle.batch_log.specs.Log.{zero_block}
 use Rattle.logical_map.specs.declared.place.Place.TheVariants as places
@@ -13,6 +13,7 @@ use Rattle.zone_choice.specs.Reserve.{FitsReserve}
 use Rattle.zone_choice.specs.Agreement.{spelled}
 use Rattle.zone_choice.proofs.AgreementLaws.{agrees_same, spelled_same}
 use Rattle.zone_choice.proofs.FreshLaws.{IsFreshTables, fresh_agrees, fresh_spare, fresh_spelled}
+use Rattle.zone_choice.proofs.OpenLaws.{closing-opens}
 use Rattle.zone_translator.specs.Mount.{IsFresh, IsFreshDisk, MountRefuses}
 use Rattle.zone_translator.specs.declared.mount.MountFault.TheVariants.{NotFresh}
 
@@ -21,8 +22,8 @@ not-fresh drive back geometry blocks number same range fits all other =
     (rw same at range, rw same at fits, λ fresh. other (all fresh ∙ sym (ap (λ (g : Geometry). g.zones) same)))
 
 pub fresh-disk : (old new : DriveState) (geometry : Geometry) (blocks number : ℕ) (tables : TablesView) → geometry ≡ old.geometry → IsInRange geometry → FitsReserve geometry blocks → (number ≡ old.geometry.zones → IsFresh old) → number ≡ geometry.zones
-    → IsLawful old → IsLawful new → SameContents old new → new.refused ≡ old.refused → new.appended ≡ old.appended + 0 → IsFreshTables geometry tables blocks → IsFreshDisk old new tables blocks
-fresh-disk old new geometry blocks number tables same range fits all all_empty was lawful contents_are refused appended tables-are =
+    → IsLawful old → IsLawful new → SameContents old new → IsClosing old.zones new.zones → new.refused ≡ old.refused → new.appended ≡ old.appended + 0 → IsFreshTables geometry tables blocks → IsFreshDisk old new tables blocks
+fresh-disk old new geometry blocks number tables same range fits all all_empty was lawful contents_are closing refused appended tables-are =
     let zones = ap (λ (g : Geometry). g.zones) same in
     let fresh = all (all_empty ∙ zones) in
     let size : size_of tables ≡ blocks = ap length tables-are.places ∙ length-replicate blocks places.None in
@@ -31,7 +32,7 @@ fresh-disk old new geometry blocks number tables same range fits all all_empty w
     let agrees = fresh_agrees old tables blocks here (rw same at fits) was fresh made in
     record {
       agrees = record {
-        agrees = agrees_same old new tables contents_are lawful agrees;
+        agrees = agrees_same old new tables contents_are (closing-opens old.zones new.zones closing) lawful agrees;
         spare = fresh_spare old.geometry tables blocks here made;
         alone = ap (λ (r : RolesView). r.second) tables-are.roles;
       };

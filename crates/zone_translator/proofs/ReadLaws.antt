@@ -2,7 +2,7 @@
 use Rattle.std.proofs.Common.{◌≡◌, ℕ, ◌<◌, List, [], get_or, replicate, Err, refl, sym, ◌∙◌, append-nil}
 use Rattle.drive_port.specs.Calls.{CanRead, IsNotRefused, Obeys, ReadGives}
 use Rattle.drive_port.specs.Contents.{Counts, SameContents, block_at, bytes_at, contents}
-use Rattle.drive_port.specs.Drive.{DriveState, IsLawful}
+use Rattle.drive_port.specs.Drive.{DriveState, IsClosing, IsLawful}
 use Rattle.drive_port.specs.declared.calls.PortFault.{PortFault}
 use Rattle.drive_port.specs.declared.calls.PortFault.TheVariants as port
 use Rattle.batch_log.specs.Log.{zero_block}
@@ -12,6 +12,7 @@ use Rattle.zone_choice.specs.Agreement.{mounted, spelled}
 use Rattle.zone_choice.specs.Changes.{IsHalt, KeepsArray, halt_of}
 use Rattle.zone_choice.specs.Tables.{TablesView, size_of}
 use Rattle.zone_choice.proofs.ChangeLaws.{keeps-contents, keeps-halt, keeps-same}
+use Rattle.zone_choice.proofs.OpenLaws.{closing-opens}
 use Rattle.zone_choice.proofs.ReadLaws.{HoldsPlace, holds_place}
 use Rattle.zone_translator.specs.Changes.{AgreesWith, disk_fault}
 use Rattle.zone_translator.specs.Read.{IsReadFault}
@@ -35,18 +36,18 @@ pub record ReadHalts (old new : DriveState) (tables : TablesView) (fault : PortF
   pub cause : IsReadFault new (disk_fault (halt_of fault))
 
 pub place_halts : (old new : DriveState) (tables : TablesView) (block address : ℕ) (returned : List ℕ) (fault : PortFault) → AgreesWith old tables → block < size_of tables → places.At address ≡ get_or tables.map.places block places.None
-    → ReadGives {V = Unit {0}} old address 1 (Err fault) returned new → SameContents old new → Obeys {V = Unit {0}} old (Err fault) new → (CanRead old address 1 → IsNotRefused {V = Unit {0}} (Err fault)) → ReadHalts old new tables fault
-place_halts old new tables block address returned (port.Refused status) serves lt at gives same obeys passed = absurd (passed (holds old tables block (places.At address) serves lt at).can)
-place_halts old new tables block address returned port.Memory serves lt at gives same obeys passed = record { halt = tt; kept = keeps-halt old new tables gives.1.1 serves.agrees; cause = tt }
-place_halts old new tables block address returned port.Stopped serves lt at gives same obeys passed = record {
+    → ReadGives {V = Unit {0}} old address 1 (Err fault) returned new → SameContents old new → IsClosing old.zones new.zones → Obeys {V = Unit {0}} old (Err fault) new → (CanRead old address 1 → IsNotRefused {V = Unit {0}} (Err fault)) → ReadHalts old new tables fault
+place_halts old new tables block address returned (port.Refused status) serves lt at gives same closing obeys passed = absurd (passed (holds old tables block (places.At address) serves lt at).can)
+place_halts old new tables block address returned port.Memory serves lt at gives same closing obeys passed = record { halt = tt; kept = keeps-halt old new tables gives.1.1 serves.agrees; cause = tt }
+place_halts old new tables block address returned port.Stopped serves lt at gives same closing obeys passed = record {
   halt = tt;
-  kept = keeps-same old new tables serves.agrees same obeys.lawful (obeys.counts refl).refused (obeys.counts refl).appended;
+  kept = keeps-same old new tables serves.agrees same (closing-opens old.zones new.zones closing) obeys.lawful (obeys.counts refl).refused (obeys.counts refl).appended;
   cause = obeys.stops refl;
 }
 
 -- and one that was done
-pub place_kept : (old new : DriveState) (tables : TablesView) → AgreesWith old tables → SameContents old new → IsLawful new → Counts old new 0 → KeepsArray (mounted old tables) (mounted new tables)
-place_kept old new tables serves same lawful counts = keeps-contents old new tables serves.agrees same lawful counts
+pub place_kept : (old new : DriveState) (tables : TablesView) → AgreesWith old tables → SameContents old new → IsClosing old.zones new.zones → IsLawful new → Counts old new 0 → KeepsArray (mounted old tables) (mounted new tables)
+place_kept old new tables serves same closing lawful counts = keeps-contents old new tables serves.agrees same (closing-opens old.zones new.zones closing) lawful counts
 
 pub place_shown : (drive : DriveState) (tables : TablesView) (block address : ℕ) (shown : List ℕ) → AgreesWith drive tables → block < size_of tables → places.At address ≡ get_or tables.map.places block places.None
     → shown ≡ bytes_at drive.geometry (contents drive.zones) address 1 → shown ≡ get_or (spelled drive tables.given) block []

@@ -1,22 +1,25 @@
 -- The host zone is sealed and taken, and the array stays.
 use Rattle.std.proofs.Common.{◌≡◌, ◌⊎◌, ℕ, suc, ◌*◌, ◌/◌, ◌<◌, ◌≤◌, Bool, true, false, ◌||◌, cond, List, [], ◌∷◌, ◌++◌, length, get_or, Option, Some, None, Result, Ok, Err, refl, ap, subst, ◌∙◌, inl, inr, arith}
+use Rattle.std.specs.Option.{option_map}
 use Rattle.std.specs.List.{count_by, list_any}
 use Rattle.std.proofs.lemmas.Bool.{eq-eqb}
 use Rattle.std.proofs.lemmas.List.Sums.{sum_by-cons}
-use Rattle.drive_port.specs.Calls.{CanFinish, Finished, FinishedContents, FinishGives, FinishKeeps, IsNotRefused, Obeys}
+use Rattle.drive_port.specs.Calls.{CanFinish, Finished, FinishedContents, FinishGives, FinishKeeps, FinishLeaves, IsNotRefused, Obeys}
 use Rattle.drive_port.specs.Contents.{Content, Finishes, SameContents, contents, full, content_at, nothing}
 use Rattle.drive_port.specs.Drive.{DriveState, IsLawful}
 use Rattle.drive_port.specs.declared.calls.PortFault.{PortFault}
 use Rattle.drive_port.specs.declared.calls.PortFault.TheVariants as port
 use Rattle.zone_choice.specs.declared.roles.Filling.{Filling}
+use Rattle.zone_choice.specs.declared.roles.Second.{Second}
 use Rattle.zone_choice.specs.Agreement.{Agrees, HoldsFilling, Mounted, drive_logs, mounted, spelled}
 use Rattle.zone_choice.specs.Changes.{IsHalt, KeepsArray, halt_of}
 use Rattle.zone_choice.specs.Mountable.{IsMountable}
-use Rattle.zone_choice.specs.Roles.{IsLowestEmpty, RolesView, empty_count, fillings, is_at, is_filling_at, listed, sealed, taken}
+use Rattle.zone_choice.specs.Roles.{IsLowestEmpty, RolesView, closed, empty_count, fillings, is_at, is_filling_at, listed, sealed, second_with, taken}
 use Rattle.zone_choice.specs.Tables.{TablesView, size_of}
 use Rattle.zone_choice.proofs.AgreementLaws.{agrees_finish, agrees_mountable, agrees_same, agrees_seal, agrees_take, empty-spare, spare-taken, spelled_same, tables_with}
 use Rattle.zone_choice.proofs.ChangeLaws.{keeps-halt, keeps-join}
 use Rattle.zone_choice.proofs.CommandLaws.{can_finish, filling-few, filling-full, filling-in_range, none-active, zone-start}
+use Rattle.zone_choice.proofs.OpenLaws.{OpensNone, finish-opens}
 use Rattle.zone_choice.proofs.RolesLaws.{roles_with, second_list}
 use Rattle.zone_translator.specs.declared.fault.DiskFault.{DiskFault}
 use Rattle.zone_translator.specs.declared.fault.DiskFault.TheVariants.{OutOfRange, OutOfMemory, Stopped, Spent, NoRoom, Smaller, Reserve}
@@ -24,8 +27,13 @@ use Rattle.zone_translator.specs.Changes.{AgreesWith, IsFilledUp, IsCause, RoomL
 
 -- ---- a disk that serves
 
+-- the second zone may be open or not
+none-second : (after before : Option Second) → option_map (second_with closed) after ≡ option_map (second_with closed) before → before ≡ None → after ≡ None
+none-second None before same none = refl
+none-second (Some s) before same none = let bad : Some (second_with closed s) ≡ None = same ∙ ap (option_map (second_with closed)) none in absurd (cc)
+
 pub serves-kept : (old new : DriveState) (tables tables' : TablesView) → AgreesWith old tables → KeepsArray (mounted old tables) (mounted new tables') → AgreesWith new tables'
-serves-kept old new tables tables' serves kept = record { agrees = kept.agrees; spare = kept.spare serves.spare; alone = kept.second ∙ serves.alone }
+serves-kept old new tables tables' serves kept = record { agrees = kept.agrees; spare = kept.spare serves.spare; alone = none-second tables'.roles.second tables.roles.second kept.second serves.alone }
 
 -- its drive can be mounted
 pub serves_mountable : (drive : DriveState) (tables : TablesView) → AgreesWith drive tables → IsMountable drive tables.given
@@ -115,17 +123,17 @@ keeps-seal drive tables new host agrees is new-is some is_full =
 
 -- the tables after a Finish of the host zone agree with the drive, and the array is the same
 finished_host : (old new : DriveState) (tables : TablesView) (host : Filling) (start : ℕ) → Agrees (mounted old tables) → tables.roles.host ≡ Some host → start ≡ host.zone * old.geometry.size → 1 ≤ host.written → host.written < old.geometry.capacity
-    → new.geometry ≡ old.geometry → Finishes (contents old.zones) (contents new.zones) (start / old.geometry.size) → IsLawful new
+    → new.geometry ≡ old.geometry → Finishes (contents old.zones) (contents new.zones) (start / old.geometry.size) → OpensNone old.zones new.zones → IsLawful new
     → Agrees (mounted new (record tables { roles = sealed tables.roles })) × (spelled new tables.given ≡ spelled old tables.given)
-finished_host old new tables host start agrees is start-is some room geometry finishes lawful =
+finished_host old new tables host start agrees is start-is some room geometry finishes opens lawful =
     let index = (zone-start host.zone old.geometry.size agrees.geometry.size.0).0 in
-    let done = agrees_finish old new tables.map tables.roles.empty host tables.roles.second tables.next tables.given (with-host old tables (Some host) is agrees) some room geometry lawful (rw (start-is, index) at finishes) in
+    let done = agrees_finish old new tables.map tables.roles.empty host tables.roles.second tables.next tables.given (with-host old tables (Some host) is agrees) some room geometry lawful (rw (start-is, index) at finishes) opens in
     (done.0, done.2)
 
 pub keeps-finish : (old new : DriveState) (tables after : TablesView) (host : Filling) (start : ℕ) → Agrees (mounted old tables) → tables.roles.host ≡ Some host → start ≡ host.zone * old.geometry.size → 1 ≤ host.written → host.written < old.geometry.capacity
-    → Finished old new start → IsLawful new → after ≡ record tables { roles = sealed tables.roles } → KeepsArray (mounted old tables) (mounted new after)
-keeps-finish old new tables after host start agrees is start-is some room finished lawful after-is =
-    let done = finished_host old new tables host start agrees is start-is some room finished.geometry finished.contents lawful in
+    → Finished old new start → FinishLeaves {V = Unit {0}} old start (Ok tt) new → IsLawful new → after ≡ record tables { roles = sealed tables.roles } → KeepsArray (mounted old tables) (mounted new after)
+keeps-finish old new tables after host start agrees is start-is some room finished leaves lawful after-is =
+    let done = finished_host old new tables host start agrees is start-is some room finished.geometry finished.contents (finish-opens {V = Unit {0}} old new start (Ok tt) leaves) lawful in
     rw after-is (record {
       agrees = done.0;
       array = done.1;
@@ -146,18 +154,21 @@ pub record FinishHalts (old new : DriveState) (tables : TablesView) (fault : Por
   pub cause : IsCause new tables.next (disk_fault (halt_of fault))
 
 pub finish_halts : (old new : DriveState) (tables : TablesView) (host : Filling) (start : ℕ) (fault : PortFault) → AgreesWith old tables → tables.roles.host ≡ Some host → start ≡ host.zone * old.geometry.size → 1 ≤ host.written → host.written < old.geometry.capacity
-    → FinishGives {V = Unit {0}} old start (Err fault) new → FinishKeeps {V = Unit {0}} old start (Err fault) new → Obeys {V = Unit {0}} old (Err fault) new → (CanFinish old start → IsNotRefused {V = Unit {0}} (Err fault)) → FinishHalts old new tables fault
-finish_halts old new tables host start (port.Refused status) serves is start-is some room gives kept obeys passed =
+    → FinishGives {V = Unit {0}} old start (Err fault) new → FinishKeeps {V = Unit {0}} old start (Err fault) new → FinishLeaves {V = Unit {0}} old start (Err fault) new → Obeys {V = Unit {0}} old (Err fault) new → (CanFinish old start → IsNotRefused {V = Unit {0}} (Err fault)) → FinishHalts old new tables fault
+finish_halts old new tables host start (port.Refused status) serves is start-is some room gives kept leaves obeys passed =
     absurd (passed (can_finish old tables host.zone start serves.agrees (filling-host tables.roles host is) start-is))
-finish_halts old new tables host start port.Memory serves is start-is some room gives kept obeys passed = record { halt = tt; leaves = keeps-halt old new tables gives.1.1.1 serves.agrees; cause = tt }
-finish_halts old new tables host start port.Stopped serves is start-is some room gives kept obeys passed = record { halt = tt; leaves = by kept; cause = obeys.stops refl }
+finish_halts old new tables host start port.Memory serves is start-is some room gives kept leaves obeys passed = record { halt = tt; leaves = keeps-halt old new tables gives.1.1.1 serves.agrees; cause = tt }
+finish_halts old new tables host start port.Stopped serves is start-is some room gives kept leaves obeys passed = record { halt = tt; leaves = by kept; cause = obeys.stops refl }
   where
+    opens : OpensNone old.zones new.zones
+    opens = finish-opens {V = Unit {0}} old new start (Err port.Stopped) leaves
+
     by : SameContents old new ⊎ FinishedContents old new start → StopKeeps (mounted old tables) (mounted new tables) × (spelled new tables.given ≡ spelled old tables.given)
     by (inl same) =
-        let agrees = agrees_same old new tables same obeys.lawful serves.agrees in
+        let agrees = agrees_same old new tables same opens obeys.lawful serves.agrees in
         (stops-agreed (Unit {0}) old new tables tables (record { agrees = agrees; spare = serves.spare; alone = serves.alone }) refl refl obeys, spelled_same old new tables.given same)
     by (inr finished) =
-        let done = finished_host old new tables host start serves.agrees is start-is some room finished.geometry finished.contents obeys.lawful in
+        let done = finished_host old new tables host start serves.agrees is start-is some room finished.geometry finished.contents opens obeys.lawful in
         (stops-agreed (Unit {0}) old new tables (record tables { roles = sealed tables.roles }) (record { agrees = done.0; spare = serves.spare; alone = serves.alone }) refl refl obeys, done.1)
 
 pub keeps-take : (drive : DriveState) (tables new : TablesView) (zone : ℕ) → Agrees (mounted drive tables) → tables.roles.host ≡ None → IsLowestEmpty tables.roles zone → 2 ≤ empty_count tables.roles → new ≡ record tables { roles = taken tables.roles zone }

@@ -1,5 +1,5 @@
 -- A batch of a write is built and appended, and what a stop inside its Append leaves.
-use Rattle.std.proofs.Common.{◌≡◌, ℕ, ◌+◌, ◌-◌, ◌*◌, ◌<◌, ◌≤◌, ◌^◌, Bool, true, false, List, ◌++◌, length, take, drop, Option, Some, None, Result, Err, refl, sym, ap, subst, ◌∙◌, inl, inr, arith}
+use Rattle.std.proofs.Common.{◌≡◌, ℕ, ◌+◌, ◌-◌, ◌*◌, ◌<◌, ◌≤◌, ◌^◌, Bool, true, false, List, ◌++◌, length, take, drop, Option, Some, None, Result, Err, refl, sym, ap, ◌∙◌, inl, inr, arith}
 use Rattle.std.specs.Option.{option_map}
 use Rattle.std.proofs.lemmas.List.{drop_at, length-map, length-take}
 use Rattle.zone_states.specs.declared.geometry.Geometry.{Geometry}
@@ -14,24 +14,23 @@ use Rattle.batch_log.specs.Log.{Batch, batch_size, data_count}
 use Rattle.batch_log.proofs.HeaderLaws.{header_length}
 use Rattle.logical_map.specs.declared.place.Place.TheVariants as places
 use Rattle.zone_choice.specs.declared.roles.Filling.{Filling}
-use Rattle.zone_choice.specs.declared.roles.Second.{Second}
 use Rattle.zone_choice.specs.Agreement.{Mounted, drive_logs, mounted, mounted_array, spelled}
 use Rattle.zone_choice.specs.Builder.{BuilderView, IsBuilt, built, entries_from}
 use Rattle.zone_choice.specs.Changes.{CanPlace, KeepsArray, Places, StopsInside, next_address, size_with, told_over}
 use Rattle.zone_choice.specs.Changes.{AppendLeaves as ChoiceLeaves}
 use Rattle.zone_choice.specs.Reserve.{FitsReserve, batch_most}
-use Rattle.zone_choice.specs.Roles.{RolesView, grown_second, listed, wrote}
+use Rattle.zone_choice.specs.Roles.{RolesView, grown, second_with}
 use Rattle.zone_choice.specs.Records.{append_log}
 use Rattle.zone_choice.specs.Sizes.{encoded_size, extended, greatest, larger, size_or}
 use Rattle.zone_choice.specs.ZoneLogs.{zone_log}
 use Rattle.zone_choice.specs.Spare.{HasSpare}
 use Rattle.zone_choice.specs.Tables.{AreReserved, MakesRoom, TablesView, size_of}
 use Rattle.zone_choice.proofs.AgreementLaws.{empty-spare, empty-spare_after, extended-same, length-spelled, size-encoded}
+use Rattle.zone_choice.proofs.AloneLaws.{alone-empty, alone-second, memory-keeps, stops-tables}
 use Rattle.zone_choice.proofs.BuilderLaws.{data_count-few}
 use Rattle.zone_choice.proofs.ChangeLaws.{keeps-join, keeps-room, large-block}
 use Rattle.zone_choice.proofs.ReserveLaws.{positive-most}
 use Rattle.zone_choice.proofs.CommandLaws.{filling-in_range}
-use Rattle.zone_choice.proofs.RolesLaws.{second_list}
 use Rattle.zone_choice.proofs.SizeLaws.{greatest-append_log}
 use Rattle.zone_translator.specs.declared.write.Content.{Content}
 use Rattle.zone_translator.specs.Batches.{IsBatchCount, IsNextBatch, IsRoom, IsWhole, batch_count, blocks_of, bytes_of, host_heading, is_trim}
@@ -44,14 +43,14 @@ use Rattle.zone_translator.proofs.ContentLaws.{length-blocks, length-content, te
 use Rattle.zone_translator.proofs.FlatLaws.{replaced-none}
 use Rattle.zone_translator.proofs.RoomLaws.{filling-host, host-filled, serves-kept, stops-join}
 
--- one zone alone is being filled
-alone_few : (host : Option Filling) (second : Option Second) → second ≡ None → length (listed host ++ second_list second) ≤ 1
-alone_few None second e = rw e (omega arith)
-alone_few (Some host) second e = rw e (omega arith)
-
--- the same after an Append
-pub second-wrote : (roles : RolesView) (zone blocks : ℕ) → roles.second ≡ None → (wrote roles zone blocks).second ≡ None
-second-wrote roles zone blocks e = ap (λ (s : Option Second). option_map (grown_second zone blocks) s) e
+-- after an Append a disk serves as before
+pub serves-placed : (old new : DriveState) (tables after : TablesView) (zone : ℕ) (b : Batch) → AgreesWith old tables → Places (mounted old tables) (mounted new after) zone b → AgreesWith new after
+serves-placed old new tables after zone b serves placed =
+    record {
+      agrees = placed.agrees;
+      spare = rw (placed.roles, alone-empty old.geometry tables.roles zone) serves.spare;
+      alone = ap (λ (r : RolesView). r.second) placed.roles ∙ ap (option_map (second_with (grown zone (batch_size b)))) (alone-second old.geometry tables.roles zone serves.alone);
+    }
 
 -- ---- what is built can be appended
 
@@ -119,7 +118,6 @@ can_place old tables host trim first count body serves room in_range most free s
     record {
       agrees = agrees;
       filling = filling-host tables.roles host room.host_is;
-      alone = inr (alone_few tables.roles.host tables.roles.second serves.alone);
       heading = says;
       size = refl;
       grows = grows;
@@ -212,7 +210,7 @@ writes a b c t u v host trim first count blocks builder serves kept next within 
     let took : length (take count blocks) ≡ count = omega (arith, length-take count blocks, next.few) in
     let names = names-placed trim (next_address b host.zone) (next_address b host.zone + 1) first count t.map.places within in
     record {
-      serves = record { agrees = placed.agrees; spare = rw placed.roles here.spare; alone = rw placed.roles (second-wrote u.roles host.zone (batch_size (built b.geometry.block builder)) here.alone) };
+      serves = serves-placed b c u v host.zone (built b.geometry.block builder) here placed;
       size = placed.size ∙ same ∙ ap length kept.places;
       given = placed.given ∙ kept.given;
       array = placed.array ∙ next.tells ∙ rw kept.array refl;
@@ -234,16 +232,17 @@ append_stops old new tables after zone b serves can stops =
       | inl same ↦ rw same.logs_are (empty-spare old tables agrees serves.spare)
       | inr more ↦ rw more.logs_are (empty-spare_after old tables zone b agrees serves.spare can.filling)
     ] in
-    rw stops.tables (record {
+    let same = stops-tables (mounted old tables) (mounted new after) zone b stops in
+    record {
       stopped = stops.stopped;
-      mountable = stops.mountable spare;
-      size = refl;
-      given = refl;
-      next = refl;
+      mountable = rw same.given (stops.mountable spare);
+      size = rw same.map refl;
+      given = same.given;
+      next = same.next;
       geometry = stops.geometry;
       refused = stops.refused;
       appended = stops.appended;
-    })
+    }
 
 -- a front of none of the blocks
 pub front-none : (old new : List (List ℕ)) (first : ℕ) (blocks : List (List ℕ)) → new ≡ old → IsFront old first blocks new
@@ -263,7 +262,7 @@ write_stops a b c t u v host trim first count blocks builder serves kept next st
         written = more.array_is ∙ next.tells ∙ rw kept.array refl;
       }
     ] in
-    (stops-join (mounted a t) (mounted b u) (mounted c v) kept (append_stops b c u v host.zone (built b.geometry.block builder) here next.can stops), rw stops.tables front)
+    (stops-join (mounted a t) (mounted b u) (mounted c v) kept (append_stops b c u v host.zone (built b.geometry.block builder) here next.can stops), rw (stops-tables (mounted b u) (mounted c v) host.zone (built b.geometry.block builder) stops).given front)
 
 -- ---- refusals
 
@@ -271,7 +270,8 @@ write_stops a b c t u v host trim first count blocks builder serves kept next st
 pub write_halts : (a b c : DriveState) (t u v : TablesView) (host : Filling) (trim : Bool) (first count : ℕ) (blocks : List (List ℕ)) (builder : BuilderView) (fault : Halt) → AgreesWith a t → KeepsArray (mounted a t) (mounted b u)
     → IsNextBatch (mounted b u) host trim first count blocks builder → ChoiceLeaves (mounted b u) (mounted c v) host.zone (built b.geometry.block builder) (Err fault)
     → WriteLeaves trim (mounted a t) (mounted c v) first blocks (Err (disk_fault fault)) × IsCause c v.next (disk_fault fault)
-write_halts a b c t u v host trim first count blocks builder halt.Memory serves kept next leaves = (subst (KeepsArray (mounted a t)) (sym leaves) kept, tt)
+write_halts a b c t u v host trim first count blocks builder halt.Memory serves kept next leaves =
+    (keeps-join (mounted a t) (mounted b u) (mounted c v) kept (memory-keeps (mounted b u) (mounted c v) host.zone (built b.geometry.block builder) kept.agrees leaves), tt)
 write_halts a b c t u v host trim first count blocks builder halt.Stopped serves kept next leaves = (write_stops a b c t u v host trim first count blocks builder serves kept next leaves, leaves.stopped)
 
 -- what a refusal on the way to room leaves of it

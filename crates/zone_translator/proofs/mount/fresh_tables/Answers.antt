@@ -15,5 +15,5 @@ returns-clause-ok g c =
     let range : IsInRange c.geometry-geometry.result = c.in-Ok.ensures.ok in
     let fits : FitsReserve c.geometry-geometry.result c.args.blocks = search rules in
     fresh-disk (g.D.Device.drive c.args.device.now) (g.D.Device.drive c.count_zones.new.device) c.geometry-geometry.result c.args.blocks c.in-Ok-count_zones.empty _ c.geometry-geometry.ensures.value range fits (c.in-Ok-count_zones.ensures.all_empty refl) c.if-empty-geometry.false
-    c.count_zones.ensures.obeys.was_lawful c.count_zones.ensures.obeys.lawful c.count_zones.ensures.kept c.in-Ok-count_zones.ensures.counted.counts.refused c.in-Ok-count_zones.ensures.counted.counts.appended
+    c.count_zones.ensures.obeys.was_lawful c.count_zones.ensures.obeys.lawful c.count_zones.ensures.kept c.count_zones.ensures.closing c.in-Ok-count_zones.ensures.counted.counts.refused c.in-Ok-count_zones.ensures.counted.counts.appended
     (record { places = c.in_ok-tables.ensures.places; zones = c.in_ok-tables.ensures.zones; zone_size = c.in_ok-tables.ensures.zone_size; roles = c.in_ok-tables.ensures.roles; next = c.in_ok-tables.ensures.next; given = c.in_ok-tables.ensures.given })

@@ -16,11 +16,11 @@ returns-in_default-clause-ok g c =
 
 pub halt_of-requires : goal.halt_of-requires
 halt_of-requires g c =
-    (place_halts (g.D.Device.drive c.args.device.now) _ c.args.tables.now c.args.block c.in-At.address _ c.in-Err.fault c.requires.agrees c.requires.in_range c.in-At.ensures c.in-Err.ensures.gives c.read.ensures.kept c.in-Err.ensures.obeys c.in-Err.ensures.taken).halt
+    (place_halts (g.D.Device.drive c.args.device.now) _ c.args.tables.now c.args.block c.in-At.address _ c.in-Err.fault c.requires.agrees c.requires.in_range c.in-At.ensures c.in-Err.ensures.gives c.read.ensures.kept c.read.ensures.closing c.in-Err.ensures.obeys c.in-Err.ensures.taken).halt
 
 pub returns-in-Err-clause-kept : goal.returns-in-Err-clause-kept
 returns-in-Err-clause-kept g c =
-    (place_halts (g.D.Device.drive c.args.device.now) _ c.args.tables.now c.args.block c.in-At.address _ c.in-Err.fault c.requires.agrees c.requires.in_range c.in-At.ensures c.in-Err.ensures.gives c.read.ensures.kept c.in-Err.ensures.obeys c.in-Err.ensures.taken).kept
+    (place_halts (g.D.Device.drive c.args.device.now) _ c.args.tables.now c.args.block c.in-At.address _ c.in-Err.fault c.requires.agrees c.requires.in_range c.in-At.ensures c.in-Err.ensures.gives c.read.ensures.kept c.read.ensures.closing c.in-Err.ensures.obeys c.in-Err.ensures.taken).kept
 
 pub returns-clause-ok : goal.returns-clause-ok
 returns-clause-ok g c =
@@ -28,10 +28,10 @@ returns-clause-ok g c =
 
 pub returns-in-Err-clause-agrees : goal.returns-in-Err-clause-agrees
 returns-in-Err-clause-agrees g c =
-    serves-kept _ _ c.args.tables.now c.args.tables.now c.requires.agrees (place_halts (g.D.Device.drive c.args.device.now) _ c.args.tables.now c.args.block c.in-At.address _ c.in-Err.fault c.requires.agrees c.requires.in_range c.in-At.ensures c.in-Err.ensures.gives c.read.ensures.kept c.in-Err.ensures.obeys c.in-Err.ensures.taken).kept
+    serves-kept _ _ c.args.tables.now c.args.tables.now c.requires.agrees (place_halts (g.D.Device.drive c.args.device.now) _ c.args.tables.now c.args.block c.in-At.address _ c.in-Err.fault c.requires.agrees c.requires.in_range c.in-At.ensures c.in-Err.ensures.gives c.read.ensures.kept c.read.ensures.closing c.in-Err.ensures.obeys c.in-Err.ensures.taken).kept
 
 pub returns-clause-kept : goal.returns-clause-kept
-returns-clause-kept g c = place_kept _ _ c.args.tables.now c.requires.agrees c.read.ensures.kept c.read.ensures.obeys.lawful c.in_default-read.ensures.counts
+returns-clause-kept g c = place_kept _ _ c.args.tables.now c.requires.agrees c.read.ensures.kept c.read.ensures.closing c.read.ensures.obeys.lawful c.in_default-read.ensures.counts
 
 pub returns-clause-agrees : goal.returns-clause-agrees
-returns-clause-agrees g c = serves-kept _ _ c.args.tables.now c.args.tables.now c.requires.agrees (place_kept _ _ c.args.tables.now c.requires.agrees c.read.ensures.kept c.read.ensures.obeys.lawful c.in_default-read.ensures.counts)
+returns-clause-agrees g c = serves-kept _ _ c.args.tables.now c.args.tables.now c.requires.agrees (place_kept _ _ c.args.tables.now c.requires.agrees c.read.ensures.kept c.read.ensures.closing c.read.ensures.obeys.lawful c.in_default-read.ensures.counts)

@@ -5,12 +5,12 @@ use Rattle.zone_translator.proofs.RoomLaws.{serves-kept}
 use Rattle.zone_translator.proofs.report.report_all.Goals as goal
 
 pub returns-in-Ok-clause-kept : goal.returns-in-Ok-clause-kept
-returns-in-Ok-clause-kept g c = report_kept (g.D.Device.drive c.args.device.now) _ c.args.tables.now _ _ c.requires.agrees c.report.ensures.kept (rw c.in-Ok.is at c.report.ensures.obeys) c.in-Ok.ensures.shown
+returns-in-Ok-clause-kept g c = report_kept (g.D.Device.drive c.args.device.now) _ c.args.tables.now _ _ c.requires.agrees c.report.ensures.kept c.report.ensures.closing (rw c.in-Ok.is at c.report.ensures.obeys) c.in-Ok.ensures.shown
 
 pub returns-in-Ok-clause-agrees : goal.returns-in-Ok-clause-agrees
 returns-in-Ok-clause-agrees g c =
     serves-kept (g.D.Device.drive c.args.device.now) _ c.args.tables.now c.args.tables.now c.requires.agrees
-    (report_kept (g.D.Device.drive c.args.device.now) _ c.args.tables.now _ _ c.requires.agrees c.report.ensures.kept (rw c.in-Ok.is at c.report.ensures.obeys) c.in-Ok.ensures.shown)
+    (report_kept (g.D.Device.drive c.args.device.now) _ c.args.tables.now _ _ c.requires.agrees c.report.ensures.kept c.report.ensures.closing (rw c.in-Ok.is at c.report.ensures.obeys) c.in-Ok.ensures.shown)
 
 pub returns-in-Ok-clause-zones : goal.returns-in-Ok-clause-zones
 returns-in-Ok-clause-zones g c =
@@ -19,18 +19,18 @@ returns-in-Ok-clause-zones g c =
 
 pub halt_of-requires : goal.halt_of-requires
 halt_of-requires g c =
-    (report_halts (g.D.Device.drive c.args.device.now) _ c.args.tables.now _ _ c.in-Err.fault c.requires.agrees c.in-Err.ensures.gives c.report.ensures.kept c.in-Err.ensures.obeys c.in-Err.ensures.taken).halt
+    (report_halts (g.D.Device.drive c.args.device.now) _ c.args.tables.now _ _ c.in-Err.fault c.requires.agrees c.in-Err.ensures.gives c.report.ensures.kept c.report.ensures.closing c.in-Err.ensures.obeys c.in-Err.ensures.taken).halt
 
 pub returns-in-Err-clause-kept : goal.returns-in-Err-clause-kept
 returns-in-Err-clause-kept g c =
-    (report_halts (g.D.Device.drive c.args.device.now) _ c.args.tables.now _ _ c.in-Err.fault c.requires.agrees c.in-Err.ensures.gives c.report.ensures.kept c.in-Err.ensures.obeys c.in-Err.ensures.taken).kept
+    (report_halts (g.D.Device.drive c.args.device.now) _ c.args.tables.now _ _ c.in-Err.fault c.requires.agrees c.in-Err.ensures.gives c.report.ensures.kept c.report.ensures.closing c.in-Err.ensures.obeys c.in-Err.ensures.taken).kept
 
 pub returns-in-Err-clause-agrees : goal.returns-in-Err-clause-agrees
 returns-in-Err-clause-agrees g c =
     serves-kept (g.D.Device.drive c.args.device.now) _ c.args.tables.now c.args.tables.now c.requires.agrees
-    (report_halts (g.D.Device.drive c.args.device.now) _ c.args.tables.now _ _ c.in-Err.fault c.requires.agrees c.in-Err.ensures.gives c.report.ensures.kept c.in-Err.ensures.obeys c.in-Err.ensures.taken).kept
+    (report_halts (g.D.Device.drive c.args.device.now) _ c.args.tables.now _ _ c.in-Err.fault c.requires.agrees c.in-Err.ensures.gives c.report.ensures.kept c.report.ensures.closing c.in-Err.ensures.obeys c.in-Err.ensures.taken).kept
 
 pub returns-in-Err-clause-err : goal.returns-in-Err-clause-err
 returns-in-Err-clause-err g c =
     rw (c.fault_of.ensures, c.halt_of.ensures)
-    (report_halts (g.D.Device.drive c.args.device.now) _ c.args.tables.now _ _ c.in-Err.fault c.requires.agrees c.in-Err.ensures.gives c.report.ensures.kept c.in-Err.ensures.obeys c.in-Err.ensures.taken).cause
+    (report_halts (g.D.Device.drive c.args.device.now) _ c.args.tables.now _ _ c.in-Err.fault c.requires.agrees c.in-Err.ensures.gives c.report.ensures.kept c.report.ensures.closing c.in-Err.ensures.obeys c.in-Err.ensures.taken).cause

@@ -15,7 +15,7 @@ halt_of-requires g c =
     let few = host-few _ c.args.tables.now c.args.host c.requires.host agrees in
     let other = rw c.geometry-geometry.ensures.value at c.if-host-geometry.false in
     (finish_halts _ _ c.args.tables.now c.args.host _ c.in-Err.fault c.requires.agrees c.requires.host (rw c.geometry-geometry.ensures.value refl) (omega (arith, c.requires.few, agrees.geometry.capacity)) (omega (arith, few, other))
-    c.in-Err.ensures.gives c.in-Err.ensures.kept c.in-Err.ensures.obeys c.in-Err.ensures.taken).halt
+    c.in-Err.ensures.gives c.in-Err.ensures.kept c.in-Err.ensures.leaves c.in-Err.ensures.obeys c.in-Err.ensures.taken).halt
 
 pub returns-in-Err-clause-leaves : goal.returns-in-Err-clause-leaves
 returns-in-Err-clause-leaves g c =
@@ -24,7 +24,7 @@ returns-in-Err-clause-leaves g c =
     let other = rw c.geometry-geometry.ensures.value at c.if-host-geometry.false in
     rw (c.fault_of.ensures, c.halt_of.ensures)
     (finish_halts _ _ c.args.tables.now c.args.host _ c.in-Err.fault c.requires.agrees c.requires.host (rw c.geometry-geometry.ensures.value refl) (omega (arith, c.requires.few, agrees.geometry.capacity)) (omega (arith, few, other))
-    c.in-Err.ensures.gives c.in-Err.ensures.kept c.in-Err.ensures.obeys c.in-Err.ensures.taken).leaves
+    c.in-Err.ensures.gives c.in-Err.ensures.kept c.in-Err.ensures.leaves c.in-Err.ensures.obeys c.in-Err.ensures.taken).leaves
 
 pub returns-in-Err-clause-err : goal.returns-in-Err-clause-err
 returns-in-Err-clause-err g c =
@@ -33,7 +33,7 @@ returns-in-Err-clause-err g c =
     let other = rw c.geometry-geometry.ensures.value at c.if-host-geometry.false in
     rw (c.fault_of.ensures, c.halt_of.ensures)
     (finish_halts _ _ c.args.tables.now c.args.host _ c.in-Err.fault c.requires.agrees c.requires.host (rw c.geometry-geometry.ensures.value refl) (omega (arith, c.requires.few, agrees.geometry.capacity)) (omega (arith, few, other))
-    c.in-Err.ensures.gives c.in-Err.ensures.kept c.in-Err.ensures.obeys c.in-Err.ensures.taken).cause
+    c.in-Err.ensures.gives c.in-Err.ensures.kept c.in-Err.ensures.leaves c.in-Err.ensures.obeys c.in-Err.ensures.taken).cause
 
 pub returns-clause-leaves : goal.returns-clause-leaves
 returns-clause-leaves g c =
@@ -42,4 +42,4 @@ returns-clause-leaves g c =
     let few = host-few _ t c.args.host c.requires.host agrees in
     let other = rw c.geometry-geometry.ensures.value at c.if-host-geometry.false in
     keeps-finish _ _ t _ c.args.host _ agrees c.requires.host (rw c.geometry-geometry.ensures.value refl) (omega (arith, c.requires.few, agrees.geometry.capacity)) (omega (arith, few, other))
-    c.in_default.ensures.finished c.finish.ensures.obeys.lawful c.seal-2.ensures
+    c.in_default.ensures.finished c.in_default.ensures.leaves c.finish.ensures.obeys.lawful c.seal-2.ensures

@@ -1,0 +1,224 @@
+-- A zone is made the only one that may be open, and then a batch is appended to it.
+use Rattle.std.proofs.Common.{◌≡◌, ◌⊎◌, ℕ, nat_lt, ◌+◌, ◌<◌, Bool, true, false, cond, None, Result, Ok, Err, refl, sym, ap, subst, ◌∙◌, inl, inr}
+use Rattle.std.specs.Option.{option_map}
+use Rattle.zone_states.specs.declared.geometry.Geometry.{Geometry}
+use Rattle.drive_port.specs.Contents.{SameContents}
+use Rattle.drive_port.specs.Drive.{DriveState}
+use Rattle.drive_port.specs.declared.device.Halt.{Halt}
+use Rattle.drive_port.specs.declared.device.Halt.TheVariants as halt
+use Rattle.batch_log.specs.Log.{Batch}
+use Rattle.zone_choice.specs.Agreement.{Agrees, Mounted, drive_logs, mounted_array}
+use Rattle.zone_choice.specs.Builder.{BuilderView, IsBuilt, built}
+use Rattle.zone_choice.specs.Changes.{AloneLeaves, AppendLeaves, CanPlace, ClosesBeside, KeepsArray, KeepsContents, Places, StopsInside, roles_alone, tables_closed}
+use Rattle.zone_choice.specs.Mountable.{IsMountable}
+use Rattle.zone_choice.specs.Roles.{RolesView, closed_beside, closed_unless, second_with}
+use Rattle.zone_choice.specs.Spare.{HasSpare}
+use Rattle.zone_choice.specs.Tables.{TablesView}
+use Rattle.zone_choice.proofs.AgreementLaws.{agrees_mountable, spelled_same}
+use Rattle.zone_choice.proofs.ChangeLaws.{keeps-refl}
+use Rattle.zone_choice.proofs.MarkLaws.{sealed-with}
+use Rattle.zone_choice.proofs.RolesLaws.{closed-zone, closed_beside-twice, filling_at-with, same-second}
+
+-- ---- the zone is the only one that may be open
+
+pub alone-twice : (geometry : Geometry) (roles : RolesView) (zone : ℕ) → roles_alone geometry (roles_alone geometry roles zone) zone ≡ roles_alone geometry roles zone
+alone-twice geometry roles zone = at (nat_lt 1 geometry.open) refl
+  where
+    at : (b : Bool) → nat_lt 1 geometry.open ≡ b → roles_alone geometry (cond b roles (closed_beside roles zone)) zone ≡ cond b roles (closed_beside roles zone)
+    at true e = rw e refl
+    at false e = rw e (closed_beside-twice roles zone)
+
+closed-twice : (tables : TablesView) (zone : ℕ) → tables_closed (tables_closed tables zone) zone ≡ tables_closed tables zone
+closed-twice tables zone = ap (λ (r : RolesView). record tables { roles = r }) (closed_beside-twice tables.roles zone)
+
+-- ---- then the batch can be placed
+
+-- after the zone beside was closed
+can-closed : (a b : Mounted) (zone : ℕ) (batch : Batch) → ClosesBeside a b zone → CanPlace a zone batch → CanPlace b zone batch
+can-closed a b zone batch closes can =
+    let same = closes.kept.same in
+    let roles : b.tables.roles ≡ closed_beside a.tables.roles zone = ap (λ (t : TablesView). t.roles) closes.tables in
+    record {
+      agrees = closes.kept.agrees;
+      filling = rw roles (filling_at-with (closed_unless zone) (closed-zone zone) a.tables.roles zone ∙ can.filling);
+      heading = rw same.geometry can.heading;
+      size = rw closes.tables can.size;
+      grows = rw closes.tables can.grows;
+      reserve = rw (closes.tables, same.geometry) can.reserve;
+      few = rw same.geometry can.few;
+      few_entries = rw same.geometry can.few_entries;
+      room = rw (same.geometry, same.contents) can.room;
+      sequence = rw closes.tables can.sequence;
+      next = rw (closes.tables, same.geometry) can.next;
+      in_range = rw closes.tables can.in_range;
+      ready = rw closes.tables can.ready;
+    }
+
+can-alone : (a b : Mounted) (zone : ℕ) (batch : Batch) → AloneLeaves a b zone (Ok tt) → CanPlace a zone batch → CanPlace b zone batch
+can-alone a b zone batch leaves can = elim leaves.1 as (λ _. CanPlace b zone batch) [
+  | inl same ↦ subst (λ (m : Mounted). CanPlace m zone batch) (sym same) can
+  | inr closes ↦ can-closed a b zone batch closes can
+]
+
+geometry-alone : (a b : Mounted) (zone : ℕ) → AloneLeaves a b zone (Ok tt) → b.drive.geometry ≡ a.drive.geometry
+geometry-alone a b zone leaves = elim leaves.1 as (λ _. b.drive.geometry ≡ a.drive.geometry) [ inl same ↦ ap (λ (m : Mounted). m.drive.geometry) same | inr closes ↦ closes.kept.same.geometry ]
+
+-- the batch is built for its geometry
+pub is-built : (a b : Mounted) (zone : ℕ) (builder : BuilderView) → AloneLeaves a b zone (Ok tt) → IsBuilt a.drive.geometry.block builder → IsBuilt b.drive.geometry.block builder
+is-built a b zone builder leaves is = rw (geometry-alone a b zone leaves) is
+
+pub can-built : (a b : Mounted) (zone : ℕ) (builder : BuilderView) → AloneLeaves a b zone (Ok tt) → CanPlace a zone (built a.drive.geometry.block builder) → CanPlace b zone (built b.drive.geometry.block builder)
+can-built a b zone builder leaves can = subst (λ (g : Geometry). CanPlace b zone (built g.block builder)) (sym (geometry-alone a b zone leaves)) (can-alone a b zone (built a.drive.geometry.block builder) leaves can)
+
+pub noted-alone : (a b : Mounted) (zone : ℕ) → AloneLeaves a b zone (Ok tt) → roles_alone b.drive.geometry b.tables.roles zone ≡ b.tables.roles
+noted-alone a b zone leaves = rw (geometry-alone a b zone leaves, leaves.0) (alone-twice a.drive.geometry a.tables.roles zone)
+
+-- ---- and what its Append leaves
+
+logs-same : (a b : DriveState) → SameContents a b → drive_logs b ≡ drive_logs a
+logs-same a b same = rw (same.geometry, same.contents) refl
+
+places-closed : (a b c : Mounted) (zone : ℕ) (batch : Batch) → ClosesBeside a b zone → b.tables.roles ≡ roles_alone a.drive.geometry a.tables.roles zone → Places b c zone batch → Places a c zone batch
+places-closed a b c zone batch closes noted placed =
+    let same = closes.kept.same in
+    let array : mounted_array b ≡ mounted_array a = rw closes.tables (spelled_same a.drive b.drive a.tables.given same) in
+    let twice = alone-twice a.drive.geometry a.tables.roles zone in
+    record {
+      agrees = placed.agrees;
+      logs = placed.logs ∙ rw (logs-same a.drive b.drive same) refl;
+      size = placed.size ∙ rw closes.tables refl;
+      places = placed.places ∙ rw (closes.tables, same.geometry, same.contents) refl;
+      array = placed.array ∙ rw (array, same.geometry) refl;
+      next = placed.next ∙ rw closes.tables refl;
+      given = placed.given ∙ rw closes.tables refl;
+      roles = placed.roles ∙ rw (same.geometry, noted, twice) refl;
+      geometry = placed.geometry ∙ same.geometry;
+      refused = placed.refused ∙ closes.kept.refused;
+      appended = placed.appended ∙ ap (λ (n : ℕ). n + 1) closes.kept.appended;
+    }
+
+closes-join : (a b c : Mounted) (zone : ℕ) → ClosesBeside a b zone → ClosesBeside b c zone → ClosesBeside a c zone
+closes-join a b c zone p q = record {
+  limit = p.limit;
+  tables = q.tables ∙ ap (λ (t : TablesView). tables_closed t zone) p.tables ∙ closed-twice a.tables zone;
+  kept = record {
+    agrees = q.kept.agrees;
+    same = record { geometry = q.kept.same.geometry ∙ p.kept.same.geometry; contents = q.kept.same.contents ∙ p.kept.same.contents };
+    refused = q.kept.refused ∙ p.kept.refused;
+    appended = q.kept.appended ∙ p.kept.appended;
+  };
+}
+
+stops-closed : (a b c : Mounted) (zone : ℕ) (batch : Batch) → ClosesBeside a b zone → StopsInside b c zone batch → StopsInside a c zone batch
+stops-closed a b c zone batch closes stops =
+    let same = closes.kept.same in
+    let array : mounted_array b ≡ mounted_array a = rw closes.tables (spelled_same a.drive b.drive a.tables.given same) in
+    let given : b.tables.given ≡ a.tables.given = ap (λ (t : TablesView). t.given) closes.tables in
+    record {
+      stopped = stops.stopped;
+      tables = elim stops.tables as (λ _. (c.tables ≡ a.tables) ⊎ ((a.drive.geometry.open < 2) × (c.tables ≡ tables_closed a.tables zone))) [
+        | inl kept ↦ inr (closes.limit, kept ∙ closes.tables)
+        | inr more ↦ inr (closes.limit, more.1 ∙ ap (λ (t : TablesView). tables_closed t zone) closes.tables ∙ closed-twice a.tables zone)
+      ];
+      left = rw (array, given, logs-same a.drive b.drive same, same.geometry) at stops.left;
+      mountable = rw (given, same.geometry) at stops.mountable;
+      geometry = stops.geometry ∙ same.geometry;
+      refused = stops.refused ∙ closes.kept.refused;
+      appended = stops.appended ∙ closes.kept.appended;
+    }
+
+append-closed : (a b c : Mounted) (zone : ℕ) (batch : Batch) (result : Result (Unit {0}) Halt) → ClosesBeside a b zone → b.tables.roles ≡ roles_alone a.drive.geometry a.tables.roles zone → AppendLeaves b c zone batch result → AppendLeaves a c zone batch result
+append-closed a b c zone batch (Ok done) closes noted leaves = places-closed a b c zone batch closes noted leaves
+append-closed a b c zone batch (Err halt.Memory) closes noted leaves = elim leaves as (λ _. (c ≡ a) ⊎ ClosesBeside a c zone) [
+  | inl same ↦ inr (subst (λ (m : Mounted). ClosesBeside a m zone) (sym same) closes)
+  | inr more ↦ inr (closes-join a b c zone closes more)
+]
+append-closed a b c zone batch (Err halt.Stopped) closes noted leaves = stops-closed a b c zone batch closes leaves
+
+append-with : (a b c : Mounted) (zone : ℕ) (batch : Batch) (result : Result (Unit {0}) Halt) → AloneLeaves a b zone (Ok tt) → AppendLeaves b c zone batch result → AppendLeaves a c zone batch result
+append-with a b c zone batch result alone leaves = elim alone.1 as (λ _. AppendLeaves a c zone batch result) [
+  | inl same ↦ subst (λ (m : Mounted). AppendLeaves m c zone batch result) same leaves
+  | inr closes ↦ append-closed a b c zone batch result closes alone.0 leaves
+]
+
+pub append-alone : (a b c : Mounted) (zone : ℕ) (builder : BuilderView) (result : Result (Unit {0}) Halt) → AloneLeaves a b zone (Ok tt) → AppendLeaves b c zone (built b.drive.geometry.block builder) result → AppendLeaves a c zone (built a.drive.geometry.block builder) result
+append-alone a b c zone builder result alone leaves = append-with a b c zone (built a.drive.geometry.block builder) result alone (subst (λ (g : Geometry). AppendLeaves b c zone (built g.block builder) result) (geometry-alone a b zone alone) leaves)
+
+-- ---- where the device halted before
+
+stops-before : (a b : Mounted) (zone : ℕ) (batch : Batch) → (b.drive.stopped ≡ true) × (b.tables ≡ a.tables) × KeepsContents a b → StopsInside a b zone batch
+stops-before a b zone batch stops =
+    let kept = stops.2 in
+    let block : b.drive.geometry.block ≡ a.drive.geometry.block = ap (λ (g : Geometry). g.block) kept.same.geometry in
+    let given : b.tables.given ≡ a.tables.given = ap (λ (t : TablesView). t.given) stops.1 in
+    record {
+      stopped = stops.0;
+      tables = inl stops.1;
+      left = inl (record { logs_are = logs-same a.drive b.drive kept.same; array_is = spelled_same a.drive b.drive a.tables.given kept.same });
+      mountable = λ spare. subst (IsMountable b.drive) given (agrees_mountable b.drive b.tables kept.agrees (subst (λ (n : ℕ). HasSpare n b.tables.given (drive_logs b.drive)) (sym block) (subst (λ (n : ℕ). HasSpare a.drive.geometry.block n (drive_logs b.drive)) (sym given) spare)));
+      geometry = kept.same.geometry;
+      refused = kept.refused;
+      appended = kept.appended;
+    }
+
+halts-before : (a b : Mounted) (zone : ℕ) (batch : Batch) (fault : Halt) → AloneLeaves a b zone (Err fault) → AppendLeaves a b zone batch (Err fault)
+halts-before a b zone batch halt.Memory leaves = inl leaves
+halts-before a b zone batch halt.Stopped leaves = stops-before a b zone batch leaves
+
+pub halted-before : (a b : Mounted) (zone : ℕ) (batch : Batch) (fault : Halt) (result : Result (Unit {0}) Halt) → result ≡ Err fault → AloneLeaves a b zone (Err fault) → AppendLeaves a b zone batch result
+halted-before a b zone batch fault result is leaves = rw is (halts-before a b zone batch fault leaves)
+
+-- ---- what callers see of it
+
+pub alone-empty : (geometry : Geometry) (roles : RolesView) (zone : ℕ) → (roles_alone geometry roles zone).empty ≡ roles.empty
+alone-empty geometry roles zone = at (nat_lt 1 geometry.open)
+  where
+    at : (b : Bool) → (cond b roles (closed_beside roles zone)).empty ≡ roles.empty
+    at true = refl
+    at false = refl
+
+-- where there is no second zone, there is none afterwards
+pub alone-second : (geometry : Geometry) (roles : RolesView) (zone : ℕ) → roles.second ≡ None → (roles_alone geometry roles zone).second ≡ None
+alone-second geometry roles zone none = at (nat_lt 1 geometry.open)
+  where
+    at : (b : Bool) → (cond b roles (closed_beside roles zone)).second ≡ None
+    at true = none
+    at false = ap (option_map (second_with (closed_unless zone))) none
+
+closes-keeps : (a b : Mounted) (zone : ℕ) → ClosesBeside a b zone → KeepsArray a b
+closes-keeps a b zone closes =
+    let kept = closes.kept in
+    let tables = closes.tables in
+    record {
+      agrees = kept.agrees;
+      logs = logs-same a.drive b.drive kept.same;
+      array = rw tables (spelled_same a.drive b.drive a.tables.given kept.same);
+      places = rw tables refl;
+      next = rw tables refl;
+      given = rw tables refl;
+      spare = λ some. rw tables some;
+      sealed = λ other is. rw tables (sealed-with (closed_unless zone) (closed-zone zone) a.tables.roles other is);
+      second = rw tables (same-second a.tables.roles zone);
+      geometry = kept.same.geometry;
+      refused = kept.refused;
+      appended = kept.appended;
+    }
+
+-- where memory failed, the array is the same
+pub memory-keeps : (a b : Mounted) (zone : ℕ) (batch : Batch) → Agrees a → AppendLeaves a b zone batch (Err halt.Memory) → KeepsArray a b
+memory-keeps a b zone batch agrees leaves = elim leaves as (λ _. KeepsArray a b) [
+  | inl same ↦ subst (KeepsArray a) (sym same) (keeps-refl a.drive a.tables agrees)
+  | inr closes ↦ closes-keeps a b zone closes
+]
+
+-- where the drive stopped, the tables are the same but for the roles
+pub record SameBut (old new : TablesView) : Type 0 where
+  pub map : new.map ≡ old.map
+  pub next : new.next ≡ old.next
+  pub given : new.given ≡ old.given
+
+pub stops-tables : (a b : Mounted) (zone : ℕ) (batch : Batch) → StopsInside a b zone batch → SameBut a.tables b.tables
+stops-tables a b zone batch stops = elim stops.tables as (λ _. SameBut a.tables b.tables) [
+  | inl same ↦ rw same (record { map = refl; next = refl; given = refl })
+  | inr closed ↦ rw closed.1 (record { map = refl; next = refl; given = refl })
+]
