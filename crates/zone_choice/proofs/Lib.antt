@@ -4,6 +4,7 @@ pub mod ZoneLogLaws
 pub mod RolesLaws
 pub mod EmptyLaws
 pub mod MarkLaws
+pub mod LiveLaws
 pub mod AllLaws
 pub mod SizeLaws
 pub mod ClearingLaws

@@ -7,7 +7,7 @@ use Rattle.std.proofs.lemmas.List.{get_or-set_same, get_or-set_other, length-set
 use Rattle.zone_choice.specs.declared.roles.Filling.{Filling}
 use Rattle.zone_choice.specs.declared.roles.Second.{Second}
 use Rattle.zone_choice.specs.declared.roles.Second.TheVariants.{Next, Destination}
-use Rattle.zone_choice.specs.Roles.{AreApart, AreMarked, Differ, IsLowestIn, IsOccupied, RolesView, clean_ended, filling_of, fillings, is_at, is_empty_at, is_filling_at, is_sealed_at, listed, marked, moved_to, promoted, sealed, taken, unused, with_destination, with_fillings}
+use Rattle.zone_choice.specs.Roles.{AreApart, AreMarked, Differ, IsLowestIn, IsOccupied, RolesView, clean_ended, filling_of, fillings, is_at, is_empty_at, is_filling_at, is_sealed_at, listed, marked, ended, promoted, sealed, taken, unused, with_destination, with_fillings}
 use Rattle.zone_choice.proofs.FreshLaws.{replicate-at}
 use Rattle.zone_choice.proofs.RolesLaws.{KeepsZone, filling_at-with, occupied-set, roles_with, second_list}
 
@@ -148,7 +148,7 @@ apart-destination empties host zone apart found = by host apart
 
 -- ---- a clean has ended
 
-ended-list : (second : Option Second) → second_list (option_map moved_to second) ≡ second_list second
+ended-list : (second : Option Second) → second_list (option_map ended second) ≡ second_list second
 ended-list None = refl
 ended-list (Some (Next f)) = refl
 ended-list (Some (Destination f)) = refl
@@ -173,7 +173,7 @@ occupied-ended empties victim (f ∷ fs) none all = by (eqb f.zone victim) refl 
         let other : f.zone ≢ victim = λ same. (let bad = eq-eqb f.zone victim same in absurd (cc)) in
         (record { in_range = omega (arith, all.0.in_range, length-set empties victim true); not_empty = get_or-set_other empties victim f.zone true false other ∙ all.0.not_empty }, rest h)
 
-differ-ended : (host : Option Filling) (second : Option Second) → Differ host second → Differ host (option_map moved_to second)
+differ-ended : (host : Option Filling) (second : Option Second) → Differ host second → Differ host (option_map ended second)
 differ-ended None None h = tt
 differ-ended None (Some s) h = tt
 differ-ended (Some f) None h = tt

@@ -75,14 +75,14 @@ sealed roles = record { empty = roles.empty; host = None; second = roles.second 
 abbrev pub with_destination : RolesView → ℕ → RolesView
 with_destination roles zone = record { empty = slice_set roles.empty zone false; host = roles.host; second = Some (Destination (record { zone = zone; written = 0; may_open = false })) }
 
--- the second zone, after the last Move to it
-abbrev pub moved_to : Second → Second
-moved_to (Next filling) = Next filling
-moved_to (Destination filling) = Next filling
+-- the second zone, once a clean has ended
+abbrev pub ended : Second → Second
+ended (Next filling) = Next filling
+ended (Destination filling) = Next filling
 
 -- a clean has ended: its victim is empty, and its destination is the next zone
 abbrev pub clean_ended : RolesView → ℕ → RolesView
-clean_ended roles victim = record { empty = slice_set roles.empty victim true; host = roles.host; second = option_map moved_to roles.second }
+clean_ended roles victim = record { empty = slice_set roles.empty victim true; host = roles.host; second = option_map ended roles.second }
 
 abbrev pub next_of : Option Second → Option Filling
 next_of (Some (Next filling)) = Some filling

@@ -1,8 +1,9 @@
 -- What a mounted disk knows of its drive.
-use Rattle.std.specs.Prelude.{◌≡◌, ℕ, ◌+◌, ◌≤◌, ◌<◌, length}
+use Rattle.std.specs.Prelude.{◌≡◌, ℕ, ◌+◌, ◌≤◌, ◌<◌, true, List, length, slice_index}
+use Rattle.logical_map.specs.Live.{live}
 use Rattle.logical_map.specs.Places.{IsReady, MapView}
 use Rattle.logical_map.specs.declared.place.Place.TheVariants as places
-use Rattle.zone_choice.specs.Roles.{RolesView}
+use Rattle.zone_choice.specs.Roles.{RolesView, is_sealed_at}
 use Rattle.zone_choice.specs.Sizes.{extended}
 
 -- where the newest record of each block lies, what the zones are for, the sequence of the next batch, and the number of logical blocks that the mount was given: the drive has as many where no header has a size
@@ -15,6 +16,17 @@ pub record TablesView : Type 0 where
 -- how many logical blocks there are
 abbrev pub size_of : TablesView → ℕ
 size_of tables = length tables.map.places
+
+-- how many live records each zone of the drive has
+pub record AreLive (map : MapView) (counts : List ℕ) : Type 0 where
+  pub long : length counts ≡ map.zones
+  pub each : (zone : ℕ) → zone < map.zones → slice_index counts zone ≡ live map zone
+
+-- The zone is a sealed one. No sealed zone has fewer live records, and those with a lower number have more.
+pub record IsLeastSealed (tables : TablesView) (zone : ℕ) : Type 0 where
+  pub sealed_is : is_sealed_at tables.roles zone ≡ true
+  pub least : (other : ℕ) → is_sealed_at tables.roles other ≡ true → live tables.map zone ≤ live tables.map other
+  pub lowest : (other : ℕ) → other < zone → is_sealed_at tables.roles other ≡ true → live tables.map zone < live tables.map other
 
 -- the map and the roles are of one drive
 abbrev pub AreOfOneDrive : MapView → RolesView → Type 0

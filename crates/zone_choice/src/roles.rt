@@ -1,6 +1,6 @@
 ghost use Rattle.std.specs.Prelude.{◌≡◌, ◌≤◌, ◌<◌, ◌+◌, ◌^◌, ℕ, IfOk, IfSome, IfNone, None, Some, false, length, replicate, slice_index_or, true};
 ghost use Rattle.std.specs.List.{AllByRecursion};
-ghost use Rattle.zone_choice.specs.Roles.{AreMarked, IsLowestEmpty, clean_ended, closed_beside, closed_unless, empty_count, filling_of, fillings, grown, is_open_beside, is_sealed_at, listed, marked, moved_to, next_of, open_beside, promoted, sealed, second_with, taken, unused, with_destination, wrote};
+ghost use Rattle.zone_choice.specs.Roles.{AreMarked, IsLowestEmpty, clean_ended, closed_beside, closed_unless, empty_count, filling_of, fillings, grown, is_open_beside, is_sealed_at, listed, marked, ended, next_of, open_beside, promoted, sealed, second_with, taken, unused, with_destination, wrote};
 ghost use Rattle.std.specs.Option.{option_map};
 
 use crate::empties::EmptyZones;
@@ -175,7 +175,7 @@ impl Roles {
     {
         self.empty.give_back(victim);
         self.sealed[victim as usize] = false;
-        moved_to(&mut self.second);
+        make_next(&mut self.second);
     }
 
     /// Makes the next zone the host zone, where there is none. Nothing changes if there is no next zone.
@@ -245,8 +245,8 @@ fn mark(marks: &mut Vec<bool>, filling: Option<Filling>)
 }
 
 /// Makes a destination the next zone.
-fn moved_to(second: &mut Option<Second>)
-    ensures { second.new ≡ option_map moved_to second.old }
+fn make_next(second: &mut Option<Second>)
+    ensures { second.new ≡ option_map ended second.old }
 {
     if let Some(Second::Destination(filling)) = *second {
         *second = Some(Second::Next(filling));

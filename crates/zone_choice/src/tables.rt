@@ -1,12 +1,14 @@
-ghost use Rattle.std.specs.Prelude.{◌≡◌, ◌≢◌, ◌≤◌, ◌<◌, ◌+◌, ◌^◌, IfNone, IfOk, IfSome, length, None, OnOk, replicate, slice_index_or, slice_set, true};
+ghost use Rattle.std.specs.Prelude.{◌≡◌, ◌≢◌, ◌≤◌, ◌<◌, ◌+◌, ◌^◌, ℕ, IfNone, IfOk, IfSome, false, length, None, OnOk, replicate, slice_index, slice_index_or, slice_set, true};
 ghost use Rattle.std.specs.List.{AllByRecursion};
+ghost use Rattle.logical_map.specs.Counts.{lowered, raised};
 ghost use Rattle.logical_map.specs.Live.{first_record, live};
 ghost use Rattle.logical_map.specs.Places.{ArePlacedReady, IsReady, Reserves, address_of};
 ghost use Rattle.logical_map.specs.declared.place.Place.TheVariants as places;
 ghost use Rattle.zone_choice.specs.Roles.{IsLowestEmpty, clean_ended, closed_beside, empty_count, fillings, is_sealed_at, next_of, open_beside, promoted, sealed, taken, unused, with_destination, wrote};
-ghost use Rattle.zone_choice.specs.Tables.{AreReserved, GrowsTo, MakesRoom, size_of};
+ghost use Rattle.zone_choice.specs.Tables.{AreReserved, GrowsTo, IsLeastSealed, MakesRoom, size_of};
 
 use crate::roles::{Filling, Roles, Second};
+use live_index::LiveIndex;
 use logical_map::{Map, Place};
 use std::alloc::{AllocError, Global};
 use std::marker::Model;
@@ -16,19 +18,21 @@ use std::marker::Model;
 #[derive(Drop)]
 pub struct Tables {
     map: Map,
+    /// How many live records each zone has.
+    index: LiveIndex,
     roles: Roles,
     next: u64,
     given: u32,
 }
 
 impl Model for Tables {
-    ghost use Rattle.zone_choice.specs.Tables.{AreOfOneDrive, TablesView};
+    ghost use Rattle.zone_choice.specs.Tables.{AreLive, AreOfOneDrive, TablesView};
 
     ghost Value = { TablesView };
 
     ghost view = { λ t. record { map = t.map; roles = t.roles; next = t.next; given = t.given } };
 
-    ghost invariant = { λ t. AreOfOneDrive t.map t.roles };
+    ghost invariant = { λ t. AreOfOneDrive t.map t.roles × AreLive t.map t.index };
 }
 
 impl Tables {
@@ -42,9 +46,11 @@ impl Tables {
         ensures next { IfOk result (λ tables. tables.next ≡ 1) }
         ensures given { IfOk result (λ tables. tables.given ≡ blocks) }
     {
+        let index = LiveIndex::new(alloc, zones)?;
         let roles = Roles::new(alloc, zones)?;
         Ok(Tables {
             map: Map::new(alloc, blocks, zones, zone_size),
+            index,
             roles,
             next: 1,
             given: blocks,
@@ -71,6 +77,14 @@ impl Tables {
         ensures { zone < self.now.map.zones → result ≡ live self.now.map zone }
     {
         self.map.live(zone)
+    }
+
+    /// The sealed zone with the fewest live records, the lowest of equals. None where no zone is sealed.
+    pub fn least_sealed(&self) -> Option<u32>
+        ensures some { IfSome result (IsLeastSealed self.now) }
+        ensures none { IfNone result ((zone : ℕ) → is_sealed_at self.now.roles zone ≡ false) }
+    {
+        self.index.least(self.roles.sealed())
     }
 
     /// The first of the blocks from `from` on that lie in a zone, with its place.
@@ -203,9 +217,12 @@ impl Tables {
         requires in_range { block < size_of self.old }
         requires ready { IsReady self.old.map block }
         requires fits { address_of place + 1 < 2 ^ 63 }
+        requires few { size_of self.old ≤ 2 ^ 31 }
         ensures { self.new ≡ record self.old { map = record self.old.map { places = slice_set self.old.map.places block place } } }
     {
-        self.map.set(block, place);
+        let old = self.map.set(block, place);
+        lower(&mut self.index, self.map.zone_of(old));
+        raise(&mut self.index, self.map.zone_of(place));
     }
 
     /// Counts a batch of `blocks` blocks that was appended to a zone.
@@ -216,5 +233,25 @@ impl Tables {
     {
         self.roles.wrote(zone, blocks);
         self.next += 1;
+    }
+}
+
+/// One live record less in a zone, if there is a zone.
+fn lower(index: &mut LiveIndex, zone: Option<u32>)
+    requires { IfSome zone (λ zone. (zone < length index.old) × (0 < slice_index index.old zone)) }
+    ensures { index.new ≡ lowered zone index.old }
+{
+    if let Some(zone) = zone {
+        index.remove(zone);
+    }
+}
+
+/// One live record more in a zone, if there is a zone.
+fn raise(index: &mut LiveIndex, zone: Option<u32>)
+    requires { IfSome zone (λ zone. (zone < length index.old) × (slice_index index.old zone < 2 ^ 31)) }
+    ensures { index.new ≡ raised zone index.old }
+{
+    if let Some(zone) = zone {
+        index.add(zone);
     }
 }

@@ -30,7 +30,7 @@ use Rattle.zone_choice.proofs.MountLaws.{emptied-log, spare_resets}
 use Rattle.zone_choice.proofs.RolesLaws.{second_list}
 use Rattle.zone_choice.proofs.SizeLaws.{empty_spare}
 use Rattle.zone_cleaner.specs.Clean.{CleanView, Follows, IsClean, moved_to}
-use Rattle.zone_choice.specs.Roles.{clean_ended, is_sealed_at, moved_to as ended}
+use Rattle.zone_choice.specs.Roles.{clean_ended, ended, is_sealed_at}
 use Rattle.zone_cleaner.specs.Turns.{EmptiesVictim}
 use Rattle.zone_cleaner.proofs.CleanLaws.{clean_spare, live-parts}
 use Rattle.zone_cleaner.proofs.DeadLaws.{greatest-without, told-without}

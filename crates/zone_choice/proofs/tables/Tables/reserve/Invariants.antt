@@ -1,5 +1,6 @@
 use Rattle.std.proofs.Common.{◌≡◌, ◌≤◌, ◌<◌, ℕ}
 use Rattle.logical_map.specs.Places.{IsReady}
+use Rattle.zone_choice.specs.Tables.{AreLive}
 use Rattle.zone_choice.proofs.tables.Tables.reserve.Given as goal
 
 abbrev pub invariant-loop-block : goal.invariant-loop-block
@@ -10,4 +11,5 @@ invariant-loop-block l =
     × (l.self-inside.roles ≡ l.fn.self.roles)
     × (l.self-inside.next ≡ l.fn.self.next)
     × (l.self-inside.given ≡ l.fn.self.given)
+    × AreLive l.self-inside.map l.self-inside.index
     × ((k : ℕ) → l.fn.first ≤ k → k < l.block → IsReady l.self-inside.map k)

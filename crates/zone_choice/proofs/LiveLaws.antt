@@ -1,0 +1,114 @@
+-- How many live records each zone has, when a block is placed; and the sealed zone with the fewest.
+use Rattle.std.proofs.Common.{◌≡◌, ℕ, ◌+◌, ◌-◌, ◌<◌, ◌≤◌, ◌^◌, Bool, true, false, cond, ltb, List, ◌++◌, length, set, get_or, replicate, Option, Some, None, refl, sym, ap, ◌∙◌, inl, inr, arith}
+use Rattle.std.specs.List.{count_by}
+use Rattle.std.specs.Option.{IfSome}
+use Rattle.std.proofs.lemmas.Bool.{cases_lt, eq-eqb, le-ltb, lt-ltb, ltb-true}
+use Rattle.std.proofs.lemmas.List.{length-replicate, length-set, set_past}
+use Rattle.std.proofs.lemmas.List.Sums.{count_by-le-length, get_or-le-sum_by}
+use Rattle.std.proofs.lemmas.Option.{get_or_from_slice_get, slice_get-get_or}
+use Rattle.live_index.specs.Least.{IsNamed}
+use Rattle.logical_map.specs.Counts.{lowered, raised}
+use Rattle.logical_map.specs.Live.{is_zone, lies_in, zone_below, zone_in, zone_of}
+use Rattle.logical_map.specs.Places.{MapView}
+use Rattle.logical_map.specs.declared.place.Place.{Place}
+use Rattle.logical_map.specs.declared.place.Place.TheVariants as places
+use Rattle.logical_map.proofs.Counting.{counts-set, length-lowered, length-raised, live-grow, live-none, lowered-live}
+use Rattle.zone_choice.specs.Roles.{AreMarked, RolesView, is_sealed_at}
+use Rattle.zone_choice.specs.Tables.{AreLive}
+use Rattle.zone_choice.proofs.MarkLaws.{sealed-parts}
+
+-- ---- a block is placed
+
+-- the zone of a place, if the drive has it
+if-below : (zones : ℕ) (o : Option ℕ) (P : ℕ → Type 0) → ((zone : ℕ) → zone < zones → is_zone o zone ≡ true → P zone) → IfSome (zone_below zones o) P
+if-below zones None P each = tt
+if-below zones (Some zone) P each = by (ltb zone zones) refl
+  where
+    by : (b : Bool) → ltb zone zones ≡ b → IfSome (cond b (Some zone) None) P
+    by true e = each zone (ltb-true zone zones e) (eq-eqb zone zone refl)
+    by false e = tt
+
+lowered-below : (zones : ℕ) (o : Option ℕ) (counts : List ℕ) → length counts ≡ zones → lowered (zone_below zones o) counts ≡ lowered o counts
+lowered-below zones None counts long = refl
+lowered-below zones (Some zone) counts long = elim (cases_lt zone zones) as (λ _. lowered (zone_below zones (Some zone)) counts ≡ lowered (Some zone) counts) [
+  | inl lt ↦ rw (lt-ltb zone zones lt) refl
+  | inr past ↦ rw (le-ltb zone zones past) (sym (set_past counts zone (get_or counts zone 0 - 1) (omega arith)))
+]
+
+raised-below : (zones : ℕ) (o : Option ℕ) (counts : List ℕ) → length counts ≡ zones → raised (zone_below zones o) counts ≡ raised o counts
+raised-below zones None counts long = refl
+raised-below zones (Some zone) counts long = elim (cases_lt zone zones) as (λ _. raised (zone_below zones (Some zone)) counts ≡ raised (Some zone) counts) [
+  | inl lt ↦ rw (lt-ltb zone zones lt) refl
+  | inr past ↦ rw (le-ltb zone zones past) (sym (set_past counts zone (get_or counts zone 0 + 1) (omega arith)))
+]
+
+-- the old place counts in its zone
+pub can_lower : (map : MapView) (counts : List ℕ) (block : ℕ) → AreLive map counts → block < length map.places
+    → IfSome (zone_in map (get_or map.places block places.None)) (λ zone. (zone < length counts) × (0 < get_or counts zone 0))
+can_lower map counts block are lt = if-below map.zones (zone_of map.zone_size old) (λ zone. (zone < length counts) × (0 < get_or counts zone 0)) each
+  where
+    old : Place
+    old = get_or map.places block places.None
+
+    each : (zone : ℕ) → zone < map.zones → is_zone (zone_of map.zone_size old) zone ≡ true → (zone < length counts) × (0 < get_or counts zone 0)
+    each zone below here =
+        let some = rw here at (get_or-le-sum_by (λ p. cond (lies_in map.zone_size zone p) 1 0) map.places block places.None lt) in
+        (omega (arith, below, are.long), omega (arith, some, are.each zone below))
+
+-- without it, no zone has all blocks of the new place's zone
+pub can_raise : (map : MapView) (counts : List ℕ) (block : ℕ) (place : Place) → AreLive map counts → block < length map.places → length map.places ≤ 2 ^ 31
+    → IfSome (zone_in map place) (λ zone. (zone < length (lowered (zone_in map (get_or map.places block places.None)) counts)) × (get_or (lowered (zone_in map (get_or map.places block places.None)) counts) zone 0 < 2 ^ 31))
+can_raise map counts block place are lt few =
+    rw (lowered-below map.zones was counts are.long)
+    (if-below map.zones (zone_of map.zone_size place) (λ zone. (zone < length (lowered was counts)) × (get_or (lowered was counts) zone 0 < 2 ^ 31)) each)
+  where
+    was : Option ℕ
+    was = zone_of map.zone_size (get_or map.places block places.None)
+
+    each : (zone : ℕ) → zone < map.zones → is_zone (zone_of map.zone_size place) zone ≡ true → (zone < length (lowered was counts)) × (get_or (lowered was counts) zone 0 < 2 ^ 31)
+    each zone below here =
+        let sum = rw here at (lowered-live map.zone_size map.places counts zone block place (λ z h. are.each z (omega (arith, h, are.long))) lt (omega (arith, below, are.long))) in
+        (omega (arith, below, are.long, length-lowered was counts), omega (arith, sum, few, count_by-le-length (lies_in map.zone_size zone) (set map.places block place), length-set map.places block place))
+
+pub live-placed : (map : MapView) (counts : List ℕ) (block : ℕ) (place : Place) → AreLive map counts → block < length map.places
+    → AreLive (record map { places = set map.places block place }) (raised (zone_in map place) (lowered (zone_in map (get_or map.places block places.None)) counts))
+live-placed map counts block place are lt =
+    let was = zone_of map.zone_size (get_or map.places block places.None) in
+    let few : length (lowered was counts) ≡ map.zones = length-lowered was counts ∙ are.long in
+    let long : length (raised (zone_of map.zone_size place) (lowered was counts)) ≡ map.zones = length-raised (zone_of map.zone_size place) (lowered was counts) ∙ few in
+    rw (lowered-below map.zones was counts are.long, raised-below map.zones (zone_of map.zone_size place) (lowered was counts) few) (record {
+      long = long;
+      each = λ zone below. counts-set map.zone_size map.places counts block place (λ z h. are.each z (omega (arith, h, are.long))) lt zone (omega (arith, below, long));
+    })
+
+-- ---- no block has a place, and more blocks
+
+zeros : (n i : ℕ) → get_or (replicate {A = ℕ} n 0) i 0 ≡ 0
+zeros ℕ.zero i = refl
+zeros (ℕ.suc n) ℕ.zero = refl
+zeros (ℕ.suc n) (ℕ.suc i) = zeros n i
+
+pub live-new : (map : MapView) (blocks : ℕ) → map.places ≡ replicate blocks places.None → AreLive map (replicate map.zones 0)
+live-new map blocks none = record {
+  long = length-replicate map.zones 0;
+  each = λ zone below. zeros map.zones zone ∙ sym (ap (λ (all : List Place). count_by (lies_in map.zone_size zone) all) none ∙ live-none map.zone_size blocks zone);
+}
+
+pub live-kept : (old new : MapView) (counts : List ℕ) → AreLive old counts → new.places ≡ old.places → new.zones ≡ old.zones → new.zone_size ≡ old.zone_size → AreLive new counts
+live-kept old new counts are places-are zones size = record { long = are.long ∙ sym zones; each = λ zone below. are.each zone (omega (arith, below, zones)) ∙ rw (size, places-are) refl }
+
+-- the same places, and then blocks that have none
+pub live-same : (old new : MapView) (counts : List ℕ) (more : ℕ) → AreLive old counts → new.zones ≡ old.zones → new.zone_size ≡ old.zone_size → new.places ≡ old.places ++ replicate more places.None → AreLive new counts
+live-same old new counts more are zones size places-are = record {
+  long = are.long ∙ sym zones;
+  each = λ zone below. are.each zone (omega (arith, below, zones)) ∙ rw (size, places-are) (sym (live-grow old.zone_size more zone old.places));
+}
+
+-- ---- the sealed zone with the fewest
+
+named-sealed : (roles : RolesView) (marks : List Bool) (zone : ℕ) → AreMarked roles marks → IsNamed marks zone → is_sealed_at roles zone ≡ true
+named-sealed roles marks zone are named = sym (are.each zone) ∙ get_or_from_slice_get marks zone true false named
+
+sealed-named : (roles : RolesView) (marks : List Bool) (zone : ℕ) → AreMarked roles marks → is_sealed_at roles zone ≡ true → IsNamed marks zone
+sealed-named roles marks zone are is =
+    slice_get-get_or marks zone false (omega (arith, are.long, (sealed-parts roles zone is).in_range)) ∙ ap (λ (b : Bool). Some b) (are.each zone ∙ is)
