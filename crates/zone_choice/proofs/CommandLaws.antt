@@ -110,7 +110,7 @@ zone-start zone size some =
     let whole : zone * size ≡ zone * size + 0 = omega arith in
     (rw whole (div-mul-add zone size 0 (omega arith)), rw whole (mod-mul-add zone size 0 (omega arith)))
 
-start-below : (zone zones size : ℕ) → 1 ≤ size → zone < zones → zone * size < zones * size
+pub start-below : (zone zones size : ℕ) → 1 ≤ size → zone < zones → zone * size < zones * size
 start-below zone zones size some lt = omega (arith, mul-le (zone + 1) size zones size (omega arith) (omega arith), add-mul zone 1 size)
 
 pub filling-in_range : (drive : DriveState) (tables : TablesView) (zone : ℕ) → Agrees (mounted drive tables) → is_filling_at tables.roles zone ≡ true → zone < length drive.zones

@@ -9,7 +9,7 @@ use Rattle.nvme_wire.specs.declared.zone_state.ZoneState.{ZoneState}
 use Rattle.nvme_wire.specs.declared.zone_state.ZoneState.TheVariants as states
 use Rattle.zone_states.specs.Transition.{is_open}
 use Rattle.zone_states.specs.Zone.{Zone}
-use Rattle.drive_port.specs.Calls.{AppendLeaves, CloseLeaves, FinishLeaves, Leaves}
+use Rattle.drive_port.specs.Calls.{AppendLeaves, CloseLeaves, FinishLeaves, Leaves, ResetLeaves}
 use Rattle.drive_port.specs.Contents.{Content, content_at, content_of, contents, emptied, usage_of}
 use Rattle.drive_port.specs.Drive.{ClosesOne, DriveState, IsClosing}
 use Rattle.drive_port.specs.Step.{nowhere, zone_at}
@@ -64,6 +64,9 @@ close-opens {V} old new start result leaves = leaves-opens {V = V} old new start
 
 pub finish-opens : {V : Type 0} (old new : DriveState) (start : ℕ) (result : Result V PortFault) → FinishLeaves old start result new → OpensNone old.zones new.zones
 finish-opens {V} old new start result leaves = leaves-opens {V = V} old new start _ result refl leaves
+
+pub reset-opens : {V : Type 0} (old new : DriveState) (start : ℕ) (result : Result V PortFault) → ResetLeaves old start result new → OpensNone old.zones new.zones
+reset-opens {V} old new start result leaves = leaves-opens {V = V} old new start _ result refl leaves
 
 written-opens : (old new : DriveState) (start : ℕ) (zone : Zone) → IsClosing (slice_set old.zones (start / old.geometry.size) zone) new.zones → OpensOnly (start / old.geometry.size) old.zones new.zones
 written-opens old new start zone closing k other h = closing-opens _ new.zones closing k (set-opens_only old.zones (start / old.geometry.size) zone k other h)

@@ -21,7 +21,7 @@ use Rattle.zone_choice.specs.Builder.{placed}
 use Rattle.zone_choice.specs.Changes.{Places, next_address, placed_with, size_with, told_over}
 use Rattle.zone_choice.specs.Records.{append_log, over, shown}
 use Rattle.zone_choice.specs.Reserve.{batch_most}
-use Rattle.zone_choice.specs.Roles.{RolesView, fillings, grown, grown_second, is_filling_at, wrote}
+use Rattle.zone_choice.specs.Roles.{RolesView, fillings, grown, is_filling_at, wrote}
 use Rattle.zone_choice.specs.Sizes.{array_of, encoded_size, extended}
 use Rattle.zone_choice.specs.Tables.{TablesView, size_of}
 use Rattle.zone_choice.specs.ZoneLogs.{spelled_array}
@@ -73,7 +73,7 @@ told_same disk c agrees is =
 
 -- ---- where the records lie
 
-entries-below : (rs : List LiveRecord) (low high : ℕ) → AreBetween low high rs → AllByRecursion (λ (e : Entry). e.block < high) (entries_of rs)
+pub entries-below : (rs : List LiveRecord) (low high : ℕ) → AreBetween low high rs → AllByRecursion (λ (e : Entry). e.block < high) (entries_of rs)
 entries-below [] low high all = tt
 entries-below (r ∷ rs) low high all = (one r.block r.content all.0.1, entries-below rs low high all.1)
   where
@@ -102,7 +102,7 @@ gathered-distinct disk c is =
 pub grown-self : (f : Filling) (zone n : ℕ) → f.zone ≡ zone → grown zone n f ≡ record { zone = f.zone; written = f.written + n; may_open = true }
 grown-self f zone n e = ap (λ (b : Bool). cond b (record { zone = f.zone; written = f.written + n; may_open = true }) f) (eq-eqb f.zone zone e)
 
-data-entries : (rs : List LiveRecord) → data_count (entries_of rs) ≤ length rs
+pub data-entries : (rs : List LiveRecord) → data_count (entries_of rs) ≤ length rs
 data-entries rs = omega (arith, data_count-few (entries_of rs), length-map rs (λ (r : LiveRecord). entry_of r.block r.content))
 
 nil-of : {X : Type 0} (xs : List X) → length xs ≡ 0 → xs ≡ []

@@ -13,18 +13,19 @@ use Rattle.zone_choice.specs.Agreement.{Agrees, Mounted, drive_logs, mounted, mo
 use Rattle.zone_choice.specs.Changes.{KeepsArray}
 use Rattle.zone_choice.specs.Reserve.{batch_most}
 use Rattle.zone_choice.specs.Spare.{HasSpare}
-use Rattle.zone_choice.specs.declared.roles.Second.TheVariants.{Destination}
-use Rattle.zone_choice.specs.Roles.{is_filling_at}
+use Rattle.zone_choice.specs.declared.roles.Second.TheVariants.{Destination, Next}
+use Rattle.zone_choice.specs.Roles.{closed, is_filling_at, second_with}
 use Rattle.zone_choice.proofs.CommandLaws.{filling-in_range}
 use Rattle.zone_choice.specs.Tables.{TablesView, size_of}
 use Rattle.zone_choice.specs.ZoneLogs.{log_at}
 use Rattle.batch_log.specs.Log.{Batch}
 use Rattle.zone_cleaner.specs.Clean.{AreMoves, CleanView, Gathers, HasRoomFor, IsClean, moved_to, turns_left, untaken}
 use Rattle.zone_cleaner.specs.LiveRecords.{LiveRecord, content_of, records_in}
-use Rattle.zone_cleaner.specs.Pending.{KeepsRoles}
+use Rattle.zone_choice.specs.declared.roles.Filling.{Filling}
+use Rattle.zone_choice.specs.declared.roles.Second.{Second}
 use Rattle.zone_choice.specs.Roles.{is_sealed_at}
 use Rattle.zone_cleaner.specs.Turns.{with_record}
-use Rattle.zone_cleaner.proofs.HistoryLaws.{moves-spare}
+use Rattle.zone_cleaner.proofs.HistoryLaws.{moves_have_spare}
 use Rattle.zone_cleaner.proofs.RecordLaws.{length-records_in, live_in, live_in-split, takes-next, takes-none}
 use Rattle.zone_cleaner.proofs.SealedLaws.{sealed-apart, second-filling, zone-logs}
 
@@ -33,46 +34,58 @@ use Rattle.zone_cleaner.proofs.SealedLaws.{sealed-apart, second-filling, zone-lo
 same-zones : (before after : Mounted) → Agrees before → KeepsArray before after → after.tables.map.zone_size ≡ before.tables.map.zone_size
 same-zones before after agrees kept = kept.agrees.zone_size ∙ ap (λ (g : Geometry). g.size) kept.geometry ∙ sym agrees.zone_size
 
-pub clean_kept : (before after : Mounted) (c : CleanView) → Agrees before → KeepsArray before after → KeepsRoles before after → IsClean before c → IsClean after c
-clean_kept before after c agrees kept roles is =
+destination_zone : Option Second → ℕ
+destination_zone (Some (Destination filling)) = filling.zone
+destination_zone second = 0
+
+-- the destination is the same zone, with as many blocks written
+record KeptDestination (second : Option Second) (f : Filling) : Type 0 where
+  filling : Filling
+  is : second ≡ Some (Destination filling)
+  zone : filling.zone ≡ f.zone
+  written : filling.written ≡ f.written
+
+kept-destination : (second : Option Second) (f : Filling) → option_map (second_with closed) second ≡ Some (Destination (closed f)) → KeptDestination second f
+unfolding destination_zone
+kept-destination None f e = absurd (cc)
+kept-destination (Some (Next g)) f e = absurd (cc)
+kept-destination (Some (Destination g)) f e = record { filling = g; is = refl; zone = ap destination_zone e; written = ap moved_to e }
+
+pub clean_kept : (before after : Mounted) (c : CleanView) → Agrees before → KeepsArray before after → IsClean before c → IsClean after c
+clean_kept before after c agrees kept is =
     let zones = same-zones before after agrees kept in
+    let same = kept-destination after.tables.roles.second is.destination (kept.second ∙ ap (option_map (second_with closed)) is.second) in
     record {
-      destination = is.destination;
-      second = kept.second ∙ is.second;
-      victim = roles.sealed c.victim is.victim;
+      destination = same.filling;
+      second = same.is;
+      victim = kept.sealed c.victim is.victim;
       gathers = record {
         within = rw kept.places is.gathers.within;
         few = rw kept.geometry is.gathers.few;
         gathered = rw (kept.array, zones, kept.places) is.gathers.gathered;
       };
-      room = rw (kept.geometry, zones, kept.places) is.room;
-      moves = rw (roles.logs, kept.geometry, kept.given) is.moves;
+      room = rw (kept.geometry, zones, kept.places, same.written) is.room;
+      moves = rw (kept.logs, kept.geometry, kept.given, same.zone) is.moves;
     }
 
 -- the same turns are left
-pub turns_kept : (before after : Mounted) (c : CleanView) (most : ℕ) → Agrees before → KeepsArray before after → turns_left most after.tables (Some c) ≡ turns_left most before.tables (Some c)
-turns_kept before after c most agrees kept =
+pub turns_kept : (before after : Mounted) (c : CleanView) (most : ℕ) → Agrees before → KeepsArray before after → IsClean before c → turns_left most after.tables (Some c) ≡ turns_left most before.tables (Some c)
+turns_kept before after c most agrees kept is =
     let zones = same-zones before after agrees kept in
-    rw (zones, kept.places, kept.second) refl
+    let same = kept-destination after.tables.roles.second is.destination (kept.second ∙ ap (option_map (second_with closed)) is.second) in
+    let moved : moved_to after.tables.roles.second ≡ moved_to before.tables.roles.second = ap moved_to same.is ∙ same.written ∙ sym (ap moved_to is.second) in
+    rw (zones, kept.places, moved) refl
 
 -- ---- a stop
 
 -- at each moment of a clean the destination is vacant or half clean
 pub clean_spare : (disk : Mounted) (c : CleanView) → Agrees disk → IsClean disk c → HasSpare disk.drive.geometry.block disk.tables.given (drive_logs disk.drive)
-clean_spare disk c agrees is = by (log_at (drive_logs disk.drive) is.destination.zone) refl
-  where
-    filling : is_filling_at disk.tables.roles is.destination.zone ≡ true
-    filling = second-filling disk.tables.roles (Destination is.destination) is.second
-
-    apart : c.victim ≢ is.destination.zone
-    apart = sealed-apart disk.tables.roles c.victim is.destination.zone is.victim filling
-
-    below : is.destination.zone < length (drive_logs disk.drive)
-    below = omega (arith, filling-in_range disk.drive disk.tables is.destination.zone agrees filling, zone-logs disk.drive)
-
-    by : (log : List Batch) → log_at (drive_logs disk.drive) is.destination.zone ≡ log → HasSpare disk.drive.geometry.block disk.tables.given (drive_logs disk.drive)
-    by [] e = record { zone = is.destination.zone; in_range = below; spare = inl e }
-    by (x ∷ log) e = record { zone = is.destination.zone; in_range = below; spare = inr (moves-spare disk.drive.geometry.block disk.tables.given c.victim is.destination.zone (drive_logs disk.drive) apart is.moves x log e) }
+clean_spare disk c agrees is =
+    let f = is.destination in
+    let filling = second-filling disk.tables.roles (Destination f) is.second in
+    let apart = sealed-apart disk.tables.roles c.victim f.zone is.victim filling in
+    let below : f.zone < length (drive_logs disk.drive) = omega (arith, filling-in_range disk.drive disk.tables f.zone agrees filling, zone-logs disk.drive) in
+    moves_have_spare disk.drive.geometry.block disk.tables.given c.victim f.zone (drive_logs disk.drive) apart below is.moves
 
 -- ---- a record is gathered
 

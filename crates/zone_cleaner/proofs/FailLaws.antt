@@ -14,32 +14,27 @@ use Rattle.zone_cleaner.specs.declared.fault.CleanFault.TheVariants as faults
 use Rattle.zone_cleaner.specs.declared.step.Step.TheVariants.{Gather}
 use Rattle.zone_cleaner.specs.Clean.{CleanView, IsClean}
 use Rattle.zone_cleaner.specs.LiveRecords.{LiveRecord}
-use Rattle.zone_cleaner.specs.Pending.{KeepsRoles}
-use Rattle.zone_cleaner.specs.Turns.{IsReadFault, KeepsClean, StepFails, StopsClean, next_step}
+use Rattle.zone_cleaner.specs.Turns.{IsReadFault, StepFails, StopsClean, next_step}
 use Rattle.zone_cleaner.proofs.CarryLaws.{gathered-below}
 use Rattle.zone_cleaner.proofs.CleanLaws.{clean_kept, clean_spare, gather-next}
 use Rattle.zone_cleaner.proofs.RecordLaws.{AreBetween}
 use Rattle.zone_cleaner.proofs.StepLaws.{gather-due}
 
--- the same contents, and the same tables
-pub roles-same : (old new : DriveState) (tables : TablesView) → SameContents old new → KeepsRoles (mounted old tables) (mounted new tables)
-roles-same old new tables same = record { logs = rw (same.geometry, same.contents) refl; sealed = λ zone is. is }
-
-pub stops_kept : (before after : Mounted) (c : CleanView) → Agrees before → IsClean before c → KeepsClean before after → after.drive.stopped ≡ true → StopsClean before after
+pub stops_kept : (before after : Mounted) (c : CleanView) → Agrees before → IsClean before c → KeepsArray before after → after.drive.stopped ≡ true → StopsClean before after
 stops_kept before after c agrees is kept stopped = record {
   stopped = stopped;
-  mountable = agrees_mountable after.drive after.tables kept.0.agrees (clean_spare after c kept.0.agrees (clean_kept before after c agrees kept.0 kept.1 is));
-  array = kept.0.array;
-  size = ap length kept.0.places;
-  given = kept.0.given;
-  next = kept.0.next;
-  geometry = kept.0.geometry;
-  refused = kept.0.refused;
-  appended = kept.0.appended;
+  mountable = agrees_mountable after.drive after.tables kept.agrees (clean_spare after c kept.agrees (clean_kept before after c agrees kept is));
+  array = kept.array;
+  size = ap length kept.places;
+  given = kept.given;
+  next = kept.next;
+  geometry = kept.geometry;
+  refused = kept.refused;
+  appended = kept.appended;
 }
 
 -- a record that was not read
-pub read_fails : (before after : Mounted) (c : CleanView) (fault : CleanFault) → Agrees before → IsClean before c → KeepsClean before after → IsReadFault after.drive fault → StepFails fault before after
+pub read_fails : (before after : Mounted) (c : CleanView) (fault : CleanFault) → Agrees before → IsClean before c → KeepsArray before after → IsReadFault after.drive fault → StepFails fault before after
 read_fails before after c faults.OutOfMemory agrees is kept cause = kept
 read_fails before after c faults.Stopped agrees is kept cause = stops_kept before after c agrees is kept cause
 read_fails before after c faults.Spent agrees is kept cause = absurd cause

@@ -1,5 +1,5 @@
 -- What a clean leaves in the logs, as batches are appended.
-use Rattle.std.proofs.Common.{◌≡◌, ◌≢◌, ℕ, zero, suc, ◌+◌, ◌<◌, ◌≤◌, max, List, [], ◌∷◌, ◌++◌, length, set, get_or, Option, Some, None, refl, sym, ap, ◌∙◌, arith}
+use Rattle.std.proofs.Common.{◌≡◌, ◌≢◌, ℕ, zero, suc, ◌+◌, ◌<◌, ◌≤◌, max, List, [], ◌∷◌, ◌++◌, length, set, get_or, Option, Some, None, refl, sym, ap, ◌∙◌, inl, inr, arith}
 use Rattle.std.specs.List.{AllByRecursion}
 use Rattle.std.proofs.lemmas.List.{set-set}
 use Rattle.batch_log.specs.Log.{Batch}
@@ -7,7 +7,7 @@ use Rattle.zone_choice.specs.Laws.{IsNext}
 use Rattle.zone_choice.specs.Mountable.{AreSound}
 use Rattle.zone_choice.specs.Records.{append_log, without}
 use Rattle.zone_choice.specs.Sizes.{IsUpTo, array_of, encoded_size, greatest, larger, log_greatest, size_or}
-use Rattle.zone_choice.specs.Spare.{IsBefore, IsHalfClean, IsMoveFrom, IsSpare, first_sequence}
+use Rattle.zone_choice.specs.Spare.{HasSpare, IsBefore, IsHalfClean, IsMoveFrom, IsSpare, first_sequence}
 use Rattle.zone_choice.specs.ZoneLogs.{log_at, log_sequences, sequences}
 use Rattle.zone_choice.proofs.AllLaws.{all-append, all-parts}
 use Rattle.zone_choice.proofs.ContentLaws.{log_at-other, log_at-same}
@@ -97,3 +97,11 @@ moves-spare block_bytes n victim destination logs apart is x log e = record {
   older = (let follows = rw e at is.follows in rw e follows.0);
   spare = is.spare;
 }
+
+-- so a zone is spare at any moment of a clean
+pub moves_have_spare : (block_bytes n victim destination : ℕ) (logs : List (List Batch)) → victim ≢ destination → destination < length logs → AreMoves block_bytes n logs victim destination → HasSpare block_bytes n logs
+moves_have_spare block_bytes n victim destination logs apart lt is = by (log_at logs destination) refl
+  where
+    by : (log : List Batch) → log_at logs destination ≡ log → HasSpare block_bytes n logs
+    by [] e = record { zone = destination; in_range = lt; spare = inl e }
+    by (x ∷ log) e = record { zone = destination; in_range = lt; spare = inr (moves-spare block_bytes n victim destination logs apart is x log e) }

@@ -13,3 +13,5 @@ pub mod ResetLaws
 pub mod EntryLaws
 pub mod FetchLaws
 pub mod FailLaws
+pub mod BuildLaws
+pub mod EndLaws

@@ -13,7 +13,7 @@ use Rattle.zone_choice.specs.Agreement.{Agrees, Mounted, drive_logs, mounted_arr
 use Rattle.zone_choice.specs.Changes.{Places}
 use Rattle.zone_choice.specs.Records.{append_log}
 use Rattle.zone_choice.specs.Reserve.{batch_most}
-use Rattle.zone_choice.specs.Roles.{RolesView, grown_second, is_filling_at, wrote}
+use Rattle.zone_choice.specs.Roles.{RolesView, grown, is_filling_at, second_with, wrote}
 use Rattle.zone_choice.specs.Sizes.{array_of}
 use Rattle.zone_choice.specs.Tables.{TablesView, size_of}
 use Rattle.zone_choice.specs.ZoneLogs.{spelled_array}
@@ -27,7 +27,7 @@ use Rattle.zone_cleaner.proofs.CarryLaws.{fits-move, grown-self, moved_places, t
 use Rattle.zone_cleaner.proofs.CleanLaws.{live-parts}
 use Rattle.zone_cleaner.proofs.HistoryLaws.{moves-more}
 use Rattle.zone_cleaner.proofs.RecordLaws.{live_in}
-use Rattle.zone_cleaner.proofs.SealedLaws.{sealed-apart, sealed-holds, sealed-in_range, sealed-wrote, second-filling, zone-logs}
+use Rattle.zone_cleaner.proofs.SealedLaws.{alone-own, sealed-alone, sealed-apart, sealed-holds, sealed-in_range, second-filling, zone-logs}
 use Rattle.zone_cleaner.proofs.StepLaws.{MoveDue}
 
 -- what a Move that is done gives
@@ -65,7 +65,7 @@ move_gives before after c agrees is due placed =
     let fits = fits-move before c agrees is due in
     let zones : after.tables.map.zone_size ≡ before.tables.map.zone_size = placed.agrees.zone_size ∙ ap (λ (x : Geometry). x.size) placed.geometry ∙ sym agrees.zone_size in
     let second : after.tables.roles.second ≡ Some (Destination (record { zone = f.zone; written = f.written + batch_size b; may_open = true })) =
-    ap (λ (r : RolesView). r.second) placed.roles ∙ ap (option_map (grown_second f.zone (batch_size b))) is.second ∙ ap (λ (x : Filling). Some (Destination x)) (grown-self f f.zone (batch_size b) refl) in
+    ap (λ (r : RolesView). r.second) placed.roles ∙ ap (option_map (second_with (grown f.zone (batch_size b)))) (alone-own g before.tables.roles f is.second) ∙ ap (λ (x : Filling). Some (Destination x)) (grown-self f f.zone (batch_size b) refl) in
     let count : batch_size b ≡ 1 + data_count (entries_of c.gathered) = omega arith in
     let now : live_in after.tables.map.zone_size c.victim after.tables.map.places ≡ untaken before.tables c = ap (λ (z : ℕ). live_in z c.victim after.tables.map.places) zones ∙ moved.live_is in
     let left : untaken after.tables (after_move c) ≡ untaken before.tables c = ap (λ (z : ℕ). live_in z c.victim (drop c.cursor after.tables.map.places)) zones ∙ ap (live_in before.tables.map.zone_size c.victim) moved.rest in
@@ -74,7 +74,7 @@ move_gives before after c agrees is due placed =
       clean = record {
         destination = record { zone = f.zone; written = f.written + batch_size b; may_open = true };
         second = second;
-        victim = rw placed.roles (sealed-wrote before.tables.roles f.zone (batch_size b) c.victim is.victim);
+        victim = rw placed.roles (sealed-alone g before.tables.roles f.zone (batch_size b) c.victim is.victim);
         gathers = record { within = omega (arith, is.gathers.within, moved.long); few = omega arith; gathered = rw (same, zones) (sym moved.taken) };
         room = rw (placed.geometry, now, count) fits.after.room;
         moves = rw (placed.logs, placed.geometry, placed.given) (moves-more g.block given c.victim f.zone size logs b below' below apart (record {

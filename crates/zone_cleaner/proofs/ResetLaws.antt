@@ -27,6 +27,7 @@ use Rattle.zone_choice.proofs.AllLaws.{all-set, all-weaker}
 use Rattle.zone_choice.proofs.CommandLaws.{filling-in_range}
 use Rattle.zone_choice.proofs.ContentLaws.{same-filled}
 use Rattle.zone_choice.proofs.MountLaws.{emptied-log, spare_resets}
+use Rattle.zone_choice.proofs.OpenLaws.{OpensNone, tells-kept}
 use Rattle.zone_choice.proofs.RolesLaws.{second_list}
 use Rattle.zone_choice.proofs.SizeLaws.{empty_spare}
 use Rattle.zone_cleaner.specs.Clean.{CleanView, Follows, IsClean, moved_to}
@@ -141,9 +142,9 @@ few-reset most victim logs fs out all =
     (λ f few ne. rw (get_or-set_other logs victim f.zone [] [] ne) few) all (away-all victim fs out)
 
 pub reset_gives : (old new : DriveState) (tables : TablesView) (c : CleanView) → Agrees (mounted old tables) → IsClean (mounted old tables) c → ResetDue (mounted old tables) c → new.geometry ≡ old.geometry → IsLawful new
-    → Resets (contents old.zones) (contents new.zones) c.victim → ResetGives old new tables c.victim
+    → Resets (contents old.zones) (contents new.zones) c.victim → OpensNone old.zones new.zones → ResetGives old new tables c.victim
 unfolding spelled_array
-reset_gives old new tables c agrees is due geometry lawful resets =
+reset_gives old new tables c agrees is due geometry lawful resets opens =
     let g = old.geometry in
     let zones = contents old.zones in
     let was = drive_logs old in
@@ -169,6 +170,7 @@ reset_gives old new tables c agrees is due geometry lawful resets =
         places = rw (logs, geometry) (agrees.places ∙ sym lost.map_is);
         roles = rw (logs, geometry) (roles-reset g.capacity zones (contents new.zones) was tables.roles c.victim agrees.roles is.victim resets (length-map zones (zone_log g)));
         few = rw (logs, geometry, fillings-ended tables.roles c.victim) (few-reset (batch_most g) c.victim was (fillings tables.roles) out agrees.few);
+        open_zones = rw (fillings-ended tables.roles c.victim) (tells-kept old.zones new.zones (fillings tables.roles) opens agrees.open_zones);
       };
       logs = logs;
       array = rw (logs, geometry) lost.array;

@@ -1,5 +1,5 @@
 -- The victim is sealed, the destination is being filled.
-use Rattle.std.proofs.Common.{◌≡◌, ◌≢◌, ℕ, ◌+◌, ◌<◌, ◌≤◌, Bool, true, false, ◌&&◌, ◌||◌, not, ltb, eqb, List, [], ◌∷◌, ◌++◌, length, get_or, Option, Some, None, refl, sym, ap, subst, ◌∙◌, arith}
+use Rattle.std.proofs.Common.{◌≡◌, ◌≢◌, ℕ, ◌+◌, ◌<◌, ◌≤◌, Bool, true, false, ◌&&◌, ◌||◌, not, cond, ltb, eqb, List, [], ◌∷◌, ◌++◌, length, get_or, Option, Some, None, refl, sym, ap, subst, ◌∙◌, arith}
 use Rattle.std.specs.List.{AllByRecursion, list_any}
 use Rattle.std.proofs.lemmas.Bool.{eq-eqb, lt-ltb, ltb-true}
 use Rattle.std.proofs.lemmas.List.{length-map}
@@ -9,9 +9,13 @@ use Rattle.zone_choice.specs.declared.roles.Filling.{Filling}
 use Rattle.zone_choice.specs.declared.roles.Second.{Second}
 use Rattle.zone_choice.specs.declared.roles.Second.TheVariants.{Next, Destination}
 use Rattle.zone_choice.specs.Agreement.{Agrees, HoldsFilling, IsSealed, Mounted, drive_logs}
-use Rattle.zone_choice.specs.Roles.{RolesView, filling_of, fillings, is_at, is_empty_at, is_filling_at, listed, wrote}
+use Rattle.zone_choice.specs.Roles.{RolesView, filling_of, closed, closed_beside, closed_unless, fillings, grown, is_at, is_empty_at, is_filling_at, listed, second_with, wrote}
 use Rattle.zone_choice.specs.ZoneLogs.{zone_log}
-use Rattle.zone_choice.proofs.RolesLaws.{filling_at-wrote, second_list}
+use Rattle.zone_choice.proofs.MarkLaws.{sealed-with}
+use Rattle.zone_choice.proofs.RolesLaws.{closed-zone, filling_at-with, grown-zone, second_list}
+use Rattle.zone_choice.specs.Changes.{roles_alone}
+use Rattle.zone_states.specs.declared.geometry.Geometry.{Geometry}
+use Rattle.std.specs.Option.{option_map}
 use Rattle.zone_choice.specs.Roles.{is_sealed_at}
 
 pub record SealedZone (roles : RolesView) (zone : ℕ) : Type 0 where
@@ -35,7 +39,26 @@ zone-sealed roles zone is = rw (lt-ltb zone (length roles.empty) is.in_range, is
 pub sealed-wrote : (roles : RolesView) (zone blocks victim : ℕ) → is_sealed_at roles victim ≡ true → is_sealed_at (wrote roles zone blocks) victim ≡ true
 sealed-wrote roles zone blocks victim is =
     let was = sealed-zone roles victim is in
-    zone-sealed (wrote roles zone blocks) victim (record { in_range = was.in_range; not_empty = was.not_empty; not_filling = filling_at-wrote roles zone blocks victim ∙ was.not_filling })
+    zone-sealed (wrote roles zone blocks) victim (record { in_range = was.in_range; not_empty = was.not_empty; not_filling = filling_at-with (grown zone blocks) (grown-zone zone blocks) roles victim ∙ was.not_filling })
+
+-- the same, where the zone beside was closed first
+pub sealed-alone : (geometry : Geometry) (roles : RolesView) (zone blocks victim : ℕ) → is_sealed_at roles victim ≡ true → is_sealed_at (wrote (roles_alone geometry roles zone) zone blocks) victim ≡ true
+sealed-alone geometry roles zone blocks victim is = sealed-wrote (roles_alone geometry roles zone) zone blocks victim (at (ltb 1 geometry.open))
+  where
+    at : (b : Bool) → is_sealed_at (cond b roles (closed_beside roles zone)) victim ≡ true
+    at true = is
+    at false = sealed-with (closed_unless zone) (closed-zone zone) roles victim is
+
+own-closed : (zone : ℕ) (f : Filling) → f.zone ≡ zone → closed_unless zone f ≡ f
+own-closed zone f e = ap (λ (b : Bool). cond b f (closed f)) (eq-eqb f.zone zone e)
+
+-- the destination is not the zone beside itself
+pub alone-own : (geometry : Geometry) (roles : RolesView) (f : Filling) → roles.second ≡ Some (Destination f) → (roles_alone geometry roles f.zone).second ≡ Some (Destination f)
+alone-own geometry roles f e = at (ltb 1 geometry.open)
+  where
+    at : (b : Bool) → (cond b roles (closed_beside roles f.zone)).second ≡ Some (Destination f)
+    at true = e
+    at false = ap (option_map (second_with (closed_unless f.zone))) e ∙ ap (λ (g : Filling). Some (Destination g)) (own-closed f.zone f refl)
 
 pub zone-logs : (drive : DriveState) → length (drive_logs drive) ≡ length drive.zones
 zone-logs drive = length-map (contents drive.zones) (zone_log drive.geometry) ∙ length-map drive.zones content_of

@@ -1,4 +1,3 @@
-pub mod Pending
 pub mod LiveRecords
 pub mod Gathered
 pub mod Clean

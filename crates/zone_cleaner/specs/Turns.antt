@@ -19,7 +19,6 @@ use Rattle.zone_cleaner.specs.declared.fault.CleanFault.{CleanFault}
 use Rattle.zone_cleaner.specs.declared.fault.CleanFault.TheVariants as faults
 use Rattle.zone_cleaner.specs.Clean.{CleanView, moved_to}
 use Rattle.zone_cleaner.specs.LiveRecords.{LiveRecord, content_of, move_of}
-use Rattle.zone_cleaner.specs.Pending.{KeepsRoles}
 use Rattle.zone_choice.specs.Roles.{clean_ended}
 
 -- ---- which step is next
@@ -73,10 +72,6 @@ StepDone Reset before clean after new = EmptiesVictim before after clean.victim 
 
 -- ---- a step that is not done
 
--- nothing that the clean depends on changed: the drive may have completed a Read or a Close
-abbrev pub KeepsClean : Mounted → Mounted → Type 0
-KeepsClean before after = KeepsArray before after × KeepsRoles before after
-
 -- The drive stopped inside the step: it can be mounted, and its array is the same.
 pub record StopsClean (before after : Mounted) : Type 0 where
   pub stopped : after.drive.stopped ≡ true
@@ -89,9 +84,9 @@ pub record StopsClean (before after : Mounted) : Type 0 where
   pub refused : after.drive.refused ≡ before.drive.refused
   pub appended : after.drive.appended ≡ before.drive.appended
 
--- what a step leaves that was not done, by its fault: no sequence is left for a Move where this is said, and nothing was sent
+-- What a step leaves that was not done, by its fault. Out of memory, the drive may have completed a Read or a Close; where no sequence is left for a Move, nothing was sent.
 abbrev pub StepFails : CleanFault → Mounted → Mounted → Type 0
-StepFails faults.OutOfMemory before after = KeepsClean before after
+StepFails faults.OutOfMemory before after = KeepsArray before after
 StepFails faults.Stopped before after = StopsClean before after
 StepFails faults.Spent before after = (after ≡ before) × (sequence_end before.drive.geometry ≤ before.tables.next)
 

@@ -1,23 +1,23 @@
-ghost use Rattle.std.specs.Prelude.{◌≡◌, ◌⊎◌, ◌≤◌, ◌<◌, ◌+◌, ◌^◌, List, [], length, IfOk, IfErr, OnOk, OnErr, Some, slice_index_or};
-ghost use Rattle.std.specs.List.{AllByRecursion};
+ghost use Rattle.std.specs.Prelude.{◌≡◌, ◌⊎◌, ◌≤◌, ◌<◌, ◌+◌, ◌++◌, ◌^◌, List, [], length, IfOk, IfErr, OnOk, OnErr, Some, slice_index_or};
+ghost use Rattle.std.specs.List.{AllByRecursion, concat};
 ghost use Rattle.std.specs.Option.{option_map};
+ghost use Rattle.batch_log.specs.Header.{IsHeading, header_block};
 ghost use Rattle.drive_port.specs.Contents.{SameContents};
 ghost use Rattle.logical_map.specs.Places.{ArePlacedReady};
 ghost use Rattle.logical_map.specs.declared.place.Place.TheVariants as places;
 ghost use Rattle.zone_choice.specs.Agreement.{Agrees, mounted, spelled};
-ghost use Rattle.zone_choice.specs.Builder.{IsBuilt, built};
 ghost use Rattle.zone_choice.specs.Changes.{KeepsArray};
 ghost use Rattle.zone_choice.specs.Reserve.{batch_most};
 ghost use Rattle.zone_choice.specs.Tables.{size_of};
 ghost use Rattle.zone_cleaner.specs.Clean.{IsClean, moved_to, started};
-ghost use Rattle.zone_cleaner.specs.LiveRecords.{LiveRecord, content_of, move_of, without_block};
-ghost use Rattle.zone_cleaner.specs.Turns.{IsReadFault, StepLeaves, clean_fault, last_step, next_step, with_record};
+ghost use Rattle.zone_cleaner.specs.LiveRecords.{LiveRecord, content_of, data_of, move_of, without_block};
+ghost use Rattle.zone_cleaner.specs.Turns.{EmptiesVictim, IsReadFault, StepFails, StepLeaves, clean_fault, last_step, next_step, with_record};
 
 use crate::fault::CleanFault;
 use crate::gathered::Gathered;
 use crate::step::Step;
 use batch_log::Kind;
-use drive_port::{Device, Halt, append, read};
+use drive_port::{Device, Halt, read, reset};
 use logical_map::Place;
 use std::alloc::{AllocError, Global};
 use std::marker::Model;
@@ -127,6 +127,83 @@ impl Clean {
     {
         self.gathered.push(block, content)?;
         self.cursor = block + 1;
+        Ok(())
+    }
+
+    /// Builds the Move of the gathered records. All is allocated then that its Append needs.
+    fn build_move(
+        &self,
+        tables: &mut Tables,
+        batch: &mut BatchBuilder,
+        block_bytes: u32,
+        destination: u32,
+    ) -> Result<(), AllocError>
+        requires block { (block_bytes ≡ 512) ⊎ (block_bytes ≡ 4096) }
+        requires heading { IsHeading block_bytes (move_of (size_of tables.old) tables.old.next self.now.victim self.now.gathered).heading }
+        requires few { AllByRecursion (λ r. r.block + 1 < 2 ^ 32) self.now.gathered }
+        ensures kept { tables.new ≡ tables.old }
+        ensures heading { OnOk result (batch.new.heading ≡ (move_of (size_of tables.old) tables.old.next self.now.victim self.now.gathered).heading) }
+        ensures bytes { OnOk result (batch.new.bytes ≡ header_block block_bytes batch.new.heading ++ concat (data_of self.now.gathered)) }
+        ensures ready { OnOk result (ArePlacedReady tables.old.map) }
+    {
+        let size = tables.blocks();
+        batch.start(Kind::Move, tables.next(), self.victim, Some(size));
+        self.gathered.name_all(batch)?;
+        batch.encode(block_bytes)?;
+        self.gathered.copy_all(batch)?;
+        tables.reserve_moves(destination, self.gathered.len() as u32)
+    }
+
+    /// Appends the gathered records to the destination, as one Move.
+    fn carry<D: Device>(
+        &mut self,
+        alloc: Global,
+        tables: &mut Tables,
+        device: &mut D,
+        batch: &mut BatchBuilder,
+    ) -> Result<(), CleanFault>
+        requires agrees { Agrees (mounted (D.drive device.old) tables.old) }
+        requires clean { IsClean (mounted (D.drive device.old) tables.old) self.old }
+        requires due { next_step (batch_most (D.drive device.old).geometry) tables.old self.old ≡ Step.Move }
+        ensures leaves { StepLeaves Step.Move (mounted (D.drive device.old) tables.old) self.old result (mounted (D.drive device.new) tables.new) (Some self.new) }
+        ensures completed { (D.drive device.new).completed ≤ (D.drive device.old).completed + 2 }
+    {
+        let Some(Second::Destination(destination)) = tables.second() else {
+            unreachable!();
+        };
+        let geometry = device.geometry();
+        if tables.next() >= (1 << 63) - geometry.capacity as u64 {
+            return Err(CleanFault::Spent);
+        }
+        self.build_move(tables, batch, geometry.block, destination.zone)?;
+        match append_batch(alloc, tables, device, destination.zone, batch) {
+            Ok(()) => {
+                self.gathered.clear();
+                Ok(())
+            }
+            Err(halt) => Err(fault_of(halt)),
+        }
+    }
+
+    /// Empties the victim, whose records are all moved.
+    fn empty_victim<D: Device>(
+        &self,
+        alloc: Global,
+        tables: &mut Tables,
+        device: &mut D,
+    ) -> Result<(), CleanFault>
+        requires agrees { Agrees (mounted (D.drive device.old) tables.old) }
+        requires clean { IsClean (mounted (D.drive device.old) tables.old) self.now }
+        requires due { next_step (batch_most (D.drive device.old).geometry) tables.old self.now ≡ Step.Reset }
+        ensures ok { OnOk result (EmptiesVictim (mounted (D.drive device.old) tables.old) (mounted (D.drive device.new) tables.new) self.now.victim) }
+        ensures err { IfErr result (λ fault. StepFails fault (mounted (D.drive device.old) tables.old) (mounted (D.drive device.new) tables.new)) }
+        ensures completed { (D.drive device.new).completed ≤ (D.drive device.old).completed + 1 }
+    {
+        let start = self.victim as u64 * device.geometry().size as u64;
+        if let Err(fault) = reset(alloc, device, start) {
+            return Err(fault_of(halt_of(fault)));
+        }
+        tables.end_clean(self.victim);
         Ok(())
     }
 

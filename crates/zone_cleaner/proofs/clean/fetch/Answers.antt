@@ -1,5 +1,6 @@
 use Rattle.std.proofs.Common.{◌∙◌, sym, ap, List, ℕ}
 use Rattle.zone_choice.proofs.ChangeLaws.{keeps-contents}
+use Rattle.zone_choice.proofs.OpenLaws.{closing-opens}
 use Rattle.zone_cleaner.specs.LiveRecords.{content_of}
 use Rattle.logical_map.specs.declared.place.Place.{Place}
 use Rattle.zone_cleaner.proofs.FetchLaws.{fetch_halts, fetch_shown}
@@ -7,14 +8,14 @@ use Rattle.zone_cleaner.proofs.clean.fetch.Goals as goal
 
 pub halt_of-requires : goal.halt_of-requires
 halt_of-requires g c =
-    (fetch_halts (g.D.Device.drive c.args.device.now) _ c.args.tables.now c.args.block c.in-At.address _ c.in-Err.fault c.requires.agrees c.requires.in_range (sym c.in-At.is ∙ c.requires.place) c.in-Err.ensures.gives c.in-Err.ensures.kept c.in-Err.ensures.obeys c.in-Err.ensures.taken).halt
+    (fetch_halts (g.D.Device.drive c.args.device.now) _ c.args.tables.now c.args.block c.in-At.address _ c.in-Err.fault c.requires.agrees c.requires.in_range (sym c.in-At.is ∙ c.requires.place) c.in-Err.ensures.gives c.in-Err.ensures.kept c.in-Err.ensures.closing c.in-Err.ensures.obeys c.in-Err.ensures.taken).halt
 
 pub returns-in-Err-clause-kept : goal.returns-in-Err-clause-kept
 returns-in-Err-clause-kept g c =
-    (fetch_halts (g.D.Device.drive c.args.device.now) _ c.args.tables.now c.args.block c.in-At.address _ c.in-Err.fault c.requires.agrees c.requires.in_range (sym c.in-At.is ∙ c.requires.place) c.in-Err.ensures.gives c.in-Err.ensures.kept c.in-Err.ensures.obeys c.in-Err.ensures.taken).kept
+    (fetch_halts (g.D.Device.drive c.args.device.now) _ c.args.tables.now c.args.block c.in-At.address _ c.in-Err.fault c.requires.agrees c.requires.in_range (sym c.in-At.is ∙ c.requires.place) c.in-Err.ensures.gives c.in-Err.ensures.kept c.in-Err.ensures.closing c.in-Err.ensures.obeys c.in-Err.ensures.taken).kept
 
 pub returns-clause-kept : goal.returns-clause-kept
-returns-clause-kept g c = keeps-contents _ _ c.args.tables.now c.requires.agrees c.in_default-read.ensures.kept c.in_default-read.ensures.obeys.lawful c.in_default-read.ensures.counts
+returns-clause-kept g c = keeps-contents _ _ c.args.tables.now c.requires.agrees c.in_default-read.ensures.kept (closing-opens _ _ c.in_default-read.ensures.closing) c.in_default-read.ensures.obeys.lawful c.in_default-read.ensures.counts
 
 pub returns-clause-ok : goal.returns-clause-ok
 returns-clause-ok g c = rw c.in-At.is (fetch_shown (g.D.Device.drive c.args.device.now) c.args.tables.now c.args.block c.in-At.address _ c.requires.agrees c.requires.in_range (sym c.in-At.is ∙ c.requires.place) c.in_default-read.ensures.shown)

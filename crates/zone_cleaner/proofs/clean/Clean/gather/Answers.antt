@@ -2,7 +2,8 @@ use Rattle.std.proofs.Common.{refl}
 use Rattle.zone_choice.specs.Agreement.{mounted}
 use Rattle.zone_choice.specs.Reserve.{batch_most}
 use Rattle.zone_cleaner.proofs.CleanLaws.{gather-next}
-use Rattle.zone_cleaner.proofs.FailLaws.{next_record, read_fails, roles-same}
+use Rattle.zone_cleaner.proofs.EndLaws.{gathered_leaves}
+use Rattle.zone_cleaner.proofs.FailLaws.{next_record, read_fails}
 use Rattle.zone_cleaner.proofs.StepLaws.{gather-due}
 use Rattle.zone_cleaner.proofs.clean.Clean.gather.Goals as goal
 
@@ -22,7 +23,7 @@ push-requires-clause-few g c = (next_record (mounted (g.D.Device.drive c.args.de
 
 pub returns-in-Err-clause-leaves : goal.returns-in-Err-clause-leaves
 returns-in-Err-clause-leaves g c =
-    (read_fails (mounted (g.D.Device.drive c.args.device.now) c.args.tables.now) (mounted (g.D.Device.drive c.fetch.new.device) c.args.tables.now) c.args.self.now c.in-Err.fault c.requires.agrees c.requires.clean (c.in-Err.ensures.kept, roles-same _ _ c.args.tables.now c.in-Err.ensures.same) c.in-Err.ensures.err, refl)
+    (read_fails (mounted (g.D.Device.drive c.args.device.now) c.args.tables.now) (mounted (g.D.Device.drive c.fetch.new.device) c.args.tables.now) c.args.self.now c.in-Err.fault c.requires.agrees c.requires.clean c.in-Err.ensures.kept c.in-Err.ensures.err, refl)
 
 pub returns-in-Ok-clause-leaves : goal.returns-in-Ok-clause-leaves
-returns-in-Ok-clause-leaves g c = ?
+returns-in-Ok-clause-leaves g c = gathered_leaves _ _ c.args.self.now c.push.new.self c.args.block c.args.place _ c.push.result c.in-Ok.ensures.kept refl c.in-Ok.ensures.ok c.push.ensures.ok c.push.ensures.err
