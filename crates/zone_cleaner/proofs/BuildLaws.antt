@@ -175,3 +175,7 @@ move-can disk c agrees is due next ready =
       in_range = all-weaker (λ (e : Entry). e.block < c.cursor) (λ (e : Entry). e.block < size_of disk.tables) (entries_of c.gathered) (λ e lt. omega (arith, lt, is.gathers.within)) (entries-below c.gathered 0 c.cursor (gathered-below disk c is));
       ready = gathered-ready disk c is ready;
     }
+
+-- a block number is far below what 4 bytes hold
+pub gathered-few : (disk : Mounted) (c : CleanView) → Agrees disk → IsClean disk c → AllByRecursion (λ (r : LiveRecord). r.block + 1 < 2 ^ 32) c.gathered
+gathered-few disk c agrees is = all-weaker (λ (r : LiveRecord). (0 ≤ r.block) × (r.block < c.cursor)) (λ (r : LiveRecord). r.block + 1 < 2 ^ 32) c.gathered (λ r b. omega (arith, b.1, is.gathers.within, agrees.reserve.1)) (gathered-below disk c is)

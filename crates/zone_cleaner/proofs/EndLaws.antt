@@ -1,12 +1,12 @@
 -- What each step leaves, by its answer.
 use Rattle.std.proofs.Common.{◌≡◌, ◌≢◌, ◌⊎◌, ℕ, zero, suc, ◌+◌, ◌*◌, ◌/◌, ◌%◌, ◌<◌, ◌≤◌, ◌^◌, List, [], ◌∷◌, ◌++◌, length, Option, Some, None, Result, Ok, Err, refl, sym, ap, subst, ◌∙◌, inl, inr, arith}
-use Rattle.std.specs.List.{AllByRecursion}
+use Rattle.std.specs.List.{AllByRecursion, concat}
 use Rattle.std.specs.Option.{option_map}
 use Rattle.std.specs.Prelude.{IfErr, OnOk}
 use Rattle.std.proofs.lemmas.List.{get_or-set_same, length-map, length-set}
 use Rattle.zone_states.specs.declared.geometry.Geometry.{Geometry}
 use Rattle.drive_port.specs.Calls.{CanReset, IsNotRefused, Obeys, ResetContents, ResetGives, ResetKeeps, ResetLeaves, ResetZone}
-use Rattle.drive_port.specs.Contents.{SameContents, Counts, content_at, content_of as content_in, contents, full, is_usable, usage_of}
+use Rattle.drive_port.specs.Contents.{Content, SameContents, Counts, content_at, content_of as content_in, contents, full, is_usable, usage_of}
 use Rattle.drive_port.specs.Drive.{DriveState, IsLawful}
 use Rattle.drive_port.specs.declared.calls.PortFault.{PortFault}
 use Rattle.drive_port.specs.declared.calls.PortFault.TheVariants as port
@@ -14,9 +14,11 @@ use Rattle.drive_port.specs.declared.device.Halt.{Halt}
 use Rattle.drive_port.specs.declared.device.Halt.TheVariants as halt
 use Rattle.batch_log.specs.Log.{Batch}
 use Rattle.logical_map.specs.declared.place.Place.{Place}
+use Rattle.zone_choice.specs.declared.roles.Filling.{Filling}
 use Rattle.zone_choice.specs.declared.roles.Second.TheVariants.{Destination}
 use Rattle.zone_choice.specs.Agreement.{Agrees, Mounted, drive_logs, mounted, mounted_array, spelled}
-use Rattle.zone_choice.specs.Changes.{AppendLeaves, IsHalt, KeepsArray, Places, StopsInside, halt_of, told_over}
+use Rattle.zone_choice.specs.Builder.{BuilderView, IsBuilt, built}
+use Rattle.zone_choice.specs.Changes.{AppendLeaves, CanPlace, IsHalt, KeepsArray, Places, StopsInside, halt_of, sequence_end, told_over}
 use Rattle.zone_choice.specs.Records.{append_log, without}
 use Rattle.zone_choice.specs.Reserve.{batch_most}
 use Rattle.zone_choice.specs.Roles.{clean_ended}
@@ -28,19 +30,25 @@ use Rattle.zone_choice.proofs.AgreementLaws.{agrees_same, size-encoded, spelled_
 use Rattle.zone_choice.proofs.AloneLaws.{memory-keeps, stops-tables}
 use Rattle.zone_choice.proofs.ChangeLaws.{keeps-halt, keeps-same}
 use Rattle.zone_choice.proofs.CommandLaws.{content-zone, filling-in_range, start-below, zone-start}
-use Rattle.zone_choice.proofs.OpenLaws.{reset-opens}
+use Rattle.zone_choice.proofs.OpenLaws.{OpensNone, reset-opens}
+use Rattle.zone_choice.proofs.ReserveLaws.{positive-most}
 use Rattle.zone_cleaner.specs.declared.fault.CleanFault.{CleanFault}
 use Rattle.zone_cleaner.specs.declared.fault.CleanFault.TheVariants as faults
 use Rattle.zone_cleaner.specs.declared.step.Step.TheVariants.{Gather, Move, Reset}
 use Rattle.zone_cleaner.specs.Clean.{CleanView, IsClean}
-use Rattle.zone_cleaner.specs.LiveRecords.{content_of, move_of}
-use Rattle.zone_cleaner.specs.Turns.{EmptiesVictim, StepDone, StepFails, StepLeaves, StopsClean, clean_fault, with_record}
+use Rattle.zone_cleaner.specs.LiveRecords.{content_of, data_of, move_of}
+use Rattle.zone_cleaner.specs.Turns.{EmptiesVictim, MovesRecords, StepDone, StepFails, StepLeaves, StopsClean, clean_fault, next_step, with_record}
 use Rattle.zone_cleaner.proofs.CarryLaws.{told_same}
 use Rattle.zone_cleaner.proofs.CleanLaws.{clean_spare}
 use Rattle.zone_cleaner.proofs.HistoryLaws.{moves-more, moves_have_spare}
 use Rattle.zone_cleaner.proofs.ResetLaws.{reset_gives}
 use Rattle.zone_cleaner.proofs.SealedLaws.{sealed-apart, sealed-holds, sealed-in_range, second-filling, zone-logs}
-use Rattle.zone_cleaner.proofs.StepLaws.{ResetDue}
+use Rattle.zone_cleaner.proofs.StepLaws.{MoveDue, ResetDue, move-due}
+use Rattle.zone_cleaner.proofs.BuildLaws.{MoveBuilt, move-can, move_built}
+use Rattle.zone_cleaner.proofs.FailLaws.{stops_kept}
+use Rattle.zone_cleaner.proofs.MovedLaws.{move_gives}
+use Rattle.batch_log.specs.Header.{header_block}
+use Rattle.logical_map.specs.Places.{ArePlacedReady}
 
 -- ---- a record is gathered
 
@@ -128,5 +136,103 @@ can_reset drive tables c start agrees is start-is =
     record {
       aligned = rw start-is at.1;
       in_range = rw (start-is, ← agrees.lawful.count) (start-below c.victim (length drive.zones) size agrees.geometry.size.0 lt);
-      usable = rw index (rw content at (rw usage refl));
+      usable = rw index (ap (λ (c : Content). is_usable c.usage) (sym content) ∙ ap is_usable usage);
     }
+
+-- a Reset that was not done
+pub record ResetFails (old new : DriveState) (tables : TablesView) (fault : PortFault) : Type 0 where
+  pub halt : IsHalt fault
+  pub fails : StepFails (clean_fault (halt_of fault)) (mounted old tables) (mounted new tables)
+
+pub reset_fails : (old new : DriveState) (tables : TablesView) (c : CleanView) (start : ℕ) (fault : PortFault) → Agrees (mounted old tables) → IsClean (mounted old tables) c → ResetDue (mounted old tables) c → start ≡ c.victim * old.geometry.size
+    → ResetGives {V = Unit {0}} old start (Err fault) new → ResetKeeps {V = Unit {0}} old start (Err fault) new → ResetLeaves {V = Unit {0}} old start (Err fault) new → Obeys {V = Unit {0}} old (Err fault) new → (CanReset old start → IsNotRefused {V = Unit {0}} (Err fault)) → ResetFails old new tables fault
+reset_fails old new tables c start (port.Refused status) agrees is due start-is gives kept leaves obeys passed = absurd (passed (can_reset old tables c start agrees is start-is))
+reset_fails old new tables c start port.Memory agrees is due start-is gives kept leaves obeys passed = record { halt = tt; fails = keeps-halt old new tables gives.1.1.1 agrees }
+reset_fails old new tables c start port.Stopped agrees is due start-is gives kept leaves obeys passed = record { halt = tt; fails = by kept }
+  where
+    opens : OpensNone old.zones new.zones
+    opens = reset-opens {V = Unit {0}} old new start (Err port.Stopped) leaves
+
+    by : SameContents old new ⊎ ResetContents old new start → StopsClean (mounted old tables) (mounted new tables)
+    by (inl same) = stops_kept (mounted old tables) (mounted new tables) c agrees is (keeps-same old new tables agrees same opens obeys.lawful (obeys.counts refl).refused (obeys.counts refl).appended) (obeys.stops refl)
+    by (inr done) =
+        let index = (zone-start c.victim old.geometry.size agrees.geometry.size.0).0 in
+        let after = reset_gives old new tables c agrees is due obeys.geometry obeys.lawful (rw (start-is, index) at done.contents) opens in
+        record {
+          stopped = obeys.stops refl;
+          mountable = after.mountable;
+          array = after.array;
+          size = refl;
+          given = refl;
+          next = refl;
+          geometry = obeys.geometry;
+          refused = (obeys.counts refl).refused;
+          appended = (obeys.counts refl).appended;
+        }
+
+pub reset_done : (old new : DriveState) (tables after : TablesView) (c : CleanView) (start : ℕ) → Agrees (mounted old tables) → IsClean (mounted old tables) c → ResetDue (mounted old tables) c → start ≡ c.victim * old.geometry.size
+    → ResetZone old new start → ResetLeaves {V = Unit {0}} old start (Ok tt) new → IsLawful new → after ≡ record tables { roles = clean_ended tables.roles c.victim } → EmptiesVictim (mounted old tables) (mounted new after) c.victim
+reset_done old new tables after c start agrees is due start-is done leaves lawful after-is =
+    let index = (zone-start c.victim old.geometry.size agrees.geometry.size.0).0 in
+    let opens : OpensNone old.zones new.zones = reset-opens {V = Unit {0}} old new start (Ok tt) leaves in
+    let gives = reset_gives old new tables c agrees is due done.geometry lawful (rw (start-is, index) at done.contents) opens in
+    rw after-is (record {
+      agrees = gives.agrees;
+      logs = gives.logs;
+      array = gives.array;
+      places = refl;
+      next = refl;
+      given = refl;
+      roles = refl;
+      geometry = done.geometry;
+      refused = done.counts.refused;
+      appended = omega (arith, done.counts.appended);
+    })
+
+-- ---- the Move
+
+destination-is : (a b : Filling) → Some (Destination a) ≡ Some (Destination b) → a ≡ b
+destination-is a b e = cc
+
+-- the Move is built, and the drive takes it
+pub record CarryReady (drive : DriveState) (mid : TablesView) (zone : ℕ) (builder : BuilderView) : Type 0 where
+  pub built_is : IsBuilt drive.geometry.block builder
+  pub can : CanPlace (mounted drive mid) zone (built drive.geometry.block builder)
+
+-- what is known before it is sent
+pub record Carries (drive : DriveState) (tables mid : TablesView) (c : CleanView) (f : Filling) (builder : BuilderView) : Type 0 where
+  pub agrees : Agrees (mounted drive tables)
+  pub clean : IsClean (mounted drive tables) c
+  pub due : next_step (batch_most drive.geometry) tables c ≡ Move
+  pub second : tables.roles.second ≡ Some (Destination f)
+  pub mid_is : mid ≡ tables
+  pub heading : builder.heading ≡ (move_of (size_of tables) tables.next c.victim c.gathered).heading
+  pub bytes : builder.bytes ≡ header_block drive.geometry.block builder.heading ++ concat (data_of c.gathered)
+
+carries-due : (drive : DriveState) (tables mid : TablesView) (c : CleanView) (f : Filling) (builder : BuilderView) → Carries drive tables mid c f builder → MoveDue (mounted drive tables) (batch_most drive.geometry) c
+carries-due drive tables mid c f builder k = move-due (mounted drive tables) (batch_most drive.geometry) c k.due (positive-most drive.geometry k.agrees.geometry) k.clean.gathers.few
+
+carries-built : (drive : DriveState) (tables mid : TablesView) (c : CleanView) (f : Filling) (builder : BuilderView) → Carries drive tables mid c f builder → MoveBuilt (mounted drive tables) c builder
+carries-built drive tables mid c f builder k = move_built (mounted drive tables) c builder k.agrees k.clean k.heading k.bytes
+
+pub carry_ready : (drive : DriveState) (tables mid : TablesView) (c : CleanView) (f : Filling) (builder : BuilderView) → Carries drive tables mid c f builder → tables.next < sequence_end drive.geometry → ArePlacedReady tables.map → CarryReady drive mid f.zone builder
+carry_ready drive tables mid c f builder k next ready =
+    let made = carries-built drive tables mid c f builder k in
+    let same : k.clean.destination ≡ f = destination-is k.clean.destination f (sym k.clean.second ∙ k.second) in
+    let can = move-can (mounted drive tables) c k.agrees k.clean (carries-due drive tables mid c f builder k) next ready in
+    record { built_is = made.is; can = rw (k.mid_is, made.batch, ← same) can }
+
+pub carry_done : (old new : DriveState) (tables mid after : TablesView) (c : CleanView) (f : Filling) (builder : BuilderView) → Carries old tables mid c f builder → Places (mounted old mid) (mounted new after) f.zone (built old.geometry.block builder) → MovesRecords (mounted old tables) c (mounted new after)
+carry_done old new tables mid after c f builder k placed =
+    let made = carries-built old tables mid c f builder k in
+    let same : k.clean.destination ≡ f = destination-is k.clean.destination f (sym k.clean.second ∙ k.second) in
+    (move_gives (mounted old tables) (mounted new after) c k.agrees k.clean (carries-due old tables mid c f builder k) (rw (same, ← made.batch, ← k.mid_is) placed)).done
+
+pub carry_failed : (old new : DriveState) (tables mid after : TablesView) (c : CleanView) (f : Filling) (builder : BuilderView) (fault : Halt) → Carries old tables mid c f builder → AppendLeaves (mounted old mid) (mounted new after) f.zone (built old.geometry.block builder) (Err fault)
+    → StepFails (clean_fault fault) (mounted old tables) (mounted new after)
+carry_failed old new tables mid after c f builder fault k leaves =
+    let made = carries-built old tables mid c f builder k in
+    let same : k.clean.destination ≡ f = destination-is k.clean.destination f (sym k.clean.second ∙ k.second) in
+    let b = move_of (size_of tables) tables.next c.victim c.gathered in
+    let P : Filling → Batch → TablesView → Type 0 = λ x batch t. AppendLeaves (mounted old t) (mounted new after) x.zone batch (Err fault) in
+    carry_fails (mounted old tables) (mounted new after) c fault k.agrees k.clean (subst (λ x. P x b tables) (sym same) (subst (λ batch. P f batch tables) made.batch (subst (P f (built old.geometry.block builder)) k.mid_is leaves)))
