@@ -21,3 +21,4 @@ pub mod CommandLaws
 pub mod ReadLaws
 pub mod WholeLaws
 pub mod FreshLaws
+pub mod VictimLaws
