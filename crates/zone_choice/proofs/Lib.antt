@@ -24,3 +24,4 @@ pub mod AloneLaws
 pub mod ReadLaws
 pub mod WholeLaws
 pub mod FreshLaws
+pub mod VictimLaws

@@ -10,4 +10,5 @@ pub mod Tables
 pub mod Agreement
 pub mod Changes
 pub mod Builder
+pub mod Victim
 pub mod Laws

@@ -2,6 +2,7 @@
 //! and does nothing.
 
 ghost use Rattle.zone_choice.specs.Laws.{AppendFirst, AppendKeepsSpare, AppendLogs, AppendWrites, ClearingKeeps, EmptySpare, FewFit, FinishLogs, FinishMounts, GreatestIs, LowestResets, NewestIsLive, NextIsLast, OneClearing, RestartMounts, SpareResets, SpelledCount, SpelledWhole, TornLogs, TornMounts, VacantResets};
+ghost use Rattle.zone_choice.specs.Victim.{HasSealed, LeastCanMove};
 
 /// `newest` finds a live record of the block, where there is a record of it.
 pub fn newest_is_live()
@@ -75,4 +76,11 @@ pub fn resets_mount()
 pub fn spelled_blocks()
     ensures count { SpelledCount }
     ensures whole { SpelledWhole }
+{}
+
+/// While one zone is empty and all others are sealed, there is a zone to clean: the sealed zone with the
+/// fewest live records has so few that they can be moved to the empty one, with two of its blocks left.
+pub fn a_zone_can_be_cleaned()
+    ensures sealed { HasSealed }
+    ensures least { LeastCanMove }
 {}
