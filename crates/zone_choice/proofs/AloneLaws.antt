@@ -100,6 +100,8 @@ places-closed a b c zone batch closes noted placed =
 closes-join : (a b c : Mounted) (zone : ℕ) → ClosesBeside a b zone → ClosesBeside b c zone → ClosesBeside a c zone
 closes-join a b c zone p q = record {
   limit = p.limit;
+  other = p.other;
+  beside = p.beside;
   tables = q.tables ∙ ap (λ (t : TablesView). tables_closed t zone) p.tables ∙ closed-twice a.tables zone;
   kept = record {
     agrees = q.kept.agrees;

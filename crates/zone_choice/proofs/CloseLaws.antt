@@ -1,6 +1,7 @@
 -- The zone beside one is closed, where the drive holds one zone open at most.
-use Rattle.std.proofs.Common.{◌≡◌, ◌≢◌, ℕ, ◌*◌, ◌/◌, ◌<◌, Bool, true, false, not, ◌&&◌, cond, eqb, List, [], ◌∷◌, length, set, Some, None, Ok, Err, refl, sym, subst, ◌∙◌, inr, arith}
+use Rattle.std.proofs.Common.{◌≡◌, ◌≢◌, ◌⊎◌, ℕ, ◌*◌, ◌/◌, ◌≤◌, ◌<◌, Bool, true, false, not, ◌&&◌, cond, eqb, List, [], ◌∷◌, length, set, Some, None, Ok, Err, nat_lt, refl, sym, ap, subst, ◌∙◌, inl, inr, arith}
 use Rattle.std.specs.List.{AllByRecursion, find}
+use Rattle.std.proofs.lemmas.Bool.{le-ltb}
 use Rattle.std.proofs.lemmas.List.{get_or-set_same, length-map}
 use Rattle.nvme_wire.specs.declared.zone_state.ZoneState.TheVariants as states
 use Rattle.zone_states.specs.Zone.{Zone}
@@ -13,13 +14,13 @@ use Rattle.drive_port.specs.declared.calls.PortFault.{PortFault}
 use Rattle.drive_port.specs.declared.calls.PortFault.TheVariants as port
 use Rattle.zone_choice.specs.declared.roles.Filling.{Filling}
 use Rattle.zone_choice.specs.Agreement.{Agrees, HoldsFilling, IsShut, drive_logs, mounted}
-use Rattle.zone_choice.specs.Changes.{IsHalt, KeepsContents, CloseLeaves, halt_of, tables_closed}
-use Rattle.zone_choice.specs.Roles.{IsOccupied, fillings, is_filling_at, is_open_beside, open_beside}
+use Rattle.zone_choice.specs.Changes.{AloneLeaves, CloseLeaves, ClosesBeside, IsHalt, KeepsContents, halt_of, roles_alone, tables_closed}
+use Rattle.zone_choice.specs.Roles.{IsOccupied, RolesView, fillings, is_filling_at, is_open_beside, open_beside}
 use Rattle.zone_choice.specs.Tables.{TablesView}
 use Rattle.zone_choice.proofs.AgreementLaws.{agrees_close, agrees_same}
 use Rattle.zone_choice.proofs.CommandLaws.{can_close, filling-full, zone-start}
 use Rattle.zone_choice.proofs.OpenLaws.{OpensNone, close-opens, closing-opens, settled-shut, shut-beside, tells-kept}
-use Rattle.zone_choice.proofs.RolesLaws.{few-fillings}
+use Rattle.zone_choice.proofs.RolesLaws.{closed_beside-none, few-fillings}
 
 -- ---- the zone beside
 
@@ -67,12 +68,7 @@ closed-kept old new tables zone agrees here same opens lawful refused appended s
   appended = appended;
 }
 
--- no zone beside may be open
-pub other_none : (drive : DriveState) (tables : TablesView) (zone : ℕ) → Agrees (mounted drive tables) → is_filling_at tables.roles zone ≡ true → open_beside tables.roles zone ≡ None → KeepsContents (mounted drive tables) (mounted drive (tables_closed tables zone))
-other_none drive tables zone agrees here none =
-    closed-kept drive drive tables zone agrees here (record { geometry = refl; contents = refl }) (λ k h. h) agrees.lawful refl refl (λ other e. let bad : None ≡ Some other = sym none ∙ e in absurd (cc))
-
--- the one that may be is full
+-- it is full
 pub other_full : (drive : DriveState) (tables : TablesView) (zone : ℕ) (other : Filling) → Agrees (mounted drive tables) → is_filling_at tables.roles zone ≡ true → open_beside tables.roles zone ≡ Some other → other.written ≡ drive.geometry.capacity
     → KeepsContents (mounted drive tables) (mounted drive (tables_closed tables zone))
 other_full drive tables zone other agrees here is all =
@@ -115,3 +111,19 @@ close_halts old new tables zone start other port.Stopped agrees is room start-is
     },
   );
 }
+
+-- ---- the tables say so
+
+-- and then the zone is the only one that may be open
+pub leaves-alone : (old new : DriveState) (tables after : TablesView) (zone : ℕ) → old.geometry.open ≤ 1 → after ≡ tables_closed tables zone → CloseLeaves old tables zone new (Ok tt) → AloneLeaves (mounted old tables) (mounted new after) zone (Ok tt)
+leaves-alone old new tables after zone few after-is leaves =
+    let one : nat_lt 1 old.geometry.open ≡ false = le-ltb 1 old.geometry.open few in
+    let roles : after.roles ≡ roles_alone old.geometry tables.roles zone = rw (after-is, one) refl in
+    (roles, by leaves)
+  where
+    by : ((open_beside tables.roles zone ≡ None) × (new ≡ old)) ⊎ ((other : Filling) × (open_beside tables.roles zone ≡ Some other) × KeepsContents (mounted old tables) (mounted new (tables_closed tables zone)))
+        → (mounted new after ≡ mounted old tables) ⊎ ClosesBeside (mounted old tables) (mounted new after) zone
+    by (inl none) =
+        let same : after ≡ tables = after-is ∙ ap (λ (r : RolesView). record tables { roles = r }) (closed_beside-none tables.roles zone none.0) in
+        inl (ap (λ (d : DriveState). mounted d after) none.1 ∙ ap (mounted old) same)
+    by (inr some) = inr (record { limit = omega (arith, few); other = some.0; beside = some.1; tables = after-is; kept = rw after-is some.2 })

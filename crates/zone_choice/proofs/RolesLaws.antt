@@ -1,13 +1,13 @@
 -- Zones that are being filled.
-use Rattle.std.proofs.Common.{◌≡◌, ◌≢◌, ℕ, ◌+◌, ◌<◌, ◌≤◌, Bool, true, false, ◌||◌, cond, eqb, List, [], ◌∷◌, ◌++◌, map, length, set, get_or, Option, Some, None, refl, sym, ap, subst, ◌∙◌, arith}
-use Rattle.std.specs.List.{AllByRecursion, list_any}
+use Rattle.std.proofs.Common.{◌≡◌, ◌≢◌, ℕ, suc, ◌+◌, ◌-◌, ◌<◌, ◌≤◌, Bool, true, false, not, ◌&&◌, ◌||◌, cond, eqb, List, [], ◌∷◌, ◌++◌, map, length, set, get_or, Option, Some, None, refl, sym, ap, subst, ◌∙◌, inl, inr, arith}
+use Rattle.std.specs.List.{AllByRecursion, count_by, find, list_any}
 use Rattle.std.specs.Option.{option_map}
 use Rattle.std.proofs.lemmas.Bool.{eqb-true}
 use Rattle.std.proofs.lemmas.List.{get_or-set_same, get_or-set_other, length-set}
 use Rattle.zone_choice.specs.declared.roles.Filling.{Filling}
 use Rattle.zone_choice.specs.declared.roles.Second.{Second}
 use Rattle.zone_choice.specs.declared.roles.Second.TheVariants.{Next, Destination}
-use Rattle.zone_choice.specs.Roles.{AreApart, Differ, IsOccupied, RolesView, closed, closed_beside, closed_unless, filling_of, fillings, grown, is_at, is_filling_at, listed, sealed, second_with, taken, with_fillings}
+use Rattle.zone_choice.specs.Roles.{AreApart, Differ, IsOccupied, RolesView, closed, closed_beside, closed_unless, filling_of, fillings, grown, is_at, is_filling_at, is_open_beside, listed, open_beside, sealed, second_with, taken, with_fillings}
 use Rattle.zone_choice.proofs.AllLaws.{all-parts, all-weaker}
 
 pub all-map : {X Y : Type 0} (P : Y → Type 0) (f : X → Y) (xs : List X) → AllByRecursion (λ x. P (f x)) xs → AllByRecursion P (map f xs)
@@ -127,6 +127,35 @@ pub closed_beside-twice : (roles : RolesView) (zone : ℕ) → closed_beside (cl
 closed_beside-twice roles zone =
     ap (λ (h : Option Filling). roles_with roles.empty h (option_map (second_with (closed_unless zone)) (option_map (second_with (closed_unless zone)) roles.second))) (option-closed_twice zone roles.host)
     ∙ ap (λ (s : Option Second). roles_with roles.empty (option_map (closed_unless zone) roles.host) s) (second-closed_twice zone roles.second)
+
+-- where none of them may be open, closing them changes nothing
+closed-same : (zone : ℕ) (f : Filling) → is_open_beside zone f ≡ false → closed_unless zone f ≡ f
+closed-same zone f shut = at (eqb f.zone zone) shut
+  where
+    at : (b : Bool) → (not b && f.may_open) ≡ false → cond b f (closed f) ≡ f
+    at true e = refl
+    at false e = ap (λ (may : Bool). record { zone = f.zone; written = f.written; may_open = may }) (sym e)
+
+find-none : (test : Filling → Bool) (f : Filling) (fs : List Filling) → find test (f ∷ fs) ≡ None → (test f ≡ false) × (find test fs ≡ None)
+find-none test f fs none = at (test f) none
+  where
+    at : (b : Bool) → cond b (Some f) (find test fs) ≡ None → (b ≡ false) × (find test fs ≡ None)
+    at true e = absurd (cc)
+    at false e = (refl, e)
+
+second-same : (zone : ℕ) (second : Option Second) → find (is_open_beside zone) (second_list second) ≡ None → option_map (second_with (closed_unless zone)) second ≡ second
+second-same zone None none = refl
+second-same zone (Some (Next f)) none = ap (λ (g : Filling). Some (Next g)) (closed-same zone f (find-none (is_open_beside zone) f [] none).0)
+second-same zone (Some (Destination f)) none = ap (λ (g : Filling). Some (Destination g)) (closed-same zone f (find-none (is_open_beside zone) f [] none).0)
+
+roles-same : (zone : ℕ) (empties : List Bool) (host : Option Filling) (second : Option Second) → find (is_open_beside zone) (listed host ++ second_list second) ≡ None → closed_beside (roles_with empties host second) zone ≡ roles_with empties host second
+roles-same zone empties None second none = ap (λ (s : Option Second). roles_with empties None s) (second-same zone second none)
+roles-same zone empties (Some f) second none =
+    let both = find-none (is_open_beside zone) f (second_list second) none in
+    ap (λ (g : Filling). roles_with empties (Some g) (option_map (second_with (closed_unless zone)) second)) (closed-same zone f both.0) ∙ ap (λ (s : Option Second). roles_with empties (Some f) s) (second-same zone second both.1)
+
+pub closed_beside-none : (roles : RolesView) (zone : ℕ) → open_beside roles zone ≡ None → closed_beside roles zone ≡ roles
+closed_beside-none roles zone none = roles-same zone roles.empty roles.host roles.second none
 
 closed-unless : (zone : ℕ) (f : Filling) → closed (closed_unless zone f) ≡ closed f
 closed-unless zone f = at (eqb f.zone zone)

@@ -85,15 +85,18 @@ pub record KeepsContents (before after : Mounted) : Type 0 where
   pub refused : after.drive.refused ≡ before.drive.refused
   pub appended : after.drive.appended ≡ before.drive.appended
 
--- At an open limit of 1 the zone beside this one was closed, and the tables say so.
+-- At an open limit of 1 the zone beside this one, which might be open, was closed, and the tables say so.
 pub record ClosesBeside (before after : Mounted) (zone : ℕ) : Type 0 where
   pub limit : before.drive.geometry.open < 2
+  pub other : Filling
+  pub beside : open_beside before.tables.roles zone ≡ Some other
   pub tables : after.tables ≡ tables_closed before.tables zone
   pub kept : KeepsContents before after
 
--- What a Close of the zone beside this one leaves, if one is needed, by its answer. The tables did not change; where it was done, those agree with the drive that say so.
+-- What a Close of the zone beside this one leaves, by its answer: nothing changed where no zone beside may be open. The tables did not change; once the zone is closed, those agree with the drive that say so.
 abbrev pub CloseLeaves : DriveState → TablesView → ℕ → DriveState → Result (Unit {0}) Halt → Type 0
-CloseLeaves old tables zone new (Ok done) = KeepsContents (mounted old tables) (mounted new (tables_closed tables zone))
+CloseLeaves old tables zone new (Ok done) =
+    ((open_beside tables.roles zone ≡ None) × (new ≡ old)) ⊎ ((other : Filling) × (open_beside tables.roles zone ≡ Some other) × KeepsContents (mounted old tables) (mounted new (tables_closed tables zone)))
 CloseLeaves old tables zone new (Err halt.Memory) = new ≡ old
 CloseLeaves old tables zone new (Err halt.Stopped) = (new.stopped ≡ true) × KeepsContents (mounted old tables) (mounted new tables)
 

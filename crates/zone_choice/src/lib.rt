@@ -16,9 +16,10 @@
 //!
 //! What is promised, of any drive that obeys its rules: a batch that is appended changes the array by
 //! what it says and by nothing else, and the tables name the place of each block's newest record again
-//! (`Places` in specs/Changes); out of memory, all is as before; where the drive stops, it encodes the
-//! old array or that with the batch, and can be mounted (`AppendLeaves`). The drive
-//! refuses no such Append (`CanPlace` says what it needs). While tables and drive agree (`Agrees` in
+//! (`Places` in specs/Changes); out of memory, the array is as before; where the drive stops, it encodes
+//! the old array or that with the batch, and can be mounted (`AppendLeaves`). The drive refuses no such
+//! Append (`CanPlace` says what it needs). At an open limit of 1, the other zone that is being filled is
+//! closed before it (`ClosesBeside`), if it may be open. While tables and drive agree (`Agrees` in
 //! specs/Agreement) and a zone is kept empty, the drive can be mounted (`IsMountable` in
 //! specs/Mountable). `laws` has what holds of all drives' contents.
 #![tactic(auto)]
