@@ -310,7 +310,7 @@ pub zone_log-emptied : (geometry : Geometry) → zone_log geometry emptied ≡ [
 unfolding zone_log
 zone_log-emptied geometry = refl
 
-vacant-emptied : (geometry : Geometry) (zones : List Content) (zone : ℕ) → content_at zones zone ≡ emptied → log_at (zone_logs geometry zones) zone ≡ []
+pub vacant-emptied : (geometry : Geometry) (zones : List Content) (zone : ℕ) → content_at zones zone ≡ emptied → log_at (zone_logs geometry zones) zone ≡ []
 vacant-emptied geometry zones zone e = log_at-zone geometry zones zone ∙ ap (zone_log geometry) e ∙ zone_log-emptied geometry
 
 pub agrees_take : (drive : DriveState) (map : MapView) (empties : List Bool) (second : Option Second) (zone next given : ℕ)

@@ -15,3 +15,4 @@ pub mod FetchLaws
 pub mod FailLaws
 pub mod BuildLaws
 pub mod EndLaws
+pub mod StartLaws

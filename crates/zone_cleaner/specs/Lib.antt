@@ -2,3 +2,4 @@ pub mod LiveRecords
 pub mod Gathered
 pub mod Clean
 pub mod Turns
+pub mod Start

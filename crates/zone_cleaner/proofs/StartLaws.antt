@@ -1,0 +1,131 @@
+-- A clean begins.
+use Rattle.std.proofs.Common.{◌≡◌, ◌≢◌, ℕ, zero, suc, ◌+◌, ◌<◌, ◌≤◌, max, Bool, true, false, ◌||◌, eqb, List, [], ◌∷◌, ◌++◌, length, set, get_or, take, drop, Option, Some, None, refl, sym, ap, subst, ◌∙◌, inl, inr, arith}
+use Rattle.std.specs.List.{AllByRecursion, list_any}
+use Rattle.std.specs.Option.{option_map}
+use Rattle.std.proofs.lemmas.Bool.{cases_eq, eq-eqb, ne_eqb}
+use Rattle.std.proofs.lemmas.List.{get_or-set_other, get_or-set_same, length-set, set-get_or}
+use Rattle.zone_states.specs.declared.geometry.Geometry.{Geometry}
+use Rattle.drive_port.specs.Drive.{DriveState}
+use Rattle.drive_port.specs.Contents.{Content, content_at, contents, emptied}
+use Rattle.batch_log.specs.Log.{Batch}
+use Rattle.logical_map.specs.Live.{live}
+use Rattle.zone_choice.specs.declared.roles.Filling.{Filling}
+use Rattle.zone_choice.specs.declared.roles.Second.{Second}
+use Rattle.zone_choice.specs.declared.roles.Second.TheVariants.{Next, Destination}
+use Rattle.zone_choice.specs.Agreement.{Agrees, HoldsFilling, Mounted, RolesAgree, TellsOpen, drive_logs, mounted, mounted_array}
+use Rattle.zone_choice.specs.Repair.{HasAtMost}
+use Rattle.zone_choice.specs.Reserve.{batch_most, fill}
+use Rattle.zone_choice.specs.Roles.{IsLowestEmpty, IsLowestIn, RolesView, fillings, is_at, is_empty_at, is_filling_at, is_sealed_at, listed, with_destination}
+use Rattle.zone_choice.specs.Sizes.{array_of}
+use Rattle.zone_choice.specs.Tables.{IsLeastSealed, TablesView, size_of}
+use Rattle.zone_choice.specs.ZoneLogs.{log_at, zone_logs}
+use Rattle.zone_choice.proofs.AgreementLaws.{vacant-emptied}
+use Rattle.zone_choice.proofs.AllLaws.{all-append}
+use Rattle.zone_choice.proofs.MarkLaws.{apart-destination, sealed-made, sealed-parts}
+use Rattle.zone_choice.proofs.OpenLaws.{emptied-shut}
+use Rattle.zone_choice.proofs.ReserveLaws.{positive-most}
+use Rattle.zone_choice.proofs.RolesLaws.{roles_with, second_list}
+use Rattle.zone_cleaner.specs.Clean.{CleanView, IsClean, moved_to, started, turns_left}
+use Rattle.zone_cleaner.specs.Start.{IsCleaned, IsDue, Starts}
+use Rattle.zone_cleaner.proofs.BudgetLaws.{start-room, start-turns}
+
+-- ---- an empty zone becomes the destination
+
+abbrev fresh : ℕ → Filling
+fresh zone = record { zone = zone; written = 0; may_open = false }
+
+-- its fillings are the host zone and the destination
+all-fillings : (P : Filling → Type 0) (host : Option Filling) (zone : ℕ) → AllByRecursion P (listed host ++ second_list None) → P (fresh zone) → AllByRecursion P (listed host ++ second_list (Some (Destination (fresh zone))))
+all-fillings P None zone all one = (one, tt)
+all-fillings P (Some h) zone all one = (all.0, (one, tt))
+
+any-fillings : (k zone : ℕ) (host : Option Filling) → list_any (is_at k) (listed host ++ second_list (Some (Destination (fresh zone)))) ≡ false → (eqb zone k ≡ false) × (list_any (is_at k) (listed host ++ second_list None) ≡ false)
+any-fillings k zone None e = (one (eqb zone k) e, refl)
+  where
+    one : (b : Bool) → (b || false) ≡ false → b ≡ false
+    one true e = e
+    one false e = refl
+any-fillings k zone (Some h) e = two (eqb h.zone k) (eqb zone k) e
+  where
+    two : (a b : Bool) → (a || (b || false)) ≡ false → (b ≡ false) × ((a || false) ≡ false)
+    two true b e = absurd (cc)
+    two false true e = absurd (cc)
+    two false false e = (refl, refl)
+
+roles-destination : (capacity : ℕ) (zones : List Content) (logs : List (List Batch)) (empties : List Bool) (host : Option Filling) (zone : ℕ) → RolesAgree capacity zones logs (roles_with empties host None) → IsLowestIn empties zone → log_at logs zone ≡ []
+    → RolesAgree capacity zones logs (with_destination (roles_with empties host None) zone)
+roles-destination capacity zones logs empties host zone agree lowest no_log =
+    let there = agree.empty zone lowest.is_empty in
+    record {
+      count = length-set empties zone false ∙ agree.count;
+      apart = apart-destination empties host zone agree.apart lowest;
+      fillings_are = all-fillings (HoldsFilling capacity zones logs) host zone agree.fillings_are (record { written = rw there refl; usage = rw there (inl refl); batches = rw no_log refl; opened = λ e. absurd (let bad : false ≡ true = e in cc) });
+      empty = λ k is_empty. elim (cases_eq k zone) as (λ _. content_at zones k ≡ emptied) [
+        | inl same ↦ rw same there
+        | inr other ↦ agree.empty k (rw (get_or-set_other empties zone k false false other) at is_empty)
+      ];
+      sealed_are = λ k below not_empty not_filling.
+          let out = any-fillings k zone host not_filling in
+          let other : k ≢ zone = λ same. (let bad : eqb zone k ≡ true = eq-eqb zone k (sym same) in let no = out.0 in absurd (cc)) in
+          agree.sealed_are k below (rw (get_or-set_other empties zone k false false other) at not_empty) out.1;
+    }
+
+-- ---- the clean after it
+
+pub record StartGives (disk : Mounted) (tables : TablesView) (victim : ℕ) : Type 0 where
+  pub cleaned : IsCleaned (mounted disk.drive tables) (Some (started victim))
+  pub turns : turns_left (batch_most disk.drive.geometry) tables (Some (started victim)) + 1 ≤ disk.drive.geometry.capacity
+
+with-alone : (drive : DriveState) (tables : TablesView) → tables.roles.second ≡ None → Agrees (mounted drive tables) → Agrees (mounted drive (record tables { roles = roles_with tables.roles.empty tables.roles.host None }))
+with-alone drive tables none agrees = let P : Option Second → Type 0 = λ s. Agrees (mounted drive (record tables { roles = roles_with tables.roles.empty tables.roles.host s })) in subst P none agrees
+
+pub start_gives : (drive : DriveState) (tables new : TablesView) (victim zone : ℕ) → Agrees (mounted drive tables) → IsDue drive.geometry tables victim → IsLowestEmpty tables.roles zone → new ≡ record tables { roles = with_destination tables.roles zone } → StartGives (mounted drive tables) new victim
+start_gives drive tables new victim zone agrees due lowest new-is =
+    let g = drive.geometry in
+    let zones = contents drive.zones in
+    let logs = drive_logs drive in
+    let k = batch_most g in
+    let plain = with-alone drive tables due.alone agrees in
+    let no_log : log_at logs zone ≡ [] = vacant-emptied g zones zone (agrees.roles.empty zone lowest.is_empty) in
+    let was = sealed-parts tables.roles victim due.least.sealed_is in
+    let ne : victim ≢ zone = λ same. (let yes = rw (← same) at lowest.is_empty in let no = was.not_empty in absurd (cc)) in
+    rw new-is (record {
+      cleaned = (
+        record {
+          geometry = agrees.geometry;
+          reserve = agrees.reserve;
+          lawful = agrees.lawful;
+          logs = agrees.logs;
+          sound = agrees.sound;
+          next = agrees.next;
+          zones = agrees.zones;
+          zone_size = agrees.zone_size;
+          places = agrees.places;
+          roles = roles-destination g.capacity zones logs tables.roles.empty tables.roles.host zone plain.roles lowest no_log;
+          few = all-fillings (λ f. AllByRecursion (HasAtMost k) (log_at logs f.zone)) tables.roles.host zone plain.few (rw no_log tt);
+          open_zones = all-fillings (TellsOpen drive.zones) tables.roles.host zone plain.open_zones (λ no. emptied-shut drive.zones zone (agrees.roles.empty zone lowest.is_empty));
+        },
+        record {
+          destination = fresh zone;
+          second = refl;
+          victim = sealed-made (with_destination tables.roles zone) victim (omega (arith, was.in_range, length-set tables.roles.empty zone false)) (get_or-set_other tables.roles.empty zone victim false false ne ∙ was.not_empty) (not-filling tables.roles.host was.not_filling ne);
+          gathers = record { within = omega arith; few = omega arith; gathered = refl };
+          room = start-room g.capacity k (live tables.map victim) due.fits;
+          moves = record { moves = rw no_log tt; follows = rw no_log tt; spare = nothing_lost no_log };
+        },
+      );
+      turns = start-turns g.capacity k (live tables.map victim) (positive-most g agrees.geometry) due.fits;
+    })
+  where
+    not-filling : (host : Option Filling) → list_any (is_at victim) (listed host ++ second_list tables.roles.second) ≡ false → victim ≢ zone → list_any (is_at victim) (listed host ++ second_list (Some (Destination (fresh zone)))) ≡ false
+    not-filling host out ne = by host (rw due.alone at out)
+      where
+        other : eqb zone victim ≡ false
+        other = ne_eqb zone victim (λ same. ne (sym same))
+
+        by : (host : Option Filling) → list_any (is_at victim) (listed host ++ second_list None) ≡ false → list_any (is_at victim) (listed host ++ second_list (Some (Destination (fresh zone)))) ≡ false
+        by None out = ap (λ (b : Bool). b || false) other
+        by (Some h) out = rw other out
+
+    nothing_lost : log_at (drive_logs drive) zone ≡ [] → array_of drive.geometry.block tables.given (set (drive_logs drive) zone []) ≡ array_of drive.geometry.block tables.given (drive_logs drive)
+    nothing_lost e = ap (array_of drive.geometry.block tables.given) (ap (set (drive_logs drive) zone) (sym e) ∙ set-get_or (drive_logs drive) zone [])

@@ -1,0 +1,68 @@
+-- When a clean starts, and what a turn and a whole clean leave.
+use Rattle.std.specs.Prelude.{◌≡◌, ◌≢◌, ℕ, ◌+◌, ◌≤◌, Option, Some, None, Result, Ok, Err}
+use Rattle.zone_states.specs.declared.geometry.Geometry.{Geometry}
+use Rattle.logical_map.specs.Live.{live}
+use Rattle.zone_choice.specs.Agreement.{Agrees, Mounted, mounted_array}
+use Rattle.zone_choice.specs.Mountable.{IsMountable}
+use Rattle.zone_choice.specs.Reserve.{batch_most, fill}
+use Rattle.zone_choice.specs.Roles.{IsLowestEmpty, empty_count, with_destination}
+use Rattle.zone_choice.specs.Tables.{IsLeastSealed, TablesView, size_of}
+use Rattle.zone_cleaner.specs.declared.fault.CleanFault.{CleanFault}
+use Rattle.zone_cleaner.specs.declared.fault.CleanFault.TheVariants as faults
+use Rattle.zone_cleaner.specs.Clean.{CleanView, Cleans, started}
+use Rattle.zone_cleaner.specs.Turns.{StepLeaves, next_step}
+
+-- A clean of this zone is due: there is no second zone, one or two zones are empty, it is the sealed zone with the fewest live records, the lowest of equals, and with these a zone has two free blocks left.
+pub record IsDue (geometry : Geometry) (tables : TablesView) (victim : ℕ) : Type 0 where
+  pub alone : tables.roles.second ≡ None
+  pub some : 1 ≤ empty_count tables.roles
+  pub few : empty_count tables.roles ≤ 2
+  pub least : IsLeastSealed tables victim
+  pub fits : fill (batch_most geometry) (live tables.map victim) + 2 ≤ geometry.capacity
+
+abbrev pub NoneIsDue : Geometry → TablesView → Type 0
+NoneIsDue geometry tables = (victim : ℕ) → IsDue geometry tables victim → ⊥
+
+-- the zone of which a clean is due, if one is
+abbrev pub FindsDue : Geometry → TablesView → Option ℕ → Type 0
+FindsDue geometry tables (Some victim) = IsDue geometry tables victim
+FindsDue geometry tables None = NoneIsDue geometry tables
+
+-- the clean of a zone has begun: the lowest empty zone is its destination
+pub record Starts (geometry : Geometry) (old new : TablesView) (clean : CleanView) : Type 0 where
+  pub victim : ℕ
+  pub due : IsDue geometry old victim
+  pub destination : ℕ
+  pub lowest : IsLowestEmpty old.roles destination
+  pub tables : new ≡ record old { roles = with_destination old.roles destination }
+  pub clean_is : clean ≡ started victim
+
+-- what a turn leaves where no clean runs: the clean that is due has begun, or none is due, and nothing changed
+abbrev pub StartLeaves : Geometry → TablesView → TablesView → Option CleanView → Type 0
+StartLeaves geometry old new (Some clean) = Starts geometry old new clean
+StartLeaves geometry old new None = NoneIsDue geometry old × (new ≡ old)
+
+-- what a turn leaves, by its answer: it does the next step of the clean that runs; where none runs, no command is sent
+abbrev pub TurnLeaves : Mounted → Option CleanView → Result (Unit {0}) CleanFault → Mounted → Option CleanView → Type 0
+TurnLeaves before None (Ok done) after new = (after.drive ≡ before.drive) × StartLeaves before.drive.geometry before.tables after.tables new
+TurnLeaves before None (Err fault) after new = ⊥
+TurnLeaves before (Some clean) result after new = StepLeaves (next_step (batch_most before.drive.geometry) before.tables clean) before clean result after new
+
+-- tables and drive agree, and a clean runs, or none does
+abbrev pub IsCleaned : Mounted → Option CleanView → Type 0
+IsCleaned disk clean = Agrees disk × Cleans disk clean
+
+-- it does so after a turn, unless the drive has stopped
+abbrev pub GoesOn : Result (Unit {0}) CleanFault → Mounted → Option CleanView → Type 0
+GoesOn (Err faults.Stopped) disk clean = Unit {0}
+GoesOn result disk clean = IsCleaned disk clean
+
+-- What every turn keeps, whatever it answers: a drive that can be mounted, with the same array. No command is refused, and the next sequence rises by one with each batch that is appended.
+pub record KeepsByCleaning (before after : Mounted) : Type 0 where
+  pub mountable : IsMountable after.drive after.tables.given
+  pub array : mounted_array after ≡ mounted_array before
+  pub size : size_of after.tables ≡ size_of before.tables
+  pub given : after.tables.given ≡ before.tables.given
+  pub geometry : after.drive.geometry ≡ before.drive.geometry
+  pub refused : after.drive.refused ≡ before.drive.refused
+  pub next : after.tables.next + before.drive.appended ≡ before.tables.next + after.drive.appended
