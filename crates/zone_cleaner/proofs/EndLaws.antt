@@ -191,7 +191,7 @@ reset_done old new tables after c start agrees is due start-is done leaves lawfu
 
 -- ---- the Move
 
-destination-is : (a b : Filling) → Some (Destination a) ≡ Some (Destination b) → a ≡ b
+pub destination-is : (a b : Filling) → Some (Destination a) ≡ Some (Destination b) → a ≡ b
 destination-is a b e = cc
 
 -- the Move is built, and the drive takes it

@@ -16,3 +16,4 @@ pub mod FailLaws
 pub mod BuildLaws
 pub mod EndLaws
 pub mod StartLaws
+pub mod TurnLaws

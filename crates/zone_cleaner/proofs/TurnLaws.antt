@@ -1,0 +1,207 @@
+-- What a turn leaves: the clean goes on, with fewer turns left, and the array stays.
+use Rattle.std.proofs.Common.{◌≡◌, ◌≢◌, ℕ, zero, suc, ◌+◌, ◌<◌, ◌≤◌, Bool, true, false, cond, List, [], ◌∷◌, length, set, get_or, Option, Some, None, Result, Ok, Err, is_some, refl, sym, ap, subst, ◌∙◌, arith}
+use Rattle.std.specs.List.{AllByRecursion, count_by}
+use Rattle.std.specs.Option.{option_map}
+use Rattle.std.proofs.lemmas.List.{length-map}
+use Rattle.std.proofs.lemmas.List.Sums.{get_or-le-sum_by, sum_by-set}
+use Rattle.drive_port.specs.Drive.{DriveState}
+use Rattle.logical_map.specs.declared.place.Place.{Place}
+use Rattle.zone_choice.specs.declared.roles.Filling.{Filling}
+use Rattle.zone_choice.specs.declared.roles.Second.{Second}
+use Rattle.zone_choice.specs.declared.roles.Second.TheVariants.{Next, Destination}
+use Rattle.zone_choice.specs.Agreement.{Agrees, Mounted, drive_logs, mounted, mounted_array}
+use Rattle.zone_choice.specs.Changes.{KeepsArray, Places}
+use Rattle.zone_choice.specs.Mountable.{IsMountable}
+use Rattle.zone_choice.specs.Reserve.{batch_most}
+use Rattle.zone_choice.specs.Roles.{RolesView, clean_ended, empty_count, ended}
+use Rattle.zone_choice.specs.Spare.{HasSpare}
+use Rattle.zone_choice.specs.Tables.{TablesView, size_of}
+use Rattle.zone_choice.proofs.AgreementLaws.{agrees_mountable, empty-spare}
+use Rattle.zone_choice.proofs.MarkLaws.{sealed-parts}
+use Rattle.zone_choice.proofs.ReserveLaws.{positive-most}
+use Rattle.zone_cleaner.specs.declared.fault.CleanFault.{CleanFault}
+use Rattle.zone_cleaner.specs.declared.fault.CleanFault.TheVariants as faults
+use Rattle.zone_cleaner.specs.declared.step.Step.{Step}
+use Rattle.zone_cleaner.specs.declared.step.Step.TheVariants.{Gather, Move, Reset}
+use Rattle.zone_cleaner.specs.Clean.{CleanView, Cleans, IsClean, IsNoDestination, started, turns_left, untaken}
+use Rattle.zone_cleaner.specs.LiveRecords.{content_of, move_of}
+use Rattle.zone_cleaner.specs.Start.{GoesOn, IsCleaned, KeepsByCleaning, NoneIsDue, StartLeaves, Starts, TurnLeaves}
+use Rattle.zone_cleaner.specs.Turns.{EmptiesVictim, MovesRecords, StepDone, StepFails, StepLeaves, StopsClean, after_move, next_step, with_record}
+use Rattle.zone_cleaner.proofs.CleanLaws.{clean_kept, clean_spare, gather_gives, turns_kept}
+use Rattle.zone_cleaner.proofs.EndLaws.{destination-is}
+use Rattle.zone_cleaner.proofs.MovedLaws.{move_gives}
+use Rattle.zone_cleaner.proofs.StartLaws.{start_gives}
+use Rattle.zone_cleaner.proofs.StepLaws.{gather-due, move-due}
+
+-- ---- a drive that is cleaned can be mounted
+
+cleans-spare : (disk : Mounted) (clean : Option CleanView) → IsCleaned disk clean → HasSpare disk.drive.geometry.block disk.tables.given (drive_logs disk.drive)
+cleans-spare disk None is = empty-spare disk.drive disk.tables is.0 is.1.0
+cleans-spare disk (Some c) is = clean_spare disk c is.0 is.1
+
+pub cleans_mountable : (disk : Mounted) (clean : Option CleanView) → IsCleaned disk clean → IsMountable disk.drive disk.tables.given
+cleans_mountable disk clean is = agrees_mountable disk.drive disk.tables is.0 (cleans-spare disk clean is)
+
+-- ---- one step
+
+-- the clean goes on, with fewer turns left
+pub record GoesForward (most : ℕ) (before : Mounted) (c : CleanView) (after : Mounted) (new : Option CleanView) : Type 0 where
+  pub cleaned : IsCleaned after new
+  pub fewer : turns_left most after.tables new < turns_left most before.tables (Some c)
+
+ended-none : (second : Option Second) (f : Filling) → second ≡ Some (Destination f) → IsNoDestination (option_map ended second)
+ended-none None f e = tt
+ended-none (Some (Next g)) f e = tt
+ended-none (Some (Destination g)) f e = tt
+
+empty-more : (roles : RolesView) (victim : ℕ) → victim < length roles.empty → 1 ≤ empty_count (clean_ended roles victim)
+empty-more roles victim lt =
+    let more : count_by (λ (b : Bool). b) (set roles.empty victim true) + cond {A = ℕ} (get_or roles.empty victim false) 1 0 ≡ count_by (λ (b : Bool). b) roles.empty + 1 = sum_by-set (λ (b : Bool). cond {A = ℕ} b 1 0) roles.empty victim true false lt in
+    by (get_or roles.empty victim false) refl more
+  where
+    by : (b : Bool) → get_or roles.empty victim false ≡ b → count_by (λ (x : Bool). x) (set roles.empty victim true) + cond {A = ℕ} b 1 0 ≡ count_by (λ (x : Bool). x) roles.empty + 1 → 1 ≤ count_by (λ (x : Bool). x) (set roles.empty victim true)
+    by false e more = omega (arith, more)
+    by true e more =
+        let one : cond {A = ℕ} (get_or roles.empty victim false) 1 0 ≡ 1 = rw e refl in
+        omega (arith, more, one, get_or-le-sum_by (λ (x : Bool). cond {A = ℕ} x 1 0) roles.empty victim false lt)
+
+pub step_forward : (before after : Mounted) (c : CleanView) (new : Option CleanView) (step : Step) → IsCleaned before (Some c) → next_step (batch_most before.drive.geometry) before.tables c ≡ step → StepDone step before c after new → GoesForward (batch_most before.drive.geometry) before c after new
+step_forward before after c new (Gather block place) is due done =
+    let most = batch_most before.drive.geometry in
+    let g = gather-due before most c block place due in
+    let gives = gather_gives before c block place is.1 g.found g.few in
+    let next = with_record c block (content_of (mounted_array before) block place) in
+    let kept = turns_kept before after next most is.0 done.0 gives.clean in
+    rw done.2 (record { cleaned = (done.0.agrees, clean_kept before after next is.0 done.0 gives.clean); fewer = omega (arith, kept, gives.fewer) })
+step_forward before after c new Move is due done =
+    let most = batch_most before.drive.geometry in
+    let same = destination-is done.0.destination is.1.destination (sym done.0.second ∙ is.1.second) in
+    let placed : Places before after is.1.destination.zone (move_of (size_of before.tables) before.tables.next c.victim c.gathered) = rw (← same) done.0.places in
+    let gives = move_gives before after c is.0 is.1 (move-due before most c due (positive-most before.drive.geometry is.0.geometry) is.1.gathers.few) placed in
+    rw done.1 (record { cleaned = (placed.agrees, gives.clean); fewer = gives.fewer })
+step_forward before after c new Reset is due done =
+    let was = sealed-parts before.tables.roles c.victim is.1.victim in
+    rw done.1 (record {
+      cleaned = (done.0.agrees, rw done.0.roles (empty-more before.tables.roles c.victim was.in_range, ended-none before.tables.roles.second is.1.destination is.1.second));
+      fewer = omega arith;
+    })
+
+-- what a step keeps that is done
+step-keeps : (before after : Mounted) (c : CleanView) (new : Option CleanView) (step : Step) → IsCleaned after new → StepDone step before c after new → KeepsByCleaning before after
+step-keeps before after c new (Gather block place) cleaned done = record {
+  mountable = cleans_mountable after new cleaned;
+  array = done.0.array;
+  size = ap length done.0.places;
+  given = done.0.given;
+  geometry = done.0.geometry;
+  refused = done.0.refused;
+  next = omega (arith, done.0.next, done.0.appended);
+}
+step-keeps before after c new Move cleaned done = record {
+  mountable = cleans_mountable after new cleaned;
+  array = done.0.array;
+  size = done.0.places.size;
+  given = done.0.places.given;
+  geometry = done.0.places.geometry;
+  refused = done.0.places.refused;
+  next = omega (arith, done.0.places.next, done.0.places.appended);
+}
+step-keeps before after c new Reset cleaned done = record {
+  mountable = cleans_mountable after new cleaned;
+  array = done.0.array;
+  size = ap length done.0.places;
+  given = done.0.given;
+  geometry = done.0.geometry;
+  refused = done.0.refused;
+  next = omega (arith, done.0.next, done.0.appended);
+}
+
+-- ---- a step that is not done
+
+keeps-kept : (before after : Mounted) (c : CleanView) → IsCleaned before (Some c) → KeepsArray before after → IsCleaned after (Some c) × KeepsByCleaning before after
+keeps-kept before after c is kept =
+    let cleaned : IsCleaned after (Some c) = (kept.agrees, clean_kept before after c is.0 kept is.1) in (
+      cleaned,
+      record {
+        mountable = cleans_mountable after (Some c) cleaned;
+        array = kept.array;
+        size = ap length kept.places;
+        given = kept.given;
+        geometry = kept.geometry;
+        refused = kept.refused;
+        next = omega (arith, kept.next, kept.appended);
+      },
+    )
+
+-- what a turn leaves, whatever it answers
+pub record TurnGives (before : Mounted) (old : Option CleanView) (result : Result (Unit {0}) CleanFault) (after : Mounted) (new : Option CleanView) : Type 0 where
+  pub goes_on : GoesOn result after new
+  pub keeps : KeepsByCleaning before after
+
+fails_give : (before after : Mounted) (c : CleanView) (new : Option CleanView) (fault : CleanFault) → IsCleaned before (Some c) → StepFails fault before after → new ≡ Some c → TurnGives before (Some c) (Err fault) after new
+fails_give before after c new faults.OutOfMemory is fails same = let kept = keeps-kept before after c is fails in rw same (record { goes_on = kept.0; keeps = kept.1 })
+fails_give before after c new faults.Stopped is fails same = record {
+  goes_on = tt;
+  keeps = record {
+    mountable = fails.mountable;
+    array = fails.array;
+    size = fails.size;
+    given = fails.given;
+    geometry = fails.geometry;
+    refused = fails.refused;
+    next = omega (arith, fails.next, fails.appended);
+  };
+}
+fails_give before after c new faults.Spent is fails same = rw (same, fails.0) (record {
+  goes_on = is;
+  keeps = record { mountable = cleans_mountable before (Some c) is; array = refl; size = refl; given = refl; geometry = refl; refused = refl; next = refl };
+})
+
+step_gives : (before after : Mounted) (c : CleanView) (new : Option CleanView) (result : Result (Unit {0}) CleanFault) → IsCleaned before (Some c) → StepLeaves (next_step (batch_most before.drive.geometry) before.tables c) before c result after new → TurnGives before (Some c) result after new
+step_gives before after c new (Ok done) is leaves =
+    let forward = step_forward before after c new (next_step (batch_most before.drive.geometry) before.tables c) is refl leaves in
+    record { goes_on = forward.cleaned; keeps = step-keeps before after c new (next_step (batch_most before.drive.geometry) before.tables c) forward.cleaned leaves }
+step_gives before after c new (Err fault) is leaves = fails_give before after c new fault is leaves.0 leaves.1
+
+-- ---- a turn
+
+start-leaves : (drive : DriveState) (old new : TablesView) (clean : Option CleanView) → IsCleaned (mounted drive old) None → StartLeaves drive.geometry old new clean → IsCleaned (mounted drive new) clean × (new.given ≡ old.given) × (size_of new ≡ size_of old) × (new.next ≡ old.next)
+start-leaves drive old new None is leaves = rw leaves.1 (is, refl, refl, refl)
+start-leaves drive old new (Some c) is starts =
+    let gives = start_gives drive old new starts.victim starts.destination is.0 starts.due starts.lowest starts.tables in
+    (rw starts.clean_is gives.cleaned, rw starts.tables refl, rw starts.tables refl, rw starts.tables refl)
+
+pub turn_gives : (before after : Mounted) (old new : Option CleanView) (result : Result (Unit {0}) CleanFault) → IsCleaned before old → TurnLeaves before old result after new → TurnGives before old result after new
+turn_gives before after (Some c) new result is leaves = step_gives before after c new result is leaves
+turn_gives before after None new (Err fault) is leaves = absurd leaves
+turn_gives before after None new (Ok done) is leaves =
+    let started = start-leaves before.drive before.tables after.tables new is leaves.1 in
+    let cleaned : IsCleaned after new = rw leaves.0 started.0 in
+    record {
+      goes_on = cleaned;
+      keeps = record {
+        mountable = cleans_mountable after new cleaned;
+        array = rw (leaves.0, started.1) refl;
+        size = started.2;
+        given = started.1;
+        geometry = rw leaves.0 refl;
+        refused = rw leaves.0 refl;
+        next = omega (arith, started.3, ap (λ (d : DriveState). d.appended) leaves.0);
+      };
+    }
+
+-- a turn that is done has fewer turns left of a clean that ran; one that begins has fewer than a zone has blocks
+pub record TurnsFewer (before after : Mounted) (old new : Option CleanView) : Type 0 where
+  pub fewer : is_some old ≡ true → turns_left (batch_most before.drive.geometry) after.tables new < turns_left (batch_most before.drive.geometry) before.tables old
+  pub bound : is_some old ≡ false → turns_left (batch_most before.drive.geometry) after.tables new + 1 ≤ before.drive.geometry.capacity
+
+pub turns_fewer : (before after : Mounted) (old new : Option CleanView) → IsCleaned before old → TurnLeaves before old (Ok tt) after new → TurnsFewer before after old new
+turns_fewer before after (Some c) new is leaves = record {
+  fewer = λ some. (step_forward before after c new (next_step (batch_most before.drive.geometry) before.tables c) is refl leaves).fewer;
+  bound = λ none. absurd (let bad : true ≡ false = none in cc);
+}
+turns_fewer before after None new is leaves = record { fewer = λ some. absurd (let bad : false ≡ true = some in cc); bound = λ none. by new leaves.1 }
+  where
+    by : (new : Option CleanView) → StartLeaves before.drive.geometry before.tables after.tables new → turns_left (batch_most before.drive.geometry) after.tables new + 1 ≤ before.drive.geometry.capacity
+    by None none = omega (arith, is.0.geometry.capacity)
+    by (Some c) starts = rw starts.clean_is (start_gives before.drive before.tables after.tables starts.victim starts.destination is.0 starts.due starts.lowest starts.tables).turns
