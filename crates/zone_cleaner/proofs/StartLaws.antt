@@ -1,5 +1,5 @@
 -- A clean begins.
-use Rattle.std.proofs.Common.{◌≡◌, ◌≢◌, ℕ, zero, suc, ◌+◌, ◌<◌, ◌≤◌, max, Bool, true, false, ◌||◌, eqb, List, [], ◌∷◌, ◌++◌, length, set, get_or, take, drop, Option, Some, None, refl, sym, ap, subst, ◌∙◌, inl, inr, arith}
+use Rattle.std.proofs.Common.{◌≡◌, ◌≢◌, ℕ, zero, suc, ◌+◌, ◌<◌, ◌≤◌, max, Bool, true, false, ◌||◌, eqb, List, [], ◌∷◌, ◌++◌, length, set, get_or, take, drop, Option, Some, None, is_some, refl, sym, ap, subst, ◌∙◌, inl, inr, arith}
 use Rattle.std.specs.List.{AllByRecursion, list_any}
 use Rattle.std.specs.Option.{option_map}
 use Rattle.std.proofs.lemmas.Bool.{cases_eq, eq-eqb, ne_eqb}
@@ -26,7 +26,7 @@ use Rattle.zone_choice.proofs.OpenLaws.{emptied-shut}
 use Rattle.zone_choice.proofs.ReserveLaws.{positive-most}
 use Rattle.zone_choice.proofs.RolesLaws.{roles_with, second_list}
 use Rattle.zone_cleaner.specs.Clean.{CleanView, IsClean, moved_to, started, turns_left}
-use Rattle.zone_cleaner.specs.Start.{IsCleaned, IsDue, Starts}
+use Rattle.zone_cleaner.specs.Start.{IsCleaned, IsDue, NoneIsDue, Starts}
 use Rattle.zone_cleaner.proofs.BudgetLaws.{start-room, start-turns}
 
 -- ---- an empty zone becomes the destination
@@ -129,3 +129,25 @@ start_gives drive tables new victim zone agrees due lowest new-is =
 
     nothing_lost : log_at (drive_logs drive) zone ≡ [] → array_of drive.geometry.block tables.given (set (drive_logs drive) zone []) ≡ array_of drive.geometry.block tables.given (drive_logs drive)
     nothing_lost e = ap (array_of drive.geometry.block tables.given) (ap (set (drive_logs drive) zone) (sym e) ∙ set-get_or (drive_logs drive) zone [])
+
+-- ---- whether a clean is due
+
+pub none-of : {X : Type 0} (o : Option X) → is_some o ≡ false → o ≡ None
+none-of None e = refl
+none-of (Some x) e = absurd (cc)
+
+-- a second zone, or too few or too many empty ones
+pub second-not_due : (geometry : Geometry) (tables : TablesView) → is_some tables.roles.second ≡ true → NoneIsDue geometry tables
+second-not_due geometry tables some victim due = let none : is_some tables.roles.second ≡ false = ap is_some due.alone in absurd (cc)
+
+-- too many live records
+pub full-not_due : (geometry : Geometry) (tables : TablesView) (zone : ℕ) → IsLeastSealed tables zone → geometry.capacity < fill (batch_most geometry) (live tables.map zone) + 2 → NoneIsDue geometry tables
+full-not_due geometry tables zone least more victim due =
+    let low = least.least victim due.least.sealed_is in
+    let high = due.least.least zone least.sealed_is in
+    let same : live tables.map zone ≡ live tables.map victim = omega (arith, low, high) in
+    absurd (omega (arith, due.fits, ap (fill (batch_most geometry)) same, more))
+
+-- no sealed zone
+pub none-not_due : (geometry : Geometry) (tables : TablesView) → ((zone : ℕ) → is_sealed_at tables.roles zone ≡ false) → NoneIsDue geometry tables
+none-not_due geometry tables none victim due = absurd (let no = none victim in let yes = due.least.sealed_is in cc)

@@ -15,7 +15,7 @@ use Rattle.zone_choice.specs.Sizes.{larger, log_greatest}
 use Rattle.zone_choice.specs.Spare.{IsBefore, IsMoveFrom, IsSpare, first_sequence}
 use Rattle.zone_choice.specs.Tables.{TablesView, size_of}
 use Rattle.zone_choice.specs.ZoneLogs.{log_at}
-use Rattle.zone_cleaner.specs.LiveRecords.{LiveRecord, records_in}
+use Rattle.zone_cleaner.specs.LiveRecords.{LiveRecord, records_in, without_block}
 use Rattle.zone_choice.specs.Roles.{is_sealed_at}
 
 -- What a running clean knows: its victim; the first block that it has not looked at yet; and the records gathered for the next Move, of blocks before that one.
@@ -93,3 +93,7 @@ Cleans disk (Some clean) = IsClean disk clean
 -- a clean that was just started
 abbrev pub started : ℕ → CleanView
 started victim = record { victim = victim; cursor = 0; gathered = [] }
+
+-- a clean that has forgotten a block
+abbrev pub forgotten : ℕ → CleanView → CleanView
+forgotten block clean = record { victim = clean.victim; cursor = clean.cursor; gathered = without_block block clean.gathered }

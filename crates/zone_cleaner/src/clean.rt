@@ -9,8 +9,8 @@ ghost use Rattle.zone_choice.specs.Agreement.{Agrees, mounted, spelled};
 ghost use Rattle.zone_choice.specs.Changes.{KeepsArray};
 ghost use Rattle.zone_choice.specs.Reserve.{batch_most};
 ghost use Rattle.zone_choice.specs.Tables.{size_of};
-ghost use Rattle.zone_cleaner.specs.Clean.{IsClean, moved_to, started};
-ghost use Rattle.zone_cleaner.specs.LiveRecords.{LiveRecord, content_of, data_of, move_of, without_block};
+ghost use Rattle.zone_cleaner.specs.Clean.{IsClean, forgotten, moved_to, started};
+ghost use Rattle.zone_cleaner.specs.LiveRecords.{LiveRecord, content_of, data_of, move_of};
 ghost use Rattle.zone_cleaner.specs.Turns.{EmptiesVictim, IsReadFault, StepFails, StepLeaves, clean_fault, last_step, next_step, with_record};
 
 use crate::fault::CleanFault;
@@ -92,13 +92,13 @@ impl Clean {
 
     /// Takes a block out of the gathered records, if it is there. It allocates nothing.
     pub fn forget(&mut self, block: u32)
-        ensures { self.new ≡ record self.old { gathered = without_block block self.old.gathered } }
+        ensures { self.new ≡ forgotten block self.old }
     {
         self.gathered.forget(block);
     }
 
     /// Gathers the record of a block, which lies in the victim.
-    fn gather<D: Device>(
+    pub(crate) fn gather<D: Device>(
         &mut self,
         alloc: Global,
         tables: &Tables,
@@ -155,7 +155,7 @@ impl Clean {
     }
 
     /// Appends the gathered records to the destination, as one Move.
-    fn carry<D: Device>(
+    pub(crate) fn carry<D: Device>(
         &mut self,
         alloc: Global,
         tables: &mut Tables,
@@ -186,7 +186,7 @@ impl Clean {
     }
 
     /// Empties the victim, whose records are all moved.
-    fn empty_victim<D: Device>(
+    pub(crate) fn empty_victim<D: Device>(
         &self,
         alloc: Global,
         tables: &mut Tables,
@@ -208,7 +208,7 @@ impl Clean {
     }
 
     /// What the clean does next.
-    fn next_step(&self, tables: &mut Tables, most: u32) -> Step
+    pub(crate) fn next_step(&self, tables: &mut Tables, most: u32) -> Step
         requires { self.now.victim < tables.old.map.zones }
         ensures step { result ≡ next_step most tables.old self.now }
         ensures kept { tables.new ≡ tables.old }

@@ -2,11 +2,10 @@
 #![tactic(auto)]
 
 mod clean;
+mod cleaner;
 mod fault;
 mod gathered;
 mod step;
 
-pub use clean::Clean;
+pub use cleaner::Cleaner;
 pub use fault::CleanFault;
-pub use gathered::Gathered;
-pub use step::Step;

@@ -1,0 +1,123 @@
+ghost use Rattle.std.specs.Prelude.{◌≡◌, ◌≢◌, ◌≤◌, ◌<◌, ◌+◌, ◌*◌, Err, IfOk, OnOk, None, Some, is_some, length};
+ghost use Rattle.std.specs.Option.{option_map};
+ghost use Rattle.zone_choice.specs.Agreement.{mounted};
+ghost use Rattle.zone_choice.specs.Reserve.{batch_most};
+ghost use Rattle.zone_cleaner.specs.Clean.{forgotten, turns_left};
+ghost use Rattle.zone_cleaner.specs.Start.{FindsDue, GoesOn, IsCleaned, KeepsByCleaning, StartLeaves, TurnLeaves};
+ghost use Rattle.zone_states.specs.Geometry.{IsInRange};
+
+use crate::clean::Clean;
+use crate::fault::CleanFault;
+use crate::step::Step;
+use drive_port::{Device, Geometry};
+use std::alloc::Global;
+use std::marker::Model;
+use zone_choice::{BatchBuilder, Tables, batch_most, fill};
+
+/// Cleans the zones of a drive one after the other, in turns between the host's commands.
+#[derive(Drop)]
+pub struct Cleaner {
+    clean: Option<Clean>,
+    batch: BatchBuilder,
+    alloc: Global,
+}
+
+impl Model for Cleaner {
+    ghost use Rattle.std.specs.Prelude.{Option};
+    ghost use Rattle.zone_cleaner.specs.Clean.{CleanView};
+
+    ghost Value = { Option CleanView };
+
+    ghost view = { λ c. c.clean };
+}
+
+/// The zone of which a clean is due, if one is.
+fn due(tables: &Tables, geometry: &Geometry) -> Option<u32>
+    requires range { IsInRange geometry.now }
+    requires zones { length tables.now.roles.empty ≡ tables.now.map.zones }
+    ensures { FindsDue geometry.now tables.now result }
+{
+    if tables.second().is_some() {
+        return None;
+    }
+    let empty = tables.empty_count();
+    if empty == 0 || empty > 2 {
+        return None;
+    }
+    let victim = tables.least_sealed()?;
+    if fill(geometry, tables.live(victim)) + 2 > geometry.capacity as u64 {
+        return None;
+    }
+    Some(victim)
+}
+
+impl Cleaner {
+    /// A cleaner of which no clean runs. It allocates nothing.
+    pub fn new(alloc: Global) -> Cleaner
+        ensures { result ≡ None }
+    {
+        Cleaner {
+            clean: None,
+            batch: BatchBuilder::new(alloc),
+            alloc,
+        }
+    }
+
+    /// Whether a clean runs.
+    pub fn running(&self) -> bool
+        ensures { result ≡ is_some self.now }
+    {
+        self.clean.is_some()
+    }
+
+    /// Takes a block out of the gathered records, which the host has written since. It allocates nothing.
+    pub fn forget(&mut self, block: u32)
+        ensures { self.new ≡ option_map (forgotten block) self.old }
+    {
+        if let Some(clean) = &mut self.clean {
+            clean.forget(block);
+        }
+    }
+
+    /// Starts a clean, if one is due: of the sealed zone with the fewest live records, into the lowest empty
+    /// zone. No command is sent.
+    fn start(&mut self, tables: &mut Tables, geometry: &Geometry)
+        requires none { self.old ≡ None }
+        requires range { IsInRange geometry.now }
+        requires zones { length tables.old.roles.empty ≡ tables.old.map.zones }
+        ensures { StartLeaves geometry.now tables.old tables.new self.new }
+    {
+        let Some(victim) = due(tables, geometry) else {
+            return;
+        };
+        if tables.take_destination().is_some() {
+            self.clean = Some(Clean::new(self.alloc, victim));
+        }
+    }
+
+    /// One turn: the next step of the clean that runs; where none runs, the start of one that is due.
+    pub fn turn<D: Device>(
+        &mut self,
+        tables: &mut Tables,
+        device: &mut D,
+    ) -> Result<(), CleanFault>
+        requires cleaned { IsCleaned (mounted (D.drive device.old) tables.old) self.old }
+        ensures leaves { TurnLeaves (mounted (D.drive device.old) tables.old) self.old result (mounted (D.drive device.new) tables.new) self.new }
+        ensures completed { (D.drive device.new).completed ≤ (D.drive device.old).completed + 2 }
+    {
+        let geometry = device.geometry();
+        let Some(clean) = &mut self.clean else {
+            self.start(tables, &geometry);
+            return Ok(());
+        };
+        match clean.next_step(tables, batch_most(&geometry)) {
+            Step::Gather(block, place) => clean.gather(self.alloc, tables, device, block, place),
+            Step::Move => clean.carry(self.alloc, tables, device, &mut self.batch),
+            Step::Reset => {
+                clean.empty_victim(self.alloc, tables, device)?;
+                self.clean = None;
+                Ok(())
+            }
+        }
+    }
+}
