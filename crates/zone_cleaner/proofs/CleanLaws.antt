@@ -39,11 +39,11 @@ destination_zone (Some (Destination filling)) = filling.zone
 destination_zone second = 0
 
 -- the destination is the same zone, with as many blocks written
-record KeptDestination (second : Option Second) (f : Filling) : Type 0 where
-  filling : Filling
-  is : second ≡ Some (Destination filling)
-  zone : filling.zone ≡ f.zone
-  written : filling.written ≡ f.written
+pub record KeptDestination (second : Option Second) (f : Filling) : Type 0 where
+  pub filling : Filling
+  pub is : second ≡ Some (Destination filling)
+  pub zone : filling.zone ≡ f.zone
+  pub written : filling.written ≡ f.written
 
 kept-destination : (second : Option Second) (f : Filling) → option_map (second_with closed) second ≡ Some (Destination (closed f)) → KeptDestination second f
 unfolding destination_zone

@@ -17,3 +17,4 @@ pub mod BuildLaws
 pub mod EndLaws
 pub mod StartLaws
 pub mod TurnLaws
+pub mod HostLaws

@@ -83,7 +83,7 @@ elsewhere size zone other written end ne le address from below =
     let at : (other * size + k) / size ≡ other = div-mul-add other size k (omega (arith, below, le, from)) in
     rw split (ne_eqb ((other * size + k) / size) zone (λ same. ne (sym at ∙ same)))
 
-entry-away : (size zone header address end : ℕ) (t : Bool) → Elsewhere size zone header end → header < address → address + one_unless t ≤ end → header < end → lies_in size zone (entry_place t header address) ≡ false
+pub entry-away : (size zone header address end : ℕ) (t : Bool) → Elsewhere size zone header end → header < address → address + one_unless t ≤ end → header < end → lies_in size zone (entry_place t header address) ≡ false
 entry-away size zone header address end true away lt le low = away header (omega arith) low
 entry-away size zone header address end false away lt le low = away address (omega arith) (omega (arith, le))
 

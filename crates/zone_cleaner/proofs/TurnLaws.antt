@@ -2,6 +2,7 @@
 use Rattle.std.proofs.Common.{◌≡◌, ◌≢◌, ℕ, zero, suc, ◌+◌, ◌<◌, ◌≤◌, Bool, true, false, cond, List, [], ◌∷◌, length, set, get_or, Option, Some, None, Result, Ok, Err, is_some, refl, sym, ap, subst, ◌∙◌, arith}
 use Rattle.std.specs.List.{AllByRecursion, count_by}
 use Rattle.std.specs.Option.{option_map}
+use Rattle.std.specs.Prelude.{OnOk}
 use Rattle.std.proofs.lemmas.List.{length-map}
 use Rattle.std.proofs.lemmas.List.Sums.{get_or-le-sum_by, sum_by-set}
 use Rattle.drive_port.specs.Drive.{DriveState}
@@ -25,7 +26,7 @@ use Rattle.zone_cleaner.specs.declared.step.Step.{Step}
 use Rattle.zone_cleaner.specs.declared.step.Step.TheVariants.{Gather, Move, Reset}
 use Rattle.zone_cleaner.specs.Clean.{CleanView, Cleans, IsClean, IsNoDestination, started, turns_left, untaken}
 use Rattle.zone_cleaner.specs.LiveRecords.{content_of, move_of}
-use Rattle.zone_cleaner.specs.Start.{GoesOn, IsCleaned, KeepsByCleaning, NoneIsDue, StartLeaves, Starts, TurnLeaves}
+use Rattle.zone_cleaner.specs.Start.{GoesOn, IsCleaned, KeepsByCleaning, NoneIsDue, StartLeaves, Starts, TurnLeaves, TurnsFewer}
 use Rattle.zone_cleaner.specs.Turns.{EmptiesVictim, MovesRecords, StepDone, StepFails, StepLeaves, StopsClean, after_move, next_step, with_record}
 use Rattle.zone_cleaner.proofs.CleanLaws.{clean_kept, clean_spare, gather_gives, turns_kept}
 use Rattle.zone_cleaner.proofs.EndLaws.{destination-is}
@@ -190,11 +191,6 @@ turn_gives before after None new (Ok done) is leaves =
       };
     }
 
--- a turn that is done has fewer turns left of a clean that ran; one that begins has fewer than a zone has blocks
-pub record TurnsFewer (before after : Mounted) (old new : Option CleanView) : Type 0 where
-  pub fewer : is_some old ≡ true → turns_left (batch_most before.drive.geometry) after.tables new < turns_left (batch_most before.drive.geometry) before.tables old
-  pub bound : is_some old ≡ false → turns_left (batch_most before.drive.geometry) after.tables new + 1 ≤ before.drive.geometry.capacity
-
 pub turns_fewer : (before after : Mounted) (old new : Option CleanView) → IsCleaned before old → TurnLeaves before old (Ok tt) after new → TurnsFewer before after old new
 turns_fewer before after (Some c) new is leaves = record {
   fewer = λ some. (step_forward before after c new (next_step (batch_most before.drive.geometry) before.tables c) is refl leaves).fewer;
@@ -205,3 +201,22 @@ turns_fewer before after None new is leaves = record { fewer = λ some. absurd (
     by : (new : Option CleanView) → StartLeaves before.drive.geometry before.tables after.tables new → turns_left (batch_most before.drive.geometry) after.tables new + 1 ≤ before.drive.geometry.capacity
     by None none = omega (arith, is.0.geometry.capacity)
     by (Some c) starts = rw starts.clean_is (start_gives before.drive before.tables after.tables starts.victim starts.destination is.0 starts.due starts.lowest starts.tables).turns
+
+-- the same before any turn
+pub keeps-none : (disk : Mounted) (clean : Option CleanView) → IsCleaned disk clean → KeepsByCleaning disk disk
+keeps-none disk clean is = record { mountable = cleans_mountable disk clean is; array = refl; size = refl; given = refl; geometry = refl; refused = refl; next = refl }
+
+pub keeps-more : (a b c : Mounted) → KeepsByCleaning a b → KeepsByCleaning b c → KeepsByCleaning a c
+keeps-more a b c p q = record {
+  mountable = q.mountable;
+  array = q.array ∙ p.array;
+  size = q.size ∙ p.size;
+  given = q.given ∙ p.given;
+  geometry = q.geometry ∙ p.geometry;
+  refused = q.refused ∙ p.refused;
+  next = omega (arith, p.next, q.next);
+}
+
+pub on-done : (before after : Mounted) (old new : Option CleanView) (result : Result (Unit {0}) CleanFault) → IsCleaned before old → TurnLeaves before old result after new → OnOk result (TurnsFewer before after old new)
+on-done before after old new (Ok done) is leaves = turns_fewer before after old new is leaves
+on-done before after old new (Err fault) is leaves = tt

@@ -1,5 +1,5 @@
 -- When a clean starts, and what a turn and a whole clean leave.
-use Rattle.std.specs.Prelude.{◌≡◌, ◌≢◌, ℕ, ◌+◌, ◌≤◌, Option, Some, None, Result, Ok, Err}
+use Rattle.std.specs.Prelude.{◌≡◌, ℕ, ◌+◌, ◌≤◌, ◌<◌, true, false, Option, Some, None, is_some, Result, Ok, Err}
 use Rattle.zone_states.specs.declared.geometry.Geometry.{Geometry}
 use Rattle.logical_map.specs.Live.{live}
 use Rattle.zone_choice.specs.Agreement.{Agrees, Mounted, mounted_array}
@@ -9,7 +9,7 @@ use Rattle.zone_choice.specs.Roles.{IsLowestEmpty, empty_count, with_destination
 use Rattle.zone_choice.specs.Tables.{IsLeastSealed, TablesView, size_of}
 use Rattle.zone_cleaner.specs.declared.fault.CleanFault.{CleanFault}
 use Rattle.zone_cleaner.specs.declared.fault.CleanFault.TheVariants as faults
-use Rattle.zone_cleaner.specs.Clean.{CleanView, Cleans, started}
+use Rattle.zone_cleaner.specs.Clean.{CleanView, Cleans, started, turns_left}
 use Rattle.zone_cleaner.specs.Turns.{StepLeaves, next_step}
 
 -- A clean of this zone is due: there is no second zone, one or two zones are empty, it is the sealed zone with the fewest live records, the lowest of equals, and with these a zone has two free blocks left.
@@ -66,3 +66,8 @@ pub record KeepsByCleaning (before after : Mounted) : Type 0 where
   pub geometry : after.drive.geometry ≡ before.drive.geometry
   pub refused : after.drive.refused ≡ before.drive.refused
   pub next : after.tables.next + before.drive.appended ≡ before.tables.next + after.drive.appended
+
+-- After a turn that is done, a clean that ran has fewer turns left; and one that has begun fewer than a zone has blocks.
+pub record TurnsFewer (before after : Mounted) (old new : Option CleanView) : Type 0 where
+  pub fewer : is_some old ≡ true → turns_left (batch_most before.drive.geometry) after.tables new < turns_left (batch_most before.drive.geometry) before.tables old
+  pub bound : is_some old ≡ false → turns_left (batch_most before.drive.geometry) after.tables new + 1 ≤ before.drive.geometry.capacity

@@ -3,7 +3,7 @@ ghost use Rattle.std.specs.Option.{option_map};
 ghost use Rattle.zone_choice.specs.Agreement.{mounted};
 ghost use Rattle.zone_choice.specs.Reserve.{batch_most};
 ghost use Rattle.zone_cleaner.specs.Clean.{forgotten, turns_left};
-ghost use Rattle.zone_cleaner.specs.Start.{FindsDue, GoesOn, IsCleaned, KeepsByCleaning, StartLeaves, TurnLeaves};
+ghost use Rattle.zone_cleaner.specs.Start.{FindsDue, GoesOn, IsCleaned, KeepsByCleaning, StartLeaves, TurnLeaves, TurnsFewer};
 ghost use Rattle.zone_states.specs.Geometry.{IsInRange};
 
 use crate::clean::Clean;
@@ -81,7 +81,7 @@ impl Cleaner {
 
     /// Starts a clean, if one is due: of the sealed zone with the fewest live records, into the lowest empty
     /// zone. No command is sent.
-    fn start(&mut self, tables: &mut Tables, geometry: &Geometry)
+    pub fn start(&mut self, tables: &mut Tables, geometry: &Geometry)
         requires none { self.old ≡ None }
         requires range { IsInRange geometry.now }
         requires zones { length tables.old.roles.empty ≡ tables.old.map.zones }
@@ -95,8 +95,8 @@ impl Cleaner {
         }
     }
 
-    /// One turn: the next step of the clean that runs; where none runs, the start of one that is due.
-    pub fn turn<D: Device>(
+    /// What a turn does.
+    fn step<D: Device>(
         &mut self,
         tables: &mut Tables,
         device: &mut D,
@@ -119,5 +119,42 @@ impl Cleaner {
                 Ok(())
             }
         }
+    }
+
+    /// One turn: the next step of the clean that runs; where none runs, the start of one that is due.
+    ///
+    /// After `OutOfMemory` and `Spent` the clean is as it was before the turn, and goes on at the next. At most two
+    /// commands are completed.
+    pub fn turn<D: Device>(
+        &mut self,
+        tables: &mut Tables,
+        device: &mut D,
+    ) -> Result<(), CleanFault>
+        requires cleaned { IsCleaned (mounted (D.drive device.old) tables.old) self.old }
+        ensures leaves { TurnLeaves (mounted (D.drive device.old) tables.old) self.old result (mounted (D.drive device.new) tables.new) self.new }
+        ensures goes_on { GoesOn result (mounted (D.drive device.new) tables.new) self.new }
+        ensures keeps { KeepsByCleaning (mounted (D.drive device.old) tables.old) (mounted (D.drive device.new) tables.new) }
+        ensures turns { OnOk result (TurnsFewer (mounted (D.drive device.old) tables.old) (mounted (D.drive device.new) tables.new) self.old self.new) }
+        ensures completed { (D.drive device.new).completed ≤ (D.drive device.old).completed + 2 }
+    {
+        self.step(tables, device)
+    }
+
+    /// Turns until the clean that runs has ended. Each completes two commands at most.
+    pub fn run_to_end<D: Device>(
+        &mut self,
+        tables: &mut Tables,
+        device: &mut D,
+    ) -> Result<(), CleanFault>
+        requires cleaned { IsCleaned (mounted (D.drive device.old) tables.old) self.old }
+        ensures ended { OnOk result (self.new ≡ None) }
+        ensures goes_on { GoesOn result (mounted (D.drive device.new) tables.new) self.new }
+        ensures keeps { KeepsByCleaning (mounted (D.drive device.old) tables.old) (mounted (D.drive device.new) tables.new) }
+        ensures completed { (D.drive device.new).completed ≤ (D.drive device.old).completed + 2 * turns_left (batch_most (D.drive device.old).geometry) tables.old self.old }
+    {
+        while self.running() {
+            self.turn(tables, device)?;
+        }
+        Ok(())
     }
 }

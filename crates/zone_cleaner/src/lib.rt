@@ -1,4 +1,21 @@
-//! The cleaner.
+//! The cleaner: it makes room on a drive whose zones are all in use.
+//!
+//! A zone can be written again only after a Reset, and most of what an old zone holds is dead: its blocks were
+//! written again elsewhere. So the cleaner takes the zone with the fewest live records, the victim, repeats
+//! these records in Moves to an empty zone, the destination, and then resets the victim.
+//!
+//! ```text
+//! let mut cleaner = Cleaner::new(alloc);
+//! cleaner.turn(&mut tables, &mut drive)?;          // starts a clean, if one is due
+//! cleaner.turn(&mut tables, &mut drive)?;          // gathers a record, or appends a Move, or resets the victim
+//! cleaner.forget(4);                               // the host has written block 4
+//! cleaner.run_to_end(&mut tables, &mut drive)?;    // all turns that are left
+//! ```
+//!
+//! What is promised, of any drive that obeys its rules: a turn does exactly the next step of the clean
+//! (`TurnLeaves` in specs/Start), with two commands at most; the array stays, and the drive can be mounted at each
+//! moment (`KeepsByCleaning`); each turn that is done leaves fewer turns, so the clean ends (`TurnsFewer`); and the
+//! destination keeps two free blocks (`HasRoomFor` in specs/Clean).
 #![tactic(auto)]
 
 mod clean;

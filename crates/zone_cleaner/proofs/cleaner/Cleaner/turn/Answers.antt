@@ -1,0 +1,11 @@
+use Rattle.zone_cleaner.proofs.TurnLaws.{on-done, turn_gives, turns_fewer}
+use Rattle.zone_cleaner.proofs.cleaner.Cleaner.turn.Goals as goal
+
+pub returns-clause-goes_on : goal.returns-clause-goes_on
+returns-clause-goes_on g c = (turn_gives _ _ c.args.self.now c.step.new.self c.step.result c.requires.cleaned c.step.ensures.leaves).goes_on
+
+pub returns-clause-keeps : goal.returns-clause-keeps
+returns-clause-keeps g c = (turn_gives _ _ c.args.self.now c.step.new.self c.step.result c.requires.cleaned c.step.ensures.leaves).keeps
+
+pub returns-clause-turns : goal.returns-clause-turns
+returns-clause-turns g c = on-done _ _ c.args.self.now c.step.new.self c.step.result c.requires.cleaned c.step.ensures.leaves
