@@ -75,7 +75,7 @@ carry_stops before after c agrees is stops =
       stopped = stops.stopped;
       mountable = rw kept.given (stops.mountable spare);
       array = ap (spelled after.drive) kept.given ∙ array;
-      size = ap (λ m. length m.places) kept.map;
+      places = ap (λ m. m.places) kept.map;
       given = kept.given;
       next = kept.next;
       geometry = stops.geometry;
@@ -162,7 +162,7 @@ reset_fails old new tables c start port.Stopped agrees is due start-is gives kep
           stopped = obeys.stops refl;
           mountable = after.mountable;
           array = after.array;
-          size = refl;
+          places = refl;
           given = refl;
           next = refl;
           geometry = obeys.geometry;

@@ -16,5 +16,6 @@ pub mod FailLaws
 pub mod BuildLaws
 pub mod EndLaws
 pub mod StartLaws
+pub mod KindLaws
 pub mod TurnLaws
 pub mod HostLaws

@@ -1,5 +1,5 @@
 -- What a turn leaves: the clean goes on, with fewer turns left, and the array stays.
-use Rattle.std.proofs.Common.{◌≡◌, ◌≢◌, ℕ, zero, suc, ◌+◌, ◌<◌, ◌≤◌, Bool, true, false, cond, List, [], ◌∷◌, length, set, get_or, Option, Some, None, Result, Ok, Err, is_some, refl, sym, ap, subst, ◌∙◌, arith}
+use Rattle.std.proofs.Common.{◌≡◌, ◌≢◌, ℕ, zero, suc, ◌+◌, ◌<◌, ◌≤◌, Bool, true, false, cond, List, [], ◌∷◌, map, length, set, get_or, Option, Some, None, Result, Ok, Err, is_some, refl, sym, ap, subst, ◌∙◌, arith}
 use Rattle.std.specs.List.{AllByRecursion, count_by}
 use Rattle.std.specs.Option.{option_map}
 use Rattle.std.specs.Prelude.{OnOk}
@@ -26,10 +26,11 @@ use Rattle.zone_cleaner.specs.declared.step.Step.{Step}
 use Rattle.zone_cleaner.specs.declared.step.Step.TheVariants.{Gather, Move, Reset}
 use Rattle.zone_cleaner.specs.Clean.{CleanView, Cleans, IsClean, IsNoDestination, started, turns_left, untaken}
 use Rattle.zone_cleaner.specs.LiveRecords.{content_of, move_of}
-use Rattle.zone_cleaner.specs.Start.{GoesOn, IsCleaned, KeepsByCleaning, NoneIsDue, StartLeaves, Starts, TurnLeaves, TurnsFewer}
+use Rattle.zone_cleaner.specs.Start.{GoesOn, IsCleaned, KeepsByCleaning, NoneIsDue, StartLeaves, Starts, TurnLeaves, TurnsFewer, trims}
 use Rattle.zone_cleaner.specs.Turns.{EmptiesVictim, MovesRecords, StepDone, StepFails, StepLeaves, StopsClean, after_move, next_step, with_record}
 use Rattle.zone_cleaner.proofs.CleanLaws.{clean_kept, clean_spare, gather_gives, turns_kept}
 use Rattle.zone_cleaner.proofs.EndLaws.{destination-is}
+use Rattle.zone_cleaner.proofs.KindLaws.{move-trims}
 use Rattle.zone_cleaner.proofs.MovedLaws.{move_gives}
 use Rattle.zone_cleaner.proofs.StartLaws.{start_gives}
 use Rattle.zone_cleaner.proofs.StepLaws.{gather-due, move-due}
@@ -88,29 +89,32 @@ step_forward before after c new Reset is due done =
     })
 
 -- what a step keeps that is done
-step-keeps : (before after : Mounted) (c : CleanView) (new : Option CleanView) (step : Step) → IsCleaned after new → StepDone step before c after new → KeepsByCleaning before after
-step-keeps before after c new (Gather block place) cleaned done = record {
+step-keeps : (before after : Mounted) (c : CleanView) (new : Option CleanView) (step : Step) → IsCleaned before (Some c) → IsCleaned after new → StepDone step before c after new → KeepsByCleaning before after
+step-keeps before after c new (Gather block place) is cleaned done = record {
   mountable = cleans_mountable after new cleaned;
   array = done.0.array;
   size = ap length done.0.places;
+  trimmed = ap (map trims) done.0.places;
   given = done.0.given;
   geometry = done.0.geometry;
   refused = done.0.refused;
   next = omega (arith, done.0.next, done.0.appended);
 }
-step-keeps before after c new Move cleaned done = record {
+step-keeps before after c new Move is cleaned done = let moved = move-trims before after c is.0 is.1 done.0 in record {
   mountable = cleans_mountable after new cleaned;
   array = done.0.array;
   size = done.0.places.size;
+  trimmed = moved;
   given = done.0.places.given;
   geometry = done.0.places.geometry;
   refused = done.0.places.refused;
   next = omega (arith, done.0.places.next, done.0.places.appended);
 }
-step-keeps before after c new Reset cleaned done = record {
+step-keeps before after c new Reset is cleaned done = record {
   mountable = cleans_mountable after new cleaned;
   array = done.0.array;
   size = ap length done.0.places;
+  trimmed = ap (map trims) done.0.places;
   given = done.0.given;
   geometry = done.0.geometry;
   refused = done.0.refused;
@@ -127,6 +131,7 @@ keeps-kept before after c is kept =
         mountable = cleans_mountable after (Some c) cleaned;
         array = kept.array;
         size = ap length kept.places;
+        trimmed = ap (map trims) kept.places;
         given = kept.given;
         geometry = kept.geometry;
         refused = kept.refused;
@@ -146,7 +151,8 @@ fails_give before after c new faults.Stopped is fails same = record {
   keeps = record {
     mountable = fails.mountable;
     array = fails.array;
-    size = fails.size;
+    size = ap length fails.places;
+    trimmed = ap (map trims) fails.places;
     given = fails.given;
     geometry = fails.geometry;
     refused = fails.refused;
@@ -155,22 +161,22 @@ fails_give before after c new faults.Stopped is fails same = record {
 }
 fails_give before after c new faults.Spent is fails same = rw (same, fails.0) (record {
   goes_on = is;
-  keeps = record { mountable = cleans_mountable before (Some c) is; array = refl; size = refl; given = refl; geometry = refl; refused = refl; next = refl };
+  keeps = record { mountable = cleans_mountable before (Some c) is; array = refl; size = refl; trimmed = refl; given = refl; geometry = refl; refused = refl; next = refl };
 })
 
 step_gives : (before after : Mounted) (c : CleanView) (new : Option CleanView) (result : Result (Unit {0}) CleanFault) → IsCleaned before (Some c) → StepLeaves (next_step (batch_most before.drive.geometry) before.tables c) before c result after new → TurnGives before (Some c) result after new
 step_gives before after c new (Ok done) is leaves =
     let forward = step_forward before after c new (next_step (batch_most before.drive.geometry) before.tables c) is refl leaves in
-    record { goes_on = forward.cleaned; keeps = step-keeps before after c new (next_step (batch_most before.drive.geometry) before.tables c) forward.cleaned leaves }
+    record { goes_on = forward.cleaned; keeps = step-keeps before after c new (next_step (batch_most before.drive.geometry) before.tables c) is forward.cleaned leaves }
 step_gives before after c new (Err fault) is leaves = fails_give before after c new fault is leaves.0 leaves.1
 
 -- ---- a turn
 
-start-leaves : (drive : DriveState) (old new : TablesView) (clean : Option CleanView) → IsCleaned (mounted drive old) None → StartLeaves drive.geometry old new clean → IsCleaned (mounted drive new) clean × (new.given ≡ old.given) × (size_of new ≡ size_of old) × (new.next ≡ old.next)
-start-leaves drive old new None is leaves = rw leaves.1 (is, refl, refl, refl)
+start-leaves : (drive : DriveState) (old new : TablesView) (clean : Option CleanView) → IsCleaned (mounted drive old) None → StartLeaves drive.geometry old new clean → IsCleaned (mounted drive new) clean × (new.given ≡ old.given) × (size_of new ≡ size_of old) × (new.next ≡ old.next) × (map trims new.map.places ≡ map trims old.map.places)
+start-leaves drive old new None is leaves = rw leaves.1 (is, refl, refl, refl, refl)
 start-leaves drive old new (Some c) is starts =
     let gives = start_gives drive old new starts.victim starts.destination is.0 starts.due starts.lowest starts.tables in
-    (rw starts.clean_is gives.cleaned, rw starts.tables refl, rw starts.tables refl, rw starts.tables refl)
+    (rw starts.clean_is gives.cleaned, rw starts.tables refl, rw starts.tables refl, rw starts.tables refl, rw starts.tables refl)
 
 pub turn_gives : (before after : Mounted) (old new : Option CleanView) (result : Result (Unit {0}) CleanFault) → IsCleaned before old → TurnLeaves before old result after new → TurnGives before old result after new
 turn_gives before after (Some c) new result is leaves = step_gives before after c new result is leaves
@@ -184,6 +190,7 @@ turn_gives before after None new (Ok done) is leaves =
         mountable = cleans_mountable after new cleaned;
         array = rw (leaves.0, started.1) refl;
         size = started.2;
+        trimmed = started.4;
         given = started.1;
         geometry = rw leaves.0 refl;
         refused = rw leaves.0 refl;
@@ -204,13 +211,14 @@ turns_fewer before after None new is leaves = record { fewer = λ some. absurd (
 
 -- the same before any turn
 pub keeps-none : (disk : Mounted) (clean : Option CleanView) → IsCleaned disk clean → KeepsByCleaning disk disk
-keeps-none disk clean is = record { mountable = cleans_mountable disk clean is; array = refl; size = refl; given = refl; geometry = refl; refused = refl; next = refl }
+keeps-none disk clean is = record { mountable = cleans_mountable disk clean is; array = refl; size = refl; trimmed = refl; given = refl; geometry = refl; refused = refl; next = refl }
 
 pub keeps-more : (a b c : Mounted) → KeepsByCleaning a b → KeepsByCleaning b c → KeepsByCleaning a c
 keeps-more a b c p q = record {
   mountable = q.mountable;
   array = q.array ∙ p.array;
   size = q.size ∙ p.size;
+  trimmed = q.trimmed ∙ p.trimmed;
   given = q.given ∙ p.given;
   geometry = q.geometry ∙ p.geometry;
   refused = q.refused ∙ p.refused;

@@ -1,7 +1,9 @@
 -- When a clean starts, and what a turn and a whole clean leave.
-use Rattle.std.specs.Prelude.{◌≡◌, ℕ, ◌+◌, ◌≤◌, ◌<◌, true, false, Option, Some, None, is_some, Result, Ok, Err}
+use Rattle.std.specs.Prelude.{◌≡◌, ℕ, ◌+◌, ◌≤◌, ◌<◌, Bool, true, false, map, Option, Some, None, is_some, Result, Ok, Err}
 use Rattle.zone_states.specs.declared.geometry.Geometry.{Geometry}
 use Rattle.logical_map.specs.Live.{live}
+use Rattle.logical_map.specs.declared.place.Place.{Place}
+use Rattle.logical_map.specs.declared.place.Place.TheVariants as places
 use Rattle.zone_choice.specs.Agreement.{Agrees, Mounted, mounted_array}
 use Rattle.zone_choice.specs.Mountable.{IsMountable}
 use Rattle.zone_choice.specs.Reserve.{batch_most, fill}
@@ -57,11 +59,18 @@ abbrev pub GoesOn : Result (Unit {0}) CleanFault → Mounted → Option CleanVie
 GoesOn (Err faults.Stopped) disk clean = Unit {0}
 GoesOn result disk clean = IsCleaned disk clean
 
--- What every turn keeps, whatever it answers: a drive that can be mounted, with the same array. No command is refused, and the next sequence rises by one with each batch that is appended.
+-- whether the newest record of a block is a trim, by its place
+abbrev pub trims : Place → Option Bool
+trims places.None = None
+trims (places.Trimmed address) = Some true
+trims (places.At address) = Some false
+
+-- What every turn keeps, whatever it answers: a drive that can be mounted, with the same array, in which a block that is trimmed stays so. No command is refused, and the next sequence rises by one with each batch that is appended.
 pub record KeepsByCleaning (before after : Mounted) : Type 0 where
   pub mountable : IsMountable after.drive after.tables.given
   pub array : mounted_array after ≡ mounted_array before
   pub size : size_of after.tables ≡ size_of before.tables
+  pub trimmed : map trims after.tables.map.places ≡ map trims before.tables.map.places
   pub given : after.tables.given ≡ before.tables.given
   pub geometry : after.drive.geometry ≡ before.drive.geometry
   pub refused : after.drive.refused ≡ before.drive.refused

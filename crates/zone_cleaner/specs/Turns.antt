@@ -77,7 +77,7 @@ pub record StopsClean (before after : Mounted) : Type 0 where
   pub stopped : after.drive.stopped ≡ true
   pub mountable : IsMountable after.drive after.tables.given
   pub array : mounted_array after ≡ mounted_array before
-  pub size : size_of after.tables ≡ size_of before.tables
+  pub places : after.tables.map.places ≡ before.tables.map.places
   pub given : after.tables.given ≡ before.tables.given
   pub next : after.tables.next ≡ before.tables.next
   pub geometry : after.drive.geometry ≡ before.drive.geometry
