@@ -1,29 +1,26 @@
 -- The Move of the gathered records, as it is built.
-use Rattle.std.proofs.Common.{◌≡◌, ◌≢◌, ◌⊎◌, ℕ, zero, suc, ◌+◌, ◌-◌, ◌*◌, ◌<◌, ◌≤◌, ◌^◌, Bool, true, false, cond, min, List, [], ◌∷◌, ◌++◌, map, length, get_or, take, drop, Option, Some, None, refl, sym, ap, subst, ◌∙◌, inl, inr, arith}
+use Rattle.std.proofs.Common.{◌≡◌, ◌≢◌, ℕ, suc, ◌+◌, ◌*◌, ◌<◌, ◌≤◌, ◌^◌, Bool, true, false, cond, List, [], ◌∷◌, ◌++◌, length, get_or, take, drop, Option, Some, None, refl, sym, ap, ◌∙◌, arith}
 use Rattle.std.specs.List.{AllByRecursion, concat}
 use Rattle.std.proofs.lemmas.List.{drop_at, get_or-take, length-append, length-map, length-take, take_at}
 use Rattle.std.proofs.Math.Nat.{add-mul}
-use Rattle.zone_states.specs.declared.geometry.Geometry.{Geometry}
 use Rattle.zone_states.specs.Zone.{cut_blocks}
-use Rattle.drive_port.specs.Contents.{content_at, contents}
-use Rattle.drive_port.specs.Drive.{DriveState}
+use Rattle.drive_port.specs.Contents.{contents}
 use Rattle.batch_log.specs.declared.header.Entry.{Entry}
 use Rattle.batch_log.specs.declared.header.Kind.TheVariants.{Host, Move}
-use Rattle.batch_log.specs.Header.{Heading, IsHeading, IsSize, entry_room, header_block}
-use Rattle.batch_log.specs.Log.{Batch, batch_size, data_count}
+use Rattle.batch_log.specs.Header.{Heading, IsHeading, header_block}
+use Rattle.batch_log.specs.Log.{Batch, data_count}
 use Rattle.batch_log.proofs.HeaderLaws.{header_length}
 use Rattle.logical_map.specs.Live.{lies_in}
-use Rattle.logical_map.specs.Places.{ArePlacedReady, IsReady, MapView}
+use Rattle.logical_map.specs.Places.{ArePlacedReady, IsReady}
 use Rattle.logical_map.specs.declared.place.Place.{Place}
 use Rattle.logical_map.specs.declared.place.Place.TheVariants as places
-use Rattle.zone_choice.specs.declared.roles.Filling.{Filling}
 use Rattle.zone_choice.specs.declared.roles.Second.TheVariants.{Destination}
-use Rattle.zone_choice.specs.Agreement.{Agrees, HoldsFilling, Mounted, drive_logs, mounted_array, spelled}
+use Rattle.zone_choice.specs.Agreement.{Agrees, HoldsFilling, Mounted, drive_logs, mounted_array}
 use Rattle.zone_choice.specs.Builder.{BuilderView, IsBuilt, built}
 use Rattle.zone_choice.specs.Changes.{CanPlace, sequence_end}
 use Rattle.zone_choice.specs.Records.{shown_content}
 use Rattle.zone_choice.specs.Reserve.{batch_most}
-use Rattle.zone_choice.specs.Tables.{TablesView, size_of}
+use Rattle.zone_choice.specs.Tables.{size_of}
 use Rattle.zone_choice.proofs.AgreementLaws.{agrees_mountable, length-spelled, size-encoded}
 use Rattle.zone_choice.proofs.AllLaws.{all-at, all-weaker}
 use Rattle.zone_choice.proofs.ChangeLaws.{large-block}

@@ -1,45 +1,34 @@
 -- What a Move of the gathered records leaves of a clean.
-use Rattle.std.proofs.Common.{◌≡◌, ◌≢◌, ℕ, zero, suc, ◌+◌, ◌-◌, ◌*◌, ◌/◌, ◌<◌, ◌≤◌, max, Bool, true, false, cond, eqb, List, [], ◌∷◌, map, length, get_or, take, drop, replicate, Option, Some, None, refl, sym, ap, subst, ◌∙◌, arith}
+use Rattle.std.proofs.Common.{◌≡◌, ℕ, ◌+◌, ◌*◌, ◌<◌, ◌≤◌, Bool, true, cond, List, [], ◌∷◌, map, length, get_or, take, drop, Option, Some, None, refl, sym, ap, ◌∙◌, arith}
 use Rattle.std.specs.Prelude.{nat_eq}
-use Rattle.std.specs.Int.{div_ceil}
 use Rattle.std.specs.List.{AllByRecursion, IsDistinct}
-use Rattle.std.specs.Option.{option_map}
 use Rattle.std.proofs.lemmas.Bool.{eq-eqb}
-use Rattle.std.proofs.lemmas.List.{get_or-take, length-append, length-map, length-take}
+use Rattle.std.proofs.lemmas.List.{get_or-take, length-map, length-take}
 use Rattle.drive_port.specs.Drive.{DriveState}
-use Rattle.drive_port.specs.Contents.{content_at, contents}
+use Rattle.drive_port.specs.Contents.{contents}
 use Rattle.batch_log.specs.declared.header.Entry.{Entry}
-use Rattle.batch_log.specs.Log.{Batch, batch_size, data_count, zero_block}
-use Rattle.logical_map.specs.Live.{lies_in, live}
+use Rattle.batch_log.specs.Log.{data_count, zero_block}
 use Rattle.logical_map.specs.declared.place.Place.{Place}
 use Rattle.logical_map.specs.declared.place.Place.TheVariants as places
 use Rattle.zone_choice.specs.declared.roles.Filling.{Filling}
-use Rattle.zone_choice.specs.declared.roles.Second.{Second}
 use Rattle.zone_choice.specs.declared.roles.Second.TheVariants.{Destination}
-use Rattle.zone_choice.specs.Agreement.{Agrees, HoldsFilling, Mounted, drive_logs, mounted, mounted_array, spelled}
+use Rattle.zone_choice.specs.Agreement.{Agrees, HoldsFilling, Mounted, drive_logs, mounted_array}
 use Rattle.zone_choice.specs.Builder.{placed}
-use Rattle.zone_choice.specs.Changes.{Places, next_address, placed_with, size_with, told_over}
-use Rattle.zone_choice.specs.Records.{append_log, over, shown}
+use Rattle.zone_choice.specs.Changes.{next_address, placed_with, told_over}
 use Rattle.zone_choice.specs.Reserve.{batch_most}
-use Rattle.zone_choice.specs.Roles.{RolesView, fillings, grown, is_filling_at, wrote}
-use Rattle.zone_choice.specs.Sizes.{array_of, encoded_size, extended}
-use Rattle.zone_choice.specs.Tables.{TablesView, size_of}
-use Rattle.zone_choice.specs.ZoneLogs.{spelled_array}
+use Rattle.zone_choice.specs.Roles.{grown}
+use Rattle.zone_choice.specs.Tables.{size_of}
 use Rattle.zone_choice.proofs.AgreementLaws.{extended-same, length-spelled, size-encoded}
 use Rattle.zone_choice.proofs.BuilderLaws.{blocks_named, data_count-few}
-use Rattle.zone_choice.proofs.CommandLaws.{filling-in_range}
 use Rattle.zone_choice.proofs.ReadLaws.{HoldsPlace, holds_place}
 use Rattle.zone_choice.proofs.ReserveLaws.{positive-most}
-use Rattle.zone_cleaner.specs.Clean.{AreMoves, CleanView, HasRoomFor, IsClean, moved_to, turns_left, unwritten, untaken}
-use Rattle.zone_cleaner.specs.LiveRecords.{LiveRecord, content_of, data_of, entries_of, entry_of, move_of, records_in}
-use Rattle.zone_choice.specs.Roles.{is_sealed_at}
-use Rattle.zone_cleaner.specs.Turns.{after_move}
+use Rattle.zone_cleaner.specs.Clean.{CleanView, HasRoomFor, IsClean, moved_to, untaken}
+use Rattle.zone_cleaner.specs.LiveRecords.{LiveRecord, entries_of, entry_of, move_of, records_in}
 use Rattle.zone_cleaner.proofs.BudgetLaws.{AfterMove, after-move}
 use Rattle.zone_cleaner.proofs.CleanLaws.{live-parts}
-use Rattle.zone_cleaner.proofs.HistoryLaws.{moves-more}
 use Rattle.zone_cleaner.proofs.MoveLaws.{PlacedAway, elsewhere, length-placed, move-same, placed-away, placed-rest, without-own, without_all}
 use Rattle.zone_cleaner.proofs.RecordLaws.{AreBetween, SayTheArray, ZerosUnlessData, between, distinct-blocks, length-records_in, live_in, live_in-split, say-the-array}
-use Rattle.zone_cleaner.proofs.SealedLaws.{of-second, sealed-apart, sealed-holds, sealed-in_range, sealed-wrote, second-filling, zone-logs}
+use Rattle.zone_cleaner.proofs.SealedLaws.{of-second, sealed-apart, second-filling}
 use Rattle.zone_cleaner.proofs.StepLaws.{MoveDue}
 
 -- ---- the gathered records say what the array has

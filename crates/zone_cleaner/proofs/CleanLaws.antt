@@ -1,32 +1,27 @@
 -- The invariant of a clean lasts.
-use Rattle.std.proofs.Common.{◌≡◌, ◌≢◌, ◌⊎◌, ℕ, zero, suc, ◌+◌, ◌-◌, ◌*◌, ◌<◌, ◌≤◌, max, Bool, true, false, List, [], ◌∷◌, ◌++◌, map, length, set, get_or, take, drop, replicate, Option, Some, None, refl, sym, ap, subst, ◌∙◌, inl, inr, arith}
-use Rattle.std.specs.List.{AllByRecursion, slice_get}
+use Rattle.std.proofs.Common.{◌≡◌, ℕ, ◌+◌, ◌<◌, ◌≤◌, List, [], ◌∷◌, ◌++◌, length, get_or, take, Option, Some, None, refl, sym, ap, ◌∙◌, arith}
+use Rattle.std.specs.List.{slice_get}
 use Rattle.std.specs.Option.{option_map}
-use Rattle.std.proofs.lemmas.List.{length-append, length-take}
+use Rattle.std.proofs.lemmas.List.{length-append}
 use Rattle.zone_states.specs.declared.geometry.Geometry.{Geometry}
-use Rattle.drive_port.specs.Drive.{DriveState}
-use Rattle.logical_map.specs.Live.{blocks_in, first_record, lies_in, live, records_of}
-use Rattle.logical_map.specs.Places.{MapView}
+use Rattle.logical_map.specs.Live.{first_record, live, records_of}
 use Rattle.logical_map.specs.declared.place.Place.{Place}
 use Rattle.logical_map.specs.declared.place.Place.TheVariants as places
-use Rattle.zone_choice.specs.Agreement.{Agrees, Mounted, drive_logs, mounted, mounted_array}
+use Rattle.zone_choice.specs.Agreement.{Agrees, Mounted, drive_logs, mounted_array}
 use Rattle.zone_choice.specs.Changes.{KeepsArray}
 use Rattle.zone_choice.specs.Reserve.{batch_most}
 use Rattle.zone_choice.specs.Spare.{HasSpare}
 use Rattle.zone_choice.specs.declared.roles.Second.TheVariants.{Destination, Next}
-use Rattle.zone_choice.specs.Roles.{closed, is_filling_at, second_with}
+use Rattle.zone_choice.specs.Roles.{closed, second_with}
 use Rattle.zone_choice.proofs.CommandLaws.{filling-in_range}
-use Rattle.zone_choice.specs.Tables.{TablesView, size_of}
-use Rattle.zone_choice.specs.ZoneLogs.{log_at}
-use Rattle.batch_log.specs.Log.{Batch}
-use Rattle.zone_cleaner.specs.Clean.{AreMoves, CleanView, Gathers, HasRoomFor, IsClean, moved_to, turns_left, untaken}
-use Rattle.zone_cleaner.specs.LiveRecords.{LiveRecord, content_of, records_in}
+use Rattle.zone_choice.specs.Tables.{size_of}
+use Rattle.zone_cleaner.specs.Clean.{CleanView, IsClean, moved_to, turns_left, untaken}
+use Rattle.zone_cleaner.specs.LiveRecords.{LiveRecord, content_of}
 use Rattle.zone_choice.specs.declared.roles.Filling.{Filling}
 use Rattle.zone_choice.specs.declared.roles.Second.{Second}
-use Rattle.zone_choice.specs.Roles.{is_sealed_at}
 use Rattle.zone_cleaner.specs.Turns.{with_record}
 use Rattle.zone_cleaner.proofs.HistoryLaws.{moves_have_spare}
-use Rattle.zone_cleaner.proofs.RecordLaws.{length-records_in, live_in, live_in-split, takes-next, takes-none}
+use Rattle.zone_cleaner.proofs.RecordLaws.{length-records_in, live_in-split, takes-next, takes-none}
 use Rattle.zone_cleaner.proofs.SealedLaws.{sealed-apart, second-filling, zone-logs}
 
 -- ---- nothing that a clean depends on changes

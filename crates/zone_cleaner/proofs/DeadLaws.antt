@@ -1,15 +1,15 @@
 -- A zone in which no block has its newest record can be emptied.
-use Rattle.std.proofs.Common.{◌≡◌, ◌≢◌, ℕ, zero, suc, ◌+◌, ◌*◌, ◌/◌, ◌<◌, ◌≤◌, Bool, true, false, cond, eqb, ltb, List, [], ◌∷◌, ◌++◌, map, length, set, get_or, Option, Some, None, refl, sym, ap, ◌∙◌, arith}
-use Rattle.std.specs.List.{AllByRecursion, range_with_len, count_by}
-use Rattle.std.proofs.lemmas.Bool.{eq-eqb, le-ltb, ltb-false}
+use Rattle.std.proofs.Common.{◌≡◌, ◌≢◌, ℕ, zero, suc, ◌+◌, ◌<◌, ◌≤◌, Bool, true, false, cond, eqb, ltb, List, [], ◌∷◌, map, length, Option, Some, None, refl, sym, ap, ◌∙◌, arith}
+use Rattle.std.specs.List.{AllByRecursion, range_with_len}
+use Rattle.std.proofs.lemmas.Bool.{le-ltb, ltb-false}
 use Rattle.std.proofs.lemmas.List.{get_or-set_other, length-set}
 use Rattle.batch_log.specs.declared.header.Entry.{Entry}
-use Rattle.batch_log.specs.Log.{Batch, batch_size, data_count, log_size, one_unless}
+use Rattle.batch_log.specs.Log.{Batch, batch_size, one_unless}
 use Rattle.zone_choice.specs.Records.{Record, batch_records, entry_records, log_records, newer, newest, records, told, without}
 use Rattle.zone_choice.specs.Sizes.{encoded_size, greatest, larger, log_greatest, size_or, told_of}
 use Rattle.zone_choice.specs.ZoneLogs.{log_at}
 use Rattle.zone_choice.proofs.AllLaws.{all-append}
-use Rattle.zone_choice.proofs.NewestLaws.{newer-assoc, newer-none, newest-append}
+use Rattle.zone_choice.proofs.NewestLaws.{newer-assoc, newest-append}
 use Rattle.zone_choice.proofs.SizeLaws.{larger-assoc}
 
 -- ---- what holds of all records holds of the newest

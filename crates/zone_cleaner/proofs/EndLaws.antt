@@ -1,12 +1,11 @@
 -- What each step leaves, by its answer.
-use Rattle.std.proofs.Common.{◌≡◌, ◌≢◌, ◌⊎◌, ℕ, zero, suc, ◌+◌, ◌*◌, ◌/◌, ◌%◌, ◌<◌, ◌≤◌, ◌^◌, List, [], ◌∷◌, ◌++◌, length, Option, Some, None, Result, Ok, Err, refl, sym, ap, subst, ◌∙◌, inl, inr, arith}
-use Rattle.std.specs.List.{AllByRecursion, concat}
-use Rattle.std.specs.Option.{option_map}
+use Rattle.std.proofs.Common.{◌≡◌, ◌⊎◌, ℕ, ◌*◌, ◌/◌, ◌<◌, List, [], ◌∷◌, ◌++◌, length, Option, Some, Result, Ok, Err, refl, sym, ap, subst, ◌∙◌, inl, inr, arith}
+use Rattle.std.specs.List.{concat}
 use Rattle.std.specs.Prelude.{IfErr, OnOk}
-use Rattle.std.proofs.lemmas.List.{get_or-set_same, length-map, length-set}
+use Rattle.std.proofs.lemmas.List.{length-set}
 use Rattle.zone_states.specs.declared.geometry.Geometry.{Geometry}
 use Rattle.drive_port.specs.Calls.{CanReset, IsNotRefused, Obeys, ResetContents, ResetGives, ResetKeeps, ResetLeaves, ResetZone}
-use Rattle.drive_port.specs.Contents.{Content, SameContents, Counts, content_at, content_of as content_in, contents, full, is_usable, usage_of}
+use Rattle.drive_port.specs.Contents.{Content, SameContents, is_usable}
 use Rattle.drive_port.specs.Drive.{DriveState, IsLawful}
 use Rattle.drive_port.specs.declared.calls.PortFault.{PortFault}
 use Rattle.drive_port.specs.declared.calls.PortFault.TheVariants as port
@@ -18,15 +17,15 @@ use Rattle.zone_choice.specs.declared.roles.Filling.{Filling}
 use Rattle.zone_choice.specs.declared.roles.Second.TheVariants.{Destination}
 use Rattle.zone_choice.specs.Agreement.{Agrees, Mounted, drive_logs, mounted, mounted_array, spelled}
 use Rattle.zone_choice.specs.Builder.{BuilderView, IsBuilt, built}
-use Rattle.zone_choice.specs.Changes.{AppendLeaves, CanPlace, IsHalt, KeepsArray, Places, StopsInside, halt_of, sequence_end, told_over}
-use Rattle.zone_choice.specs.Records.{append_log, without}
+use Rattle.zone_choice.specs.Changes.{AppendLeaves, CanPlace, IsHalt, KeepsArray, Places, StopsInside, halt_of, sequence_end}
+use Rattle.zone_choice.specs.Records.{append_log}
 use Rattle.zone_choice.specs.Reserve.{batch_most}
 use Rattle.zone_choice.specs.Roles.{clean_ended}
 use Rattle.zone_choice.specs.Sizes.{array_of}
 use Rattle.zone_choice.specs.Spare.{HasSpare}
 use Rattle.zone_choice.specs.Tables.{TablesView, size_of}
 use Rattle.zone_choice.specs.ZoneLogs.{log_at, spelled_array}
-use Rattle.zone_choice.proofs.AgreementLaws.{agrees_same, size-encoded, spelled_same}
+use Rattle.zone_choice.proofs.AgreementLaws.{size-encoded}
 use Rattle.zone_choice.proofs.AloneLaws.{memory-keeps, stops-tables}
 use Rattle.zone_choice.proofs.ChangeLaws.{keeps-halt, keeps-same}
 use Rattle.zone_choice.proofs.CommandLaws.{content-zone, filling-in_range, start-below, zone-start}
@@ -34,10 +33,10 @@ use Rattle.zone_choice.proofs.OpenLaws.{OpensNone, reset-opens}
 use Rattle.zone_choice.proofs.ReserveLaws.{positive-most}
 use Rattle.zone_cleaner.specs.declared.fault.CleanFault.{CleanFault}
 use Rattle.zone_cleaner.specs.declared.fault.CleanFault.TheVariants as faults
-use Rattle.zone_cleaner.specs.declared.step.Step.TheVariants.{Gather, Move, Reset}
+use Rattle.zone_cleaner.specs.declared.step.Step.TheVariants.{Gather, Move}
 use Rattle.zone_cleaner.specs.Clean.{CleanView, IsClean}
 use Rattle.zone_cleaner.specs.LiveRecords.{content_of, data_of, move_of}
-use Rattle.zone_cleaner.specs.Turns.{EmptiesVictim, MovesRecords, StepDone, StepFails, StepLeaves, StopsClean, clean_fault, next_step, with_record}
+use Rattle.zone_cleaner.specs.Turns.{EmptiesVictim, MovesRecords, StepFails, StepLeaves, StopsClean, clean_fault, next_step, with_record}
 use Rattle.zone_cleaner.proofs.CarryLaws.{told_same}
 use Rattle.zone_cleaner.proofs.CleanLaws.{clean_spare}
 use Rattle.zone_cleaner.proofs.HistoryLaws.{moves-more, moves_have_spare}

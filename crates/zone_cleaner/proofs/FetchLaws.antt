@@ -1,8 +1,8 @@
 -- One record is read.
-use Rattle.std.proofs.Common.{◌≡◌, ℕ, ◌<◌, List, [], get_or, Option, Some, None, Err, refl, sym, ap, ◌∙◌, append-nil}
+use Rattle.std.proofs.Common.{◌≡◌, ℕ, ◌<◌, List, [], get_or, Some, None, Err, refl, ap, ◌∙◌, append-nil}
 use Rattle.drive_port.specs.Calls.{CanRead, IsNotRefused, Obeys, ReadGives}
-use Rattle.drive_port.specs.Contents.{Counts, SameContents, block_at, bytes_at, contents}
-use Rattle.drive_port.specs.Drive.{DriveState, IsClosing, IsLawful}
+use Rattle.drive_port.specs.Contents.{SameContents, block_at, bytes_at, contents}
+use Rattle.drive_port.specs.Drive.{DriveState, IsClosing}
 use Rattle.drive_port.specs.declared.calls.PortFault.{PortFault}
 use Rattle.drive_port.specs.declared.calls.PortFault.TheVariants as port
 use Rattle.logical_map.specs.declared.place.Place.{Place}
@@ -10,7 +10,7 @@ use Rattle.logical_map.specs.declared.place.Place.TheVariants as places
 use Rattle.zone_choice.specs.Agreement.{Agrees, mounted, spelled}
 use Rattle.zone_choice.specs.Changes.{IsHalt, KeepsArray, halt_of}
 use Rattle.zone_choice.specs.Tables.{TablesView, size_of}
-use Rattle.zone_choice.proofs.ChangeLaws.{keeps-contents, keeps-halt, keeps-same}
+use Rattle.zone_choice.proofs.ChangeLaws.{keeps-halt, keeps-same}
 use Rattle.zone_choice.proofs.OpenLaws.{closing-opens}
 use Rattle.zone_choice.proofs.ReadLaws.{HoldsPlace, holds_place}
 use Rattle.zone_cleaner.specs.LiveRecords.{content_of}

@@ -1,13 +1,12 @@
 -- The host writes while a clean runs: its blocks are taken out of what is gathered, and no more turns are left.
-use Rattle.std.proofs.Common.{◌≡◌, ◌≢◌, ℕ, zero, suc, ◌+◌, ◌-◌, ◌*◌, ◌/◌, ◌<◌, ◌≤◌, ◌^◌, max, Bool, true, false, cond, eqb, ltb, List, [], ◌∷◌, ◌++◌, length, set, get_or, take, drop, replicate, Option, Some, None, refl, sym, ap, subst, ◌∙◌, inl, inr, arith}
+use Rattle.std.proofs.Common.{◌≡◌, ◌≢◌, ℕ, zero, suc, ◌+◌, ◌-◌, ◌*◌, ◌<◌, ◌≤◌, max, Bool, true, false, cond, eqb, ltb, List, [], ◌∷◌, ◌++◌, length, set, get_or, take, drop, replicate, Option, Some, refl, sym, ap, subst, ◌∙◌, arith}
 use Rattle.std.specs.Int.{div_ceil}
 use Rattle.std.specs.List.{AllByRecursion}
 use Rattle.std.specs.Option.{option_map}
-use Rattle.std.proofs.lemmas.Bool.{cases_eq, cases_lt, eq-eqb, ne_eqb}
-use Rattle.std.proofs.lemmas.List.{get_or-set_other, get_or-set_same, get_or-take, get_or_append_left, length-append, length-replicate, length-set, length-take}
+use Rattle.std.proofs.lemmas.Bool.{ne_eqb}
+use Rattle.std.proofs.lemmas.List.{get_or-set_other, get_or-set_same, get_or-take, length-take}
 use Rattle.zone_states.specs.declared.geometry.Geometry.{Geometry}
 use Rattle.drive_port.specs.Contents.{content_at, contents}
-use Rattle.drive_port.specs.Drive.{DriveState}
 use Rattle.batch_log.specs.declared.header.Entry.{Entry}
 use Rattle.batch_log.specs.Log.{Batch, batch_size, data_count, one_unless, zero_block}
 use Rattle.logical_map.specs.Live.{lies_in, live}
@@ -15,28 +14,27 @@ use Rattle.logical_map.specs.declared.place.Place.{Place}
 use Rattle.logical_map.specs.declared.place.Place.TheVariants as places
 use Rattle.zone_choice.specs.declared.roles.Filling.{Filling}
 use Rattle.zone_choice.specs.declared.roles.Second.{Second}
-use Rattle.zone_choice.specs.declared.roles.Second.TheVariants.{Next, Destination}
-use Rattle.zone_choice.specs.Agreement.{Agrees, Mounted, drive_logs, mounted_array, spelled}
+use Rattle.zone_choice.specs.declared.roles.Second.TheVariants.{Destination}
+use Rattle.zone_choice.specs.Agreement.{Mounted, drive_logs, mounted_array}
 use Rattle.zone_choice.specs.Builder.{entry_place, placed}
-use Rattle.zone_choice.specs.Changes.{CanPlace, Places, next_address, placed_with, roles_alone, size_with, told_over}
+use Rattle.zone_choice.specs.Changes.{CanPlace, Places, next_address, roles_alone, size_with}
 use Rattle.zone_choice.specs.Laws.{IsNext}
-use Rattle.zone_choice.specs.Mountable.{AreSound}
-use Rattle.zone_choice.specs.Records.{Record, batch_records, entry_records, over, shown}
+use Rattle.zone_choice.specs.Records.{entry_records, over, shown}
 use Rattle.zone_choice.specs.Reserve.{batch_most}
-use Rattle.zone_choice.specs.Roles.{RolesView, closed, closed_beside, closed_unless, grown, is_filling_at, second_with, wrote}
-use Rattle.zone_choice.specs.Sizes.{encoded_size, extended, size_or}
-use Rattle.zone_choice.specs.Tables.{TablesView, size_of}
+use Rattle.zone_choice.specs.Roles.{RolesView, closed, closed_beside, closed_unless, grown, second_with, wrote}
+use Rattle.zone_choice.specs.Sizes.{extended, size_or}
+use Rattle.zone_choice.specs.Tables.{size_of}
 use Rattle.zone_choice.proofs.AgreementLaws.{length-extended, length-spelled, size-encoded, sound-weaker}
 use Rattle.zone_choice.proofs.AllLaws.{all-weaker}
 use Rattle.zone_choice.proofs.CommandLaws.{filling-in_range}
 use Rattle.zone_choice.proofs.ReserveLaws.{div_ceil-mono, positive-most}
-use Rattle.zone_cleaner.specs.Clean.{CleanView, HasRoomFor, IsClean, moved_to, turns_left, unwritten, untaken}
+use Rattle.zone_cleaner.specs.Clean.{CleanView, IsClean, moved_to, turns_left, unwritten, untaken}
 use Rattle.zone_cleaner.specs.LiveRecords.{LiveRecord, records_in, without_block}
 use Rattle.zone_cleaner.proofs.BudgetLaws.{fewer-room}
 use Rattle.zone_cleaner.proofs.CleanLaws.{KeptDestination}
 use Rattle.zone_cleaner.proofs.HistoryLaws.{moves-beside}
 use Rattle.zone_cleaner.proofs.MoveLaws.{Elsewhere, PlacedAway, elsewhere, entry-away, length-placed, placed-away, without_all}
-use Rattle.zone_cleaner.proofs.RecordLaws.{live_in, live_in-cons, live_in-split, records_in-array}
+use Rattle.zone_cleaner.proofs.RecordLaws.{live_in, live_in-cons, records_in-array}
 use Rattle.zone_cleaner.proofs.SealedLaws.{sealed-alone, sealed-apart, zone-logs}
 
 -- ---- blocks that a batch does not name
@@ -149,8 +147,8 @@ host-places before after c zone b is can done =
     let n = size_with before.tables b - length m.places in
     record {
       taken = sym (records_in-array (mounted_array before) (mounted_array after) m.zone_size c.victim 0 (take c.cursor after.tables.map.places) same
-      ∙ ap (λ (ps : List Place). records_in (mounted_array before) m.zone_size c.victim 0 (take c.cursor ps)) done.places ∙ moved.taken
-      ∙ ap (λ (ps : List Place). without_all es (records_in (mounted_array before) m.zone_size c.victim 0 ps)) front ∙ ap (without_all es) (sym is.gathers.gathered));
+          ∙ ap (λ (ps : List Place). records_in (mounted_array before) m.zone_size c.victim 0 (take c.cursor ps)) done.places ∙ moved.taken
+          ∙ ap (λ (ps : List Place). without_all es (records_in (mounted_array before) m.zone_size c.victim 0 ps)) front ∙ ap (without_all es) (sym is.gathers.gathered));
       fewer = omega (arith, ap (live_in m.zone_size c.victim) done.places, moved.fewer, live_in-new m.zone_size c.victim n m.places);
       left = omega (arith, ap (λ (ps : List Place). live_in m.zone_size c.victim (drop c.cursor ps)) done.places, moved.left, ap (live_in m.zone_size c.victim) rest, live_in-new m.zone_size c.victim n (drop c.cursor m.places));
     }
@@ -232,7 +230,7 @@ host_gives before after c zone b is can ne done =
         };
         room = rw (done.geometry, kept.written) (fewer-room g.capacity k f.written (live before.tables.map c.victim) (live after.tables.map c.victim) pos live_now is.room);
         moves = rw (done.logs, done.geometry, done.given, kept.zone) (moves-beside g.block (before.tables.next + 1) before.tables.given zone c.victim f.zone (size_with before.tables b) logs b lt apart ne
-        (sound-weaker before.tables.next (before.tables.next + 1) before.tables.given logs (omega arith) can.agrees.sound) (next-batch before zone b can) is.moves);
+            (sound-weaker before.tables.next (before.tables.next + 1) before.tables.given logs (omega arith) can.agrees.sound) (next-batch before zone b can) is.moves);
       };
       turns = turns-le k (untaken before.tables c) (untaken after.tables (without_named b.heading.entries c)) (moved_to before.tables.roles.second) (moved_to after.tables.roles.second) (live before.tables.map c.victim) (live after.tables.map c.victim) pos left_now live_now (ap moved_to second ∙ kept.written ∙ sym (ap moved_to is.second));
     }

@@ -1,14 +1,13 @@
 -- A block that is trimmed stays so when its record is moved.
-use Rattle.std.proofs.Common.{◌≡◌, ℕ, zero, suc, ◌+◌, ◌<◌, ◌≤◌, Bool, true, false, cond, List, [], ◌∷◌, map, length, set, get_or, take, Option, Some, None, refl, sym, ap, ◌∙◌, arith}
+use Rattle.std.proofs.Common.{◌≡◌, ℕ, suc, ◌+◌, ◌<◌, Bool, true, false, cond, List, [], ◌∷◌, map, length, set, get_or, take, Option, Some, None, refl, sym, ap, ◌∙◌, arith}
 use Rattle.std.specs.List.{AllByRecursion}
 use Rattle.std.proofs.lemmas.List.{get_or-take, length-take, map-set, set-get_or}
 use Rattle.std.proofs.Math.ListN.{get_or-map}
-use Rattle.batch_log.specs.Log.{one_unless}
 use Rattle.logical_map.specs.Live.{lies_in}
 use Rattle.logical_map.specs.declared.place.Place.{Place}
 use Rattle.logical_map.specs.declared.place.Place.TheVariants as places
 use Rattle.zone_choice.specs.Agreement.{Agrees, Mounted, mounted_array}
-use Rattle.zone_choice.specs.Builder.{entry_place, placed}
+use Rattle.zone_choice.specs.Builder.{placed}
 use Rattle.zone_choice.specs.Changes.{next_address}
 use Rattle.zone_choice.specs.Tables.{size_of}
 use Rattle.zone_choice.proofs.AgreementLaws.{extended-same}

@@ -1,21 +1,19 @@
 -- A Move of gathered records: it says what the array has, and no gathered block lies in the victim after it.
-use Rattle.std.proofs.Common.{◌≡◌, ◌≢◌, ℕ, zero, suc, ◌+◌, ◌-◌, ◌*◌, ◌/◌, ◌<◌, ◌≤◌, Bool, true, false, cond, eqb, List, [], ◌∷◌, ◌++◌, map, length, set, get_or, take, drop, replicate, Option, Some, None, refl, sym, ap, ◌∙◌, inl, inr, arith, append_assoc}
+use Rattle.std.proofs.Common.{◌≡◌, ◌≢◌, ℕ, ◌+◌, ◌-◌, ◌*◌, ◌/◌, ◌<◌, ◌≤◌, Bool, true, false, cond, eqb, List, [], ◌∷◌, ◌++◌, length, set, get_or, take, drop, replicate, Option, Some, None, refl, sym, ap, ◌∙◌, arith, append_assoc}
 use Rattle.std.specs.Prelude.{nat_eq}
-use Rattle.std.specs.List.{AllByRecursion, IsDistinct, concat, count_by}
+use Rattle.std.specs.List.{AllByRecursion, IsDistinct}
 use Rattle.std.proofs.lemmas.Bool.{eq-eqb, ne_eqb}
 use Rattle.std.proofs.lemmas.List.{drop-set-lt, length-append, length-set, set-get_or}
 use Rattle.std.proofs.lemmas.Nat.{div-mul-add}
-use Rattle.zone_states.specs.Zone.{cut_blocks}
 use Rattle.batch_log.specs.declared.header.Entry.{Entry}
-use Rattle.batch_log.specs.Log.{Batch, data_count, one_unless}
+use Rattle.batch_log.specs.Log.{data_count, one_unless}
 use Rattle.logical_map.specs.Live.{lies_in}
 use Rattle.logical_map.specs.declared.place.Place.{Place}
-use Rattle.logical_map.specs.declared.place.Place.TheVariants as places
 use Rattle.zone_choice.specs.Builder.{entry_place, placed}
-use Rattle.zone_choice.specs.Records.{Record, batch_records, entry_records, over, record_of, shown, shown_content}
+use Rattle.zone_choice.specs.Records.{entry_records, over, shown, shown_content}
 use Rattle.zone_choice.proofs.BuilderLaws.{blocks_named, placed-first}
-use Rattle.zone_cleaner.specs.LiveRecords.{LiveRecord, content_of, data_of, entries_of, entry_of, records_in, without_block}
-use Rattle.zone_cleaner.proofs.RecordLaws.{AreBetween, SayTheArray, left-set, live_in, live_in-set, taken-set}
+use Rattle.zone_cleaner.specs.LiveRecords.{LiveRecord, data_of, entries_of, entry_of, records_in, without_block}
+use Rattle.zone_cleaner.proofs.RecordLaws.{SayTheArray, left-set, live_in, live_in-set, taken-set}
 
 -- ---- it says what the array has
 

@@ -1,27 +1,23 @@
 -- A Move is done: the clean goes on, with fewer turns left.
-use Rattle.std.proofs.Common.{◌≡◌, ◌≢◌, ℕ, zero, suc, ◌+◌, ◌<◌, ◌≤◌, max, true, List, [], ◌∷◌, drop, length, take, Option, Some, None, refl, sym, ap, ◌∙◌, arith}
+use Rattle.std.proofs.Common.{◌≡◌, ℕ, ◌+◌, ◌<◌, max, true, drop, length, Some, refl, sym, ap, ◌∙◌, arith}
 use Rattle.std.specs.Int.{div_ceil}
 use Rattle.std.specs.Option.{option_map}
 use Rattle.zone_states.specs.declared.geometry.Geometry.{Geometry}
-use Rattle.drive_port.specs.Drive.{DriveState}
-use Rattle.batch_log.specs.Log.{Batch, batch_size, data_count}
-use Rattle.logical_map.specs.declared.place.Place.{Place}
+use Rattle.batch_log.specs.Log.{batch_size, data_count}
 use Rattle.zone_choice.specs.declared.roles.Filling.{Filling}
-use Rattle.zone_choice.specs.declared.roles.Second.{Second}
 use Rattle.zone_choice.specs.declared.roles.Second.TheVariants.{Destination}
-use Rattle.zone_choice.specs.Agreement.{Agrees, Mounted, drive_logs, mounted_array, spelled}
+use Rattle.zone_choice.specs.Agreement.{Agrees, Mounted, drive_logs, mounted_array}
 use Rattle.zone_choice.specs.Changes.{Places}
 use Rattle.zone_choice.specs.Records.{append_log}
 use Rattle.zone_choice.specs.Reserve.{batch_most}
-use Rattle.zone_choice.specs.Roles.{RolesView, grown, is_filling_at, second_with, wrote}
+use Rattle.zone_choice.specs.Roles.{RolesView, grown, second_with}
 use Rattle.zone_choice.specs.Sizes.{array_of}
-use Rattle.zone_choice.specs.Tables.{TablesView, size_of}
+use Rattle.zone_choice.specs.Tables.{size_of}
 use Rattle.zone_choice.specs.ZoneLogs.{spelled_array}
 use Rattle.zone_choice.proofs.AgreementLaws.{size-encoded}
 use Rattle.zone_choice.proofs.CommandLaws.{filling-in_range}
 use Rattle.zone_cleaner.specs.Clean.{CleanView, IsClean, moved_to, turns_left, unwritten, untaken}
 use Rattle.zone_cleaner.specs.LiveRecords.{entries_of, move_of}
-use Rattle.zone_choice.specs.Roles.{is_sealed_at}
 use Rattle.zone_cleaner.specs.Turns.{MovesRecords, after_move}
 use Rattle.zone_cleaner.proofs.CarryLaws.{fits-move, grown-self, moved_places, told_same}
 use Rattle.zone_cleaner.proofs.CleanLaws.{live-parts}

@@ -1,5 +1,5 @@
 -- In which zone a block lies, by its place and by its newest record.
-use Rattle.std.proofs.Common.{◌≡◌, ◌≢◌, ℕ, zero, suc, ◌+◌, ◌-◌, ◌*◌, ◌/◌, ◌<◌, ◌≤◌, Bool, true, false, cond, eqb, List, [], ◌∷◌, ◌++◌, map, length, get_or, replicate, Option, Some, None, is_some, refl, sym, ap, ◌∙◌, arith, append-nil}
+use Rattle.std.proofs.Common.{◌≡◌, ℕ, suc, ◌+◌, ◌-◌, ◌*◌, ◌/◌, ◌<◌, ◌≤◌, Bool, true, false, cond, eqb, List, [], ◌∷◌, ◌++◌, length, get_or, replicate, Option, Some, None, is_some, refl, ap, ◌∙◌, arith, append-nil}
 use Rattle.std.specs.List.{AllByRecursion, count_by, flat_map}
 use Rattle.std.proofs.lemmas.Bool.{eq-eqb}
 use Rattle.std.proofs.lemmas.List.{length-append, length-map, length-replicate}
@@ -7,18 +7,16 @@ use Rattle.std.proofs.lemmas.List.FromFn.{get_or-map-range_with_len}
 use Rattle.std.proofs.lemmas.List.Sums.{get_or-le-sum_by}
 use Rattle.std.proofs.lemmas.Nat.{div-mul-add}
 use Rattle.zone_states.specs.declared.geometry.Geometry.{Geometry}
-use Rattle.zone_states.specs.Zone.{IsLawfulZone, Zone}
 use Rattle.drive_port.specs.Drive.{DriveState}
 use Rattle.drive_port.specs.Contents.{Content, content_of, contents, is_full, nothing}
 use Rattle.batch_log.specs.declared.header.Entry.{Entry}
-use Rattle.batch_log.specs.Log.{Batch, IsBatch, IsLog, batch_blocks, batch_size, data_count, log_size, one_unless, zero_block}
-use Rattle.logical_map.specs.Live.{is_zone, lies_in, live, zone_of}
-use Rattle.logical_map.specs.declared.place.Place.{Place}
+use Rattle.batch_log.specs.Log.{Batch, IsBatch, batch_blocks, batch_size, data_count, log_size, one_unless, zero_block}
+use Rattle.logical_map.specs.Live.{lies_in, live}
 use Rattle.logical_map.specs.declared.place.Place.TheVariants as places
 use Rattle.zone_choice.specs.Agreement.{Agrees, drive_logs, mounted}
 use Rattle.zone_choice.specs.Records.{Record, batch_records, entry_offset, entry_records, log_records, newest, place, records}
 use Rattle.zone_choice.specs.Sizes.{encoded_size}
-use Rattle.zone_choice.specs.Tables.{TablesView, size_of}
+use Rattle.zone_choice.specs.Tables.{TablesView}
 use Rattle.zone_choice.specs.ZoneLogs.{HasLog, padding, readable, zone_log, zone_logs}
 use Rattle.zone_choice.proofs.AgreementLaws.{size-encoded}
 use Rattle.zone_choice.proofs.AllLaws.{all-append, all-from, all-weaker}

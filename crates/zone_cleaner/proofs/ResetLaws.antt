@@ -1,5 +1,5 @@
 -- The victim is emptied, and the clean ends.
-use Rattle.std.proofs.Common.{◌≡◌, ◌≢◌, ℕ, zero, suc, ◌+◌, ◌<◌, ◌≤◌, Bool, true, false, ◌||◌, eqb, List, [], ◌∷◌, ◌++◌, length, set, get_or, Option, Some, None, refl, sym, ap, subst, ◌∙◌, inl, inr, arith}
+use Rattle.std.proofs.Common.{◌≡◌, ◌≢◌, ℕ, ◌<◌, ◌≤◌, Bool, true, false, ◌||◌, eqb, List, [], ◌∷◌, ◌++◌, length, set, get_or, Option, Some, None, refl, sym, ap, ◌∙◌, inl, inr, arith}
 use Rattle.std.specs.List.{AllByRecursion, list_any}
 use Rattle.std.specs.Option.{option_map}
 use Rattle.std.proofs.lemmas.Bool.{cases_eq, eq-eqb}
@@ -11,19 +11,19 @@ use Rattle.logical_map.specs.Live.{live}
 use Rattle.zone_choice.specs.declared.roles.Filling.{Filling}
 use Rattle.zone_choice.specs.declared.roles.Second.{Second}
 use Rattle.zone_choice.specs.declared.roles.Second.TheVariants.{Next, Destination}
-use Rattle.zone_choice.specs.Agreement.{Agrees, HoldsFilling, IsSealed, Mounted, RolesAgree, drive_logs, mounted, spelled}
-use Rattle.zone_choice.specs.Laws.{OnlyTorn, ResetMounts}
+use Rattle.zone_choice.specs.Agreement.{Agrees, HoldsFilling, Mounted, RolesAgree, drive_logs, mounted, spelled}
+use Rattle.zone_choice.specs.Laws.{OnlyTorn}
 use Rattle.zone_choice.specs.Mountable.{IsMountable}
-use Rattle.zone_choice.specs.Records.{newest, place, records, shown, without}
+use Rattle.zone_choice.specs.Records.{place, shown, without}
 use Rattle.zone_choice.specs.Repair.{HasAtMost}
 use Rattle.zone_choice.specs.Reserve.{batch_most}
-use Rattle.zone_choice.specs.Roles.{AreApart, Differ, IsOccupied, RolesView, filling_of, fillings, is_at, is_empty_at, is_filling_at, listed}
-use Rattle.zone_choice.specs.Sizes.{array_of, encoded_size, greatest, larger, log_greatest, map_of}
+use Rattle.zone_choice.specs.Roles.{Differ, IsOccupied, RolesView, fillings, is_at, is_filling_at, listed}
+use Rattle.zone_choice.specs.Sizes.{larger, log_greatest, map_of}
 use Rattle.zone_choice.specs.Spare.{IsSpare}
-use Rattle.zone_choice.specs.Tables.{TablesView, size_of}
-use Rattle.zone_choice.specs.ZoneLogs.{HasLog, log_at, spelled_array, zone_log, zone_logs, zone_tails}
+use Rattle.zone_choice.specs.Tables.{TablesView}
+use Rattle.zone_choice.specs.ZoneLogs.{HasLog, log_at, spelled_array, zone_log}
 use Rattle.zone_choice.proofs.AgreementLaws.{agrees_mountable, no_tails}
-use Rattle.zone_choice.proofs.AllLaws.{all-set, all-weaker}
+use Rattle.zone_choice.proofs.AllLaws.{all-set}
 use Rattle.zone_choice.proofs.CommandLaws.{filling-in_range}
 use Rattle.zone_choice.proofs.ContentLaws.{same-filled}
 use Rattle.zone_choice.proofs.MountLaws.{emptied-log, spare_resets}
@@ -32,11 +32,10 @@ use Rattle.zone_choice.proofs.RolesLaws.{second_list}
 use Rattle.zone_choice.proofs.SizeLaws.{empty_spare}
 use Rattle.zone_cleaner.specs.Clean.{CleanView, Follows, IsClean, moved_to}
 use Rattle.zone_choice.specs.Roles.{clean_ended, ended, is_sealed_at}
-use Rattle.zone_cleaner.specs.Turns.{EmptiesVictim}
 use Rattle.zone_cleaner.proofs.CleanLaws.{clean_spare, live-parts}
 use Rattle.zone_cleaner.proofs.DeadLaws.{greatest-without, told-without}
 use Rattle.zone_cleaner.proofs.PlaceLaws.{dead-zone}
-use Rattle.zone_cleaner.proofs.SealedLaws.{SealedZone, of-second, sealed-apart, sealed-in_range, sealed-zone, second-filling, zone-logs}
+use Rattle.zone_cleaner.proofs.SealedLaws.{of-second, sealed-apart, sealed-in_range, sealed-zone, second-filling, zone-logs}
 use Rattle.zone_cleaner.proofs.StepLaws.{ResetDue}
 
 -- ---- roles
@@ -80,11 +79,11 @@ roles-reset capacity old new logs roles victim agree is resets long =
       count = rw resets.zones (length-set roles.empty victim true ∙ agree.count ∙ sym (length-set old victim emptied));
       apart = record {
         occupied = rw (fillings-ended roles victim) (all-both (IsOccupied roles.empty) (λ f. f.zone ≢ victim) (IsOccupied (set roles.empty victim true)) (fillings roles)
-        (λ f o ne. record { in_range = omega (arith, o.in_range, length-set roles.empty victim true); not_empty = get_or-set_other roles.empty victim f.zone true false ne ∙ o.not_empty }) agree.apart.occupied apart);
+            (λ f o ne. record { in_range = omega (arith, o.in_range, length-set roles.empty victim true); not_empty = get_or-set_other roles.empty victim f.zone true false ne ∙ o.not_empty }) agree.apart.occupied apart);
         differ = differ-ended roles.host roles.second agree.apart.differ;
       };
       fillings_are = rw (fillings-ended roles victim) (all-both (HoldsFilling capacity old logs) (λ f. f.zone ≢ victim) (HoldsFilling capacity new (without logs victim)) (fillings roles)
-      (λ f h ne. same-filled capacity old new logs (without logs victim) f (other f.zone ne) (log f.zone ne) h) agree.fillings_are apart);
+          (λ f h ne. same-filled capacity old new logs (without logs victim) f (other f.zone ne) (log f.zone ne) h) agree.fillings_are apart);
       empty = λ k is_empty. elim (cases_eq k victim) as (λ _. content_at new k ≡ emptied) [
         | inl same ↦ rw same there
         | inr ne ↦ other k ne ∙ agree.empty k (sym (get_or-set_other roles.empty victim k true false ne) ∙ is_empty)

@@ -1,9 +1,8 @@
 -- A clean begins.
-use Rattle.std.proofs.Common.{◌≡◌, ◌≢◌, ℕ, zero, suc, ◌+◌, ◌<◌, ◌≤◌, max, Bool, true, false, ◌||◌, eqb, List, [], ◌∷◌, ◌++◌, length, set, get_or, take, drop, Option, Some, None, is_some, refl, sym, ap, subst, ◌∙◌, inl, inr, arith}
+use Rattle.std.proofs.Common.{◌≡◌, ◌≢◌, ℕ, ◌+◌, ◌<◌, ◌≤◌, Bool, true, false, ◌||◌, eqb, List, [], ◌++◌, set, Option, Some, None, is_some, refl, sym, ap, subst, ◌∙◌, inl, inr, arith}
 use Rattle.std.specs.List.{AllByRecursion, list_any}
-use Rattle.std.specs.Option.{option_map}
 use Rattle.std.proofs.lemmas.Bool.{cases_eq, eq-eqb, ne_eqb}
-use Rattle.std.proofs.lemmas.List.{get_or-set_other, get_or-set_same, length-set, set-get_or}
+use Rattle.std.proofs.lemmas.List.{get_or-set_other, length-set, set-get_or}
 use Rattle.zone_states.specs.declared.geometry.Geometry.{Geometry}
 use Rattle.drive_port.specs.Drive.{DriveState}
 use Rattle.drive_port.specs.Contents.{Content, content_at, contents, emptied}
@@ -11,22 +10,21 @@ use Rattle.batch_log.specs.Log.{Batch}
 use Rattle.logical_map.specs.Live.{live}
 use Rattle.zone_choice.specs.declared.roles.Filling.{Filling}
 use Rattle.zone_choice.specs.declared.roles.Second.{Second}
-use Rattle.zone_choice.specs.declared.roles.Second.TheVariants.{Next, Destination}
-use Rattle.zone_choice.specs.Agreement.{Agrees, HoldsFilling, Mounted, RolesAgree, TellsOpen, drive_logs, mounted, mounted_array}
+use Rattle.zone_choice.specs.declared.roles.Second.TheVariants.{Destination}
+use Rattle.zone_choice.specs.Agreement.{Agrees, HoldsFilling, Mounted, RolesAgree, TellsOpen, drive_logs, mounted}
 use Rattle.zone_choice.specs.Repair.{HasAtMost}
 use Rattle.zone_choice.specs.Reserve.{batch_most, fill}
-use Rattle.zone_choice.specs.Roles.{IsLowestEmpty, IsLowestIn, RolesView, fillings, is_at, is_empty_at, is_filling_at, is_sealed_at, listed, with_destination}
+use Rattle.zone_choice.specs.Roles.{IsLowestEmpty, IsLowestIn, is_at, is_sealed_at, listed, with_destination}
 use Rattle.zone_choice.specs.Sizes.{array_of}
-use Rattle.zone_choice.specs.Tables.{IsLeastSealed, TablesView, size_of}
-use Rattle.zone_choice.specs.ZoneLogs.{log_at, zone_logs}
+use Rattle.zone_choice.specs.Tables.{IsLeastSealed, TablesView}
+use Rattle.zone_choice.specs.ZoneLogs.{log_at}
 use Rattle.zone_choice.proofs.AgreementLaws.{vacant-emptied}
-use Rattle.zone_choice.proofs.AllLaws.{all-append}
 use Rattle.zone_choice.proofs.MarkLaws.{apart-destination, sealed-made, sealed-parts}
 use Rattle.zone_choice.proofs.OpenLaws.{emptied-shut}
 use Rattle.zone_choice.proofs.ReserveLaws.{positive-most}
 use Rattle.zone_choice.proofs.RolesLaws.{roles_with, second_list}
-use Rattle.zone_cleaner.specs.Clean.{CleanView, IsClean, moved_to, started, turns_left}
-use Rattle.zone_cleaner.specs.Start.{IsCleaned, IsDue, NoneIsDue, Starts}
+use Rattle.zone_cleaner.specs.Clean.{started, turns_left}
+use Rattle.zone_cleaner.specs.Start.{IsCleaned, IsDue, NoneIsDue}
 use Rattle.zone_cleaner.proofs.BudgetLaws.{start-room, start-turns}
 
 -- ---- an empty zone becomes the destination

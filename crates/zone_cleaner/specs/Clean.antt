@@ -1,16 +1,15 @@
 -- A clean: the live records of one zone, the victim, are moved to another, the destination; then the victim is emptied.
-use Rattle.std.specs.Prelude.{◌≡◌, ◌≢◌, ℕ, zero, suc, ◌+◌, ◌≤◌, max, true, List, [], ◌∷◌, count_by, drop, length, take, Option, Some, None}
+use Rattle.std.specs.Prelude.{◌≡◌, ℕ, zero, suc, ◌+◌, ◌≤◌, max, true, List, [], ◌∷◌, count_by, drop, length, take, Option, Some, None}
 use Rattle.std.specs.Int.{div_ceil}
 use Rattle.std.specs.List.{AllByRecursion}
-use Rattle.drive_port.specs.Drive.{DriveState}
 use Rattle.batch_log.specs.Log.{Batch}
 use Rattle.logical_map.specs.Live.{lies_in, live}
 use Rattle.zone_choice.specs.declared.roles.Filling.{Filling}
 use Rattle.zone_choice.specs.declared.roles.Second.{Second}
-use Rattle.zone_choice.specs.declared.roles.Second.TheVariants.{Next, Destination}
-use Rattle.zone_choice.specs.Agreement.{Agrees, Mounted, drive_logs, mounted_array}
+use Rattle.zone_choice.specs.declared.roles.Second.TheVariants.{Destination}
+use Rattle.zone_choice.specs.Agreement.{Mounted, drive_logs, mounted_array}
 use Rattle.zone_choice.specs.Reserve.{batch_most}
-use Rattle.zone_choice.specs.Roles.{RolesView, empty_count}
+use Rattle.zone_choice.specs.Roles.{empty_count}
 use Rattle.zone_choice.specs.Sizes.{larger, log_greatest}
 use Rattle.zone_choice.specs.Spare.{IsBefore, IsMoveFrom, IsSpare, first_sequence}
 use Rattle.zone_choice.specs.Tables.{TablesView, size_of}

@@ -1,5 +1,5 @@
 -- The live records of a zone, as a clean gathers them and a Move repeats them.
-use Rattle.std.specs.Prelude.{ℕ, ◌+◌, ◌==◌, if◌then◌else◌, Bool, true, false, List, [], ◌∷◌, ◌++◌, map, slice_index_or, Option, Some, None}
+use Rattle.std.specs.Prelude.{ℕ, ◌+◌, ◌==◌, if◌then◌else◌, true, false, List, [], ◌∷◌, map, slice_index_or, Option, Some, None}
 use Rattle.batch_log.specs.declared.header.Entry.{Entry}
 use Rattle.batch_log.specs.declared.header.Kind.TheVariants.{Move}
 use Rattle.batch_log.specs.Log.{Batch}

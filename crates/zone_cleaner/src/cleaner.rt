@@ -96,11 +96,7 @@ impl Cleaner {
     }
 
     /// What a turn does.
-    fn step<D: Device>(
-        &mut self,
-        tables: &mut Tables,
-        device: &mut D,
-    ) -> Result<(), CleanFault>
+    fn step<D: Device>(&mut self, tables: &mut Tables, device: &mut D) -> Result<(), CleanFault>
         requires cleaned { IsCleaned (mounted (D.drive device.old) tables.old) self.old }
         ensures leaves { TurnLeaves (mounted (D.drive device.old) tables.old) self.old result (mounted (D.drive device.new) tables.new) self.new }
         ensures completed { (D.drive device.new).completed ≤ (D.drive device.old).completed + 2 }
@@ -125,11 +121,7 @@ impl Cleaner {
     ///
     /// After `OutOfMemory` and `Spent` the clean is as it was before the turn, and goes on at the next. At most two
     /// commands are completed.
-    pub fn turn<D: Device>(
-        &mut self,
-        tables: &mut Tables,
-        device: &mut D,
-    ) -> Result<(), CleanFault>
+    pub fn turn<D: Device>(&mut self, tables: &mut Tables, device: &mut D) -> Result<(), CleanFault>
         requires cleaned { IsCleaned (mounted (D.drive device.old) tables.old) self.old }
         ensures leaves { TurnLeaves (mounted (D.drive device.old) tables.old) self.old result (mounted (D.drive device.new) tables.new) self.new }
         ensures goes_on { GoesOn result (mounted (D.drive device.new) tables.new) self.new }

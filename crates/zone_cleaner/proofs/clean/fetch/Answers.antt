@@ -1,8 +1,6 @@
-use Rattle.std.proofs.Common.{◌∙◌, sym, ap, List, ℕ}
+use Rattle.std.proofs.Common.{◌∙◌, sym}
 use Rattle.zone_choice.proofs.ChangeLaws.{keeps-contents}
 use Rattle.zone_choice.proofs.OpenLaws.{closing-opens}
-use Rattle.zone_cleaner.specs.LiveRecords.{content_of}
-use Rattle.logical_map.specs.declared.place.Place.{Place}
 use Rattle.zone_cleaner.proofs.FetchLaws.{fetch_halts, fetch_shown}
 use Rattle.zone_cleaner.proofs.clean.fetch.Goals as goal
 

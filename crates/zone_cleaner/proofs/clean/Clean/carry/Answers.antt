@@ -1,7 +1,5 @@
 use Rattle.std.proofs.Common.{refl, ap, sym, ◌∙◌, Some, arith}
-use Rattle.std.specs.List.{AllByRecursion}
 use Rattle.zone_choice.specs.Agreement.{mounted}
-use Rattle.zone_cleaner.specs.Clean.{CleanView}
 use Rattle.zone_cleaner.proofs.BuildLaws.{gathered-few, move-heading}
 use Rattle.zone_cleaner.proofs.EndLaws.{Carries, carry_done, carry_failed, carry_ready}
 use Rattle.zone_cleaner.proofs.clean.Clean.carry.Goals as goal

@@ -1,4 +1,4 @@
-use Rattle.zone_cleaner.proofs.TurnLaws.{on-done, turn_gives, turns_fewer}
+use Rattle.zone_cleaner.proofs.TurnLaws.{on-done, turn_gives}
 use Rattle.zone_cleaner.proofs.cleaner.Cleaner.turn.Goals as goal
 
 pub returns-clause-goes_on : goal.returns-clause-goes_on

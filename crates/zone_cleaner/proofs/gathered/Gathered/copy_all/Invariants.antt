@@ -1,7 +1,7 @@
 use Rattle.std.proofs.Common.{◌≡◌, ◌++◌}
 use Rattle.std.specs.List.{concat, flat_map}
 use Rattle.std.specs.Option.{option_map}
-use Rattle.zone_cleaner.specs.Gathered.{bytes_in, shown}
+use Rattle.zone_cleaner.specs.Gathered.{bytes_in}
 use Rattle.zone_cleaner.specs.LiveRecords.{data_of}
 use Rattle.zone_cleaner.proofs.gathered.Gathered.copy_all.Given as goal
 
