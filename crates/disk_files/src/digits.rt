@@ -16,7 +16,8 @@ const SECOND: [usize; 32] = [
     51, 53, 55, 57, 59, 61, 63,
 ];
 
-/// The value of each hexadecimal digit, of either case; 16 for a byte that is none.
+/// The value of each hexadecimal digit, of either case; 16 for a byte that is none. Differences of lanes wrap:
+/// that of a byte below the first digit or letter is large.
 #[inline(always)]
 fn values(digits: u8x64) -> u8x64
     ensures { result ≡ map value_or_none digits }
@@ -45,8 +46,8 @@ fn joined(values: u8x64) -> u8x32
     values.swizzle(FIRST) * u8x32::splat(16) + values.swizzle(SECOND)
 }
 
-/// Decodes two digits for each of `bytes`. Whether all of them are digits: if not, nothing is said of what
-/// `bytes` holds then.
+/// Decodes two digits for each of `bytes`, one after the other. Whether all of them are digits: if not,
+/// nothing is said of what `bytes` holds then.
 fn decode_few(digits: &[u8], bytes: &mut [u8]) -> bool
     requires { length digits.now ≡ 2 * length bytes.old }
     ensures decoded { result ≡ true → bytes_of digits.now ≡ Some bytes.new }
@@ -58,7 +59,8 @@ fn decode_few(digits: &[u8], bytes: &mut [u8]) -> bool
     }
 }
 
-/// The same, 64 digits at a time.
+/// The same, 64 digits at a time: no branch depends on which digits they are, since data has no pattern that
+/// a processor could predict.
 pub fn decode_pairs(digits: &[u8], bytes: &mut [u8]) -> bool
     requires { length digits.now ≡ 2 * length bytes.old }
     ensures decoded { result ≡ true → bytes_of digits.now ≡ Some bytes.new }
