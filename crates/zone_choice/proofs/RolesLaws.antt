@@ -97,7 +97,7 @@ apart-seal roles apart = record { occupied = (all-parts (IsOccupied roles.empty)
 
 -- ---- an empty zone becomes the host zone
 
-pub occupied-set : (empties : List Bool) (zone : ℕ) (f : Filling) → zone < length empties → get_or empties zone false ≡ true → IsOccupied empties f → IsOccupied (set empties zone false) f
+occupied-set : (empties : List Bool) (zone : ℕ) (f : Filling) → zone < length empties → get_or empties zone false ≡ true → IsOccupied empties f → IsOccupied (set empties zone false) f
 occupied-set empties zone f lt here o =
     let other : f.zone ≢ zone = λ e. (let no = o.not_empty in let yes : get_or empties f.zone false ≡ true = rw e here in absurd (cc)) in
     record { in_range = omega (arith, o.in_range, length-set empties zone false); not_empty = get_or-set_other empties zone f.zone false false other ∙ o.not_empty }

@@ -18,9 +18,10 @@
 //! what it says and by nothing else, and the tables name the place of each block's newest record again
 //! (`Places` in specs/Changes); out of memory, all is as before; where the drive stops, it encodes the
 //! old array or that with the batch, and can be mounted (`AppendLeaves`). The drive
-//! refuses no such Append (`CanPlace` says what it needs). While tables and drive agree (`Agrees` in
-//! specs/Agreement) and a zone is kept empty, the drive can be mounted (`IsMountable` in
-//! specs/Mountable). `laws` has what holds of all drives' contents.
+//! refuses no such Append (`CanPlace` says what it needs). The tables know the sealed zone with the
+//! fewest live records (`least_sealed`), and take note of what a clean makes of the zones. While tables
+//! and drive agree (`Agrees` in specs/Agreement) and a zone is kept empty, the drive can be mounted
+//! (`IsMountable` in specs/Mountable). `laws` has what holds of all drives' contents.
 #![tactic(auto)]
 
 mod append;
