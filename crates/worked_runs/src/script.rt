@@ -377,7 +377,13 @@ impl<'a> Session<'a> {
         if rest.is_empty() {
             return self.ask(name, out);
         }
-        Ok(self.make(name, rest, out)? || self.set(name, rest)? || self.ask_of(name, rest, out)?)
+        if self.make(name, rest, out)? {
+            return Ok(true);
+        }
+        if self.set(name, rest)? {
+            return Ok(true);
+        }
+        self.ask_of(name, rest, out)
     }
 
     fn step(&mut self, step: &Step<'a>, out: &mut String) -> Result<(), ScriptFault> {

@@ -124,24 +124,30 @@ impl<'a> Trial<'a> {
     }
 
     // What is wrong with the replies of a run, or with what the drive holds then.
-    fn wrong_after(&self, alloc: Global, ran: Ran) -> Result<Option<&'static str>, ScriptFault> {
-        let is_stopped = ran.result == Err(RunFault::Disk(DiskFault::Stopped));
-        let left = world_of(alloc, self.world.geometry, ran.bench)?;
+    fn wrong_after(
+        &self,
+        alloc: Global,
+        left: &World,
+        replies: &[u8],
+        is_stopped: bool,
+    ) -> Result<Option<&'static str>, ScriptFault> {
         let flat = Flat::new(alloc, &self.world.geometry, u64::from(self.n))?;
-        let Some((number, flat)) = answered(alloc, flat, self.lines, &ran.replies)? else {
+        let Some((number, flat)) = answered(alloc, flat, self.lines, replies)? else {
             return Ok(Some("the replies are not those of a flat array"));
         };
         let next = self.lines.get(number).map(|line| line.as_slice());
-        wrong_array(alloc, &left, self.n, flat, next, is_stopped)
+        wrong_array(alloc, left, self.n, flat, next, is_stopped)
     }
 
     // What is wrong after a run that is made so.
     fn wrong(&self, alloc: Global, setting: Setting) -> Result<Option<&'static str>, ScriptFault> {
         let ran = self.run(alloc, setting)?;
-        if setting.tear > 0 && ran.result != Err(RunFault::Disk(DiskFault::Stopped)) {
+        let is_stopped = ran.result == Err(RunFault::Disk(DiskFault::Stopped));
+        if setting.tear > 0 && !is_stopped {
             return Ok(Some("the trace is not stopped"));
         }
-        self.wrong_after(alloc, ran)
+        let left = world_of(alloc, self.world.geometry, ran.bench)?;
+        self.wrong_after(alloc, &left, &ran.replies, is_stopped)
     }
 
     // What is wrong after a run that stops inside the Append after that many commands, and how many of
