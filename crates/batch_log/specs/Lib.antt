@@ -5,3 +5,4 @@ pub mod Log
 pub mod LogLaws
 pub mod Ending
 pub mod Lent
+pub mod Texts

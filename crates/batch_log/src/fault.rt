@@ -29,6 +29,11 @@ pub enum LogFault {
 }
 
 impl Display for LogFault {
+    ghost use Rattle.std.specs.Prelude.{Some};
+    ghost use Rattle.batch_log.specs.Texts.{fault_text};
+
+    ghost output = { λ fault. Some (fault_text fault) };
+
     fn fmt<W: fmt::Write>(&self, f: &mut Formatter<W>) -> fmt::Result {
         f.write_str(match self {
             LogFault::Magic => "the header does not begin with ZLOGBAT1",
@@ -63,6 +68,11 @@ impl FaultAt {
 }
 
 impl Display for FaultAt {
+    ghost use Rattle.std.specs.Prelude.{Some};
+    ghost use Rattle.batch_log.specs.Texts.{fault_at_text};
+
+    ghost output = { λ fault. Some (fault_at_text fault) };
+
     fn fmt<W: fmt::Write>(&self, f: &mut Formatter<W>) -> fmt::Result {
         write!(f, "block {}: {}", self.offset, self.fault)
     }

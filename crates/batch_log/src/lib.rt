@@ -33,8 +33,6 @@ mod encode;
 mod fault;
 mod header;
 pub mod laws;
-#[cfg(test)]
-mod tests;
 mod view;
 
 pub use batches::{Batch, Batches};

@@ -1,11 +1,10 @@
 -- Bytes are what their digits decode to, and bytes that are encoded are decoded again.
-use Rattle.std.proofs.Common.{◌≡◌, ◌≢◌, ℕ, ◌+◌, ◌*◌, ◌/◌, ◌%◌, ◌≤◌, List, [], ◌∷◌, length, Option, Some, None, Result, Ok, Err, inl, inr, refl, sym, ap, ◌∙◌, arith}
+use Rattle.std.proofs.Common.{◌≡◌, ◌≢◌, ℕ, ◌+◌, ◌*◌, ◌%◌, ◌≤◌, List, [], ◌∷◌, length, Option, Some, None, Result, Ok, Err, refl, sym, ap, ◌∙◌, arith}
 use Rattle.std.specs.Prelude.{MatchResult}
 use Rattle.std.specs.Result.{result_ok}
-use Rattle.std.proofs.lemmas.Bool.{cases_eq}
 use Rattle.hex.specs.Hex.{IsBytes, decode_pairs, decode_sized, digit_or_error, encode_lower, hex_digit_value, lower_digits, ◌>>=◌ as ◌>>=?◌}
 use Rattle.hex.specs.declared.error.FromHexError.{FromHexError}
-use Rattle.hex.proofs.HexLemmas.{IsDigits-lower_digits, decode_pairs-encode_with, decode_sized-odd, length-encode_with}
+use Rattle.hex.proofs.HexLemmas.{IsDigits-lower_digits, decode_pairs-encode_with, length-encode_with}
 use Rattle.hex.proofs.Pairs.{decode_sized-pairs}
 use Rattle.disk_files.specs.Words.{byte_of, bytes_of, data_of, ◌>>=◌}
 
@@ -31,30 +30,15 @@ none_after : (byte : Option ℕ) (bytes : Option (List ℕ)) → bytes ≡ None 
 none_after None bytes e = refl
 none_after (Some b) bytes e = rw e refl
 
-bytes_of-odd : (word : List ℕ) → length word % 2 ≡ 1 → bytes_of word ≡ None
-bytes_of-odd [] odd = absurd (omega arith)
+pub bytes_of-odd : (word : List ℕ) → length word % 2 ≢ 0 → bytes_of word ≡ None
+bytes_of-odd [] odd = absurd (odd refl)
 bytes_of-odd (high ∷ []) odd = refl
-bytes_of-odd (high ∷ low ∷ rest) odd = none_after (byte_of (high ∷ low ∷ [])) (bytes_of rest) (bytes_of-odd rest (omega arith))
+bytes_of-odd (high ∷ low ∷ rest) odd = none_after (byte_of (high ∷ low ∷ [])) (bytes_of rest) (bytes_of-odd rest (λ even. odd (omega arith)))
 
--- ---- data
+-- ---- digits that were decoded into a slice, or were not
 
-data_of-some : (word : List ℕ) → length word ≢ 0 → data_of word ≡ bytes_of word
-data_of-some [] some = absurd (some refl)
-data_of-some (digit ∷ digits) some = refl
-
--- as many bytes as there are pairs
-data_of-decoded : (word : List ℕ) → length word ≢ 0 → data_of word ≡ result_ok (decode_sized word (length word / 2))
-data_of-decoded [] some = absurd (some refl)
-data_of-decoded (digit ∷ digits) some =
-    let word = digit ∷ digits in
-    elim (cases_eq (length word % 2) 1) [
-      | inl odd ↦ bytes_of-odd word odd ∙ rw (decode_sized-odd word (length word / 2) odd) refl
-      | inr even ↦ bytes_of-decoded 0 word ∙ rw (decode_sized-pairs word (length word / 2) (omega arith) refl) refl
-    ]
-
--- data that was decoded into a slice, or was not
-data_of-at : (word : List ℕ) (count : ℕ) → length word ≢ 0 → count ≡ length word / 2 → data_of word ≡ result_ok (decode_sized word count)
-data_of-at word count some half = data_of-decoded word some ∙ ap (λ (n : ℕ). result_ok (decode_sized word n)) (sym half)
+bytes_of-sized : (word : List ℕ) (count : ℕ) → length word ≡ 2 * count → bytes_of word ≡ result_ok (decode_sized word count)
+bytes_of-sized word count even = bytes_of-decoded 0 word ∙ rw (decode_sized-pairs word count (omega arith) (omega arith)) refl
 
 decoded : (answer : Result (List ℕ) FromHexError) (result : Result (Unit {0}) FromHexError) (out : List ℕ)
     → MatchResult answer (λ bytes. (result ≡ Ok tt) × (out ≡ bytes)) (λ error. result ≡ Err error) → result ≡ Ok tt → result_ok answer ≡ Some out
@@ -66,13 +50,19 @@ not_decoded : (answer : Result (List ℕ) FromHexError) (result : Result (Unit {
 not_decoded (Ok bytes) result out error value e = absurd cc
 not_decoded (Err other) result out error value e = refl
 
-module _ (word : List ℕ) (count : ℕ) (result : Result (Unit {0}) FromHexError) (out : List ℕ) (some : length word ≢ 0) (half : count ≡ length word / 2)
+module _ (word : List ℕ) (count : ℕ) (result : Result (Unit {0}) FromHexError) (out : List ℕ) (even : length word ≡ 2 * count)
     (value : MatchResult (decode_sized word count) (λ bytes. (result ≡ Ok tt) × (out ≡ bytes)) (λ error. result ≡ Err error)) where
-  pub data_of-Ok : result ≡ Ok tt → data_of word ≡ Some out
-  data_of-Ok e = data_of-at word count some half ∙ decoded (decode_sized word count) result out value e
+  pub bytes_of-Ok : result ≡ Ok tt → bytes_of word ≡ Some out
+  bytes_of-Ok e = bytes_of-sized word count even ∙ decoded (decode_sized word count) result out value e
 
-  pub data_of-Err : (error : FromHexError) → result ≡ Err error → data_of word ≡ None
-  data_of-Err error e = data_of-at word count some half ∙ not_decoded (decode_sized word count) result out error value e
+  pub bytes_of-Err : (error : FromHexError) → result ≡ Err error → bytes_of word ≡ None
+  bytes_of-Err error e = bytes_of-sized word count even ∙ not_decoded (decode_sized word count) result out error value e
+
+-- ---- data
+
+pub data_of-some : (word : List ℕ) → length word ≢ 0 → data_of word ≡ bytes_of word
+data_of-some [] some = absurd (some refl)
+data_of-some (digit ∷ digits) some = refl
 
 -- ---- bytes that are encoded
 

@@ -1,5 +1,6 @@
 pub mod AheadLaws
 pub mod DataLaws
+pub mod DigitLaws
 pub mod GrammarLaws
 pub mod OutputLaws
 pub mod PlaceLaws
@@ -8,3 +9,4 @@ pub mod RawTextLaws
 pub mod ReadingLaws
 pub mod ReplyLaws
 pub mod WordLaws
+pub mod WriteLaws

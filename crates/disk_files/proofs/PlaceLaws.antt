@@ -1,11 +1,13 @@
 -- What is known of a list by the first place that passes a test.
-use Rattle.std.proofs.Common.{◌≡◌, ℕ, ◌+◌, Bool, false, not, List, [], ◌∷◌, length, take, drop, Some, None, refl, arith}
-use Rattle.std.specs.Prelude.{position}
+use Rattle.std.proofs.Common.{◌≡◌, ℕ, ◌+◌, Bool, false, not, List, [], ◌∷◌, length, take, drop, Option, Some, None, inl, inr, refl, ap, arith}
+use Rattle.std.specs.Prelude.{◌==◌, position}
 use Rattle.std.specs.List.{All, position_or_len, slice_split}
+use Rattle.std.proofs.lemmas.Bool.{cases_lt}
 use Rattle.std.proofs.lemmas.Bool.Decides.{nat_tests}
 use Rattle.std.proofs.lemmas.List.Quantifiers.{position-Some}
 use Rattle.std.proofs.lemmas.List.Splits.{slice_split_first, slice_split_none}
 use Rattle.std.proofs.lemmas.List.Sums.{fails_before_first, position_or_len_is, prefix_len-le-length}
+use Rattle.memchr.specs.Find.{IsFirstByte, is_byte}
 
 module _ (p : ℕ → Bool) (xs : List ℕ) where
   -- there is a first place
@@ -29,3 +31,26 @@ module _ (p : ℕ → Bool) (xs : List ℕ) where
 
   pub slice_split-None : position p xs ≡ None → slice_split p xs ≡ xs ∷ []
   slice_split-None e = slice_split_none p xs (All-None e)
+
+position-first : (xs : List ℕ) (byte : ℕ) (r o : Option ℕ) → position (λ b. b == byte) xs ≡ o → IsFirstByte (is_byte byte) xs r → r ≡ o
+position-first xs byte None None e first = refl
+position-first xs byte None (Some j) e first =
+    let found = position-Some (λ b. b == byte) xs j 0 e in
+    absurd (first j (omega arith) found.0 found.1)
+position-first xs byte (Some k) None e first =
+    let none = All-None (λ b. b == byte) xs e k 0 first.0.high in
+    absurd cc
+position-first xs byte (Some k) (Some j) e first =
+    let found = position-Some (λ b. b == byte) xs j 0 e in
+    elim (cases_lt j k) [
+      | inl before ↦ absurd (first.0.before j (omega arith) before found.1)
+      | inr behind ↦
+          elim (cases_lt k j) [
+            | inl after ↦ absurd (let fails = found.2 k after in cc)
+            | inr same ↦ ap (λ (i : ℕ). Some i) (omega arith)
+          ]
+    ]
+
+-- what a search for a byte finds
+pub position-IsFirstByte : (byte : ℕ) (xs : List ℕ) (r : Option ℕ) → IsFirstByte (is_byte byte) xs r → r ≡ position (λ b. b == byte) xs
+position-IsFirstByte byte xs r first = position-first xs byte r (position (λ b. b == byte) xs) refl first

@@ -1,6 +1,7 @@
 -- The words of a line, and the numbers and bytes that words stand for.
 use Rattle.std.specs.Prelude.{◌≡◌, ℕ, ◌+◌, ◌-◌, ◌*◌, ◌^◌, ◌==◌, nat_lt, nat_le, ◌&&◌, if◌then◌else◌, Bool, List, [], ◌∷◌, length, Option, Some, None, option_and_then}
 use Rattle.std.specs.Char.{is_ascii_digit}
+use Rattle.std.specs.Option.{unwrap_or}
 use Rattle.std.specs.List.{slice_split}
 use Rattle.hex.specs.Hex.{hex_digit_value}
 
@@ -51,6 +52,16 @@ byte_of (high ∷ low ∷ []) = do
 byte_of [] = None
 byte_of (high ∷ []) = None
 byte_of (high ∷ low ∷ more ∷ rest) = None
+
+-- the value of a hexadecimal digit, 16 of a byte that is none
+abbrev pub value_or_none : ℕ → ℕ
+value_or_none digit = unwrap_or (hex_digit_value digit) 16
+
+-- the bytes of pairs of digits with these values
+abbrev pub joined : List ℕ → List ℕ
+joined [] = []
+joined (high ∷ []) = []
+joined (high ∷ low ∷ rest) = (high * 16 + low) ∷ joined rest
 
 -- bytes have two hexadecimal digits each, of either case
 abbrev pub bytes_of : List ℕ → Option (List ℕ)

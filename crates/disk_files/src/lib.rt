@@ -28,6 +28,7 @@
 mod ahead;
 mod bytes;
 mod data;
+mod digits;
 pub mod laws;
 mod line_reader;
 mod output;

@@ -2,10 +2,7 @@
 // of the replies.
 
 use crate::fakes::{FailingReader, FailingWriter};
-use crate::{
-    LONGEST_LINE, LineFault, LineReader, ParseFault, TraceLine, WriteFault, reserve_reply,
-    smaller_reply, write_out,
-};
+use crate::{LONGEST_LINE, LineFault, LineReader, WriteFault, write_out};
 use std::alloc::{AllocError, Global};
 use std::io;
 use std::io::Read;
@@ -97,79 +94,4 @@ fn writes_what_a_writer_takes(rt: HostRuntime) {
             assert_eq!(rt; writer.bytes.as_slice(), &reply[..taken]);
         }
     }
-}
-
-// One buffer serves all lines, whatever the line before left in it.
-#[test]
-fn parses_trace_lines(rt: HostRuntime) {
-    let mut bytes = Vec::new(rt.alloc());
-    for (line, want, data) in [
-        (
-            b"read 8 1".as_slice(),
-            Ok(TraceLine::Read {
-                first: 8,
-                blocks: 1,
-            }),
-            b"".as_slice(),
-        ),
-        (
-            b"write 3 00Ffa1",
-            Ok(TraceLine::Write { first: 3 }),
-            b"\x00\xff\xa1",
-        ),
-        (b"write 3 00Ff1", Err(ParseFault::Grammar), b""),
-        (
-            b"write 18446744073709551615 07",
-            Ok(TraceLine::Write { first: u64::MAX }),
-            b"\x07",
-        ),
-        (
-            b"fill 0 2 Aa",
-            Ok(TraceLine::Fill {
-                first: 0,
-                blocks: 2,
-                byte: 170,
-            }),
-            b"",
-        ),
-        (
-            b"trim 5 0",
-            Ok(TraceLine::Trim {
-                first: 5,
-                blocks: 0,
-            }),
-            b"",
-        ),
-        (b"write 0 ", Err(ParseFault::Grammar), b""),
-        (b"write 0", Err(ParseFault::Grammar), b""),
-        (b"write 0 00 ", Err(ParseFault::Grammar), b""),
-        (
-            b"idle 4294967295",
-            Ok(TraceLine::Idle { turns: u32::MAX }),
-            b"",
-        ),
-        (b"idle 4294967296", Err(ParseFault::Grammar), b""),
-        (b"idle", Err(ParseFault::Grammar), b""),
-        (
-            b"grow 4294967296",
-            Ok(TraceLine::Grow { blocks: 1 << 32 }),
-            b"",
-        ),
-        (b"grow 9 9", Err(ParseFault::Grammar), b""),
-    ] {
-        assert_eq!(rt; TraceLine::parse(line, &mut bytes), want);
-        assert_eq!(rt; bytes.as_slice(), data);
-    }
-}
-
-#[test]
-fn refuses_to_grow(rt: HostRuntime) -> Result<(), Fail> {
-    let mut out = Vec::new(rt.alloc());
-    smaller_reply(&mut out)?;
-    reserve_reply(&mut out)?;
-    assert_eq!(rt;
-        out.as_slice(),
-        b"refused 7 Smaller\nrefused 8 Reserve\n".as_slice()
-    );
-    Ok(())
 }

@@ -111,27 +111,44 @@ fn plain_line(name: &[u8], words: &[u8]) -> Option<TraceLine>
     }
 }
 
-/// What a `write` says, by the words after its name. Its data is decoded into `bytes`.
+/// What a `write` says, by the words after its name. Its data is decoded over what `bytes` holds. After a
+/// fault nothing is said of what it holds.
 fn write_line(words: &[u8], bytes: &mut Vec<u8>) -> Result<TraceLine, ParseFault>
-    requires { bytes.old.items ≡ [] }
     ensures ok { IfOk result (λ call. write_of (words_of words.now) ≡ Some (call, bytes.new.items)) }
-    ensures err { OnErr result (bytes.new.items ≡ []) }
     ensures grammar { IsErrOf result ParseFault.Grammar → write_of (words_of words.now) ≡ None }
     ensures memory { IsErrOf result ParseFault.Memory →
         2 * vec_capacity bytes.old < length words.now }
 {
     let (first, rest) = split_word(words);
-    let Some(rest) = rest else {
-        return Err(ParseFault::Grammar);
-    };
-    let Some(digits) = only_word(rest) else {
+    let Some(digits) = rest else {
         return Err(ParseFault::Grammar);
     };
     let Some(first) = number(first) else {
         return Err(ParseFault::Grammar);
     };
+    // Data is the last word: a space is no digit.
     decode_data(digits, bytes)?;
     Ok(TraceLine::Write { first })
+}
+
+/// What a line says, as `parse` does. After a fault nothing is said of what `bytes` holds.
+fn parse_over(line: &[u8], bytes: &mut Vec<u8>) -> Result<TraceLine, ParseFault>
+    ensures ok { IfOk result (λ call. trace_line line.now ≡ Some (call, bytes.new.items)) }
+    ensures grammar { IsErrOf result ParseFault.Grammar → trace_line line.now ≡ None }
+    ensures memory { IsErrOf result ParseFault.Memory →
+        2 * vec_capacity bytes.old < length line.now }
+{
+    let (name, rest) = split_word(line);
+    let Some(words) = rest else {
+        return Err(ParseFault::Grammar);
+    };
+    match name {
+        b"write" => write_line(words, bytes),
+        _ => {
+            bytes.clear();
+            plain_line(name, words).ok_or(ParseFault::Grammar)
+        }
+    }
 }
 
 impl TraceLine {
@@ -146,14 +163,10 @@ impl TraceLine {
         ensures memory { IsErrOf result ParseFault.Memory →
             2 * vec_capacity bytes.old < length line.now }
     {
-        bytes.clear();
-        let (name, rest) = split_word(line);
-        let Some(words) = rest else {
-            return Err(ParseFault::Grammar);
-        };
-        match name {
-            b"write" => write_line(words, bytes),
-            _ => plain_line(name, words).ok_or(ParseFault::Grammar),
+        let call = parse_over(line, bytes);
+        if call.is_err() {
+            bytes.clear();
         }
+        call
     }
 }

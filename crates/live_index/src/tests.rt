@@ -1,5 +1,3 @@
-ghost use Rattle.std.specs.Prelude.{◌≡◌, length};
-
 use crate::LiveIndex;
 use std::test::Fail;
 
@@ -23,70 +21,4 @@ fn counts_and_finds_the_least(rt: HostRuntime) -> Result<(), Fail> {
         assert_eq!(rt; index.least(&among), least);
     }
     Ok(())
-}
-
-#[test]
-fn agrees_with_a_plain_list(rt: HostRuntime) -> Result<(), Fail> {
-    let mut index = LiveIndex::new(rt.alloc(), 16)?;
-    let mut counts = [0; 16];
-    let mut state = 1;
-    for call in 0..10_000 {
-        change(&mut index, &mut counts, random(&mut state));
-        let zone = call % 16;
-        assert_eq!(rt;
-            index.count(zone),
-            counts[zone as usize],
-            "after call {call}"
-        );
-        let among = marks(random(&mut state));
-        assert_eq!(rt;
-            index.least(&among),
-            plain_least(&counts, &among),
-            "after call {call}"
-        );
-    }
-    Ok(())
-}
-
-/// The next number below 2^16 of a linear congruential generator.
-fn random(state: &mut u32) -> u32 {
-    *state = state.wrapping_mul(1_664_525).wrapping_add(1_013_904_223);
-    *state >> 16
-}
-
-/// One live record more or less in one zone, in both. The counts stay below 5, so that many are equal.
-fn change(index: &mut LiveIndex, counts: &mut [u32; 16], random: u32)
-    requires { length index.old ≡ 16 }
-    ensures { length index.new ≡ 16 }
-{
-    let zone = random % 16;
-    let count = index.count(zone);
-    if random & 16 == 0 && count < 4 {
-        index.add(zone);
-        counts[zone as usize] = counts[zone as usize].wrapping_add(1);
-    } else if count > 0 {
-        index.remove(zone);
-        counts[zone as usize] = counts[zone as usize].wrapping_sub(1);
-    }
-}
-
-/// A zone is named where its bit is 1.
-fn marks(bits: u32) -> [bool; 16] {
-    let mut among = [false; 16];
-    for zone in 0..16 {
-        among[zone] = (bits >> zone) & 1 == 1;
-    }
-    among
-}
-
-/// The zone with the fewest, the lowest of equals, by a look at each.
-fn plain_least(counts: &[u32; 16], among: &[bool; 16]) -> Option<u32> {
-    let mut best: Option<(u32, u32)> = None;
-    for zone in 0..16 {
-        let found = (counts[zone], zone as u32);
-        if among[zone] && best.is_none_or(|least| found < least) {
-            best = Some(found);
-        }
-    }
-    best.map(|(_, zone)| zone)
 }

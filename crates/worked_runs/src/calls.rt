@@ -161,10 +161,10 @@ fn show_disk_line(
 
 fn show_disk_calls(
     alloc: Global,
-    mut disk: Disk<Bench>,
+    disk: &mut Disk<Bench>,
     lines: &[&str],
     out: &mut String,
-) -> Result<Bench, ScriptFault> {
+) -> Result<(), ScriptFault> {
     let mut calls = Calls {
         sent: show_new(alloc, disk.device().entries(), 0, out)?,
         bytes: Vec::new(alloc),
@@ -174,9 +174,9 @@ fn show_disk_calls(
     writeln!(out, "    mounted, {blocks} blocks")?;
     for line in lines {
         show_line(line, out)?;
-        show_disk_line(alloc, &mut disk, line, &mut calls, out)?;
+        show_disk_line(alloc, disk, line, &mut calls, out)?;
     }
-    Ok(disk.into_device())
+    Ok(())
 }
 
 fn show_refused_mount(
@@ -203,9 +203,9 @@ pub fn show_disk(
 ) -> Result<World, ScriptFault> {
     let bench = bench_of(alloc, world, setting)?;
     match Disk::mount(alloc, bench, blocks) {
-        Ok(disk) => {
-            let bench = show_disk_calls(alloc, disk, lines, out)?;
-            world_of(alloc, world.geometry, bench)
+        Ok(mut disk) => {
+            show_disk_calls(alloc, &mut disk, lines, out)?;
+            world_of(alloc, world.geometry, disk.into_device())
         }
         Err((fault, bench)) => {
             show_refused_mount(alloc, fault, &bench, lines, out)?;
@@ -327,6 +327,22 @@ fn show_call(
     show_answer(answer, out)
 }
 
+fn show_typed_calls(
+    alloc: Global,
+    bench: &mut Bench,
+    lines: &[&str],
+    out: &mut String,
+) -> Result<(), ScriptFault> {
+    let mut data = Vec::new(alloc);
+    for line in lines {
+        show_line(line, out)?;
+        show_call(alloc, bench, line, &mut data, out)?;
+    }
+    let completed = bench.completed();
+    writeln!(out, "    commands completed: {completed}")?;
+    Ok(())
+}
+
 /// Makes a typed call to the drive for each line. `Count` in place of `Report` asks for the number alone.
 pub fn show_calls(
     alloc: Global,
@@ -336,12 +352,6 @@ pub fn show_calls(
     out: &mut String,
 ) -> Result<World, ScriptFault> {
     let mut bench = bench_of(alloc, world, setting)?;
-    let mut data = Vec::new(alloc);
-    for line in lines {
-        show_line(line, out)?;
-        show_call(alloc, &mut bench, line, &mut data, out)?;
-    }
-    let completed = bench.completed();
-    writeln!(out, "    commands completed: {completed}")?;
+    show_typed_calls(alloc, &mut bench, lines, out)?;
     world_of(alloc, world.geometry, bench)
 }

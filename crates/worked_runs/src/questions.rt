@@ -30,7 +30,7 @@ pub fn show_drive_fault(
 }
 
 /// Shows the report of all zones, as text. The drive completes one more command.
-pub fn show_zones(alloc: Global, mut drive: Drive, out: &mut String) -> Result<(), ScriptFault> {
+pub fn show_zones(alloc: Global, drive: &mut Drive, out: &mut String) -> Result<(), ScriptFault> {
     let geometry = drive.geometry();
     let dwords = 16 * (geometry.zones as u64 + 1);
     let words = format!(in alloc; "Report from 0 in {dwords} dwords")?;

@@ -34,6 +34,15 @@ fn entry_of(id: u16, fields: &Fields) -> [u8; 64] {
     entry
 }
 
+fn transfer_code(command: &str) -> Result<u8, ScriptFault> {
+    match command {
+        "Write" => Ok(0x01),
+        "Read" => Ok(0x02),
+        "Append" => Ok(0x7d),
+        _ => Err(ScriptFault::Words),
+    }
+}
+
 fn transfer(opcode: u8, blocks: &str, address: &str) -> Result<Fields, ScriptFault> {
     let blocks = part(blocks)?;
     Ok(Fields {
@@ -45,15 +54,19 @@ fn transfer(opcode: u8, blocks: &str, address: &str) -> Result<Fields, ScriptFau
     })
 }
 
+fn action_code(action: &str) -> Result<u8, ScriptFault> {
+    match action {
+        "Close" => Ok(1),
+        "Finish" => Ok(2),
+        "Open" => Ok(3),
+        "Reset" => Ok(4),
+        "Offline" => Ok(5),
+        _ => Err(ScriptFault::Words),
+    }
+}
+
 fn send(action: &str, address: u64, all: u8) -> Result<Fields, ScriptFault> {
-    let code = match action {
-        "Close" => 1,
-        "Finish" => 2,
-        "Open" => 3,
-        "Reset" => 4,
-        "Offline" => 5,
-        _ => return Err(ScriptFault::Words),
-    };
+    let code = u32::from(action_code(action)?);
     Ok(Fields {
         opcode: 0x79,
         address,
@@ -86,35 +99,46 @@ fn report(address: &str, option: u8, dwords: &str, partial: u8) -> Result<Fields
     })
 }
 
+// A report, by the words from `from` on.
+fn report_from(words: &[&str], option: u8) -> Result<Fields, ScriptFault> {
+    match words {
+        ["from", address, "in", dwords, "dwords"] => report(address, option, dwords, 0),
+        ["from", address, "in", dwords, "dwords", "partial"] => report(address, option, dwords, 1),
+        _ => Err(ScriptFault::Words),
+    }
+}
+
+// A report, by the words after `Report`.
+fn report_of(words: &[&str]) -> Result<Fields, ScriptFault> {
+    match words {
+        ["of", name, "zones", words @ ..] => report_from(words, option_of(state(name)?)),
+        _ => report_from(words, 0),
+    }
+}
+
+// A command that names zones or blocks, by the words after `of`.
+fn command_of(name: &str, words: &[&str]) -> Result<Fields, ScriptFault> {
+    match words {
+        ["all", "zones"] => send(name, 0, 1),
+        ["the", "zone", "at", address] => send(name, number(address)?, 0),
+        [blocks, _, "at", address] => transfer(transfer_code(name)?, blocks, address),
+        _ => Err(ScriptFault::Words),
+    }
+}
+
+const FLUSH: Fields = Fields {
+    opcode: 0,
+    address: 0,
+    dword12: 0,
+    dword13: 0,
+    data_blocks: 0,
+};
+
 fn fields_of(words: &[&str]) -> Result<Fields, ScriptFault> {
     match words {
-        ["Flush"] => Ok(Fields {
-            opcode: 0,
-            address: 0,
-            dword12: 0,
-            dword13: 0,
-            data_blocks: 0,
-        }),
-        ["Write", "of", blocks, _, "at", address] => transfer(0x01, blocks, address),
-        ["Read", "of", blocks, _, "at", address] => transfer(0x02, blocks, address),
-        ["Append", "of", blocks, _, "at", address] => transfer(0x7d, blocks, address),
-        [action, "of", "the", "zone", "at", address] => send(action, number(address)?, 0),
-        [action, "of", "all", "zones"] => send(action, 0, 1),
-        ["Report", "from", address, "in", dwords, "dwords"] => report(address, 0, dwords, 0),
-        ["Report", "from", address, "in", dwords, "dwords", "partial"] => {
-            report(address, 0, dwords, 1)
-        }
-        [
-            "Report",
-            "of",
-            name,
-            "zones",
-            "from",
-            address,
-            "in",
-            dwords,
-            "dwords",
-        ] => { report(address, option_of(state(name)?), dwords, 0) }
+        ["Flush"] => Ok(FLUSH),
+        ["Report", words @ ..] => report_of(words),
+        [name, "of", words @ ..] => command_of(name, words),
         _ => Err(ScriptFault::Words),
     }
 }

@@ -212,7 +212,14 @@ fn text_of(
     Ok(text)
 }
 
-// Runs the first `count` lines of a step, and shows what the last of them did.
+// What the lines of a step left: what the drive holds, and whether they ended in a fault.
+#[derive(Drop)]
+struct Left {
+    world: World,
+    is_ended: bool,
+}
+
+// Runs the first lines of a step, and shows what the last of them did.
 fn show_front(
     alloc: Global,
     world: &World,
@@ -221,12 +228,15 @@ fn show_front(
     block: &[&str],
     shown: &mut Shown,
     out: &mut String,
-) -> Result<Ran, ScriptFault> {
+) -> Result<Left, ScriptFault> {
     let text = text_of(alloc, world, lines, block)?;
     let ran = run(alloc, world, setting, lines, &text)?;
     let last = block.last().copied().unwrap_or("");
     *shown = show_more(alloc, *shown, setting, lines, last, &ran, out)?;
-    Ok(ran)
+    Ok(Left {
+        is_ended: ran.result.is_err(),
+        world: world_of(alloc, world.geometry, ran.bench)?,
+    })
 }
 
 /// Runs the lines of a step, and shows below each of them what it did. To tell the lines apart, each
@@ -243,15 +253,15 @@ pub fn show_run(
         commands: 0,
         replies: 0,
     };
-    let mut ran = show_front(alloc, world, setting, lines, &[], &mut shown, out)?;
+    let mut left = show_front(alloc, world, setting, lines, &[], &mut shown, out)?;
     for (number, line) in block.iter().enumerate() {
-        if ran.result.is_err() {
+        if left.is_ended {
             show_unreached(&block[number..], out)?;
             break;
         }
         show_line(line, out)?;
         let (front, _) = block.split_at(number + 1);
-        ran = show_front(alloc, world, setting, lines, front, &mut shown, out)?;
+        left = show_front(alloc, world, setting, lines, front, &mut shown, out)?;
     }
-    world_of(alloc, world.geometry, ran.bench)
+    Ok(left.world)
 }

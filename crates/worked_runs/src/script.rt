@@ -56,6 +56,22 @@ fn tear(words: &[&str]) -> Result<u32, ScriptFault> {
     }
 }
 
+// What happens at each command of the next run.
+fn halts(words: &[&str]) -> Result<Halts, ScriptFault> {
+    match words {
+        ["stop"] => Ok(Halts::Stop),
+        ["torn", "block"] => Ok(Halts::Tear),
+        ["halt", "for", "memory"] => Ok(Halts::Memory),
+        _ => Err(ScriptFault::Words),
+    }
+}
+
+// That a line was done, or the fault that it met.
+fn done(answer: Result<(), ScriptFault>) -> Result<bool, ScriptFault> {
+    answer?;
+    Ok(true)
+}
+
 // What the steps so far have made.
 #[derive(Drop)]
 struct Session<'a> {
@@ -79,7 +95,18 @@ impl<'a> Session<'a> {
         Err(ScriptFault::Words)
     }
 
-    fn fresh(&mut self, name: &str, out: &mut String) -> Result<(), ScriptFault> {
+    fn name_shape(&mut self, words: &[&'a str]) -> Result<(), ScriptFault> {
+        let [name, parts @ ..] = words else {
+            return Err(ScriptFault::Words);
+        };
+        self.shapes.push((*name, shape(parts)?))?;
+        Ok(())
+    }
+
+    fn fresh(&mut self, words: &[&str], out: &mut String) -> Result<(), ScriptFault> {
+        let [name] = words else {
+            return Err(ScriptFault::Words);
+        };
         let geometry = self.shape(name)?;
         match Drive::new(self.alloc, geometry) {
             Ok(drive) => {
@@ -88,6 +115,23 @@ impl<'a> Session<'a> {
             }
             Err(fault) => show_drive_fault(self.alloc, fault, out),
         }
+    }
+
+    // Begins a zone anew, to which blocks are added then.
+    fn begin_zone(&mut self, words: &[&str]) -> Result<(), ScriptFault> {
+        let [place, name] = words else {
+            return Err(ScriptFault::Words);
+        };
+        self.zone = number(place)?;
+        self.world.set_zone(self.alloc, self.zone, state(name)?)
+    }
+
+    fn keep(&mut self, words: &[&str]) -> Result<(), ScriptFault> {
+        let [zones, "zones"] = words else {
+            return Err(ScriptFault::Words);
+        };
+        self.world.zones.truncate(number(zones)? as usize);
+        Ok(())
     }
 
     // Puts a block of one byte after those of the zone.
@@ -113,41 +157,74 @@ impl<'a> Session<'a> {
         self.world.push_block(self.zone, block)
     }
 
+    fn push_byte(&mut self, words: &[&str]) -> Result<(), ScriptFault> {
+        let [data] = words else {
+            return Err(ScriptFault::Words);
+        };
+        self.push_block(byte(data.as_bytes())?)
+    }
+
     // Lines that make a drive. They show nothing, but for a drive that cannot be.
-    fn make(&mut self, words: &[&'a str], out: &mut String) -> Result<bool, ScriptFault> {
-        match words {
-            ["shape", name, parts @ ..] => self.shapes.push((*name, shape(parts)?))?,
-            ["drive", name] => self.fresh(name, out)?,
-            ["zone", place, name] => {
-                self.zone = number(place)?;
-                self.world.set_zone(self.alloc, self.zone, state(name)?)?;
-            }
-            ["batch", words @ ..] => self.push_batch(words)?,
-            ["block", data] => self.push_block(byte(data.as_bytes())?)?,
-            ["bytes", words @ ..] => self.push_bytes(words)?,
-            ["keep", zones, "zones"] => self.world.zones.truncate(number(zones)? as usize),
-            _ => return Ok(false),
+    fn make(
+        &mut self,
+        name: &str,
+        words: &[&'a str],
+        out: &mut String,
+    ) -> Result<bool, ScriptFault> {
+        match name {
+            "shape" => done(self.name_shape(words)),
+            "drive" => done(self.fresh(words, out)),
+            "zone" => done(self.begin_zone(words)),
+            "batch" => done(self.push_batch(words)),
+            "block" => done(self.push_byte(words)),
+            "bytes" => done(self.push_bytes(words)),
+            "keep" => done(self.keep(words)),
+            _ => Ok(false),
         }
-        Ok(true)
+    }
+
+    fn set_stop(&mut self, words: &[&str]) -> Result<(), ScriptFault> {
+        let ["after", commands, _, rest @ ..] = words else {
+            return Err(ScriptFault::Words);
+        };
+        self.setting.stop_after = Some(number(commands)?);
+        self.setting.tear = tear(rest)?;
+        Ok(())
+    }
+
+    fn set_no_memory(&mut self, words: &[&str]) -> Result<(), ScriptFault> {
+        let ["of", "memory", "after", commands, _] = words else {
+            return Err(ScriptFault::Words);
+        };
+        self.setting.no_memory_after = Some(number(commands)?);
+        Ok(())
+    }
+
+    fn set_entries(&mut self, words: &[&str]) -> Result<(), ScriptFault> {
+        let ["entries"] = words else {
+            return Err(ScriptFault::Words);
+        };
+        self.setting.shows_entries = true;
+        Ok(())
+    }
+
+    fn set_halts(&mut self, words: &[&str]) -> Result<(), ScriptFault> {
+        let ["every", words @ ..] = words else {
+            return Err(ScriptFault::Words);
+        };
+        self.halts = Some(halts(words)?);
+        Ok(())
     }
 
     // Lines that say how the next run is made.
-    fn set(&mut self, words: &[&str]) -> Result<bool, ScriptFault> {
-        match words {
-            ["stop", "after", commands, _, rest @ ..] => {
-                self.setting.stop_after = Some(number(commands)?);
-                self.setting.tear = tear(rest)?;
-            }
-            ["out", "of", "memory", "after", commands, _] => {
-                self.setting.no_memory_after = Some(number(commands)?);
-            }
-            ["with", "entries"] => self.setting.shows_entries = true,
-            ["at", "every", "stop"] => self.halts = Some(Halts::Stop),
-            ["at", "every", "torn", "block"] => self.halts = Some(Halts::Tear),
-            ["at", "every", "halt", "for", "memory"] => self.halts = Some(Halts::Memory),
-            _ => return Ok(false),
+    fn set(&mut self, name: &str, words: &[&str]) -> Result<bool, ScriptFault> {
+        match name {
+            "stop" => done(self.set_stop(words)),
+            "out" => done(self.set_no_memory(words)),
+            "with" => done(self.set_entries(words)),
+            "at" => done(self.set_halts(words)),
+            _ => Ok(false),
         }
-        Ok(true)
     }
 
     fn restart(&mut self, out: &mut String) -> Result<(), ScriptFault> {
@@ -163,7 +240,7 @@ impl<'a> Session<'a> {
 
     fn zones(&self, out: &mut String) -> Result<(), ScriptFault> {
         match self.world.drive(self.alloc)? {
-            Ok(drive) => show_zones(self.alloc, drive, out),
+            Ok(mut drive) => show_zones(self.alloc, &mut drive, out),
             Err(fault) => show_drive_fault(self.alloc, fault, out),
         }
     }
@@ -174,21 +251,68 @@ impl<'a> Session<'a> {
         Ok(())
     }
 
-    // Lines that ask something of the drive, or restart it.
-    fn ask(&mut self, words: &[&str], out: &mut String) -> Result<bool, ScriptFault> {
-        match words {
-            ["restart"] => self.restart(out)?,
-            ["zones"] => self.zones(out)?,
-            ["contents"] => show_contents(&self.world, out)?,
-            ["array", n] => show_array(self.alloc, &self.world, part(n)?, out)?,
-            ["logs"] => show_logs(self.alloc, &self.world, out)?,
-            ["reserve"] => show_reserve(&self.world.geometry, out)?,
-            ["room", numbers @ ..] => show_room(&self.world.geometry, numbers, out)?,
-            ["moves", numbers @ ..] => show_moves(&self.world.geometry, numbers, out)?,
-            ["header", words @ ..] => self.header(words, out)?,
-            _ => return Ok(false),
+    fn array(&self, words: &[&str], out: &mut String) -> Result<(), ScriptFault> {
+        let [n] = words else {
+            return Err(ScriptFault::Words);
+        };
+        show_array(self.alloc, &self.world, part(n)?, out)
+    }
+
+    // Lines of one word that ask something of the drive, or restart it.
+    fn ask(&mut self, name: &str, out: &mut String) -> Result<bool, ScriptFault> {
+        match name {
+            "restart" => done(self.restart(out)),
+            "zones" => done(self.zones(out)),
+            "contents" => done(show_contents(&self.world, out)),
+            "logs" => done(show_logs(self.alloc, &self.world, out)),
+            "reserve" => done(show_reserve(&self.world.geometry, out)),
+            _ => Ok(false),
         }
-        Ok(true)
+    }
+
+    // Lines of more words that ask something.
+    fn ask_of(&self, name: &str, words: &[&str], out: &mut String) -> Result<bool, ScriptFault> {
+        match name {
+            "array" => done(self.array(words, out)),
+            "room" => done(show_room(&self.world.geometry, words, out)),
+            "moves" => done(show_moves(&self.world.geometry, words, out)),
+            "header" => done(self.header(words, out)),
+            _ => Ok(false),
+        }
+    }
+
+    // What the drive holds after calls, or after lines that are sent to it.
+    fn after_commands(
+        &self,
+        name: &str,
+        setting: Setting,
+        lines: &[&str],
+        out: &mut String,
+    ) -> Result<World, ScriptFault> {
+        let world = &self.world;
+        match name {
+            "raw" => show_run(self.alloc, world, setting, Lines::Raw, lines, out),
+            "commands" => show_run(self.alloc, world, setting, Lines::Commands, lines, out),
+            "calls" => show_calls(self.alloc, world, setting, lines, out),
+            _ => Err(ScriptFault::Words),
+        }
+    }
+
+    // What the drive holds after the lines of a disk of `n` blocks.
+    fn after_disk(
+        &self,
+        name: &str,
+        n: u64,
+        setting: Setting,
+        lines: &[&str],
+        out: &mut String,
+    ) -> Result<World, ScriptFault> {
+        let world = &self.world;
+        match name {
+            "trace" => show_run(self.alloc, world, setting, Lines::Trace(n), lines, out),
+            "disk" => show_disk(self.alloc, world, setting, n, lines, out),
+            _ => Err(ScriptFault::Words),
+        }
     }
 
     // What the drive holds after the lines of a run.
@@ -199,18 +323,34 @@ impl<'a> Session<'a> {
         lines: &[&str],
         out: &mut String,
     ) -> Result<World, ScriptFault> {
-        let world = &self.world;
         match words {
-            ["trace", n] => {
-                let trace = Lines::Trace(number(n)?);
-                show_run(self.alloc, world, setting, trace, lines, out)
-            }
-            ["raw"] => show_run(self.alloc, world, setting, Lines::Raw, lines, out),
-            ["commands"] => show_run(self.alloc, world, setting, Lines::Commands, lines, out),
-            ["calls"] => show_calls(self.alloc, world, setting, lines, out),
-            ["disk", n] => show_disk(self.alloc, world, setting, number(n)?, lines, out),
+            [name] => self.after_commands(name, setting, lines, out),
+            [name, n] => self.after_disk(name, number(n)?, setting, lines, out),
             _ => Err(ScriptFault::Words),
         }
+    }
+
+    // Says of each line whether it is in a grammar.
+    fn judge(&self, name: &str, lines: &[&str], out: &mut String) -> Result<(), ScriptFault> {
+        match name {
+            "trace" => show_trace_lines(self.alloc, lines, out),
+            "raw" => show_raw_lines(self.alloc, lines, out),
+            _ => Err(ScriptFault::Words),
+        }
+    }
+
+    // Runs a trace once with each halt.
+    fn run_halts(
+        &self,
+        words: &[&str],
+        halts: Halts,
+        lines: &[&str],
+        out: &mut String,
+    ) -> Result<(), ScriptFault> {
+        let ["trace", n] = words else {
+            return Err(ScriptFault::Words);
+        };
+        show_halts(self.alloc, &self.world, halts, number(n)?, lines, out)
     }
 
     // Lines that run the lines that belong to them.
@@ -219,17 +359,31 @@ impl<'a> Session<'a> {
         let halts = self.halts;
         self.setting = Setting::PLAIN;
         self.halts = None;
-        match (words, halts) {
-            (["trace", "lines"], _) => show_trace_lines(self.alloc, lines, out),
-            (["raw", "lines"], _) => show_raw_lines(self.alloc, lines, out),
-            (["trace", n], Some(halts)) => {
-                show_halts(self.alloc, &self.world, halts, number(n)?, lines, out)
-            }
-            _ => {
-                self.world = self.world_after(words, setting, lines, out)?;
-                Ok(())
-            }
+        if let [name, "lines"] = words {
+            return self.judge(name, lines, out);
         }
+        if let Some(halts) = halts {
+            return self.run_halts(words, halts, lines, out);
+        }
+        self.world = self.world_after(words, setting, lines, out)?;
+        Ok(())
+    }
+
+    // Does a line to which no others belong, if it is one.
+    fn is_done(&mut self, words: &[&'a str], out: &mut String) -> Result<bool, ScriptFault> {
+        let [name, rest @ ..] = words else {
+            return Ok(false);
+        };
+        if rest.is_empty() {
+            return self.ask(name, out);
+        }
+        if self.make(name, rest, out)? {
+            return Ok(true);
+        }
+        if self.set(name, rest)? {
+            return Ok(true);
+        }
+        self.ask_of(name, rest, out)
     }
 
     fn step(&mut self, step: &Step<'a>, out: &mut String) -> Result<(), ScriptFault> {
@@ -240,7 +394,7 @@ impl<'a> Session<'a> {
         }
         let words = line.split(' ').collect::<Vec<&'a str>>(self.alloc)?;
         let has_lines = !step.lines.is_empty();
-        let is_done = self.make(&words, out)? || self.set(&words)? || self.ask(&words, out)?;
+        let is_done = self.is_done(&words, out)?;
         match (is_done, has_lines) {
             (true, false) => Ok(()),
             (true, true) => Err(ScriptFault::Words),

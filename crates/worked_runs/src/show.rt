@@ -97,30 +97,26 @@ pub fn show_fault(alloc: Global, fault: RunFault, out: &mut String) -> Result<()
     }
 }
 
-fn blocks_text(alloc: Global, blocks: u32) -> Result<String, AllocError> {
+fn transfer_text(
+    alloc: Global,
+    name: &str,
+    blocks: u32,
+    address: u64,
+) -> Result<String, AllocError> {
     if blocks == 1 {
-        format!(in alloc; "1 block")
+        format!(in alloc; "{name} of 1 block at {address}")
     } else {
-        format!(in alloc; "{blocks} blocks")
+        format!(in alloc; "{name} of {blocks} blocks at {address}")
     }
 }
 
 /// What a command does, in the words in which a script asks for it.
 pub fn command_text(alloc: Global, command: &Command) -> Result<String, AllocError> {
-    match command {
+    match *command {
         Command::Flush => format!(in alloc; "Flush"),
-        Command::Read { slba, blocks } => {
-            let blocks = blocks_text(alloc, *blocks)?;
-            format!(in alloc; "Read of {blocks} at {slba}")
-        }
-        Command::Write { slba, blocks } => {
-            let blocks = blocks_text(alloc, *blocks)?;
-            format!(in alloc; "Write of {blocks} at {slba}")
-        }
-        Command::Append { zslba, blocks } => {
-            let blocks = blocks_text(alloc, *blocks)?;
-            format!(in alloc; "Append of {blocks} at {zslba}")
-        }
+        Command::Read { slba, blocks } => transfer_text(alloc, "Read", blocks, slba),
+        Command::Write { slba, blocks } => transfer_text(alloc, "Write", blocks, slba),
+        Command::Append { zslba, blocks } => transfer_text(alloc, "Append", blocks, zslba),
         Command::Send {
             action,
             all: true,
@@ -133,6 +129,16 @@ pub fn command_text(alloc: Global, command: &Command) -> Result<String, AllocErr
     }
 }
 
+fn show_entry(alloc: Global, entry: &[u8; 64], out: &mut String) -> Result<(), AllocError> {
+    match Command::decode(entry) {
+        Ok(command) => {
+            let text = command_text(alloc, &command)?;
+            writeln!(out, "    sent {text}")
+        }
+        Err(fault) => writeln!(out, "    sent an entry that is no command: {fault:?}"),
+    }
+}
+
 /// Shows the commands of these entries, as sent, and the bytes of each entry below it if asked to.
 pub fn show_sent(
     alloc: Global,
@@ -141,13 +147,7 @@ pub fn show_sent(
     out: &mut String,
 ) -> Result<(), ScriptFault> {
     for entry in entries {
-        match Command::decode(entry) {
-            Ok(command) => {
-                let text = command_text(alloc, &command)?;
-                writeln!(out, "    sent {text}")?;
-            }
-            Err(fault) => writeln!(out, "    sent an entry that is no command: {fault:?}")?,
-        }
+        show_entry(alloc, entry, out)?;
         if with_bytes {
             show_answer_bytes(" ", entry, out)?;
         }

@@ -124,25 +124,30 @@ impl<'a> Trial<'a> {
     }
 
     // What is wrong with the replies of a run, or with what the drive holds then.
-    fn wrong_after(&self, alloc: Global, ran: Ran) -> Result<Option<&'static str>, ScriptFault> {
-        let geometry = self.world.geometry;
-        let flat = Flat::new(alloc, &geometry, u64::from(self.n))?;
-        let Some((number, flat)) = answered(alloc, flat, self.lines, &ran.replies)? else {
+    fn wrong_after(
+        &self,
+        alloc: Global,
+        left: &World,
+        replies: &[u8],
+        is_stopped: bool,
+    ) -> Result<Option<&'static str>, ScriptFault> {
+        let flat = Flat::new(alloc, &self.world.geometry, u64::from(self.n))?;
+        let Some((number, flat)) = answered(alloc, flat, self.lines, replies)? else {
             return Ok(Some("the replies are not those of a flat array"));
         };
         let next = self.lines.get(number).map(|line| line.as_slice());
-        let is_stopped = ran.result == Err(RunFault::Disk(DiskFault::Stopped));
-        let left = world_of(alloc, geometry, ran.bench)?;
-        wrong_array(alloc, &left, self.n, flat, next, is_stopped)
+        wrong_array(alloc, left, self.n, flat, next, is_stopped)
     }
 
     // What is wrong after a run that is made so.
     fn wrong(&self, alloc: Global, setting: Setting) -> Result<Option<&'static str>, ScriptFault> {
         let ran = self.run(alloc, setting)?;
-        if setting.tear > 0 && ran.result != Err(RunFault::Disk(DiskFault::Stopped)) {
+        let is_stopped = ran.result == Err(RunFault::Disk(DiskFault::Stopped));
+        if setting.tear > 0 && !is_stopped {
             return Ok(Some("the trace is not stopped"));
         }
-        self.wrong_after(alloc, ran)
+        let left = world_of(alloc, self.world.geometry, ran.bench)?;
+        self.wrong_after(alloc, &left, &ran.replies, is_stopped)
     }
 
     // What is wrong after a run that stops inside the Append after that many commands, and how many of
@@ -224,6 +229,30 @@ fn show_each(
     Ok(())
 }
 
+// The lines that are meant, each of which is shown.
+fn meant_lines(
+    alloc: Global,
+    lines: &[&str],
+    out: &mut String,
+) -> Result<Vec<Vec<u8>>, ScriptFault> {
+    let mut all = Vec::new(alloc);
+    for line in lines {
+        show_line(line, out)?;
+        all.push(meant(alloc, line)?)?;
+    }
+    Ok(all)
+}
+
+// The text of lines, each ended by a line feed.
+fn text_of(alloc: Global, lines: &[Vec<u8>]) -> Result<Vec<u8>, AllocError> {
+    let mut text = Vec::new(alloc);
+    for line in lines {
+        text.extend_from_slice(line)?;
+        text.push(b'\n')?;
+    }
+    Ok(text)
+}
+
 /// Runs a trace once with each halt, and says whether each time the lines before it are answered, and the
 /// drive can be mounted and holds their array with a front of the next.
 pub fn show_halts(
@@ -235,19 +264,12 @@ pub fn show_halts(
     out: &mut String,
 ) -> Result<(), ScriptFault> {
     let n = u32::try_from(blocks).or(Err(ScriptFault::Words))?;
-    let mut text = Vec::new(alloc);
-    let mut meant_lines = Vec::new(alloc);
-    for line in lines {
-        show_line(line, out)?;
-        let line = meant(alloc, line)?;
-        text.extend_from_slice(&line)?;
-        text.push(b'\n')?;
-        meant_lines.push(line)?;
-    }
+    let lines = meant_lines(alloc, lines, out)?;
+    let text = text_of(alloc, &lines)?;
     let trial = Trial {
         world,
         n,
-        lines: &meant_lines,
+        lines: &lines,
         text: &text,
     };
     let whole = trial.run(alloc, Setting::PLAIN)?;

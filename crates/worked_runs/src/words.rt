@@ -54,35 +54,28 @@ pub fn state(name: &str) -> Result<ZoneState, ScriptFault> {
     }
 }
 
-/// The shape that these words give: each part by its name, in the order of `Geometry`.
-pub fn shape(words: &[&str]) -> Result<Geometry, ScriptFault> {
-    match words {
-        [
-            "block",
-            block,
-            "zones",
-            zones,
-            "size",
-            size,
-            "capacity",
-            capacity,
-            "transfer",
-            transfer,
-            "active",
-            active,
-            "open",
-            open,
-        ] => Ok(Geometry {
-            block: part(block)?,
-            zones: part(zones)?,
-            size: part(size)?,
-            capacity: part(capacity)?,
-            transfer: part(transfer)?,
-            active: part(active)?,
-            open: part(open)?,
-        }),
+// The number after this name, which stands at this place.
+fn named(words: &[&str], place: usize, name: &str) -> Result<u32, ScriptFault> {
+    match words.get(place..) {
+        Some([word, value, ..]) if *word == name => part(value),
         _ => Err(ScriptFault::Words),
     }
+}
+
+/// The shape that these words give: each part by its name, in the order of `Geometry`.
+pub fn shape(words: &[&str]) -> Result<Geometry, ScriptFault> {
+    if words.len() != 14 {
+        return Err(ScriptFault::Words);
+    }
+    Ok(Geometry {
+        block: named(words, 0, "block")?,
+        zones: named(words, 2, "zones")?,
+        size: named(words, 4, "size")?,
+        capacity: named(words, 6, "capacity")?,
+        transfer: named(words, 8, "transfer")?,
+        active: named(words, 10, "active")?,
+        open: named(words, 12, "open")?,
+    })
 }
 
 // Puts text after `line`, in which a backslash and `t`, `r`, `n` or `0` stand for a tab, a carriage

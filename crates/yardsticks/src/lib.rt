@@ -22,8 +22,6 @@ mod reserve;
 mod sequences;
 mod sizes;
 mod spare;
-#[cfg(test)]
-mod tests;
 
 pub use array::spelled_array;
 pub use batches::{Batch, ZoneLog, is_heading, log};

@@ -64,7 +64,7 @@ replicate-past zero k e = absurd (cc)
 replicate-past (suc n) zero e = omega arith
 replicate-past (suc n) (suc k) e = omega (arith, replicate-past n k e)
 
-pub replicate-at : (n k : ℕ) → k < n → get_or (replicate n true) k false ≡ true
+replicate-at : (n k : ℕ) → k < n → get_or (replicate n true) k false ≡ true
 replicate-at zero k lt = absurd (omega arith)
 replicate-at (suc n) zero lt = refl
 replicate-at (suc n) (suc k) lt = replicate-at n k (omega arith)

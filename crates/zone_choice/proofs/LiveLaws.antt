@@ -1,21 +1,17 @@
--- How many live records each zone has, when a block is placed; and the sealed zone with the fewest.
+-- How many live records each zone has.
 use Rattle.std.proofs.Common.{◌≡◌, ℕ, ◌+◌, ◌-◌, ◌<◌, ◌≤◌, ◌^◌, Bool, true, false, cond, ltb, List, ◌++◌, length, set, get_or, replicate, Option, Some, None, refl, sym, ap, ◌∙◌, inl, inr, arith}
 use Rattle.std.specs.List.{count_by}
 use Rattle.std.specs.Option.{IfSome}
 use Rattle.std.proofs.lemmas.Bool.{cases_lt, eq-eqb, le-ltb, lt-ltb, ltb-true}
 use Rattle.std.proofs.lemmas.List.{length-replicate, length-set, set_past}
 use Rattle.std.proofs.lemmas.List.Sums.{count_by-le-length, get_or-le-sum_by}
-use Rattle.std.proofs.lemmas.Option.{get_or_from_slice_get, slice_get-get_or}
-use Rattle.live_index.specs.Least.{IsNamed}
 use Rattle.logical_map.specs.Counts.{lowered, raised}
 use Rattle.logical_map.specs.Live.{is_zone, lies_in, zone_below, zone_in, zone_of}
 use Rattle.logical_map.specs.Places.{MapView}
 use Rattle.logical_map.specs.declared.place.Place.{Place}
 use Rattle.logical_map.specs.declared.place.Place.TheVariants as places
 use Rattle.logical_map.proofs.Counting.{counts-set, length-lowered, length-raised, live-grow, live-none, lowered-live}
-use Rattle.zone_choice.specs.Roles.{AreMarked, RolesView, is_sealed_at}
 use Rattle.zone_choice.specs.Tables.{AreLive}
-use Rattle.zone_choice.proofs.MarkLaws.{sealed-parts}
 
 -- ---- a block is placed
 
@@ -103,12 +99,3 @@ live-same old new counts more are zones size places-are = record {
   long = are.long ∙ sym zones;
   each = λ zone below. are.each zone (omega (arith, below, zones)) ∙ rw (size, places-are) (sym (live-grow old.zone_size more zone old.places));
 }
-
--- ---- the sealed zone with the fewest
-
-named-sealed : (roles : RolesView) (marks : List Bool) (zone : ℕ) → AreMarked roles marks → IsNamed marks zone → is_sealed_at roles zone ≡ true
-named-sealed roles marks zone are named = sym (are.each zone) ∙ get_or_from_slice_get marks zone true false named
-
-sealed-named : (roles : RolesView) (marks : List Bool) (zone : ℕ) → AreMarked roles marks → is_sealed_at roles zone ≡ true → IsNamed marks zone
-sealed-named roles marks zone are is =
-    slice_get-get_or marks zone false (omega (arith, are.long, (sealed-parts roles zone is).in_range)) ∙ ap (λ (b : Bool). Some b) (are.each zone ∙ is)

@@ -1,14 +1,13 @@
 -- Which zones are sealed, when roles change.
-use Rattle.std.proofs.Common.{◌≡◌, ◌≢◌, ℕ, zero, suc, ◌<◌, Bool, true, false, not, ◌||◌, ◌&&◌, ltb, eqb, List, [], ◌∷◌, ◌++◌, length, set, get_or, replicate, Option, Some, None, refl, sym, ap, subst, ◌∙◌, inl, inr, arith}
+use Rattle.std.proofs.Common.{◌≡◌, ◌≢◌, ℕ, ◌<◌, Bool, true, false, not, ◌||◌, ◌&&◌, ltb, eqb, List, [], ◌∷◌, ◌++◌, length, set, get_or, Option, Some, None, refl, sym, ap, subst, ◌∙◌, inl, inr, arith}
 use Rattle.std.specs.List.{AllByRecursion, list_any}
 use Rattle.std.specs.Option.{IfSome, option_map}
-use Rattle.std.proofs.lemmas.Bool.{cases_eq, cases_lt, eq-eqb, le-ltb, lt-ltb, ltb-true, ne_eqb}
-use Rattle.std.proofs.lemmas.List.{get_or-set_same, get_or-set_other, length-set, length-replicate}
+use Rattle.std.proofs.lemmas.Bool.{cases_eq, eq-eqb, lt-ltb, ltb-true, ne_eqb}
+use Rattle.std.proofs.lemmas.List.{get_or-set_same, get_or-set_other, length-set}
 use Rattle.zone_choice.specs.declared.roles.Filling.{Filling}
 use Rattle.zone_choice.specs.declared.roles.Second.{Second}
 use Rattle.zone_choice.specs.declared.roles.Second.TheVariants.{Next, Destination}
-use Rattle.zone_choice.specs.Roles.{AreApart, AreMarked, Differ, IsLowestIn, IsOccupied, RolesView, clean_ended, filling_of, fillings, is_at, is_empty_at, is_filling_at, is_sealed_at, listed, marked, ended, promoted, sealed, taken, unused, with_destination, with_fillings}
-use Rattle.zone_choice.proofs.FreshLaws.{replicate-at}
+use Rattle.zone_choice.specs.Roles.{AreApart, AreMarked, Differ, IsLowestIn, IsOccupied, RolesView, clean_ended, filling_of, fillings, is_at, is_empty_at, is_filling_at, is_sealed_at, listed, marked, ended, promoted, sealed, taken, with_destination, with_fillings}
 use Rattle.zone_choice.proofs.RolesLaws.{KeepsZone, filling_at-with, occupied-set, roles_with, second_list}
 
 -- ---- sealed zones
@@ -16,10 +15,6 @@ use Rattle.zone_choice.proofs.RolesLaws.{KeepsZone, filling_at-with, occupied-se
 no_and : (b : Bool) → (b && false) ≡ false
 no_and true = refl
 no_and false = refl
-
-or_true : (b : Bool) → (b || true) ≡ true
-or_true true = refl
-or_true false = refl
 
 both : (a b : Bool) → (a && b) ≡ true → (a ≡ true) × (b ≡ true)
 both true b e = (refl, e)
@@ -71,23 +66,6 @@ marked-same old new marks was empty filling = record {
   each = λ k. was.each k ∙ rw (empty, filling k) refl;
 }
 
-none-marked : (n k : ℕ) → get_or (replicate n false) k false ≡ false
-none-marked zero k = refl
-none-marked (suc n) zero = refl
-none-marked (suc n) (suc k) = none-marked n k
-
-pub marked-unused : (zones : ℕ) → AreMarked (unused zones) (replicate zones false)
-marked-unused zones = record {
-  long = length-replicate zones false ∙ sym (length-replicate zones true);
-  each = λ k. none-marked zones k ∙ sym (all k);
-}
-  where
-    all : (k : ℕ) → is_sealed_at (unused zones) k ≡ false
-    all k = elim (cases_lt k zones) as (λ _. is_sealed_at (unused zones) k ≡ false) [
-      | inl lt ↦ empty-unsealed (unused zones) k (replicate-at zones k lt)
-      | inr past ↦ rw (le-ltb k (length (replicate zones true)) (omega (arith, length-replicate zones true))) refl
-    ]
-
 -- ---- the host zone is sealed
 
 second-other : (second : Option Second) (host : Filling) → Differ (Some host) second → list_any (is_at host.zone) (second_list second) ≡ false
@@ -109,29 +87,7 @@ pub host-marked : (empties : List Bool) (host : Option Filling) (second : Option
 host-marked empties None second marks apart was = tt
 host-marked empties (Some h) second marks apart was = omega (arith, apart.occupied.0.in_range, was.long)
 
--- ---- an empty zone is taken
-
-taken-marked : (old new : RolesView) (marks : List Bool) (zone : ℕ) → AreMarked old marks → IsLowestIn old.empty zone → new.empty ≡ set old.empty zone false → is_filling_at new zone ≡ true → ((k : ℕ) → k ≢ zone → is_filling_at new k ≡ is_filling_at old k) → AreMarked new marks
-taken-marked old new marks zone was found empty here others =
-    marked-but old new marks marks zone was refl (ap length empty ∙ length-set old.empty zone false)
-    (was.each zone ∙ empty-unsealed old zone found.is_empty ∙ sym (filling-unsealed new zone here))
-    (λ k other. refl) (λ k other. rw empty (get_or-set_other old.empty zone k false false other)) others
-
-pub marked-take : (empties : List Bool) (second : Option Second) (marks : List Bool) (zone : ℕ) → AreMarked (roles_with empties None second) marks → IsLowestIn empties zone → AreMarked (taken (roles_with empties None second) zone) marks
-marked-take empties second marks zone was found =
-    taken-marked (roles_with empties None second) (taken (roles_with empties None second) zone) marks zone was found refl (rw (eq-eqb zone zone refl) refl) (λ k other. rw (ne_eqb zone k (λ e. other (sym e))) refl)
-
-pub marked-destination : (empties : List Bool) (host : Option Filling) (marks : List Bool) (zone : ℕ) → AreMarked (roles_with empties host None) marks → IsLowestIn empties zone → AreMarked (with_destination (roles_with empties host None) zone) marks
-marked-destination empties host marks zone was found =
-    taken-marked (roles_with empties host None) (with_destination (roles_with empties host None) zone) marks zone was found refl (here host) (others host)
-  where
-    here : (o : Option Filling) → is_filling_at (with_destination (roles_with empties o None) zone) zone ≡ true
-    here None = rw (eq-eqb zone zone refl) refl
-    here (Some h) = rw (eq-eqb zone zone refl) (or_true (eqb h.zone zone))
-
-    others : (o : Option Filling) (k : ℕ) → k ≢ zone → is_filling_at (with_destination (roles_with empties o None) zone) k ≡ is_filling_at (roles_with empties o None) k
-    others None k other = rw (ne_eqb zone k (λ e. other (sym e))) refl
-    others (Some h) k other = rw (ne_eqb zone k (λ e. other (sym e))) refl
+-- ---- an empty zone becomes the destination
 
 pub apart-destination : (empties : List Bool) (host : Option Filling) (zone : ℕ) → AreApart (roles_with empties host None) → IsLowestIn empties zone → AreApart (with_destination (roles_with empties host None) zone)
 apart-destination empties host zone apart found = by host apart
@@ -155,13 +111,6 @@ ended-list (Some (Destination f)) = refl
 
 pub filling_at-ended : (roles : RolesView) (victim k : ℕ) → is_filling_at (clean_ended roles victim) k ≡ is_filling_at roles k
 filling_at-ended roles victim k = ap (λ (fs : List Filling). list_any (is_at k) (listed roles.host ++ fs)) (ended-list roles.second)
-
-pub marked-ended : (roles : RolesView) (marks : List Bool) (victim : ℕ) → AreMarked roles marks → is_sealed_at roles victim ≡ true → AreMarked (clean_ended roles victim) (set marks victim false)
-marked-ended roles marks victim was is =
-    let lt = (sealed-parts roles victim is).in_range in
-    marked-but roles (clean_ended roles victim) marks (set marks victim false) victim was (length-set marks victim false) (length-set roles.empty victim true)
-    (get_or-set_same marks victim false false (omega (arith, lt, was.long)) ∙ sym (empty-unsealed (clean_ended roles victim) victim (get_or-set_same roles.empty victim true false lt)))
-    (λ k other. get_or-set_other marks victim k false false other) (λ k other. get_or-set_other roles.empty victim k true false other) (λ k other. filling_at-ended roles victim k)
 
 occupied-ended : (empties : List Bool) (victim : ℕ) (fs : List Filling) → list_any (is_at victim) fs ≡ false → AllByRecursion (IsOccupied empties) fs → AllByRecursion (IsOccupied (set empties victim true)) fs
 occupied-ended empties victim [] none all = tt
@@ -192,11 +141,6 @@ pub apart-promoted : (empties : List Bool) (second : Option Second) → AreApart
 apart-promoted empties None apart = apart
 apart-promoted empties (Some (Next f)) apart = record { occupied = apart.occupied; differ = tt }
 apart-promoted empties (Some (Destination f)) apart = apart
-
-pub marked-promoted : (empties : List Bool) (second : Option Second) (marks : List Bool) → AreMarked (roles_with empties None second) marks → AreMarked (promoted (roles_with empties None second)) marks
-marked-promoted empties None marks was = was
-marked-promoted empties (Some (Next f)) marks was = record { long = was.long; each = was.each }
-marked-promoted empties (Some (Destination f)) marks was = was
 
 -- ---- a sealed zone stays so
 

@@ -19,9 +19,10 @@
 //! (`Places` in specs/Changes); out of memory, the array is as before; where the drive stops, it encodes
 //! the old array or that with the batch, and can be mounted (`AppendLeaves`). The drive refuses no such
 //! Append (`CanPlace` says what it needs). At an open limit of 1, the other zone that is being filled is
-//! closed before it (`ClosesBeside`), if it may be open. While tables and drive agree (`Agrees` in
-//! specs/Agreement) and a zone is kept empty, the drive can be mounted (`IsMountable` in
-//! specs/Mountable). `laws` has what holds of all drives' contents.
+//! closed before it (`ClosesBeside`), if it may be open. The tables know the sealed zone with the fewest
+//! live records (`least_sealed`), and take note of what a clean makes of the zones. While tables and
+//! drive agree (`Agrees` in specs/Agreement) and a zone is kept empty, the drive can be mounted
+//! (`IsMountable` in specs/Mountable). `laws` has what holds of all drives' contents.
 #![tactic(auto)]
 
 mod append;

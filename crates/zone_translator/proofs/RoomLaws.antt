@@ -19,6 +19,7 @@ use Rattle.zone_choice.specs.Tables.{TablesView, size_of}
 use Rattle.zone_choice.proofs.AgreementLaws.{agrees_finish, agrees_mountable, agrees_same, agrees_seal, agrees_take, empty-spare, spare-taken, spelled_same, tables_with}
 use Rattle.zone_choice.proofs.ChangeLaws.{keeps-halt, keeps-join}
 use Rattle.zone_choice.proofs.CommandLaws.{can_finish, filling-few, filling-full, filling-in_range, none-active, zone-start}
+use Rattle.zone_choice.proofs.MarkLaws.{sealed-seal, sealed-take}
 use Rattle.zone_choice.proofs.OpenLaws.{OpensNone, finish-opens}
 use Rattle.zone_choice.proofs.RolesLaws.{roles_with, second_list}
 use Rattle.zone_translator.specs.declared.fault.DiskFault.{DiskFault}
@@ -110,11 +111,13 @@ pub keeps-seal : (drive : DriveState) (tables new : TablesView) (host : Filling)
 keeps-seal drive tables new host agrees is new-is some is_full =
     rw new-is (record {
       agrees = agrees_seal drive tables.map tables.roles.empty host tables.roles.second tables.next tables.given (with-host drive tables (Some host) is agrees) some is_full;
+      logs = refl;
       array = refl;
       places = refl;
       next = refl;
       given = refl;
       spare = λ h. h;
+      sealed = sealed-seal tables.roles;
       second = refl;
       geometry = refl;
       refused = refl;
@@ -124,11 +127,11 @@ keeps-seal drive tables new host agrees is new-is some is_full =
 -- the tables after a Finish of the host zone agree with the drive, and the array is the same
 finished_host : (old new : DriveState) (tables : TablesView) (host : Filling) (start : ℕ) → Agrees (mounted old tables) → tables.roles.host ≡ Some host → start ≡ host.zone * old.geometry.size → 1 ≤ host.written → host.written < old.geometry.capacity
     → new.geometry ≡ old.geometry → Finishes (contents old.zones) (contents new.zones) (start / old.geometry.size) → OpensNone old.zones new.zones → IsLawful new
-    → Agrees (mounted new (record tables { roles = sealed tables.roles })) × (spelled new tables.given ≡ spelled old tables.given)
+    → Agrees (mounted new (record tables { roles = sealed tables.roles })) × (drive_logs new ≡ drive_logs old) × (spelled new tables.given ≡ spelled old tables.given)
 finished_host old new tables host start agrees is start-is some room geometry finishes opens lawful =
     let index = (zone-start host.zone old.geometry.size agrees.geometry.size.0).0 in
     let done = agrees_finish old new tables.map tables.roles.empty host tables.roles.second tables.next tables.given (with-host old tables (Some host) is agrees) some room geometry lawful (rw (start-is, index) at finishes) opens in
-    (done.0, done.2)
+    (done.0, done.1, done.2)
 
 pub keeps-finish : (old new : DriveState) (tables after : TablesView) (host : Filling) (start : ℕ) → Agrees (mounted old tables) → tables.roles.host ≡ Some host → start ≡ host.zone * old.geometry.size → 1 ≤ host.written → host.written < old.geometry.capacity
     → Finished old new start → FinishLeaves {V = Unit {0}} old start (Ok tt) new → IsLawful new → after ≡ record tables { roles = sealed tables.roles } → KeepsArray (mounted old tables) (mounted new after)
@@ -136,11 +139,13 @@ keeps-finish old new tables after host start agrees is start-is some room finish
     let done = finished_host old new tables host start agrees is start-is some room finished.geometry finished.contents (finish-opens {V = Unit {0}} old new start (Ok tt) leaves) lawful in
     rw after-is (record {
       agrees = done.0;
-      array = done.1;
+      logs = done.1;
+      array = done.2;
       places = refl;
       next = refl;
       given = refl;
       spare = λ h. h;
+      sealed = sealed-seal tables.roles;
       second = refl;
       geometry = finished.geometry;
       refused = finished.counts.refused;
@@ -169,18 +174,20 @@ finish_halts old new tables host start port.Stopped serves is start-is some room
         (stops-agreed (Unit {0}) old new tables tables (record { agrees = agrees; spare = serves.spare; alone = serves.alone }) refl refl obeys, spelled_same old new tables.given same)
     by (inr finished) =
         let done = finished_host old new tables host start serves.agrees is start-is some room finished.geometry finished.contents opens obeys.lawful in
-        (stops-agreed (Unit {0}) old new tables (record tables { roles = sealed tables.roles }) (record { agrees = done.0; spare = serves.spare; alone = serves.alone }) refl refl obeys, done.1)
+        (stops-agreed (Unit {0}) old new tables (record tables { roles = sealed tables.roles }) (record { agrees = done.0; spare = serves.spare; alone = serves.alone }) refl refl obeys, done.2)
 
 pub keeps-take : (drive : DriveState) (tables new : TablesView) (zone : ℕ) → Agrees (mounted drive tables) → tables.roles.host ≡ None → IsLowestEmpty tables.roles zone → 2 ≤ empty_count tables.roles → new ≡ record tables { roles = taken tables.roles zone }
     → KeepsArray (mounted drive tables) (mounted drive new)
 keeps-take drive tables new zone agrees is lowest two new-is =
     rw new-is (record {
       agrees = agrees_take drive tables.map tables.roles.empty tables.roles.second zone tables.next tables.given (with-host drive tables None is agrees) lowest.in_range lowest.is_empty;
+      logs = refl;
       array = refl;
       places = refl;
       next = refl;
       given = refl;
       spare = λ h. spare-taken tables.roles zone lowest.in_range lowest.is_empty two;
+      sealed = λ k. sealed-take tables.roles k zone is lowest.is_empty;
       second = refl;
       geometry = refl;
       refused = refl;

@@ -1,7 +1,7 @@
 use Rattle.std.proofs.Common.{◌≡◌, ◌∷◌, refl, arith}
 use Rattle.disk_files.specs.Words.{words_of}
 use Rattle.disk_files.proofs.WordLaws.{length-rest}
-use Rattle.disk_files.proofs.trace_line.TraceLine.parse.Goals as goal
+use Rattle.disk_files.proofs.trace_line.parse_over.Goals as goal
 
 pub returns-in-write-clause-memory : goal.returns-in-write-clause-memory
 returns-in-write-clause-memory c = λ e.
@@ -9,4 +9,4 @@ returns-in-write-clause-memory c = λ e.
     let name = c.split_word.result.0.now in
     let words = c.in-Some.words.now in
     let split : words_of line ≡ name ∷ words_of words = rw (c.split_word.ensures, c.in-Some.is) refl in
-    omega (arith, length-rest line name words split, c.write_line.ensures.memory e, c.clear.ensures.capacity)
+    omega (arith, length-rest line name words split, c.write_line.ensures.memory e)

@@ -1,0 +1,223 @@
+-- Digits are decoded 64 at a time.
+use Rattle.std.proofs.Common.{◌≡◌, ℕ, zero, suc, ◌+◌, ◌-◌, ◌*◌, ◌%◌, ◌<◌, ◌≤◌, ◌^◌, Bool, true, false, cond, ltb, ◌&&◌, ◌==◌, Fits, List, [], ◌∷◌, ◌++◌, length, map, get_or, drop, take, take-add, append-nil, ◌⊎◌, replicate, Option, Some, None, inl, inr, refl, sym, ap, ◌∙◌, arith, w8}
+use Rattle.std.specs.Option.{unwrap_or}
+use Rattle.std.specs.List.{range_with_len}
+use Rattle.std.specs.Simd.Lanes.{Each1, all_below, chunk, mask_l, put_chunk, sel_l, top, zip2}
+use Rattle.std.proofs.lemmas.Bool.{cases_eq, cases_lt, eqb-true}
+use Rattle.std.proofs.lemmas.Bool.Decides.{nat_tests}
+use Rattle.std.proofs.lemmas.List.{drop_more, drop_all, get_or_append_left, length-map, length-take, length-drop, take-append-drop}
+use Rattle.std.proofs.lemmas.Simd.{chunk-drop, length-chunk, mask_l-mod, take_more_put_chunk, splat_is_map, tops_compared, zip2_of_maps, zip2_splat, zip2_splat_left}
+use Rattle.hex.specs.Hex.{hex_digit_value}
+use Rattle.disk_files.specs.Words.{byte_of, bytes_of, joined, value_or_none, ◌>>=◌}
+
+-- ---- vectors that were computed lane by lane
+
+sel_map : {X Y : Type 0} (p : X → Bool) (f g : X → Y) (xs : List X) → sel_l (map p xs) (map f xs) (map g xs) ≡ map (λ x. cond (p x) (f x) (g x)) xs
+sel_map p f g [] = refl
+sel_map p f g (x ∷ xs) = ap (λ l. cond (p x) (f x) (g x) ∷ l) (sel_map p f g xs)
+
+-- one of two vectors, lane by lane, as two others compare
+chosen : (t : ℕ → ℕ → Bool) (f g h k : ℕ → ℕ) (xs : List ℕ) {a b c d : List ℕ} → a ≡ map f xs → b ≡ map g xs → c ≡ map h xs → d ≡ map k xs
+    → sel_l (map (top 7) (zip2 (λ x y. cond (t x y) 255 0) a b)) c d ≡ map (λ x. cond (t (f x) (g x)) (h x) (k x)) xs
+chosen t f g h k xs {a} {b} {c} {d} ea eb ec ed =
+    let marks = tops_compared w8 t a b ∙ zip2_of_maps t f g xs ea eb in
+    rw (marks, ec, ed) (sel_map (λ x. t (f x) (g x)) h k xs)
+
+-- ---- values
+
+abbrev less : ℕ → ℕ → ℕ
+less a b = (a + (256 - b)) % 256
+
+abbrev more : ℕ → ℕ → ℕ
+more a b = (a + b) % 256
+
+abbrev letter : ℕ → ℕ
+letter x = cond (ltb (less x 65) (less x 97)) (less x 65) (less x 97)
+
+abbrev letter_or_six : ℕ → ℕ
+letter_or_six x = cond (ltb (letter x) 6) (letter x) 6
+
+abbrev value : ℕ → ℕ
+value x = cond (ltb (less x 48) 10) (less x 48) (more (letter_or_six x) 10)
+
+both : (a b : Bool) → (a && b) ≡ true → (a ≡ true) × (b ≡ true)
+both true b h = (refl, h)
+both false b h = absurd cc
+
+-- whether p holds of the first n numbers
+abbrev every : (ℕ → Bool) → ℕ → Bool
+every p zero = true
+every p (suc n) = p n && every p n
+
+every-at : (p : ℕ → Bool) (n i : ℕ) → every p n ≡ true → i < n → p i ≡ true
+every-at p zero i h lt = absurd (omega arith)
+every-at p (suc n) i h lt = elim (cases_eq i n) [
+  | inl same ↦ rw same (both (p n) (every p n) h).0
+  | inr other ↦ every-at p n i (both (p n) (every p n) h).1 (omega arith)
+]
+
+value-is : (x : ℕ) → x < 256 → value x ≡ value_or_none x
+value-is x fits = eqb-true (value x) (value_or_none x) (every-at (λ y. value y == value_or_none y) 256 x refl fits)
+
+-- the values of 64 digits, as a processor finds them
+map-value : (xs : List ℕ) → Each1 (Fits w8) xs → map value xs ≡ map value_or_none xs
+map-value [] fits = refl
+map-value (x ∷ xs) fits = rw (value-is x fits.0.fits, map-value xs fits.1) refl
+
+-- one operator or comparison of each after the other
+pub values-are : (xs : List ℕ) → length xs ≡ 64 → Each1 (Fits w8) xs
+    → (number upper lower letters bounded : List ℕ) → number ≡ zip2 less xs (replicate 64 48) → upper ≡ zip2 less xs (replicate 64 65) → lower ≡ zip2 less xs (replicate 64 97)
+    → letters ≡ sel_l (map (top 7) (zip2 (λ x y. cond (ltb x y) 255 0) upper lower)) upper lower
+    → bounded ≡ sel_l (map (top 7) (zip2 (λ x y. cond (ltb x y) 255 0) letters (replicate 64 6))) letters (replicate 64 6)
+    → sel_l (map (top 7) (zip2 (λ x y. cond (ltb x y) 255 0) number (replicate 64 10))) number (zip2 more bounded (replicate 64 10)) ≡ map value_or_none xs
+values-are xs long fits number upper lower letters bounded en eu el es eb =
+    let n : number ≡ map (λ x. less x 48) xs = en ∙ zip2_splat less xs 64 48 long in
+    let u : upper ≡ map (λ x. less x 65) xs = eu ∙ zip2_splat less xs 64 65 long in
+    let l : lower ≡ map (λ x. less x 97) xs = el ∙ zip2_splat less xs 64 97 long in
+    let s : letters ≡ map letter xs = es ∙ chosen ltb _ _ _ _ xs u l u l in
+    let six : replicate 64 6 ≡ map (λ _. 6) xs = splat_is_map xs 64 6 long in
+    let ten : replicate 64 10 ≡ map (λ _. 10) xs = splat_is_map xs 64 10 long in
+    let b : bounded ≡ map letter_or_six xs = eb ∙ chosen ltb _ _ _ _ xs s six s six in
+    chosen ltb _ _ _ _ xs n ten n (zip2_of_maps more _ _ xs b ten) ∙ map-value xs fits
+
+-- ---- whether all are values of digits
+
+pub all_below-bits : (vs : List ℕ) → (mask_l (map (λ v. ltb 15 v) vs) == 0) ≡ all_below 16 vs
+all_below-bits [] = refl
+all_below-bits (v ∷ vs) = elim (cases_lt v 16) [
+  | inl below ↦ grind (arith, nat_tests, all_below-bits vs)
+  | inr above ↦ grind (arith, nat_tests, all_below-bits vs)
+]
+
+pub are_digits-is : (vs : List ℕ) → length vs ≡ 64 → (mask_l (map (top 7) (zip2 (λ x y. cond (ltb x y) 255 0) (replicate 64 15) vs)) % 2 ^ 64 == 0) ≡ all_below 16 vs
+are_digits-is vs long =
+    let marks = map (λ v. ltb 15 v) vs in
+    rw (tops_compared w8 ltb (replicate 64 15) vs, zip2_splat_left ltb 15 64 vs long, mask_l-mod marks 64 (omega (arith, length-map vs (λ v. ltb 15 v), long))) (all_below-bits vs)
+
+-- ---- pairs
+
+below-at : (vs : List ℕ) (i : ℕ) → all_below 16 vs ≡ true → i < length vs → get_or vs i 0 < 16
+below-at [] i h lt = absurd (omega arith)
+below-at (v ∷ vs) zero h lt = let first = (both (ltb v 16) (all_below 16 vs) h).0 in grind (arith, nat_tests)
+below-at (v ∷ vs) (suc i) h lt = below-at vs i (both (ltb v 16) (all_below 16 vs) h).1 (omega arith)
+
+-- the bytes of the pairs from the i-th on, as a processor finds them
+pub joined-from : (n i : ℕ) (vs others : List ℕ) → length vs ≡ 2 * (i + n) → all_below 16 vs ≡ true
+    → map (λ k. (get_or (vs ++ others) (2 * k) 0 * 16 % 256 + get_or (vs ++ others) (2 * k + 1) 0) % 256) (range_with_len i n) ≡ joined (drop (2 * i) vs)
+joined-from zero i vs others long small = sym (ap joined (drop_all (2 * i) vs (omega (arith, long))))
+joined-from (suc n) i vs others long small =
+    let high = below-at vs (2 * i) small (omega (arith, long)) in
+    let low = below-at vs (2 * i + 1) small (omega (arith, long)) in
+    let next : 2 * i + 1 + 1 ≡ 2 * (i + 1) = omega arith in
+    let byte : (get_or vs (2 * i) 0 * 16 % 256 + get_or vs (2 * i + 1) 0) % 256 ≡ get_or vs (2 * i) 0 * 16 + get_or vs (2 * i + 1) 0 = omega (arith, high, low) in
+    let rest : drop (2 * i) vs ≡ get_or vs (2 * i) 0 ∷ get_or vs (2 * i + 1) 0 ∷ drop (2 * (i + 1)) vs =
+    rw (← next) (drop_more vs (2 * i) 0 (omega (arith, long)) ∙ ap (λ l. get_or vs (2 * i) 0 ∷ l) (drop_more vs (2 * i + 1) 0 (omega (arith, long)))) in
+    rw (get_or_append_left vs others 0 (2 * i) (omega (arith, long)), get_or_append_left vs others 0 (2 * i + 1) (omega (arith, long)), byte, rest)
+    (ap (λ l. (get_or vs (2 * i) 0 * 16 + get_or vs (2 * i + 1) 0) ∷ l) (joined-from n (i + 1) vs others (omega (arith, long)) small))
+
+-- ---- what values say of their digits
+
+-- two digits, and the bytes after them
+pair-joined : (h l : Option ℕ) (bytes : Option (List ℕ)) (rest : List ℕ) → (ltb (unwrap_or h 16) 16 && (ltb (unwrap_or l 16) 16 && all_below 16 rest)) ≡ true
+    → (all_below 16 rest ≡ true → bytes ≡ Some (joined rest))
+    → ((h >>= (λ (x : ℕ). l >>= (λ (y : ℕ). Some (x * 16 + y)))) >>= (λ (b : ℕ). bytes >>= (λ (bs : List ℕ). Some (b ∷ bs)))) ≡ Some ((unwrap_or h 16 * 16 + unwrap_or l 16) ∷ joined rest)
+pair-joined None l bytes rest good then = absurd cc
+pair-joined (Some x) None bytes rest good then = absurd (let second = (both true _ good) in grind (arith, nat_tests))
+pair-joined (Some x) (Some y) bytes rest good then =
+    let behind = (both (ltb y 16) (all_below 16 rest) (both (ltb x 16) (ltb y 16 && all_below 16 rest) good).1).1 in
+    rw (then behind) refl
+
+-- digits that all have values stand for bytes
+pub values-joined : (n : ℕ) (xs : List ℕ) → length xs ≡ 2 * n → all_below 16 (map value_or_none xs) ≡ true → bytes_of xs ≡ Some (joined (map value_or_none xs))
+values-joined n [] even good = refl
+values-joined n (a ∷ []) even good = absurd (omega arith)
+values-joined zero (a ∷ b ∷ rest) even good = absurd (omega arith)
+values-joined (suc n) (a ∷ b ∷ rest) even good =
+    pair-joined (hex_digit_value a) (hex_digit_value b) (bytes_of rest) (map value_or_none rest) good (values-joined n rest (omega arith))
+
+is-none : (digit : ℕ) → ltb (value_or_none digit) 16 ≡ false → hex_digit_value digit ≡ None
+is-none digit large = grind (arith, nat_tests)
+
+pair-none : (h l : Option ℕ) (bytes : Option (List ℕ)) → (h ≡ None) ⊎ (l ≡ None) ⊎ (bytes ≡ None) → ((h >>= (λ (x : ℕ). l >>= (λ (y : ℕ). Some (x * 16 + y)))) >>= (λ (b : ℕ). bytes >>= (λ (bs : List ℕ). Some (b ∷ bs)))) ≡ None
+pair-none None l bytes e = refl
+pair-none (Some x) None bytes e = refl
+pair-none (Some x) (Some y) None e = refl
+pair-none (Some x) (Some y) (Some bs) (inl e) = absurd cc
+pair-none (Some x) (Some y) (Some bs) (inr (inl e)) = absurd cc
+pair-none (Some x) (Some y) (Some bs) (inr (inr e)) = absurd cc
+
+some-none : (a b : ℕ) (rest : List ℕ) (p q r : Bool) → p ≡ ltb (value_or_none a) 16 → q ≡ ltb (value_or_none b) 16 → (r ≡ false → bytes_of rest ≡ None) → (p && (q && r)) ≡ false
+    → (hex_digit_value a ≡ None) ⊎ (hex_digit_value b ≡ None) ⊎ (bytes_of rest ≡ None)
+some-none a b rest false q r p-is q-is behind bad = inl (is-none a (sym p-is))
+some-none a b rest true false r p-is q-is behind bad = inr (inl (is-none b (sym q-is)))
+some-none a b rest true true r p-is q-is behind bad = inr (inr (behind bad))
+
+-- and others for none
+pub values-none : (xs : List ℕ) → all_below 16 (map value_or_none xs) ≡ false → bytes_of xs ≡ None
+values-none [] bad = absurd cc
+values-none (a ∷ []) bad = refl
+values-none (a ∷ b ∷ rest) bad =
+    pair-none (hex_digit_value a) (hex_digit_value b) (bytes_of rest) (some-none a b rest _ _ (all_below 16 (map value_or_none rest)) refl refl (values-none rest) bad)
+
+-- ---- digits after others
+
+abbrev joined-both : Option (List ℕ) → Option (List ℕ) → Option (List ℕ)
+joined-both before after = before >>= (λ (xs : List ℕ). after >>= (λ (ys : List ℕ). Some (xs ++ ys)))
+
+both-after : (byte : Option ℕ) (before after : Option (List ℕ))
+    → (byte >>= (λ (b : ℕ). joined-both before after >>= (λ (bs : List ℕ). Some (b ∷ bs)))) ≡ joined-both (byte >>= (λ (b : ℕ). before >>= (λ (bs : List ℕ). Some (b ∷ bs)))) after
+both-after None before after = refl
+both-after (Some b) None after = refl
+both-after (Some b) (Some xs) None = refl
+both-after (Some b) (Some xs) (Some ys) = refl
+
+joined-alone : (after : Option (List ℕ)) → after ≡ joined-both (Some []) after
+joined-alone None = refl
+joined-alone (Some ys) = refl
+
+bytes_of-append : (n : ℕ) (xs ys : List ℕ) → length xs ≡ 2 * n → bytes_of (xs ++ ys) ≡ joined-both (bytes_of xs) (bytes_of ys)
+bytes_of-append n [] ys even = joined-alone (bytes_of ys)
+bytes_of-append n (a ∷ []) ys even = absurd (omega arith)
+bytes_of-append zero (a ∷ b ∷ rest) ys even = absurd (omega arith)
+bytes_of-append (suc n) (a ∷ b ∷ rest) ys even =
+    ap (λ (bytes : Option (List ℕ)). byte_of (a ∷ b ∷ []) >>= (λ (c : ℕ). bytes >>= (λ (bs : List ℕ). Some (c ∷ bs)))) (bytes_of-append n rest ys (omega arith))
+    ∙ both-after (byte_of (a ∷ b ∷ [])) (bytes_of rest) (bytes_of ys)
+
+length-joined : (n : ℕ) (vs : List ℕ) → length vs ≡ 2 * n → length (joined vs) ≡ n
+length-joined n [] even = omega arith
+length-joined n (a ∷ []) even = absurd (omega arith)
+length-joined zero (a ∷ b ∷ rest) even = absurd (omega arith)
+length-joined (suc n) (a ∷ b ∷ rest) even = ap suc (length-joined n rest (omega arith))
+
+module _ (digits bytes : List ℕ) (done : ℕ) (inside : 2 * done ≤ length digits) where
+  front : length (take (2 * done) digits) ≡ 2 * done
+  front = omega (arith, length-take (2 * done) digits, inside)
+
+  -- 64 digits more
+  pub decoded-more : length digits ≡ 2 * length bytes → done + 32 ≤ length bytes → bytes_of (take (2 * done) digits) ≡ Some (take done bytes) → all_below 16 (map value_or_none (chunk (2 * done) 64 digits)) ≡ true
+      → bytes_of (take (2 * (done + 32)) digits) ≡ Some (take (done + 32) (put_chunk done bytes (joined (map value_or_none (chunk (2 * done) 64 digits)))))
+  decoded-more long room was good =
+      let part = chunk (2 * done) 64 digits in
+      let size : length part ≡ 64 = length-chunk (2 * done) 64 digits (omega (arith, long, room)) in
+      let wide : 2 * (done + 32) ≡ 2 * done + 64 = omega arith in
+      let made : length (joined (map value_or_none part)) ≡ 32 = length-joined 32 (map value_or_none part) (omega (arith, size, length-map part value_or_none)) in
+      rw (wide, take-add (2 * done) 64 digits, bytes_of-append done (take (2 * done) digits) part front, was, values-joined 32 part (omega (arith, size)) good)
+      (ap (λ (xs : List ℕ). Some xs) (sym (take_more_put_chunk done bytes (joined (map value_or_none part)) (done + 32) (omega (arith, made)) room)))
+
+  -- a byte that is no digit is among the next 64
+  pub decoded-none : bytes_of (take (2 * done) digits) ≡ Some (take done bytes) → bytes_of (drop (2 * done) digits) ≡ None → bytes_of digits ≡ None
+  decoded-none was none = ap bytes_of (sym (take-append-drop (2 * done) digits)) ∙ bytes_of-append done (take (2 * done) digits) (drop (2 * done) digits) front ∙ rw (was, none) refl
+
+  -- the rest
+  pub decoded-rest : (rest : List ℕ) → bytes_of (take (2 * done) digits) ≡ Some (take done bytes) → bytes_of (drop (2 * done) digits) ≡ Some rest → bytes_of digits ≡ Some (take done bytes ++ rest)
+  decoded-rest rest was is = ap bytes_of (sym (take-append-drop (2 * done) digits)) ∙ bytes_of-append done (take (2 * done) digits) (drop (2 * done) digits) front ∙ rw (was, is) refl
+
+pub part-none : (digits : List ℕ) (at : ℕ) → at + 64 ≤ length digits → all_below 16 (map value_or_none (chunk at 64 digits)) ≡ false → bytes_of (drop at digits) ≡ None
+part-none digits at room bad =
+    let part = chunk at 64 digits in
+    let rest = drop (at + 64) digits in
+    ap bytes_of (chunk-drop at 64 digits) ∙ bytes_of-append 32 part rest (length-chunk at 64 digits room) ∙ rw (values-none part bad) refl
+
+-- a part to the end of a slice is put back
+pub put_end : (bytes out : List ℕ) (at : ℕ) → take at bytes ++ (out ++ drop (length bytes - at) (drop at bytes)) ≡ take at bytes ++ out
+put_end bytes out at = rw (drop_all (length bytes - at) (drop at bytes) (omega (arith, length-drop at bytes)), append-nil out) refl
