@@ -1,28 +1,20 @@
-/* Decodes the data of the `write` lines on standard input, digit by digit, and prints the seconds that it
-   took: what no program that is given its blocks in hexadecimal digits can be faster than. The text is read
-   before the clock starts. */
+/* Reads `write` lines from standard input, decodes their data, digit by digit, and prints the seconds that it
+   took: what no program that is given its blocks in hexadecimal digits can be faster than. */
 #include <stdint.h>
 #include <stdio.h>
-#include <stdlib.h>
 #include <string.h>
 #include <time.h>
+#include <unistd.h>
 
-static uint8_t value[256];
+enum { PIECE = 65536, LONGEST = 4194304 };
 
-static char *text_of_stdin(size_t *length) {
-    size_t room = 1 << 20, read;
-    char *text = malloc(room);
-    *length = 0;
-    while (text != NULL && (read = fread(text + *length, 1, room - *length, stdin)) > 0) {
-        *length += read;
-        if (*length == room)
-            text = realloc(text, room *= 2);
-    }
-    return text;
-}
+static uint8_t value[256], bytes[LONGEST / 2];
+static char text[LONGEST + PIECE];
 
-/* The bytes of a line's data, put into `bytes`; their number. */
-static size_t decode(const char *digits, const char *end, uint8_t *bytes) {
+/* The bytes of the data of a line, put into `bytes`; their number. */
+static size_t decode(const char *line, const char *end) {
+    const char *word = memchr(line, ' ', end - line);
+    const char *digits = (const char *)memchr(word + 1, ' ', end - word - 1) + 1;
     size_t count = (end - digits) / 2;
     for (size_t i = 0; i < count; i++)
         bytes[i] = value[(uint8_t)digits[2 * i]] << 4 | value[(uint8_t)digits[2 * i + 1]];
@@ -30,22 +22,22 @@ static size_t decode(const char *digits, const char *end, uint8_t *bytes) {
 }
 
 int main(void) {
-    size_t length, decoded = 0;
-    char *text = text_of_stdin(&length);
-    uint8_t *bytes = malloc(4194304);
+    size_t held = 0, decoded = 0;
+    ssize_t got;
     struct timespec start, end;
-    if (text == NULL || bytes == NULL)
-        return 1;
     for (int i = 0; i < 16; i++)
         value[(uint8_t)"0123456789abcdef"[i]] = i;
-    memset(bytes, 0, 4194304);
+    memset(text, 0, sizeof text);
+    memset(bytes, 0, sizeof bytes);
     clock_gettime(CLOCK_MONOTONIC, &start);
-    for (char *line = text; line < text + length;) {
-        char *feed = memchr(line, '\n', text + length - line);
-        char *word = memchr(line, ' ', feed - line);
-        char *digits = memchr(word + 1, ' ', feed - word - 1) + 1;
-        decoded += decode(digits, feed, bytes);
-        line = feed + 1;
+    while ((got = read(0, text + held, PIECE)) > 0) {
+        char *line = text, *last = text + held + got, *feed = memchr(text + held, '\n', got);
+        for (; feed != NULL; feed = memchr(line, '\n', last - line)) {
+            decoded += decode(line, feed);
+            line = feed + 1;
+        }
+        held = last - line;
+        memmove(text, line, held);
     }
     clock_gettime(CLOCK_MONOTONIC, &end);
     printf("%.6f\n", (end.tv_sec - start.tv_sec) + (end.tv_nsec - start.tv_nsec) / 1e9);
