@@ -119,7 +119,8 @@ impl BatchBuilder {
         self.header.size
     }
 
-    pub(crate) fn entries(&self) -> &[Entry]
+    /// What the batch names, in the order of its header.
+    pub fn entries(&self) -> &[Entry]
         ensures { result.now ≡ self.now.heading.entries }
     {
         &self.header.entries

@@ -51,6 +51,17 @@ fewer-room c k written more fewer pos le room = omega (arith, le, room, div_ceil
 pub start-room : (c k r : ℕ) → fill k r + 2 ≤ c → HasRoomFor c k 0 r
 start-room c k r fits = omega (arith, fits)
 
+-- of a clean that runs fewer turns are left than a zone has blocks
+unwritten-few : (written : ℕ) → unwritten written ≤ 1
+unwritten-few zero = omega arith
+unwritten-few (suc written) = omega arith
+
+pub few-turns : (c k used u r : ℕ) → 0 < k → u ≤ r → HasRoomFor c k used r → u + max (unwritten used) (div_ceil r k) + 1 + 1 ≤ c
+few-turns c k used u r pos le room = elim (cases_lt 0 r) as (λ _. u + max (unwritten used) (div_ceil r k) + 1 + 1 ≤ c) [
+  | inl some ↦ omega (arith, le, room, unwritten-few used, div_ceil-positive r k pos some)
+  | inr none ↦ omega (arith, le, none, room)
+]
+
 pub start-turns : (c k r : ℕ) → 0 < k → fill k r + 2 ≤ c → r + max (unwritten 0) (div_ceil r k) + 1 + 1 ≤ c
 start-turns c k r pos fits = elim (cases_lt 0 r) as (λ _. r + max (unwritten 0) (div_ceil r k) + 1 + 1 ≤ c) [
   | inl some ↦ omega (arith, fits, div_ceil-positive r k pos some)

@@ -23,10 +23,10 @@ use Rattle.zone_choice.proofs.BuilderLaws.{blocks_named, data_count-few}
 use Rattle.zone_choice.proofs.ReadLaws.{HoldsPlace, holds_place}
 use Rattle.zone_choice.proofs.ReserveLaws.{positive-most}
 use Rattle.zone_cleaner.specs.Clean.{CleanView, HasRoomFor, IsClean, moved_to, untaken}
-use Rattle.zone_cleaner.specs.LiveRecords.{LiveRecord, entries_of, entry_of, move_of, records_in}
+use Rattle.zone_cleaner.specs.LiveRecords.{LiveRecord, entries_of, entry_of, move_of, records_in, without_all}
 use Rattle.zone_cleaner.proofs.BudgetLaws.{AfterMove, after-move}
 use Rattle.zone_cleaner.proofs.CleanLaws.{live-parts}
-use Rattle.zone_cleaner.proofs.MoveLaws.{PlacedAway, elsewhere, length-placed, move-same, placed-away, placed-rest, without-own, without_all}
+use Rattle.zone_cleaner.proofs.MoveLaws.{PlacedAway, elsewhere, length-placed, move-same, placed-away, placed-rest, without-own}
 use Rattle.zone_cleaner.proofs.RecordLaws.{AreBetween, SayTheArray, ZerosUnlessData, between, distinct-blocks, length-records_in, live_in, live_in-split, say-the-array}
 use Rattle.zone_cleaner.proofs.SealedLaws.{of-second, sealed-apart, second-filling}
 use Rattle.zone_cleaner.proofs.StepLaws.{MoveDue}

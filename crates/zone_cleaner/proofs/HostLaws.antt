@@ -28,12 +28,12 @@ use Rattle.zone_choice.proofs.AgreementLaws.{length-extended, length-spelled, si
 use Rattle.zone_choice.proofs.AllLaws.{all-weaker}
 use Rattle.zone_choice.proofs.CommandLaws.{filling-in_range}
 use Rattle.zone_choice.proofs.ReserveLaws.{div_ceil-mono, positive-most}
-use Rattle.zone_cleaner.specs.Clean.{CleanView, IsClean, moved_to, turns_left, unwritten, untaken}
-use Rattle.zone_cleaner.specs.LiveRecords.{LiveRecord, records_in, without_block}
+use Rattle.zone_cleaner.specs.Clean.{CleanView, IsClean, forgotten, moved_to, turns_left, unwritten, untaken}
+use Rattle.zone_cleaner.specs.LiveRecords.{LiveRecord, records_in, without_all, without_block}
 use Rattle.zone_cleaner.proofs.BudgetLaws.{fewer-room}
 use Rattle.zone_cleaner.proofs.CleanLaws.{KeptDestination}
 use Rattle.zone_cleaner.proofs.HistoryLaws.{moves-beside}
-use Rattle.zone_cleaner.proofs.MoveLaws.{Elsewhere, PlacedAway, elsewhere, entry-away, length-placed, placed-away, without_all}
+use Rattle.zone_cleaner.proofs.MoveLaws.{Elsewhere, PlacedAway, elsewhere, entry-away, length-placed, placed-away}
 use Rattle.zone_cleaner.proofs.RecordLaws.{live_in, live_in-cons, records_in-array}
 use Rattle.zone_cleaner.proofs.SealedLaws.{sealed-alone, sealed-apart, zone-logs}
 
@@ -121,10 +121,6 @@ length-without_all (e ∷ es) rs = omega (arith, length-without_all es (without_
 
 -- ---- a batch of the host
 
--- the clean has forgotten the blocks that a batch names
-abbrev pub without_named : List Entry → CleanView → CleanView
-without_named es clean = record { victim = clean.victim; cursor = clean.cursor; gathered = without_all es clean.gathered }
-
 pub record HostGives (before after : Mounted) (c new : CleanView) : Type 0 where
   pub clean : IsClean after new
   pub turns : turns_left (batch_most before.drive.geometry) after.tables (Some new) ≤ turns_left (batch_most before.drive.geometry) before.tables (Some c)
@@ -194,7 +190,7 @@ host-places before after c zone b is can done =
         ∙ other-over before.drive.geometry.block b.heading.sequence 0 0 0 k b.body es (extended (zero_block before.drive.geometry.block) (size_or (length array) b.heading.size) array) out
         ∙ left-extended (zero_block before.drive.geometry.block) [] (size_or (length array) b.heading.size) k array short)
 
-next-batch : (before : Mounted) (zone : ℕ) (b : Batch) → CanPlace before zone b → IsNext (before.tables.next + 1) before.tables.given (drive_logs before.drive) (size_with before.tables b) b
+pub next-batch : (before : Mounted) (zone : ℕ) (b : Batch) → CanPlace before zone b → IsNext (before.tables.next + 1) before.tables.given (drive_logs before.drive) (size_with before.tables b) b
 next-batch before zone b can = record {
   has = can.size;
   grows = omega (arith, can.grows, size-encoded before can.agrees);
@@ -203,7 +199,7 @@ next-batch before zone b can = record {
   greatest = rw can.sequence can.agrees.sound.numbers;
 }
 
-pub host_gives : (before after : Mounted) (c : CleanView) (zone : ℕ) (b : Batch) → (is : IsClean before c) → CanPlace before zone b → zone ≢ is.destination.zone → Places before after zone b → HostGives before after c (without_named b.heading.entries c)
+pub host_gives : (before after : Mounted) (c : CleanView) (zone : ℕ) (b : Batch) → (is : IsClean before c) → CanPlace before zone b → zone ≢ is.destination.zone → Places before after zone b → HostGives before after c (forgotten b.heading.entries c)
 host_gives before after c zone b is can ne done =
     let g = before.drive.geometry in
     let k = batch_most g in
@@ -217,7 +213,7 @@ host_gives before after c zone b is can ne done =
     let apart : zone ≢ c.victim = λ same. sealed-apart before.tables.roles c.victim zone is.victim can.filling (sym same) in
     let pos = positive-most g can.agrees.geometry in
     let live_now : live after.tables.map c.victim ≤ live before.tables.map c.victim = omega (arith, ap (λ (z : ℕ). live_in z c.victim after.tables.map.places) zones, new.fewer) in
-    let left_now : untaken after.tables (without_named b.heading.entries c) ≤ untaken before.tables c = omega (arith, ap (λ (z : ℕ). live_in z c.victim (drop c.cursor after.tables.map.places)) zones, new.left) in
+    let left_now : untaken after.tables (forgotten b.heading.entries c) ≤ untaken before.tables c = omega (arith, ap (λ (z : ℕ). live_in z c.victim (drop c.cursor after.tables.map.places)) zones, new.left) in
     record {
       clean = record {
         destination = kept.filling;
@@ -232,5 +228,5 @@ host_gives before after c zone b is can ne done =
         moves = rw (done.logs, done.geometry, done.given, kept.zone) (moves-beside g.block (before.tables.next + 1) before.tables.given zone c.victim f.zone (size_with before.tables b) logs b lt apart ne
             (sound-weaker before.tables.next (before.tables.next + 1) before.tables.given logs (omega arith) can.agrees.sound) (next-batch before zone b can) is.moves);
       };
-      turns = turns-le k (untaken before.tables c) (untaken after.tables (without_named b.heading.entries c)) (moved_to before.tables.roles.second) (moved_to after.tables.roles.second) (live before.tables.map c.victim) (live after.tables.map c.victim) pos left_now live_now (ap moved_to second ∙ kept.written ∙ sym (ap moved_to is.second));
+      turns = turns-le k (untaken before.tables c) (untaken after.tables (forgotten b.heading.entries c)) (moved_to before.tables.roles.second) (moved_to after.tables.roles.second) (live before.tables.map c.victim) (live after.tables.map c.victim) pos left_now live_now (ap moved_to second ∙ kept.written ∙ sym (ap moved_to is.second));
     }

@@ -19,3 +19,7 @@ pub mod StartLaws
 pub mod KindLaws
 pub mod TurnLaws
 pub mod HostLaws
+pub mod RoomLaws
+pub mod BesideLaws
+pub mod NeedLaws
+pub mod NextLaws

@@ -12,7 +12,7 @@ use Rattle.logical_map.specs.declared.place.Place.{Place}
 use Rattle.zone_choice.specs.Builder.{entry_place, placed}
 use Rattle.zone_choice.specs.Records.{entry_records, over, shown, shown_content}
 use Rattle.zone_choice.proofs.BuilderLaws.{blocks_named, placed-first}
-use Rattle.zone_cleaner.specs.LiveRecords.{LiveRecord, data_of, entries_of, entry_of, records_in, without_block}
+use Rattle.zone_cleaner.specs.LiveRecords.{LiveRecord, data_of, entries_of, entry_of, records_in, without_all, without_block}
 use Rattle.zone_cleaner.proofs.RecordLaws.{SayTheArray, left-set, live_in, live_in-set, taken-set}
 
 -- ---- it says what the array has
@@ -50,12 +50,7 @@ move-same array bytes sequence rs says = over-same array bytes sequence 0 0 0 []
 
 -- ---- no gathered block lies in the victim after it
 
--- these blocks are taken out, one after the other
-abbrev pub without_all : List Entry → List LiveRecord → List LiveRecord
-without_all [] rs = rs
-without_all (e ∷ es) rs = without_all es (without_block e.block rs)
-
-without-none : (es : List Entry) → without_all es [] ≡ []
+pub without-none : (es : List Entry) → without_all es [] ≡ []
 without-none [] = refl
 without-none (e ∷ es) = without-none es
 

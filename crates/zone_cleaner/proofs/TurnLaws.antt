@@ -7,7 +7,7 @@ use Rattle.std.proofs.lemmas.List.Sums.{get_or-le-sum_by, sum_by-set}
 use Rattle.drive_port.specs.Drive.{DriveState}
 use Rattle.zone_choice.specs.declared.roles.Filling.{Filling}
 use Rattle.zone_choice.specs.declared.roles.Second.{Second}
-use Rattle.zone_choice.specs.declared.roles.Second.TheVariants.{Next, Destination}
+use Rattle.zone_choice.specs.declared.roles.Second.TheVariants.{Destination}
 use Rattle.zone_choice.specs.Agreement.{Mounted, drive_logs, mounted, mounted_array}
 use Rattle.zone_choice.specs.Changes.{KeepsArray, Places}
 use Rattle.zone_choice.specs.Mountable.{IsMountable}
@@ -22,7 +22,7 @@ use Rattle.zone_cleaner.specs.declared.fault.CleanFault.{CleanFault}
 use Rattle.zone_cleaner.specs.declared.fault.CleanFault.TheVariants as faults
 use Rattle.zone_cleaner.specs.declared.step.Step.{Step}
 use Rattle.zone_cleaner.specs.declared.step.Step.TheVariants.{Gather, Move, Reset}
-use Rattle.zone_cleaner.specs.Clean.{CleanView, IsNoDestination, turns_left}
+use Rattle.zone_cleaner.specs.Clean.{CleanView, IsAlone, turns_left}
 use Rattle.zone_cleaner.specs.LiveRecords.{content_of, move_of}
 use Rattle.zone_cleaner.specs.Start.{GoesOn, IsCleaned, KeepsByCleaning, StartLeaves, TurnLeaves, TurnsFewer, trims}
 use Rattle.zone_cleaner.specs.Turns.{StepDone, StepFails, StepLeaves, next_step, with_record}
@@ -35,7 +35,7 @@ use Rattle.zone_cleaner.proofs.StepLaws.{gather-due, move-due}
 
 -- ---- a drive that is cleaned can be mounted
 
-cleans-spare : (disk : Mounted) (clean : Option CleanView) → IsCleaned disk clean → HasSpare disk.drive.geometry.block disk.tables.given (drive_logs disk.drive)
+pub cleans-spare : (disk : Mounted) (clean : Option CleanView) → IsCleaned disk clean → HasSpare disk.drive.geometry.block disk.tables.given (drive_logs disk.drive)
 cleans-spare disk None is = empty-spare disk.drive disk.tables is.0 is.1.0
 cleans-spare disk (Some c) is = clean_spare disk c is.0 is.1
 
@@ -49,10 +49,8 @@ pub record GoesForward (most : ℕ) (before : Mounted) (c : CleanView) (after : 
   pub cleaned : IsCleaned after new
   pub fewer : turns_left most after.tables new < turns_left most before.tables (Some c)
 
-ended-none : (second : Option Second) (f : Filling) → second ≡ Some (Destination f) → IsNoDestination (option_map ended second)
-ended-none None f e = tt
-ended-none (Some (Next g)) f e = tt
-ended-none (Some (Destination g)) f e = tt
+ended-alone : (capacity : ℕ) (second : Option Second) (f : Filling) → second ≡ Some (Destination f) → f.written + 2 ≤ capacity → IsAlone capacity (option_map ended second)
+ended-alone capacity second f e room = rw e room
 
 empty-more : (roles : RolesView) (victim : ℕ) → victim < length roles.empty → 1 ≤ empty_count (clean_ended roles victim)
 empty-more roles victim lt =
@@ -82,7 +80,7 @@ step_forward before after c new Move is due done =
 step_forward before after c new Reset is due done =
     let was = sealed-parts before.tables.roles c.victim is.1.victim in
     rw done.1 (record {
-      cleaned = (done.0.agrees, rw done.0.roles (empty-more before.tables.roles c.victim was.in_range, ended-none before.tables.roles.second is.1.destination is.1.second));
+      cleaned = (done.0.agrees, rw (done.0.roles, done.0.geometry) (empty-more before.tables.roles c.victim was.in_range, ended-alone before.drive.geometry.capacity before.tables.roles.second is.1.destination is.1.second (omega (arith, is.1.room))));
       fewer = omega arith;
     })
 

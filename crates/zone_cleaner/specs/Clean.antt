@@ -2,11 +2,12 @@
 use Rattle.std.specs.Prelude.{◌≡◌, ℕ, zero, suc, ◌+◌, ◌≤◌, max, true, List, [], ◌∷◌, count_by, drop, length, take, Option, Some, None}
 use Rattle.std.specs.Int.{div_ceil}
 use Rattle.std.specs.List.{AllByRecursion}
+use Rattle.batch_log.specs.declared.header.Entry.{Entry}
 use Rattle.batch_log.specs.Log.{Batch}
 use Rattle.logical_map.specs.Live.{lies_in, live}
 use Rattle.zone_choice.specs.declared.roles.Filling.{Filling}
 use Rattle.zone_choice.specs.declared.roles.Second.{Second}
-use Rattle.zone_choice.specs.declared.roles.Second.TheVariants.{Destination}
+use Rattle.zone_choice.specs.declared.roles.Second.TheVariants.{Destination, Next}
 use Rattle.zone_choice.specs.Agreement.{Mounted, drive_logs, mounted_array}
 use Rattle.zone_choice.specs.Reserve.{batch_most}
 use Rattle.zone_choice.specs.Roles.{empty_count}
@@ -14,7 +15,7 @@ use Rattle.zone_choice.specs.Sizes.{larger, log_greatest}
 use Rattle.zone_choice.specs.Spare.{IsBefore, IsMoveFrom, IsSpare, first_sequence}
 use Rattle.zone_choice.specs.Tables.{TablesView, size_of}
 use Rattle.zone_choice.specs.ZoneLogs.{log_at}
-use Rattle.zone_cleaner.specs.LiveRecords.{LiveRecord, records_in, without_block}
+use Rattle.zone_cleaner.specs.LiveRecords.{LiveRecord, records_in, without_all}
 use Rattle.zone_choice.specs.Roles.{is_sealed_at}
 
 -- What a running clean knows: its victim; the first block that it has not looked at yet; and the records gathered for the next Move, of blocks before that one.
@@ -80,19 +81,21 @@ pub record IsClean (disk : Mounted) (clean : CleanView) : Type 0 where
   pub room : HasRoomFor disk.drive.geometry.capacity (batch_most disk.drive.geometry) destination.written (live disk.tables.map clean.victim)
   pub moves : AreMoves disk.drive.geometry.block disk.tables.given (drive_logs disk.drive) clean.victim destination.zone
 
-abbrev pub IsNoDestination : Option Second → Type 0
-IsNoDestination (Some (Destination filling)) = ⊥
-IsNoDestination second = Unit {0}
+-- there is no destination, and the next zone, if there is one, has two free blocks
+abbrev pub IsAlone : ℕ → Option Second → Type 0
+IsAlone capacity None = Unit {0}
+IsAlone capacity (Some (Next filling)) = filling.written + 2 ≤ capacity
+IsAlone capacity (Some (Destination filling)) = ⊥
 
--- a clean runs; or none does, and a zone is kept empty
+-- a clean runs; or none does, a zone is kept empty, and there is no destination
 abbrev pub Cleans : Mounted → Option CleanView → Type 0
-Cleans disk None = (1 ≤ empty_count disk.tables.roles) × IsNoDestination disk.tables.roles.second
+Cleans disk None = (1 ≤ empty_count disk.tables.roles) × IsAlone disk.drive.geometry.capacity disk.tables.roles.second
 Cleans disk (Some clean) = IsClean disk clean
 
 -- a clean that was just started
 abbrev pub started : ℕ → CleanView
 started victim = record { victim = victim; cursor = 0; gathered = [] }
 
--- a clean that has forgotten a block
-abbrev pub forgotten : ℕ → CleanView → CleanView
-forgotten block clean = record { victim = clean.victim; cursor = clean.cursor; gathered = without_block block clean.gathered }
+-- a clean that has forgotten the blocks that a batch names
+abbrev pub forgotten : List Entry → CleanView → CleanView
+forgotten entries clean = record { victim = clean.victim; cursor = clean.cursor; gathered = without_all entries clean.gathered }

@@ -29,6 +29,11 @@ abbrev pub without_block : ℕ → List LiveRecord → List LiveRecord
 without_block block [] = []
 without_block block (r ∷ rs) = if block == r.block then rs else r ∷ without_block block rs
 
+-- all but those of the blocks that these entries name
+abbrev pub without_all : List Entry → List LiveRecord → List LiveRecord
+without_all [] rs = rs
+without_all (e ∷ es) rs = without_all es (without_block e.block rs)
+
 -- ---- the Move that repeats them
 
 abbrev pub entry_of : ℕ → Option (List ℕ) → Entry

@@ -7,7 +7,7 @@ use Rattle.logical_map.specs.declared.place.Place.TheVariants as places
 use Rattle.zone_choice.specs.Agreement.{Agrees, Mounted, mounted_array}
 use Rattle.zone_choice.specs.Mountable.{IsMountable}
 use Rattle.zone_choice.specs.Reserve.{batch_most, fill}
-use Rattle.zone_choice.specs.Roles.{IsLowestEmpty, empty_count, with_destination}
+use Rattle.zone_choice.specs.Roles.{IsLowestEmpty, empty_count, next_of, with_destination}
 use Rattle.zone_choice.specs.Tables.{IsLeastSealed, TablesView, size_of}
 use Rattle.zone_cleaner.specs.declared.fault.CleanFault.{CleanFault}
 use Rattle.zone_cleaner.specs.declared.fault.CleanFault.TheVariants as faults
@@ -80,3 +80,8 @@ pub record KeepsByCleaning (before after : Mounted) : Type 0 where
 pub record TurnsFewer (before after : Mounted) (old new : Option CleanView) : Type 0 where
   pub fewer : is_some old ≡ true → turns_left (batch_most before.drive.geometry) after.tables new < turns_left (batch_most before.drive.geometry) before.tables old
   pub bound : is_some old ≡ false → turns_left (batch_most before.drive.geometry) after.tables new + 1 ≤ before.drive.geometry.capacity
+
+-- What turns that are done leave of the zones being filled: where there was no host zone there is none; and a clean that ran and has ended leaves the next zone.
+pub record LeavesRoom (before after : Mounted) (old new : Option CleanView) : Type 0 where
+  pub host : before.tables.roles.host ≡ None → after.tables.roles.host ≡ None
+  pub next : is_some old ≡ true → new ≡ None → is_some (next_of after.tables.roles.second) ≡ true

@@ -16,7 +16,7 @@ ghost use Rattle.zone_cleaner.specs.Turns.{EmptiesVictim, IsReadFault, StepFails
 use crate::fault::CleanFault;
 use crate::gathered::Gathered;
 use crate::step::Step;
-use batch_log::Kind;
+use batch_log::{Entry, Kind};
 use drive_port::{Device, Halt, read, reset};
 use logical_map::Place;
 use std::alloc::{AllocError, Global};
@@ -91,10 +91,11 @@ impl Clean {
     }
 
     /// Takes a block out of the gathered records, if it is there. It allocates nothing.
-    pub fn forget(&mut self, block: u32)
-        ensures { self.new ≡ forgotten block self.old }
+    pub fn forget(&mut self, entries: &[Entry])
+        requires { AllByRecursion (λ e. e.block < 2 ^ 32) entries.now }
+        ensures { self.new ≡ forgotten entries.now self.old }
     {
-        self.gathered.forget(block);
+        self.gathered.forget(entries);
     }
 
     /// Gathers the record of a block, which lies in the victim.

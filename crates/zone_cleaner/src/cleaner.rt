@@ -1,14 +1,17 @@
-ghost use Rattle.std.specs.Prelude.{◌≡◌, ◌≢◌, ◌≤◌, ◌<◌, ◌+◌, ◌*◌, Err, IfOk, OnOk, None, Some, is_some, length};
+ghost use Rattle.std.specs.Prelude.{◌≡◌, ◌≢◌, ◌≤◌, ◌<◌, ◌+◌, ◌*◌, ◌^◌, true, Err, IfOk, OnOk, None, Some, is_some, length};
+ghost use Rattle.std.specs.List.{AllByRecursion};
 ghost use Rattle.std.specs.Option.{option_map};
 ghost use Rattle.zone_choice.specs.Agreement.{mounted};
 ghost use Rattle.zone_choice.specs.Reserve.{batch_most};
+ghost use Rattle.zone_choice.specs.Roles.{empty_count, next_of};
 ghost use Rattle.zone_cleaner.specs.Clean.{forgotten, turns_left};
-ghost use Rattle.zone_cleaner.specs.Start.{FindsDue, GoesOn, IsCleaned, KeepsByCleaning, StartLeaves, TurnLeaves, TurnsFewer};
+ghost use Rattle.zone_cleaner.specs.Start.{FindsDue, GoesOn, IsCleaned, KeepsByCleaning, LeavesRoom, StartLeaves, TurnLeaves, TurnsFewer};
 ghost use Rattle.zone_states.specs.Geometry.{IsInRange};
 
 use crate::clean::Clean;
 use crate::fault::CleanFault;
 use crate::step::Step;
+use batch_log::Entry;
 use drive_port::{Device, Geometry};
 use std::alloc::Global;
 use std::marker::Model;
@@ -70,12 +73,14 @@ impl Cleaner {
         self.clean.is_some()
     }
 
-    /// Takes a block out of the gathered records, which the host has written since. It allocates nothing.
-    pub fn forget(&mut self, block: u32)
-        ensures { self.new ≡ option_map (forgotten block) self.old }
+    /// Takes the blocks out of the gathered records that a batch of the host names, after its Append. It allocates
+    /// nothing.
+    pub fn forget(&mut self, entries: &[Entry])
+        requires { AllByRecursion (λ e. e.block < 2 ^ 32) entries.now }
+        ensures { self.new ≡ option_map (forgotten entries.now) self.old }
     {
         if let Some(clean) = &mut self.clean {
-            clean.forget(block);
+            clean.forget(entries);
         }
     }
 
@@ -127,12 +132,14 @@ impl Cleaner {
         ensures goes_on { GoesOn result (mounted (D.drive device.new) tables.new) self.new }
         ensures keeps { KeepsByCleaning (mounted (D.drive device.old) tables.old) (mounted (D.drive device.new) tables.new) }
         ensures turns { OnOk result (TurnsFewer (mounted (D.drive device.old) tables.old) (mounted (D.drive device.new) tables.new) self.old self.new) }
+        ensures room { OnOk result (LeavesRoom (mounted (D.drive device.old) tables.old) (mounted (D.drive device.new) tables.new) self.old self.new) }
         ensures completed { (D.drive device.new).completed ≤ (D.drive device.old).completed + 2 }
     {
         self.step(tables, device)
     }
 
-    /// Turns until the clean that runs has ended. Each completes two commands at most.
+    /// Turns until the clean that runs has ended. Each completes two commands at most. Then the destination is the
+    /// next zone, and has two free blocks.
     pub fn run_to_end<D: Device>(
         &mut self,
         tables: &mut Tables,
@@ -140,6 +147,7 @@ impl Cleaner {
     ) -> Result<(), CleanFault>
         requires cleaned { IsCleaned (mounted (D.drive device.old) tables.old) self.old }
         ensures ended { OnOk result (self.new ≡ None) }
+        ensures room { OnOk result (LeavesRoom (mounted (D.drive device.old) tables.old) (mounted (D.drive device.new) tables.new) self.old None) }
         ensures goes_on { GoesOn result (mounted (D.drive device.new) tables.new) self.new }
         ensures keeps { KeepsByCleaning (mounted (D.drive device.old) tables.old) (mounted (D.drive device.new) tables.new) }
         ensures completed { (D.drive device.new).completed ≤ (D.drive device.old).completed + 2 * turns_left (batch_most (D.drive device.old).geometry) tables.old self.old }
@@ -148,5 +156,31 @@ impl Cleaner {
             self.turn(tables, device)?;
         }
         Ok(())
+    }
+
+    /// Cleans a zone at once, for a disk that has no host zone, no next zone, and at most one empty zone: the clean that
+    /// runs is run to its end or, where none runs, one is started and run. Then there is a next zone, with two free
+    /// blocks.
+    pub fn clean_zone<D: Device>(
+        &mut self,
+        tables: &mut Tables,
+        device: &mut D,
+    ) -> Result<(), CleanFault>
+        requires cleaned { IsCleaned (mounted (D.drive device.old) tables.old) self.old }
+        requires host { tables.old.roles.host ≡ None }
+        requires next { next_of tables.old.roles.second ≡ None }
+        requires few { empty_count tables.old.roles < 2 }
+        ensures ended { OnOk result (self.new ≡ None) }
+        ensures room { OnOk result ((tables.new.roles.host ≡ None) × (is_some (next_of tables.new.roles.second) ≡ true)) }
+        ensures goes_on { GoesOn result (mounted (D.drive device.new) tables.new) self.new }
+        ensures keeps { KeepsByCleaning (mounted (D.drive device.old) tables.old) (mounted (D.drive device.new) tables.new) }
+        ensures completed { (D.drive device.new).completed + 2 ≤ (D.drive device.old).completed + 2 * (D.drive device.old).geometry.capacity }
+    {
+        if self.running() {
+            return self.run_to_end(tables, device);
+        }
+        let geometry = device.geometry();
+        self.start(tables, &geometry);
+        self.run_to_end(tables, device)
     }
 }

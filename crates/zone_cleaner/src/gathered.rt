@@ -2,8 +2,9 @@ ghost use Rattle.std.specs.Prelude.{◌≡◌, ◌≤◌, ◌<◌, ◌+◌, ◌+
 ghost use Rattle.std.specs.List.{AllByRecursion, concat};
 ghost use Rattle.std.specs.Option.{option_map};
 ghost use Rattle.zone_cleaner.specs.Gathered.{bytes_in, shown};
-ghost use Rattle.zone_cleaner.specs.LiveRecords.{data_of, entries_of, entry_of, without_block};
+ghost use Rattle.zone_cleaner.specs.LiveRecords.{data_of, entries_of, entry_of, without_all, without_block};
 
+use batch_log::Entry;
 use indexmap::IndexMap;
 use std::alloc::{AllocError, Global};
 use std::marker::Model;
@@ -53,11 +54,21 @@ impl Gathered {
         Ok(())
     }
 
-    /// Takes the record of a block out, if it is there. It allocates nothing.
-    pub fn forget(&mut self, block: u32)
+    /// Takes the record of a block out, if it is there.
+    fn forget_one(&mut self, block: u32)
         ensures { self.new ≡ without_block block self.old }
     {
         let _ = self.records.shift_remove(&block);
+    }
+
+    /// Takes the records out of the blocks that these entries name. It allocates nothing.
+    pub fn forget(&mut self, entries: &[Entry])
+        requires { AllByRecursion (λ e. e.block < 2 ^ 32) entries.now }
+        ensures { self.new ≡ without_all entries.now self.old }
+    {
+        for entry in entries {
+            self.forget_one(entry.block as u32);
+        }
     }
 
     /// Takes all records out.

@@ -8,7 +8,7 @@
 //! let mut cleaner = Cleaner::new(alloc);
 //! cleaner.turn(&mut tables, &mut drive)?;          // starts a clean, if one is due
 //! cleaner.turn(&mut tables, &mut drive)?;          // gathers a record, or appends a Move, or resets the victim
-//! cleaner.forget(4);                               // the host has written block 4
+//! cleaner.forget(batch.entries());                 // the host has written these blocks
 //! cleaner.run_to_end(&mut tables, &mut drive)?;    // all turns that are left
 //! ```
 //!

@@ -1,46 +1,31 @@
 -- What the parts of a disk's calls change, of a drive and the tables that agree with it.
 use Rattle.std.specs.Prelude.{◌≡◌, ◌⊎◌, ℕ, ◌<◌, ◌≤◌, ◌+◌, Bool, true, false, List, length, slice_index_or, Option, Some, None, count_by, take, Result, Ok, Err}
-use Rattle.drive_port.specs.Drive.{DriveState, active_count}
-use Rattle.drive_port.specs.Contents.{Content, Usage, empty, contents}
+use Rattle.drive_port.specs.Drive.{DriveState}
 use Rattle.drive_port.specs.declared.device.Halt.{Halt}
 use Rattle.drive_port.specs.declared.device.Halt.TheVariants as halt
 use Rattle.batch_log.specs.Log.{zero_block}
 use Rattle.logical_map.specs.declared.place.Place.{Place}
 use Rattle.logical_map.specs.declared.place.Place.TheVariants as places
 use Rattle.zone_choice.specs.declared.roles.Filling.{Filling}
-use Rattle.zone_choice.specs.Agreement.{Agrees, Mounted, drive_logs, mounted, mounted_array}
-use Rattle.zone_choice.specs.Changes.{KeepsArray, sequence_end}
+use Rattle.zone_choice.specs.Agreement.{Mounted, drive_logs, mounted, mounted_array}
+use Rattle.zone_choice.specs.Changes.{sequence_end}
 use Rattle.zone_choice.specs.Mountable.{IsMountable}
-use Rattle.zone_choice.specs.Roles.{empty_count}
+use Rattle.zone_choice.specs.Roles.{IsLowestEmpty, empty_count, next_of, promoted, taken}
 use Rattle.zone_choice.specs.Sizes.{extended, greatest}
 use Rattle.zone_choice.specs.Tables.{TablesView, size_of}
+use Rattle.zone_cleaner.specs.declared.fault.CleanFault.{CleanFault}
+use Rattle.zone_cleaner.specs.declared.fault.CleanFault.TheVariants as faults
+use Rattle.zone_cleaner.specs.Clean.{CleanView}
+use Rattle.zone_cleaner.specs.Start.{IsCleaned, KeepsByCleaning, trims}
 use Rattle.zone_translator.specs.Flat.{IsFront, replaced}
 use Rattle.zone_translator.specs.declared.fault.DiskFault.{DiskFault}
-use Rattle.zone_translator.specs.declared.fault.DiskFault.TheVariants.{OutOfRange, OutOfMemory, Stopped, Spent, NoRoom, Smaller, Reserve}
+use Rattle.zone_translator.specs.declared.fault.DiskFault.TheVariants.{OutOfRange, OutOfMemory, Stopped, Spent, Smaller, Reserve}
 
--- What holds while a disk serves: its tables agree with its drive, a zone is kept empty, and no second zone is being filled.
-pub record Serves (disk : Mounted) : Type 0 where
-  pub agrees : Agrees disk
-  pub spare : 1 ≤ empty_count disk.tables.roles
-  pub alone : disk.tables.roles.second ≡ None
+-- What holds while a disk serves: its tables agree with its drive, and a clean runs, or none does and a zone is kept empty.
+abbrev pub AgreesWith : DriveState → TablesView → Option CleanView → Type 0
+AgreesWith drive tables clean = IsCleaned (mounted drive tables) clean
 
-abbrev pub AgreesWith : DriveState → TablesView → Type 0
-AgreesWith drive tables = Serves (mounted drive tables)
-
-abbrev pub is_empty_usage : Usage → Bool
-is_empty_usage empty = true
-is_empty_usage usage = false
-
--- how many zones of a drive are in the state Empty
-abbrev pub empty_zones : DriveState → ℕ
-empty_zones drive = count_by (λ (zone : Content). is_empty_usage zone.usage) (contents drive.zones)
-
--- a drive is filled up, but for a zone that is kept: no zone is opened or Closed, and at most one is Empty
-pub record IsFilledUp (drive : DriveState) : Type 0 where
-  pub none_active : active_count drive.zones ≡ 0
-  pub few_empty : empty_zones drive ≤ 1
-
--- why a refusal came: the drive has stopped, no sequence is left that a batch may have, or the drive is filled up; of memory nothing can be said
+-- why a refusal came: the drive has stopped, or no sequence is left that a batch may have; of memory nothing can be said
 abbrev pub IsCause : DriveState → ℕ → DiskFault → Type 0
 IsCause drive next OutOfRange = ⊥
 IsCause drive next Smaller = ⊥
@@ -48,82 +33,83 @@ IsCause drive next Reserve = ⊥
 IsCause drive next OutOfMemory = Unit {0}
 IsCause drive next Stopped = drive.stopped ≡ true
 IsCause drive next Spent = sequence_end drive.geometry ≤ next
-IsCause drive next NoRoom = IsFilledUp drive
 
 -- what a halt of the drive is to a disk
 abbrev pub disk_fault : Halt → DiskFault
 disk_fault halt.Memory = OutOfMemory
 disk_fault halt.Stopped = Stopped
 
+-- what a fault of a clean is to a disk
+abbrev pub cleaning_fault : CleanFault → DiskFault
+cleaning_fault faults.OutOfMemory = OutOfMemory
+cleaning_fault faults.Stopped = Stopped
+cleaning_fault faults.Spent = Spent
+
 -- the host zone has a free block for a header and one for data
 abbrev pub HasRoom : DriveState → Filling → Type 0
 HasRoom drive host = host.written + 2 ≤ drive.geometry.capacity
 
--- whether the newest record of a block is a trim, by its place
-abbrev pub trims : Place → Option Bool
-trims places.None = None
-trims (places.Trimmed address) = Some true
-trims (places.At address) = Some false
+-- A zone became the host zone: the next zone, or the lowest empty one where there is no next zone, and another one is empty.
+abbrev pub TakesHost : TablesView → Filling → TablesView → Type 0
+TakesHost old host new =
+    ((next_of old.roles.second ≡ Some host) × (new ≡ record old { roles = promoted old.roles }))
+    ⊎ ((next_of old.roles.second ≡ None) × (2 ≤ empty_count old.roles) × IsLowestEmpty old.roles host.zone × (host ≡ record { zone = host.zone; written = 0; may_open = false }) × (new ≡ record old { roles = taken old.roles host.zone }))
 
 -- the newest records of n blocks from a given one on are trims, or all have data
 abbrev pub AreNamed : Bool → List Place → ℕ → ℕ → Type 0
 AreNamed trim all first n = (block : ℕ) → first ≤ block → block < first + n → trims (slice_index_or all block places.None) ≡ Some trim
 
--- and all other places are the same
+-- and those of all other blocks are trims, or have data, as before
 pub record Names (trim : Bool) (old : List Place) (first n : ℕ) (new : List Place) : Type 0 where
   pub named : AreNamed trim new first n
-  pub others : (block : ℕ) → (block < first) ⊎ (first + n ≤ block) → slice_index_or new block places.None ≡ slice_index_or old block places.None
+  pub others : (block : ℕ) → (block < first) ⊎ (first + n ≤ block) → trims (slice_index_or new block places.None) ≡ trims (slice_index_or old block places.None)
 
--- These blocks were written into the array by one batch, as data or by trims, and its header says the disk's size; no command was refused.
-pub record WritesBlocks (trim : Bool) (before after : Mounted) (first : ℕ) (blocks : List (List ℕ)) : Type 0 where
-  pub serves : Serves after
-  pub size : size_of after.tables ≡ size_of before.tables
+-- What each part of a call keeps: a drive that can be mounted. No command is refused, and the next sequence rises by one with each batch that is appended.
+pub record Keeps (before after : Mounted) : Type 0 where
+  pub mountable : IsMountable after.drive after.tables.given
   pub given : after.tables.given ≡ before.tables.given
+  pub geometry : after.drive.geometry ≡ before.drive.geometry
+  pub refused : after.drive.refused ≡ before.drive.refused
+  pub next : after.tables.next + before.drive.appended ≡ before.tables.next + after.drive.appended
+
+-- These blocks were written into the array, as data or by trims, and a header says the disk's size.
+pub record WritesBlocks (trim : Bool) (before after : Mounted) (clean : Option CleanView) (first : ℕ) (blocks : List (List ℕ)) : Type 0 where
+  pub serves : IsCleaned after clean
+  pub keeps : Keeps before after
+  pub size : size_of after.tables ≡ size_of before.tables
   pub array : mounted_array after ≡ replaced (mounted_array before) first blocks
   pub names : Names trim before.tables.map.places first (length blocks) after.tables.map.places
   pub says : greatest (drive_logs after.drive) ≡ Some (size_of after.tables)
-  pub next : after.tables.next ≡ before.tables.next + 1
-  pub geometry : after.drive.geometry ≡ before.drive.geometry
-  pub refused : after.drive.refused ≡ before.drive.refused
-  pub appended : after.drive.appended ≡ before.drive.appended + 1
 
--- the disk has that many blocks by one batch, whose header says so, and those that are new are zeros
-pub record Grows (before after : Mounted) (size : ℕ) : Type 0 where
-  pub serves : Serves after
+-- the disk has that many blocks, a batch was appended whose header says so, and the blocks that are new are zeros
+pub record Grows (before after : Mounted) (clean : Option CleanView) (size : ℕ) : Type 0 where
+  pub serves : IsCleaned after clean
+  pub keeps : Keeps before after
   pub size_is : size_of after.tables ≡ size
-  pub given : after.tables.given ≡ before.tables.given
   pub array : mounted_array after ≡ extended (zero_block before.drive.geometry.block) size (mounted_array before)
   pub says : greatest (drive_logs after.drive) ≡ Some size
-  pub next : after.tables.next ≡ before.tables.next + 1
-  pub geometry : after.drive.geometry ≡ before.drive.geometry
-  pub refused : after.drive.refused ≡ before.drive.refused
-  pub appended : after.drive.appended ≡ before.drive.appended + 1
+  pub appended : before.drive.appended < after.drive.appended
 
 -- What a drive that stopped on the way of a call leaves: it can be mounted. Tables and drive need not agree any more; the tables keep the disk's size.
 pub record StopKeeps (before after : Mounted) : Type 0 where
   pub stopped : after.drive.stopped ≡ true
-  pub mountable : IsMountable after.drive after.tables.given
+  pub keeps : Keeps before after
   pub size : size_of after.tables ≡ size_of before.tables
-  pub given : after.tables.given ≡ before.tables.given
-  pub next : after.tables.next ≡ before.tables.next
-  pub geometry : after.drive.geometry ≡ before.drive.geometry
-  pub refused : after.drive.refused ≡ before.drive.refused
-  pub appended : after.drive.appended ≡ before.drive.appended
 
--- what making room leaves: the array is the same
-abbrev pub RoomLeaves : {V : Type 0} → Mounted → Mounted → Result V DiskFault → Type 0
-RoomLeaves before after (Err Stopped) = StopKeeps before after × (mounted_array after ≡ mounted_array before)
-RoomLeaves before after result = KeepsArray before after
+-- what a part of a call leaves that writes nothing for the host: the array is the same, and the disk goes on unless its drive stopped
+abbrev pub RoomLeaves : {V : Type 0} → Mounted → Mounted → Option CleanView → Result V DiskFault → Type 0
+RoomLeaves before after clean (Err Stopped) = KeepsByCleaning before after
+RoomLeaves before after clean result = KeepsByCleaning before after × IsCleaned after clean
 
 -- what the next batch of a write of these blocks leaves: as many of them as it took are written; where the drive stopped, a front of them may be
-abbrev pub WriteLeaves : Bool → Mounted → Mounted → ℕ → List (List ℕ) → Result ℕ DiskFault → Type 0
-WriteLeaves trim before after first blocks (Ok count) = WritesBlocks trim before after first (take count blocks)
-WriteLeaves trim before after first blocks (Err Stopped) = StopKeeps before after × IsFront (mounted_array before) first blocks (mounted_array after)
-WriteLeaves trim before after first blocks (Err fault) = KeepsArray before after
+abbrev pub WriteLeaves : Bool → Mounted → Mounted → Option CleanView → ℕ → List (List ℕ) → Result ℕ DiskFault → Type 0
+WriteLeaves trim before after clean first blocks (Ok count) = WritesBlocks trim before after clean first (take count blocks)
+WriteLeaves trim before after clean first blocks (Err Stopped) = StopKeeps before after × IsFront (mounted_array before) first blocks (mounted_array after)
+WriteLeaves trim before after clean first blocks (Err fault) = KeepsByCleaning before after × IsCleaned after clean
 
 -- what a growth to a size leaves: the disk has it; where the drive stopped, the array may have grown
-abbrev pub GrowLeaves : Mounted → Mounted → ℕ → Result (Unit {0}) DiskFault → Type 0
-GrowLeaves before after size (Ok done) = Grows before after size
-GrowLeaves before after size (Err Stopped) =
+abbrev pub GrowLeaves : Mounted → Mounted → Option CleanView → ℕ → Result (Unit {0}) DiskFault → Type 0
+GrowLeaves before after clean size (Ok done) = Grows before after clean size
+GrowLeaves before after clean size (Err Stopped) =
     StopKeeps before after × ((mounted_array after ≡ mounted_array before) ⊎ (mounted_array after ≡ extended (zero_block before.drive.geometry.block) size (mounted_array before)))
-GrowLeaves before after size (Err fault) = KeepsArray before after
+GrowLeaves before after clean size (Err fault) = KeepsByCleaning before after × IsCleaned after clean

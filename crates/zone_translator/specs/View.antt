@@ -14,10 +14,11 @@ use Rattle.zone_translator.specs.declared.status.DiskStatus.{DiskStatus}
 use Rattle.zone_translator.specs.Changes.{IsCause}
 use Rattle.zone_translator.specs.Flat.{FlatDisk}
 
--- the drive below, what is known of it in memory, and whether `Stopped` was answered
+-- the drive below, what is known of it in memory, the clean that runs, and whether `Stopped` was answered
 pub record DiskView : Type 0 where
   pub drive : DriveState
   pub tables : TablesView
+  pub clean : Option CleanView
   pub status : DiskStatus
 
 -- how many logical blocks there are

@@ -1,12 +1,13 @@
-ghost use Rattle.std.specs.Prelude.{◌≡◌, ◌+◌, ◌≤◌, ◌<◌, IfOk, IfErr, OnOk, Some, None};
-ghost use Rattle.drive_port.specs.Contents.{contents};
+ghost use Rattle.std.specs.Prelude.{◌≡◌, ◌+◌, ◌*◌, ◌≤◌, ◌<◌, IfOk, IfErr, IfSome, IfNone, OnOk, None, Some};
 ghost use Rattle.zone_choice.specs.Agreement.{mounted};
-ghost use Rattle.zone_translator.specs.Changes.{AgreesWith, HasRoom, IsCause, RoomLeaves, disk_fault};
+ghost use Rattle.zone_choice.specs.Roles.{empty_count, next_of};
+ghost use Rattle.zone_translator.specs.Changes.{AgreesWith, HasRoom, IsCause, RoomLeaves, TakesHost, disk_fault};
 
 use crate::fault::DiskFault;
 use drive_port::{Device, Halt, finish};
 use std::alloc::Global;
 use zone_choice::{Filling, Tables, halt_of};
+use zone_cleaner::Cleaner;
 
 /// What a halt of the drive is to a disk.
 pub(crate) fn fault_of(halt: Halt) -> DiskFault
@@ -23,12 +24,13 @@ fn retire<D: Device>(
     alloc: Global,
     tables: &mut Tables,
     device: &mut D,
+    cleaner: &Cleaner,
     host: Filling,
 ) -> Result<(), DiskFault>
-    requires agrees { AgreesWith (D.drive device.old) tables.old }
+    requires agrees { AgreesWith (D.drive device.old) tables.old cleaner.now }
     requires host { tables.old.roles.host ≡ Some host }
     requires few { (D.drive device.old).geometry.capacity < host.written + 2 }
-    ensures leaves { RoomLeaves (mounted (D.drive device.old) tables.old) (mounted (D.drive device.new) tables.new) result }
+    ensures leaves { RoomLeaves (mounted (D.drive device.old) tables.old) (mounted (D.drive device.new) tables.new) cleaner.now result }
     ensures ok { OnOk result (tables.new.roles.host ≡ None) }
     ensures completed { (D.drive device.new).completed ≤ (D.drive device.old).completed + 1 }
     ensures err { IfErr result (λ fault. IsCause (D.drive device.new) tables.new.next fault) }
@@ -46,42 +48,66 @@ fn retire<D: Device>(
     Ok(())
 }
 
-/// Makes an empty zone the host zone, where there is none.
-fn take<D: Device>(tables: &mut Tables, device: &D) -> Result<Filling, DiskFault>
-    requires agrees { AgreesWith (D.drive device.now) tables.old }
-    requires host { tables.old.roles.host ≡ None }
-    ensures leaves { RoomLeaves (mounted (D.drive device.now) tables.old) (mounted (D.drive device.now) tables.new) result }
-    ensures ok { IfOk result (λ host. (tables.new.roles.host ≡ Some host) × HasRoom (D.drive device.now) host) }
-    ensures err { IfErr result (λ fault. IsCause (D.drive device.now) tables.new.next fault) }
+/// Makes the next zone the host zone or, where there is none, the lowest empty zone, if it is not the last.
+fn take(tables: &mut Tables) -> Option<Filling>
+    requires { tables.old.roles.host ≡ None }
+    ensures some { IfSome result (λ host. TakesHost tables.old host tables.new) }
+    ensures none { IfNone result ((next_of tables.old.roles.second ≡ None) × (empty_count tables.old.roles < 2) × (tables.new ≡ tables.old)) }
 {
-    let Some(zone) = tables.take_empty() else {
-        return Err(DiskFault::NoRoom);
-    };
-    Ok(Filling {
+    if let Some(host) = tables.promote() {
+        return Some(host);
+    }
+    let zone = tables.take_empty()?;
+    Some(Filling {
         zone,
         written: 0,
         may_open: false,
     })
 }
 
-/// A host zone with two free blocks at least: the one that there is, or else the lowest empty zone.
+/// A host zone, where there is none: the next zone, or an empty one, or the zone that a clean leaves.
+fn find_host<D: Device>(
+    tables: &mut Tables,
+    device: &mut D,
+    cleaner: &mut Cleaner,
+) -> Result<Filling, DiskFault>
+    requires agrees { AgreesWith (D.drive device.old) tables.old cleaner.old }
+    requires host { tables.old.roles.host ≡ None }
+    ensures leaves { RoomLeaves (mounted (D.drive device.old) tables.old) (mounted (D.drive device.new) tables.new) cleaner.new result }
+    ensures ok { IfOk result (λ host. (tables.new.roles.host ≡ Some host) × HasRoom (D.drive device.new) host) }
+    ensures err { IfErr result (λ fault. IsCause (D.drive device.new) tables.new.next fault) }
+    ensures completed { (D.drive device.new).completed + 2 ≤ (D.drive device.old).completed + 2 * (D.drive device.old).geometry.capacity }
+{
+    if let Some(host) = take(tables) {
+        return Ok(host);
+    }
+    if let Err(fault) = cleaner.clean_zone(tables, device) {
+        return Err(DiskFault::from(fault));
+    }
+    match take(tables) {
+        Some(host) => Ok(host),
+        None => unreachable!(),
+    }
+}
+
+/// A host zone with two free blocks at least: the one that there is, or else another, which may take a clean.
 pub(crate) fn make_room<D: Device>(
     alloc: Global,
     tables: &mut Tables,
     device: &mut D,
+    cleaner: &mut Cleaner,
 ) -> Result<Filling, DiskFault>
-    requires agrees { AgreesWith (D.drive device.old) tables.old }
-    ensures leaves { RoomLeaves (mounted (D.drive device.old) tables.old) (mounted (D.drive device.new) tables.new) result }
+    requires agrees { AgreesWith (D.drive device.old) tables.old cleaner.old }
+    ensures leaves { RoomLeaves (mounted (D.drive device.old) tables.old) (mounted (D.drive device.new) tables.new) cleaner.new result }
     ensures ok { IfOk result (λ host. (tables.new.roles.host ≡ Some host) × HasRoom (D.drive device.new) host) }
     ensures err { IfErr result (λ fault. IsCause (D.drive device.new) tables.new.next fault) }
-    ensures completed { (D.drive device.new).completed ≤ (D.drive device.old).completed + 1 }
+    ensures completed { (D.drive device.new).completed + 1 ≤ (D.drive device.old).completed + 2 * (D.drive device.old).geometry.capacity }
 {
-    let Some(host) = tables.host() else {
-        return take(tables, device);
-    };
-    if host.written + 2 <= device.geometry().capacity {
-        return Ok(host);
+    if let Some(host) = tables.host() {
+        if host.written + 2 <= device.geometry().capacity {
+            return Ok(host);
+        }
+        retire(alloc, tables, device, cleaner, host)?;
     }
-    retire(alloc, tables, device, host)?;
-    take(tables, device)
+    find_host(tables, device, cleaner)
 }

@@ -14,6 +14,7 @@ use batch_log::Kind;
 use drive_port::{Device, Geometry};
 use std::alloc::{AllocError, Global};
 use zone_choice::{BatchBuilder, Filling, Tables, append_batch, batch_most};
+use zone_cleaner::Cleaner;
 
 /// What is written to blocks that follow one another.
 #[derive(Clone, Copy)]
@@ -66,14 +67,15 @@ fn find_room<D: Device>(
     alloc: Global,
     tables: &mut Tables,
     device: &mut D,
+    cleaner: &mut Cleaner,
 ) -> Result<Filling, DiskFault>
-    requires agrees { AgreesWith (D.drive device.old) tables.old }
-    ensures leaves { RoomLeaves (mounted (D.drive device.old) tables.old) (mounted (D.drive device.new) tables.new) result }
+    requires agrees { AgreesWith (D.drive device.old) tables.old cleaner.old }
+    ensures leaves { RoomLeaves (mounted (D.drive device.old) tables.old) (mounted (D.drive device.new) tables.new) cleaner.new result }
     ensures ok { IfOk result (λ host. IsRoom (D.drive device.new) tables.new host) }
     ensures cause { IfErr result (λ fault. IsCause (D.drive device.new) tables.new.next fault) }
-    ensures completed { (D.drive device.new).completed ≤ (D.drive device.old).completed + 1 }
+    ensures completed { (D.drive device.new).completed + 1 ≤ (D.drive device.old).completed + 2 * (D.drive device.old).geometry.capacity }
 {
-    let host = make_room(alloc, tables, device)?;
+    let host = make_room(alloc, tables, device, cleaner)?;
     let capacity = device.geometry().capacity as u64;
     if tables.next() >= (1 << 63) - capacity {
         return Err(DiskFault::Spent);
@@ -137,13 +139,14 @@ fn add_content(batch: &mut BatchBuilder, content: Content, count: usize) -> Resu
 fn build_batch<D: Device>(
     tables: &mut Tables,
     device: &D,
+    cleaner: &Cleaner,
     batch: &mut BatchBuilder,
     host: Filling,
     first: u32,
     left: u32,
     content: Content,
 ) -> Result<u32, AllocError>
-    requires agrees { AgreesWith (D.drive device.now) tables.old }
+    requires agrees { AgreesWith (D.drive device.now) tables.old cleaner.now }
     requires room { IsRoom (D.drive device.now) tables.old host }
     requires some { 1 ≤ left }
     requires in_range { first + left ≤ size_of tables.old }
@@ -166,24 +169,28 @@ pub(crate) fn next_batch<D: Device>(
     alloc: Global,
     tables: &mut Tables,
     device: &mut D,
+    cleaner: &mut Cleaner,
     batch: &mut BatchBuilder,
     first: u32,
     left: u32,
     content: Content,
 ) -> Result<u32, DiskFault>
-    requires agrees { AgreesWith (D.drive device.old) tables.old }
+    requires agrees { AgreesWith (D.drive device.old) tables.old cleaner.old }
     requires some { 1 ≤ left }
     requires in_range { first + left ≤ size_of tables.old }
     requires whole { IsWhole (D.drive device.old).geometry.block left content }
-    ensures leaves { WriteLeaves (is_trim content.entry) (mounted (D.drive device.old) tables.old) (mounted (D.drive device.new) tables.new) first (blocks_of (D.drive device.old).geometry.block left content.entry) result }
+    ensures leaves { WriteLeaves (is_trim content.entry) (mounted (D.drive device.old) tables.old) (mounted (D.drive device.new) tables.new) cleaner.new first (blocks_of (D.drive device.old).geometry.block left content.entry) result }
     ensures count { IfOk result (λ count. (1 ≤ count) × (count ≤ left) × IsBatchCount (D.drive device.old).geometry (is_trim content.entry) left count) }
     ensures cause { IfErr result (λ fault. IsCause (D.drive device.new) tables.new.next fault) }
-    ensures completed { (D.drive device.new).completed ≤ (D.drive device.old).completed + 2 }
+    ensures completed { (D.drive device.new).completed ≤ (D.drive device.old).completed + batch_commands (D.drive device.old).geometry }
 {
-    let host = find_room(alloc, tables, device)?;
-    let count = build_batch(tables, device, batch, host, first, left, content)?;
+    let host = find_room(alloc, tables, device, cleaner)?;
+    let count = build_batch(tables, device, cleaner, batch, host, first, left, content)?;
     match append_batch(alloc, tables, device, host.zone, batch) {
-        Ok(()) => Ok(count),
+        Ok(()) => {
+            cleaner.forget(batch.entries());
+            Ok(count)
+        }
         Err(halt) => Err(fault_of(halt)),
     }
 }
@@ -193,17 +200,18 @@ pub(crate) fn grow_batch<D: Device>(
     alloc: Global,
     tables: &mut Tables,
     device: &mut D,
+    cleaner: &mut Cleaner,
     batch: &mut BatchBuilder,
     blocks: u32,
 ) -> Result<(), DiskFault>
-    requires agrees { AgreesWith (D.drive device.old) tables.old }
+    requires agrees { AgreesWith (D.drive device.old) tables.old cleaner.old }
     requires grows { size_of tables.old ≤ blocks }
     requires reserve { FitsReserve (D.drive device.old).geometry blocks }
-    ensures leaves { GrowLeaves (mounted (D.drive device.old) tables.old) (mounted (D.drive device.new) tables.new) blocks result }
+    ensures leaves { GrowLeaves (mounted (D.drive device.old) tables.old) (mounted (D.drive device.new) tables.new) cleaner.new blocks result }
     ensures cause { IfErr result (λ fault. IsCause (D.drive device.new) tables.new.next fault) }
-    ensures completed { (D.drive device.new).completed ≤ (D.drive device.old).completed + 2 }
+    ensures completed { (D.drive device.new).completed ≤ (D.drive device.old).completed + batch_commands (D.drive device.old).geometry }
 {
-    let host = find_room(alloc, tables, device)?;
+    let host = find_room(alloc, tables, device, cleaner)?;
     let block_bytes = device.geometry().block;
     batch.start(Kind::Host, tables.next(), 0, Some(blocks));
     batch.encode(block_bytes)?;

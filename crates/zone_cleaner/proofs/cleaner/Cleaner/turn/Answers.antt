@@ -1,3 +1,4 @@
+use Rattle.zone_cleaner.proofs.RoomLaws.{room-done}
 use Rattle.zone_cleaner.proofs.TurnLaws.{on-done, turn_gives}
 use Rattle.zone_cleaner.proofs.cleaner.Cleaner.turn.Goals as goal
 
@@ -9,3 +10,6 @@ returns-clause-keeps g c = (turn_gives _ _ c.args.self.now c.step.new.self c.ste
 
 pub returns-clause-turns : goal.returns-clause-turns
 returns-clause-turns g c = on-done _ _ c.args.self.now c.step.new.self c.step.result c.requires.cleaned c.step.ensures.leaves
+
+pub returns-clause-room : goal.returns-clause-room
+returns-clause-room g c = room-done _ _ c.args.self.now c.step.new.self c.step.result c.requires.cleaned c.step.ensures.leaves

@@ -1,0 +1,102 @@
+-- A batch of the host keeps what holds between two turns, whether a clean runs or not; and the drive can be mounted after a stop inside it.
+use Rattle.std.proofs.Common.{◌≡◌, ◌≢◌, ℕ, ◌+◌, ◌<◌, ◌≤◌, Bool, true, false, cond, eqb, ltb, [], ◌∷◌, ◌++◌, length, Option, Some, None, refl, sym, inl, inr, arith}
+use Rattle.std.specs.Option.{option_map}
+use Rattle.std.proofs.lemmas.Bool.{ne_eqb}
+use Rattle.std.proofs.lemmas.List.{length-set}
+use Rattle.zone_states.specs.declared.geometry.Geometry.{Geometry}
+use Rattle.batch_log.specs.Log.{Batch, batch_size}
+use Rattle.zone_choice.specs.declared.roles.Filling.{Filling}
+use Rattle.zone_choice.specs.declared.roles.Second.{Second}
+use Rattle.zone_choice.specs.declared.roles.Second.TheVariants.{Destination, Next}
+use Rattle.zone_choice.specs.Agreement.{Mounted, drive_logs}
+use Rattle.zone_choice.specs.Changes.{CanPlace, Places, StopsInside, roles_alone}
+use Rattle.zone_choice.specs.Records.{append_log}
+use Rattle.zone_choice.specs.Mountable.{IsMountable}
+use Rattle.zone_choice.specs.Reserve.{batch_most}
+use Rattle.zone_choice.specs.Roles.{RolesView, Differ, closed_beside, closed_unless, grown, second_with, wrote}
+use Rattle.zone_choice.specs.Spare.{HasSpare}
+use Rattle.zone_choice.specs.ZoneLogs.{log_at}
+use Rattle.zone_choice.proofs.AgreementLaws.{empty-spare_after, sound-weaker}
+use Rattle.zone_choice.proofs.AloneLaws.{alone-empty, stops-tables}
+use Rattle.zone_choice.proofs.CommandLaws.{filling-in_range}
+use Rattle.zone_cleaner.specs.Clean.{CleanView, IsAlone, forgotten, turns_left}
+use Rattle.zone_cleaner.specs.Start.{IsCleaned}
+use Rattle.zone_cleaner.proofs.HistoryLaws.{moves-beside, moves_have_spare}
+use Rattle.zone_cleaner.proofs.HostLaws.{host_gives, next-batch}
+use Rattle.zone_cleaner.proofs.SealedLaws.{sealed-apart, second-filling, zone-logs}
+use Rattle.zone_cleaner.proofs.TurnLaws.{cleans-spare}
+
+-- ---- the second zone
+
+-- the zone beside another, as a batch of the other one leaves it
+same-beside : (geometry : Geometry) (roles : RolesView) (zone blocks : ℕ) (f : Filling) → f.zone ≢ zone → (b : Bool) → (grown zone blocks (cond b f (closed_unless zone f))).written ≡ f.written
+same-beside geometry roles zone blocks f ne b = by b
+  where
+    other : eqb f.zone zone ≡ false
+    other = ne_eqb f.zone zone ne
+
+    by : (b : Bool) → (grown zone blocks (cond b f (closed_unless zone f))).written ≡ f.written
+    by true = rw other refl
+    by false = rw (other, other) refl
+
+alone-beside : (geometry : Geometry) (roles : RolesView) (host : Filling) (blocks : ℕ) → Differ (Some host) roles.second → IsAlone geometry.capacity roles.second → IsAlone geometry.capacity (wrote (roles_alone geometry roles host.zone) host.zone blocks).second
+alone-beside geometry roles host blocks differ alone = whole (ltb 1 geometry.open)
+  where
+    zone : ℕ
+    zone = host.zone
+
+    by : (b : Bool) (second : Option Second) → Differ (Some host) second → IsAlone geometry.capacity second → IsAlone geometry.capacity (option_map (second_with (grown zone blocks)) (cond b second (option_map (second_with (closed_unless zone)) second)))
+    by true None differ alone = tt
+    by false None differ alone = tt
+    by b (Some (Destination f)) differ alone = absurd alone
+    by true (Some (Next f)) differ alone = omega (arith, alone, same-beside geometry roles zone blocks f (λ same. differ (sym same)) true)
+    by false (Some (Next f)) differ alone = omega (arith, alone, same-beside geometry roles zone blocks f (λ same. differ (sym same)) false)
+
+    whole : (b : Bool) → IsAlone geometry.capacity (wrote (cond b roles (closed_beside roles zone)) zone blocks).second
+    whole true = by true roles.second differ alone
+    whole false = by false roles.second differ alone
+
+host-apart : (host : Option Filling) (second : Option Second) (h f : Filling) → Differ host second → host ≡ Some h → second ≡ Some (Destination f) → h.zone ≢ f.zone
+host-apart host second h f differ host-is second-is = let here = rw (host-is, second-is) at differ in here
+
+-- ---- a batch of the host
+
+pub host_cleaned : (before after : Mounted) (clean : Option CleanView) (host : Filling) (b : Batch) → IsCleaned before clean → before.tables.roles.host ≡ Some host → CanPlace before host.zone b → Places before after host.zone b → IsCleaned after (option_map (forgotten b.heading.entries) clean)
+host_cleaned before after None host b is host-is can done =
+    (done.agrees, (rw (done.roles, alone-empty before.drive.geometry before.tables.roles host.zone) is.1.0, rw (done.roles, done.geometry) (alone-beside before.drive.geometry before.tables.roles host (batch_size b) (rw host-is at is.0.roles.apart.differ) is.1.1)))
+host_cleaned before after (Some c) host b is host-is can done =
+    let apart = host-apart before.tables.roles.host before.tables.roles.second host is.1.destination is.0.roles.apart.differ host-is is.1.second in
+    (done.agrees, (host_gives before after c host.zone b is.1 can apart done).clean)
+
+-- no more turns are left
+pub host_turns : (before after : Mounted) (clean : Option CleanView) (host : Filling) (b : Batch) → IsCleaned before clean → before.tables.roles.host ≡ Some host → CanPlace before host.zone b → Places before after host.zone b
+    → turns_left (batch_most before.drive.geometry) after.tables (option_map (forgotten b.heading.entries) clean) ≤ turns_left (batch_most before.drive.geometry) before.tables clean
+host_turns before after None host b is host-is can done = omega arith
+host_turns before after (Some c) host b is host-is can done =
+    let apart = host-apart before.tables.roles.host before.tables.roles.second host is.1.destination is.0.roles.apart.differ host-is is.1.second in
+    (host_gives before after c host.zone b is.1 can apart done).turns
+
+-- ---- a stop inside its Append
+
+spare-beside : (before : Mounted) (clean : Option CleanView) (host : Filling) (b : Batch) → IsCleaned before clean → before.tables.roles.host ≡ Some host → CanPlace before host.zone b → HasSpare before.drive.geometry.block before.tables.given (append_log (drive_logs before.drive) host.zone b)
+spare-beside before None host b is host-is can = empty-spare_after before.drive before.tables host.zone b is.0 is.1.0 can.filling
+spare-beside before (Some c) host b is host-is can =
+    let f = is.1.destination in
+    let logs = drive_logs before.drive in
+    let filling = second-filling before.tables.roles (Destination f) is.1.second in
+    let ne = host-apart before.tables.roles.host before.tables.roles.second host f is.0.roles.apart.differ host-is is.1.second in
+    let lt : host.zone < length logs = omega (arith, filling-in_range before.drive before.tables host.zone can.agrees can.filling, zone-logs before.drive) in
+    let below : f.zone < length logs = omega (arith, filling-in_range before.drive before.tables f.zone is.0 filling, zone-logs before.drive) in
+    let away : host.zone ≢ c.victim = λ same. sealed-apart before.tables.roles c.victim host.zone is.1.victim can.filling (sym same) in
+    let moves = moves-beside before.drive.geometry.block (before.tables.next + 1) before.tables.given host.zone c.victim f.zone _ logs b lt away ne
+    (sound-weaker before.tables.next (before.tables.next + 1) before.tables.given logs (omega arith) can.agrees.sound) (next-batch before host.zone b can) is.1.moves in
+    moves_have_spare before.drive.geometry.block before.tables.given c.victim f.zone (append_log logs host.zone b) (sealed-apart before.tables.roles c.victim f.zone is.1.victim filling)
+    (omega (arith, below, length-set logs host.zone (log_at logs host.zone ++ b ∷ []))) moves
+
+pub host_stops : (before after : Mounted) (clean : Option CleanView) (host : Filling) (b : Batch) → IsCleaned before clean → before.tables.roles.host ≡ Some host → CanPlace before host.zone b → StopsInside before after host.zone b → IsMountable after.drive after.tables.given
+host_stops before after clean host b is host-is can stops =
+    let spare : HasSpare before.drive.geometry.block before.tables.given (drive_logs after.drive) = elim stops.left [
+      | inl same ↦ rw same.logs_are (cleans-spare before clean is)
+      | inr more ↦ rw more.logs_are (spare-beside before clean host b is host-is can)
+    ] in
+    rw (stops-tables before after host.zone b stops).given (stops.mountable spare)
