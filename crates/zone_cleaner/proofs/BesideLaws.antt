@@ -1,6 +1,9 @@
 -- A batch of the host keeps what holds between two turns, whether a clean runs or not; and the drive can be mounted after a stop inside it.
-use Rattle.std.proofs.Common.{◌≡◌, ◌≢◌, ℕ, ◌+◌, ◌<◌, ◌≤◌, Bool, true, false, cond, eqb, ltb, [], ◌∷◌, ◌++◌, length, Option, Some, None, refl, sym, inl, inr, arith}
+use Rattle.std.proofs.Common.{◌≡◌, ◌≢◌, ℕ, ◌+◌, ◌<◌, ◌≤◌, ◌^◌, Bool, true, false, cond, eqb, ltb, [], ◌∷◌, ◌++◌, length, Option, Some, None, Ok, Err, refl, sym, inl, inr, arith}
+use Rattle.drive_port.specs.declared.device.Halt.{Halt}
+use Rattle.drive_port.specs.declared.device.Halt.TheVariants as halt
 use Rattle.std.specs.Option.{option_map}
+use Rattle.std.specs.List.{AllByRecursion}
 use Rattle.std.proofs.lemmas.Bool.{ne_eqb}
 use Rattle.std.proofs.lemmas.List.{length-set}
 use Rattle.zone_states.specs.declared.geometry.Geometry.{Geometry}
@@ -9,21 +12,24 @@ use Rattle.zone_choice.specs.declared.roles.Filling.{Filling}
 use Rattle.zone_choice.specs.declared.roles.Second.{Second}
 use Rattle.zone_choice.specs.declared.roles.Second.TheVariants.{Destination, Next}
 use Rattle.zone_choice.specs.Agreement.{Mounted, drive_logs}
-use Rattle.zone_choice.specs.Changes.{CanPlace, Places, StopsInside, roles_alone}
+use Rattle.zone_choice.specs.Changes.{AppendLeaves, CanPlace, KeepsArray, Places, StopsInside, close_count, closes_before, roles_alone}
 use Rattle.zone_choice.specs.Records.{append_log}
 use Rattle.zone_choice.specs.Mountable.{IsMountable}
 use Rattle.zone_choice.specs.Reserve.{batch_most}
-use Rattle.zone_choice.specs.Roles.{RolesView, Differ, closed_beside, closed_unless, grown, second_with, wrote}
+use Rattle.zone_choice.specs.Roles.{RolesView, Differ, closed_beside, closed_unless, grown, second_with, wrote, open_beside}
 use Rattle.zone_choice.specs.Spare.{HasSpare}
 use Rattle.zone_choice.specs.ZoneLogs.{log_at}
 use Rattle.zone_choice.proofs.AgreementLaws.{empty-spare_after, sound-weaker}
-use Rattle.zone_choice.proofs.AloneLaws.{alone-empty, stops-tables}
+use Rattle.zone_choice.proofs.AloneLaws.{alone-empty, memory-keeps, stops-tables}
 use Rattle.zone_choice.proofs.CommandLaws.{filling-in_range}
 use Rattle.zone_cleaner.specs.Clean.{CleanView, IsAlone, forgotten, turns_left}
+use Rattle.zone_cleaner.specs.Host.{HostLeaves}
 use Rattle.zone_cleaner.specs.Start.{IsCleaned}
+use Rattle.zone_cleaner.proofs.CleanLaws.{turns_kept}
 use Rattle.zone_cleaner.proofs.HistoryLaws.{moves-beside, moves_have_spare}
 use Rattle.zone_cleaner.proofs.HostLaws.{host_gives, next-batch}
 use Rattle.zone_cleaner.proofs.SealedLaws.{sealed-apart, second-filling, zone-logs}
+use Rattle.zone_cleaner.proofs.NextLaws.{cleaned_kept}
 use Rattle.zone_cleaner.proofs.TurnLaws.{cleans-spare}
 
 -- ---- the second zone
@@ -100,3 +106,36 @@ host_stops before after clean host b is host-is can stops =
       | inr more ↦ rw more.logs_are (spare-beside before clean host b is host-is can)
     ] in
     rw (stops-tables before after host.zone b stops).given (stops.mountable spare)
+
+-- ---- what it leaves, by its answer
+
+kept_turns : (before after : Mounted) (clean : Option CleanView) (most : ℕ) → IsCleaned before clean → KeepsArray before after → turns_left most after.tables clean ≤ turns_left most before.tables clean
+kept_turns before after None most is kept = omega arith
+kept_turns before after (Some c) most is kept = omega (arith, turns_kept before after c most is.0 kept is.1)
+
+-- the blocks that the batch names are those of its entries
+pub host-leaves : (before after : Mounted) (clean : Option CleanView) (host : Filling) (b : Batch) → IsCleaned before clean → before.tables.roles.host ≡ Some host → CanPlace before host.zone b → Places before after host.zone b
+    → HostLeaves before clean host.zone b (Ok tt) after (option_map (forgotten b.heading.entries) clean)
+host-leaves before after clean host b is host-is can done = (done, refl, record { cleaned = host_cleaned before after clean host b is host-is can done; turns = host_turns before after clean host b is host-is can done })
+
+pub host-halts : (before after : Mounted) (clean : Option CleanView) (host : Filling) (b : Batch) (fault : Halt) → IsCleaned before clean → before.tables.roles.host ≡ Some host → CanPlace before host.zone b → AppendLeaves before after host.zone b (Err fault) → HostLeaves before clean host.zone b (Err fault) after clean
+host-halts before after clean host b halt.Memory is host-is can leaves =
+    let kept = memory-keeps before after host.zone b is.0 leaves in
+    (kept, refl, record { cleaned = cleaned_kept before after clean is kept; turns = kept_turns before after clean (batch_most before.drive.geometry) is kept })
+host-halts before after clean host b halt.Stopped is host-is can leaves = (leaves, refl, host_stops before after clean host b is host-is can leaves)
+
+-- one Close at most comes before it
+pub few-closes : (geometry : Geometry) (roles : RolesView) (zone : ℕ) → closes_before geometry roles zone ≤ 1
+few-closes geometry roles zone = by (ltb 1 geometry.open)
+  where
+    one : (b : Bool) → cond {A = ℕ} b 0 1 ≤ 1
+    one true = omega arith
+    one false = omega arith
+
+    count : (other : Option Filling) → close_count geometry.capacity other ≤ 1
+    count None = omega arith
+    count (Some filling) = one (eqb filling.written geometry.capacity)
+
+    by : (b : Bool) → cond {A = ℕ} b 0 (close_count geometry.capacity (open_beside roles zone)) ≤ 1
+    by true = omega arith
+    by false = count (open_beside roles zone)

@@ -20,6 +20,6 @@ pub mod KindLaws
 pub mod TurnLaws
 pub mod HostLaws
 pub mod RoomLaws
-pub mod BesideLaws
 pub mod NeedLaws
 pub mod NextLaws
+pub mod BesideLaws

@@ -2,7 +2,7 @@
 use Rattle.std.proofs.Common.{◌≡◌, ℕ, ◌+◌, ◌<◌, ◌≤◌, Bool, true, false, cond, map, length, set, get_or, Option, Some, None, Result, Ok, Err, refl, sym, ap, ◌∙◌, arith}
 use Rattle.std.specs.List.{count_by}
 use Rattle.std.specs.Option.{option_map}
-use Rattle.std.specs.Prelude.{OnOk}
+use Rattle.std.specs.Prelude.{IfErr, OnOk}
 use Rattle.std.proofs.lemmas.List.Sums.{get_or-le-sum_by, sum_by-set}
 use Rattle.drive_port.specs.Drive.{DriveState}
 use Rattle.zone_choice.specs.declared.roles.Filling.{Filling}
@@ -24,7 +24,7 @@ use Rattle.zone_cleaner.specs.declared.step.Step.{Step}
 use Rattle.zone_cleaner.specs.declared.step.Step.TheVariants.{Gather, Move, Reset}
 use Rattle.zone_cleaner.specs.Clean.{CleanView, IsAlone, turns_left}
 use Rattle.zone_cleaner.specs.LiveRecords.{content_of, move_of}
-use Rattle.zone_cleaner.specs.Start.{GoesOn, IsCleaned, KeepsByCleaning, StartLeaves, TurnLeaves, TurnsFewer, trims}
+use Rattle.zone_cleaner.specs.Start.{GoesOn, IsCleaned, IsCleaningCause, KeepsByCleaning, StartLeaves, TurnLeaves, TurnsFewer, trims}
 use Rattle.zone_cleaner.specs.Turns.{StepDone, StepFails, StepLeaves, next_step, with_record}
 use Rattle.zone_cleaner.proofs.CleanLaws.{clean_kept, clean_spare, gather_gives, turns_kept}
 use Rattle.zone_cleaner.proofs.EndLaws.{destination-is}
@@ -139,9 +139,10 @@ keeps-kept before after c is kept =
 pub record TurnGives (before : Mounted) (old : Option CleanView) (result : Result (Unit {0}) CleanFault) (after : Mounted) (new : Option CleanView) : Type 0 where
   pub goes_on : GoesOn result after new
   pub keeps : KeepsByCleaning before after
+  pub cause : IfErr result (IsCleaningCause after.drive after.tables.next)
 
 fails_give : (before after : Mounted) (c : CleanView) (new : Option CleanView) (fault : CleanFault) → IsCleaned before (Some c) → StepFails fault before after → new ≡ Some c → TurnGives before (Some c) (Err fault) after new
-fails_give before after c new faults.OutOfMemory is fails same = let kept = keeps-kept before after c is fails in rw same (record { goes_on = kept.0; keeps = kept.1 })
+fails_give before after c new faults.OutOfMemory is fails same = let kept = keeps-kept before after c is fails in rw same (record { goes_on = kept.0; keeps = kept.1; cause = tt })
 fails_give before after c new faults.Stopped is fails same = record {
   goes_on = tt;
   keeps = record {
@@ -154,16 +155,18 @@ fails_give before after c new faults.Stopped is fails same = record {
     refused = fails.refused;
     next = omega (arith, fails.next, fails.appended);
   };
+  cause = fails.stopped;
 }
 fails_give before after c new faults.Spent is fails same = rw (same, fails.0) (record {
   goes_on = is;
   keeps = record { mountable = cleans_mountable before (Some c) is; array = refl; size = refl; trimmed = refl; given = refl; geometry = refl; refused = refl; next = refl };
+  cause = fails.1;
 })
 
 step_gives : (before after : Mounted) (c : CleanView) (new : Option CleanView) (result : Result (Unit {0}) CleanFault) → IsCleaned before (Some c) → StepLeaves (next_step (batch_most before.drive.geometry) before.tables c) before c result after new → TurnGives before (Some c) result after new
 step_gives before after c new (Ok done) is leaves =
     let forward = step_forward before after c new (next_step (batch_most before.drive.geometry) before.tables c) is refl leaves in
-    record { goes_on = forward.cleaned; keeps = step-keeps before after c new (next_step (batch_most before.drive.geometry) before.tables c) is forward.cleaned leaves }
+    record { goes_on = forward.cleaned; keeps = step-keeps before after c new (next_step (batch_most before.drive.geometry) before.tables c) is forward.cleaned leaves; cause = tt }
 step_gives before after c new (Err fault) is leaves = fails_give before after c new fault is leaves.0 leaves.1
 
 -- ---- a turn
@@ -192,6 +195,7 @@ turn_gives before after None new (Ok done) is leaves =
         refused = rw leaves.0 refl;
         next = omega (arith, started.3, ap (λ (d : DriveState). d.appended) leaves.0);
       };
+      cause = tt;
     }
 
 pub turns_fewer : (before after : Mounted) (old new : Option CleanView) → IsCleaned before old → TurnLeaves before old (Ok tt) after new → TurnsFewer before after old new

@@ -3,3 +3,4 @@ pub mod Gathered
 pub mod Clean
 pub mod Turns
 pub mod Start
+pub mod Host

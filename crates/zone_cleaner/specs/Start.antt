@@ -1,10 +1,12 @@
 -- When a clean starts, and what a turn and a whole clean leave.
 use Rattle.std.specs.Prelude.{◌≡◌, ℕ, ◌+◌, ◌≤◌, ◌<◌, Bool, true, false, map, Option, Some, None, is_some, Result, Ok, Err}
 use Rattle.zone_states.specs.declared.geometry.Geometry.{Geometry}
+use Rattle.drive_port.specs.Drive.{DriveState}
 use Rattle.logical_map.specs.Live.{live}
 use Rattle.logical_map.specs.declared.place.Place.{Place}
 use Rattle.logical_map.specs.declared.place.Place.TheVariants as places
 use Rattle.zone_choice.specs.Agreement.{Agrees, Mounted, mounted_array}
+use Rattle.zone_choice.specs.Changes.{sequence_end}
 use Rattle.zone_choice.specs.Mountable.{IsMountable}
 use Rattle.zone_choice.specs.Reserve.{batch_most, fill}
 use Rattle.zone_choice.specs.Roles.{IsLowestEmpty, empty_count, next_of, with_destination}
@@ -58,6 +60,12 @@ IsCleaned disk clean = Agrees disk × Cleans disk clean
 abbrev pub GoesOn : Result (Unit {0}) CleanFault → Mounted → Option CleanView → Type 0
 GoesOn (Err faults.Stopped) disk clean = Unit {0}
 GoesOn result disk clean = IsCleaned disk clean
+
+-- why a turn was not done: the drive has stopped, or no sequence is left for a Move; of memory nothing can be said
+abbrev pub IsCleaningCause : DriveState → ℕ → CleanFault → Type 0
+IsCleaningCause drive next faults.OutOfMemory = Unit {0}
+IsCleaningCause drive next faults.Stopped = drive.stopped ≡ true
+IsCleaningCause drive next faults.Spent = sequence_end drive.geometry ≤ next
 
 -- whether the newest record of a block is a trim, by its place
 abbrev pub trims : Place → Option Bool

@@ -1,21 +1,24 @@
-ghost use Rattle.std.specs.Prelude.{◌≡◌, ◌≢◌, ◌≤◌, ◌<◌, ◌+◌, ◌*◌, ◌^◌, true, Err, IfOk, OnOk, None, Some, is_some, length};
+ghost use Rattle.std.specs.Prelude.{◌≡◌, ◌≢◌, ◌≤◌, ◌<◌, ◌+◌, ◌*◌, ◌^◌, true, Err, IfErr, IfOk, OnOk, None, Some, is_some, length};
 ghost use Rattle.std.specs.List.{AllByRecursion};
 ghost use Rattle.std.specs.Option.{option_map};
 ghost use Rattle.zone_choice.specs.Agreement.{mounted};
+ghost use Rattle.zone_choice.specs.Builder.{IsBuilt, built};
+ghost use Rattle.zone_choice.specs.Changes.{CanPlace};
 ghost use Rattle.zone_choice.specs.Reserve.{batch_most};
 ghost use Rattle.zone_choice.specs.Roles.{empty_count, next_of};
 ghost use Rattle.zone_cleaner.specs.Clean.{forgotten, turns_left};
-ghost use Rattle.zone_cleaner.specs.Start.{FindsDue, GoesOn, IsCleaned, KeepsByCleaning, LeavesRoom, StartLeaves, TurnLeaves, TurnsFewer};
+ghost use Rattle.zone_cleaner.specs.Host.{HostLeaves};
+ghost use Rattle.zone_cleaner.specs.Start.{FindsDue, GoesOn, IsCleaned, IsCleaningCause, KeepsByCleaning, LeavesRoom, StartLeaves, TurnLeaves, TurnsFewer};
 ghost use Rattle.zone_states.specs.Geometry.{IsInRange};
 
 use crate::clean::Clean;
 use crate::fault::CleanFault;
 use crate::step::Step;
 use batch_log::Entry;
-use drive_port::{Device, Geometry};
+use drive_port::{Device, Geometry, Halt};
 use std::alloc::Global;
 use std::marker::Model;
-use zone_choice::{BatchBuilder, Tables, batch_most, fill};
+use zone_choice::{BatchBuilder, Filling, Tables, append_batch, batch_most, fill};
 
 /// Cleans the zones of a drive one after the other, in turns between the host's commands.
 #[derive(Drop)]
@@ -84,6 +87,32 @@ impl Cleaner {
         }
     }
 
+    /// Appends a batch of the host to the host zone and, after the Append, takes the blocks that it names out of the
+    /// gathered records. A clean that runs goes on, with no more turns left.
+    pub fn append_batch<D: Device>(
+        &mut self,
+        alloc: Global,
+        tables: &mut Tables,
+        device: &mut D,
+        host: Filling,
+        batch: &BatchBuilder,
+    ) -> Result<(), Halt>
+        requires cleaned { IsCleaned (mounted (D.drive device.old) tables.old) self.old }
+        requires host { tables.old.roles.host ≡ Some host }
+        requires built { IsBuilt (D.drive device.old).geometry.block batch.now }
+        requires can { CanPlace (mounted (D.drive device.old) tables.old) host.zone (built (D.drive device.old).geometry.block batch.now) }
+        ensures leaves { HostLeaves (mounted (D.drive device.old) tables.old) self.old host.zone (built (D.drive device.old).geometry.block batch.now) result (mounted (D.drive device.new) tables.new) self.new }
+        ensures completed { (D.drive device.new).completed ≤ (D.drive device.old).completed + 2 }
+    {
+        match append_batch(alloc, tables, device, host.zone, batch) {
+            Ok(()) => {
+                self.forget(batch.entries());
+                Ok(())
+            }
+            Err(halt) => Err(halt),
+        }
+    }
+
     /// Starts a clean, if one is due: of the sealed zone with the fewest live records, into the lowest empty
     /// zone. No command is sent.
     pub fn start(&mut self, tables: &mut Tables, geometry: &Geometry)
@@ -130,6 +159,7 @@ impl Cleaner {
         requires cleaned { IsCleaned (mounted (D.drive device.old) tables.old) self.old }
         ensures leaves { TurnLeaves (mounted (D.drive device.old) tables.old) self.old result (mounted (D.drive device.new) tables.new) self.new }
         ensures goes_on { GoesOn result (mounted (D.drive device.new) tables.new) self.new }
+        ensures cause { IfErr result (IsCleaningCause (D.drive device.new) tables.new.next) }
         ensures keeps { KeepsByCleaning (mounted (D.drive device.old) tables.old) (mounted (D.drive device.new) tables.new) }
         ensures turns { OnOk result (TurnsFewer (mounted (D.drive device.old) tables.old) (mounted (D.drive device.new) tables.new) self.old self.new) }
         ensures room { OnOk result (LeavesRoom (mounted (D.drive device.old) tables.old) (mounted (D.drive device.new) tables.new) self.old self.new) }
@@ -149,6 +179,7 @@ impl Cleaner {
         ensures ended { OnOk result (self.new ≡ None) }
         ensures room { OnOk result (LeavesRoom (mounted (D.drive device.old) tables.old) (mounted (D.drive device.new) tables.new) self.old None) }
         ensures goes_on { GoesOn result (mounted (D.drive device.new) tables.new) self.new }
+        ensures cause { IfErr result (IsCleaningCause (D.drive device.new) tables.new.next) }
         ensures keeps { KeepsByCleaning (mounted (D.drive device.old) tables.old) (mounted (D.drive device.new) tables.new) }
         ensures completed { (D.drive device.new).completed ≤ (D.drive device.old).completed + 2 * turns_left (batch_most (D.drive device.old).geometry) tables.old self.old }
     {
@@ -173,6 +204,7 @@ impl Cleaner {
         ensures ended { OnOk result (self.new ≡ None) }
         ensures room { OnOk result ((tables.new.roles.host ≡ None) × (is_some (next_of tables.new.roles.second) ≡ true)) }
         ensures goes_on { GoesOn result (mounted (D.drive device.new) tables.new) self.new }
+        ensures cause { IfErr result (IsCleaningCause (D.drive device.new) tables.new.next) }
         ensures keeps { KeepsByCleaning (mounted (D.drive device.old) tables.old) (mounted (D.drive device.new) tables.new) }
         ensures completed { (D.drive device.new).completed + 2 ≤ (D.drive device.old).completed + 2 * (D.drive device.old).geometry.capacity }
     {

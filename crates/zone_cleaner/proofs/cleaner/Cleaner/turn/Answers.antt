@@ -8,6 +8,9 @@ returns-clause-goes_on g c = (turn_gives _ _ c.args.self.now c.step.new.self c.s
 pub returns-clause-keeps : goal.returns-clause-keeps
 returns-clause-keeps g c = (turn_gives _ _ c.args.self.now c.step.new.self c.step.result c.requires.cleaned c.step.ensures.leaves).keeps
 
+pub returns-clause-cause : goal.returns-clause-cause
+returns-clause-cause g c = (turn_gives _ _ c.args.self.now c.step.new.self c.step.result c.requires.cleaned c.step.ensures.leaves).cause
+
 pub returns-clause-turns : goal.returns-clause-turns
 returns-clause-turns g c = on-done _ _ c.args.self.now c.step.new.self c.step.result c.requires.cleaned c.step.ensures.leaves
 
