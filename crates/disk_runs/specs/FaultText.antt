@@ -21,7 +21,6 @@ disk_refusal disk.OutOfRange = record { number = 1; name = codes "OutOfRange" }
 disk_refusal disk.OutOfMemory = record { number = 2; name = codes "OutOfMemory" }
 disk_refusal disk.Stopped = record { number = 3; name = codes "Stopped" }
 disk_refusal disk.Spent = record { number = 4; name = codes "Spent" }
-disk_refusal disk.NoRoom = record { number = 6; name = codes "NoRoom" }
 disk_refusal disk.Smaller = record { number = 7; name = codes "Smaller" }
 disk_refusal disk.Reserve = record { number = 8; name = codes "Reserve" }
 

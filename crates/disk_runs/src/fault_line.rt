@@ -19,7 +19,6 @@ fn disk_refusal(fault: DiskFault) -> (u8, &'static str)
         DiskFault::OutOfMemory => (2, "OutOfMemory"),
         DiskFault::Stopped => (3, "Stopped"),
         DiskFault::Spent => (4, "Spent"),
-        DiskFault::NoRoom => (6, "NoRoom"),
         DiskFault::Smaller => (7, "Smaller"),
         DiskFault::Reserve => (8, "Reserve"),
     }

@@ -112,11 +112,6 @@ const FAULTS: [(RunFault, &str, &str); 14] = [
         "Disk",
     ),
     (
-        RunFault::Disk(DiskFault::NoRoom),
-        "fault disk 6 NoRoom\n",
-        "Disk",
-    ),
-    (
         RunFault::Mount(MountFault::Limits),
         "fault mount 2 Limits\n",
         "Mount",

@@ -8,14 +8,19 @@ use Rattle.zone_states.specs.Zone.{Zone}
 use Rattle.zone_report.specs.Report.{matching}
 use Rattle.zone_states.specs.Geometry.{IsInRange}
 use Rattle.drive_port.specs.Drive.{DriveState, IsClosing}
+use Rattle.zone_choice.specs.Agreement.{mounted}
 use Rattle.zone_choice.specs.Tables.{TablesView, size_of}
 use Rattle.zone_choice.specs.Mountable.{IsMountable}
 use Rattle.zone_translator.specs.declared.fault.DiskFault.{DiskFault}
 use Rattle.zone_translator.specs.declared.fault.DiskFault.TheVariants as faults
 use Rattle.zone_translator.specs.declared.status.DiskStatus.{DiskStatus}
 use Rattle.zone_translator.specs.declared.status.DiskStatus.TheVariants.{Serving, Stopped}
-use Rattle.zone_translator.specs.Changes.{AgreesWith}
+use Rattle.zone_cleaner.specs.declared.fault.CleanFault.{CleanFault}
+use Rattle.zone_cleaner.specs.Clean.{CleanView}
+use Rattle.zone_cleaner.specs.Start.{TurnLeaves}
+use Rattle.zone_translator.specs.Changes.{AgreesWith, cleaning_fault}
 use Rattle.zone_translator.specs.Flat.{Call, FlatCall, FlatDisk, known_answer, read}
+use Rattle.zone_translator.specs.View.{DiskView}
 
 -- a fact that is kept while a disk serves
 abbrev pub WhileServing : DiskStatus → Type 0 → Type 0
@@ -23,11 +28,11 @@ WhileServing Serving Fact = Fact
 WhileServing Stopped Fact = Unit {0}
 
 -- The drive of a disk has a geometry in range, and can be mounted. While the disk serves, the tables agree with the drive; and it has answered `Stopped` only where the drive has stopped.
-pub record Holds (drive : DriveState) (tables : TablesView) (status : DiskStatus) : Type 0 where
+pub record Holds (drive : DriveState) (tables : TablesView) (clean : Option CleanView) (status : DiskStatus) : Type 0 where
   pub mountable : IsMountable drive tables.given
   pub geometry : IsInRange drive.geometry
   pub short : size_of tables ≤ 2 ^ 31
-  pub agrees : WhileServing status (AgreesWith drive tables)
+  pub agrees : WhileServing status (AgreesWith drive tables clean)
   pub stopped : status ≡ Stopped → drive.stopped ≡ true
 
 -- what a refusal on its way leaves a disk in
@@ -71,3 +76,8 @@ pub record ReportsAll (old : DriveState) (bytes : List ℕ) (new : DriveState) :
   pub before : IsClosing old.zones zones
   pub bytes_are : bytes ≡ whole_report old.geometry zones
   pub after : IsClosing zones new.zones
+
+-- A turn of a disk that serves, by its answer: the next step of the clean that runs or, where none runs, the start of one that is due.
+abbrev pub IsTurn : DiskView → Result (Unit {0}) DiskFault → DiskView → Type 0
+IsTurn old (Ok done) new = TurnLeaves (mounted old.drive old.tables) old.clean (Ok tt) (mounted new.drive new.tables) new.clean
+IsTurn old (Err fault) new = (cause : CleanFault) × (fault ≡ cleaning_fault cause) × TurnLeaves (mounted old.drive old.tables) old.clean (Err cause) (mounted new.drive new.tables) new.clean

@@ -1,5 +1,6 @@
 -- What the parts of a disk's calls change, of a drive and the tables that agree with it.
-use Rattle.std.specs.Prelude.{◌≡◌, ◌⊎◌, ℕ, ◌<◌, ◌≤◌, ◌+◌, Bool, true, false, List, length, slice_index_or, Option, Some, None, count_by, take, Result, Ok, Err}
+use Rattle.std.specs.Prelude.{◌≡◌, ◌⊎◌, ℕ, ◌<◌, ◌≤◌, ◌+◌, ◌*◌, Bool, true, false, List, length, slice_index_or, Option, Some, None, count_by, take, Result, Ok, Err}
+use Rattle.zone_states.specs.declared.geometry.Geometry.{Geometry}
 use Rattle.drive_port.specs.Drive.{DriveState}
 use Rattle.drive_port.specs.declared.device.Halt.{Halt}
 use Rattle.drive_port.specs.declared.device.Halt.TheVariants as halt
@@ -8,7 +9,7 @@ use Rattle.logical_map.specs.declared.place.Place.{Place}
 use Rattle.logical_map.specs.declared.place.Place.TheVariants as places
 use Rattle.zone_choice.specs.declared.roles.Filling.{Filling}
 use Rattle.zone_choice.specs.Agreement.{Mounted, drive_logs, mounted, mounted_array}
-use Rattle.zone_choice.specs.Changes.{sequence_end}
+use Rattle.zone_choice.specs.Changes.{KeepsArray, sequence_end}
 use Rattle.zone_choice.specs.Mountable.{IsMountable}
 use Rattle.zone_choice.specs.Roles.{IsLowestEmpty, empty_count, next_of, promoted, taken}
 use Rattle.zone_choice.specs.Sizes.{extended, greatest}
@@ -44,6 +45,10 @@ abbrev pub cleaning_fault : CleanFault → DiskFault
 cleaning_fault faults.OutOfMemory = OutOfMemory
 cleaning_fault faults.Stopped = Stopped
 cleaning_fault faults.Spent = Spent
+
+-- at most how many commands a batch takes: those of the turns of a clean, a Finish, a Close, and the Append
+abbrev pub batch_commands : Geometry → ℕ
+batch_commands geometry = 2 * geometry.capacity + 1
 
 -- the host zone has a free block for a header and one for data
 abbrev pub HasRoom : DriveState → Filling → Type 0
@@ -95,6 +100,11 @@ pub record StopKeeps (before after : Mounted) : Type 0 where
   pub stopped : after.drive.stopped ≡ true
   pub keeps : Keeps before after
   pub size : size_of after.tables ≡ size_of before.tables
+
+-- What is left where the host zone is sealed, by the answer: the array is the same. Where the drive stopped, the tables did not change; but some agree with the drive that keep the array, too.
+abbrev pub RetireLeaves : Mounted → Mounted → Result (Unit {0}) DiskFault → Type 0
+RetireLeaves before after (Err Stopped) = (after.tables ≡ before.tables) × ((tables : TablesView) × KeepsArray before (mounted after.drive tables))
+RetireLeaves before after result = KeepsArray before after
 
 -- what a part of a call leaves that writes nothing for the host: the array is the same, and the disk goes on unless its drive stopped
 abbrev pub RoomLeaves : {V : Type 0} → Mounted → Mounted → Option CleanView → Result V DiskFault → Type 0

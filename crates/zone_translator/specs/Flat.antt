@@ -3,7 +3,7 @@ use Rattle.std.specs.Prelude.{◌≡◌, ◌⊎◌, ℕ, zero, suc, ◌+◌, ◌
 use Rattle.batch_log.specs.Log.{zero_block}
 use Rattle.zone_choice.specs.Sizes.{extended}
 use Rattle.zone_translator.specs.declared.fault.DiskFault.{DiskFault}
-use Rattle.zone_translator.specs.declared.fault.DiskFault.TheVariants.{OutOfRange, OutOfMemory, Stopped, Spent, NoRoom, Smaller, Reserve}
+use Rattle.zone_translator.specs.declared.fault.DiskFault.TheVariants.{OutOfRange, OutOfMemory, Stopped, Spent, Smaller, Reserve}
 use Rattle.zone_translator.specs.declared.status.DiskStatus.{DiskStatus}
 use Rattle.zone_translator.specs.declared.status.DiskStatus.TheVariants as statuses
 
@@ -71,14 +71,13 @@ IsAfterFront disk (write first blocks) fault new = IsFront disk.array first bloc
 IsAfterFront disk (grow size) Stopped new = (new ≡ disk.array) ⊎ (new ≡ extended (zero_block disk.block) size disk.array)
 IsAfterFront disk call fault new = new ≡ disk.array
 
--- why a call may be refused on its way: any because an allocation failed or the drive stopped; a write and a growth also for lack of sequences or of zones
+-- why a call may be refused on its way: any because an allocation failed or the drive stopped; one that may append a batch also for lack of sequences
 abbrev pub may_refuse : Call → DiskFault → Bool
 may_refuse call OutOfMemory = true
 may_refuse call Stopped = true
 may_refuse (write first blocks) Spent = true
-may_refuse (write first blocks) NoRoom = true
 may_refuse (grow size) Spent = true
-may_refuse (grow size) NoRoom = true
+may_refuse idle Spent = true
 may_refuse call fault = false
 
 -- ---- answers

@@ -1,5 +1,5 @@
 -- Which drives are mounted, and why others are not.
-use Rattle.std.specs.Prelude.{◌≡◌, ℕ, true}
+use Rattle.std.specs.Prelude.{◌≡◌, ℕ, true, None}
 use Rattle.zone_states.specs.Geometry.{IsInRange}
 use Rattle.drive_port.specs.Drive.{DriveState}
 use Rattle.drive_port.specs.declared.calls.PortFault.{PortFault}
@@ -25,7 +25,7 @@ MountRefuses drive blocks OutOfMemory back = Unit {0}
 
 -- the tables of a disk over a fresh drive
 pub record IsFreshDisk (old new : DriveState) (tables : TablesView) (blocks : ℕ) : Type 0 where
-  pub agrees : AgreesWith new tables
+  pub agrees : AgreesWith new tables None
   pub size : size_of tables ≡ blocks
   pub given : tables.given ≡ blocks
   pub fresh : IsFresh old

@@ -8,6 +8,7 @@ use Rattle.zone_choice.specs.Agreement.{drive_logs, spelled}
 use Rattle.zone_choice.specs.Sizes.{greatest, map_of}
 use Rattle.zone_choice.specs.Mountable.{IsMountable}
 use Rattle.zone_choice.specs.Reserve.{batch_most, most_size}
+use Rattle.zone_cleaner.specs.Clean.{CleanView, turns_left}
 use Rattle.zone_translator.specs.declared.fault.DiskFault.{DiskFault}
 use Rattle.zone_translator.specs.declared.fault.DiskFault.TheVariants.{OutOfRange, Smaller, Reserve}
 use Rattle.zone_translator.specs.declared.status.DiskStatus.{DiskStatus}
@@ -68,6 +69,10 @@ DiskCause disk OutOfRange = Unit {0}
 DiskCause disk Smaller = Unit {0}
 DiskCause disk Reserve = Unit {0}
 DiskCause disk fault = IsCause disk.drive (next_sequence disk) fault
+
+-- how many turns are left of the clean that runs: one at least, if one runs
+abbrev pub disk_turns : DiskView → ℕ
+disk_turns disk = turns_left (batch_most disk.drive.geometry) disk.tables disk.clean
 
 -- ---- how many commands a call completes
 

@@ -1,20 +1,22 @@
-ghost use Rattle.std.specs.Prelude.{◌≡◌, ◌+◌, ◌<◌, ◌≤◌, ◌++◌, ◌^◌, ◌*◌, [], IfErr, IfOk, OnOk, OnErr, Some, count_by, false, true, length, replicate, slice_index_or, take};
+ghost use Rattle.std.specs.Prelude.{◌≡◌, ◌+◌, ◌<◌, ◌≤◌, ◌++◌, ◌^◌, ◌*◌, [], IfErr, IfOk, OnOk, OnErr, Some, count_by, is_some, false, true, length, replicate, slice_index_or, take};
 ghost use Rattle.drive_port.specs.Calls.{block_count, data_blocks};
 ghost use Rattle.logical_map.specs.Live.{lies_in};
 ghost use Rattle.logical_map.specs.declared.place.Place.TheVariants as places;
+ghost use Rattle.zone_choice.specs.Agreement.{mounted};
 ghost use Rattle.zone_choice.specs.Mountable.{IsMountable};
 ghost use Rattle.zone_choice.specs.Reserve.{FitsReserve};
 ghost use Rattle.zone_states.specs.Geometry.{IsInRange};
 ghost use Rattle.zone_states.specs.Zone.{cut_blocks};
-ghost use Rattle.zone_translator.specs.Calls.{Reads, ReportsAll, answer_before, done_of, growth_before, is_known, status_of};
+ghost use Rattle.zone_cleaner.specs.Start.{TurnsFewer};
+ghost use Rattle.zone_translator.specs.Calls.{IsTurn, Reads, ReportsAll, answer_before, done_of, growth_before, is_known, status_of};
 ghost use Rattle.zone_translator.specs.Batches.{IsBatchCount, IsWhole, blocks_of, is_trim};
-ghost use Rattle.zone_translator.specs.Changes.{AreNamed, IsCause, Names};
+ghost use Rattle.zone_translator.specs.Changes.{AreNamed, IsCause, Names, batch_commands};
 ghost use Rattle.zone_translator.specs.Flat.{FlatCall, IsFront, fill, grow, idle, known_growth, known_range, read, replaced, report, trim, with_nothing, write};
 ghost use Rattle.zone_translator.specs.declared.status.DiskStatus.TheVariants.{Serving};
 ghost use Rattle.batch_log.specs.Log.{zero_block};
 ghost use Rattle.zone_translator.specs.Mount.{IsFresh, KeepsDrive, MountRefuses};
 ghost use Rattle.zone_translator.specs.Read.{IsReadFault};
-ghost use Rattle.zone_translator.specs.View.{Completes, DiskCause, DiskView, KeepsDisk, array_of, disk_size, flat_of, given_size, most_batches, next_sequence, places_of, size_on};
+ghost use Rattle.zone_translator.specs.View.{Completes, DiskCause, DiskView, KeepsDisk, array_of, disk_size, flat_of, disk_turns, given_size, most_batches, next_sequence, places_of, size_on};
 
 use crate::fault::DiskFault;
 use crate::mount::{MountFault, fresh_tables};
@@ -27,12 +29,14 @@ use logical_map::Place;
 use std::alloc::Global;
 use std::marker::Model;
 use zone_choice::{BatchBuilder, Tables, most_blocks};
+use zone_cleaner::Cleaner;
 
 /// An array of logical blocks above a zoned drive. A disk owns its drive, and gives it back.
 #[derive(Drop)]
 pub struct Disk<D: Device + Drop> {
     device: D,
     tables: Tables,
+    cleaner: Cleaner,
     status: DiskStatus,
     batch: BatchBuilder,
     block: Vec<u8>,
@@ -45,9 +49,9 @@ impl<D: Device + Drop> Model for Disk<D> {
 
     ghost Value = { DiskView };
 
-    ghost view = { λ d. record { drive = D.drive d.device; tables = d.tables; status = d.status } };
+    ghost view = { λ d. record { drive = D.drive d.device; tables = d.tables; clean = d.cleaner; status = d.status } };
 
-    ghost invariant = { λ d. Holds (D.drive d.device) d.tables d.status };
+    ghost invariant = { λ d. Holds (D.drive d.device) d.tables d.cleaner d.status };
 }
 
 /// What a refusal leaves a disk in.
@@ -78,6 +82,7 @@ impl<D: Device + Drop> Disk<D> {
             Ok(tables) => Ok(Disk {
                 device,
                 tables,
+                cleaner: Cleaner::new(alloc),
                 status: DiskStatus::Serving,
                 batch: BatchBuilder::new(alloc),
                 block: Vec::new(alloc),
@@ -160,12 +165,13 @@ impl<D: Device + Drop> Disk<D> {
         ensures status { IfErr result (λ fault. self.new.status ≡ status_of fault) }
         ensures err { OnErr result (IsFront (array_of self.old) first (blocks_of self.old.drive.geometry.block left content.entry) (array_of self.new)) }
         ensures cause { IfErr result (λ fault. IsCause self.new.drive (next_sequence self.new) fault) }
-        ensures completed { Completes self.old 2 self.new }
+        ensures completed { Completes self.old (batch_commands self.old.drive.geometry) self.new }
     {
         let written = next_batch(
             self.alloc,
             &mut self.tables,
             &mut self.device,
+            &mut self.cleaner,
             &mut self.batch,
             first,
             left,
@@ -189,7 +195,7 @@ impl<D: Device + Drop> Disk<D> {
         ensures says { OnOk result (1 ≤ blocks → size_on self.new ≡ Some (disk_size self.new)) }
         ensures kept { KeepsDisk self.old self.new }
         ensures cause { IfErr result (DiskCause self.new) }
-        ensures completed { Completes self.old (2 * most_batches (is_trim content.entry) self.old blocks) self.new }
+        ensures completed { Completes self.old (most_batches (is_trim content.entry) self.old blocks * batch_commands self.old.drive.geometry) self.new }
     {
         if self.is_done(first, blocks)? {
             return Ok(());
@@ -214,6 +220,7 @@ impl<D: Device + Drop> Disk<D> {
         ensures array { array_of self.new ≡ array_of self.old }
         ensures size { disk_size self.new ≡ disk_size self.old }
         ensures ok { OnOk result (into.new.items ≡ into.old.items ++ slice_index_or (array_of self.old) block []) }
+        ensures turns { disk_turns self.new ≡ disk_turns self.old }
         ensures completed { Completes self.old 1 self.new }
         ensures serving { OnOk result (self.new.status ≡ Serving) }
         ensures status { IfErr result (λ fault. self.new.status ≡ status_of fault) }
@@ -236,6 +243,7 @@ impl<D: Device + Drop> Disk<D> {
         ensures array { array_of self.new ≡ array_of self.old }
         ensures size { disk_size self.new ≡ disk_size self.old }
         ensures ok { OnOk result (into.new.items ≡ slice_index_or (array_of self.old) block []) }
+        ensures turns { disk_turns self.new ≡ disk_turns self.old }
         ensures completed { Completes self.old 1 self.new }
         ensures serving { OnOk result (self.new.status ≡ Serving) }
         ensures status { IfErr result (λ fault. self.new.status ≡ status_of fault) }
@@ -279,7 +287,7 @@ impl<D: Device + Drop> Disk<D> {
 
     /// Writes `blocks` blocks of one byte from `first` on.
     ///
-    /// After a refusal on its way a front of them is written. After `OutOfMemory`, `Spent` or `NoRoom` the
+    /// After a refusal on its way a front of them is written. After `OutOfMemory` or `Spent` the
     /// disk goes on; after `Stopped` it needs a mount of the restarted drive, on which the front is found.
     pub fn fill(&mut self, first: u64, blocks: u64, byte: u8) -> Result<(), DiskFault>
         ensures flat { FlatCall (flat_of self.old) (fill self.old.drive.geometry.block first blocks byte) (with_nothing result) (flat_of self.new) }
@@ -288,7 +296,7 @@ impl<D: Device + Drop> Disk<D> {
         ensures untouched { is_known (flat_of self.old) (fill self.old.drive.geometry.block first blocks byte) ≡ true → self.new ≡ self.old }
         ensures kept { KeepsDisk self.old self.new }
         ensures cause { IfErr result (DiskCause self.new) }
-        ensures completed { Completes self.old (2 * blocks) self.new }
+        ensures completed { Completes self.old (blocks * batch_commands self.old.drive.geometry) self.new }
     {
         self.write_all(first, blocks, Content::Byte(byte))
     }
@@ -304,7 +312,7 @@ impl<D: Device + Drop> Disk<D> {
         ensures untouched { is_known (flat_of self.old) (write first (data_blocks self.old.drive.geometry bytes.now)) ≡ true → self.new ≡ self.old }
         ensures kept { KeepsDisk self.old self.new }
         ensures cause { IfErr result (DiskCause self.new) }
-        ensures completed { Completes self.old (2 * block_count self.old.drive.geometry bytes.now) self.new }
+        ensures completed { Completes self.old (block_count self.old.drive.geometry bytes.now * batch_commands self.old.drive.geometry) self.new }
     {
         let block = self.device.geometry().block as usize;
         self.write_all(first, (bytes.len() / block) as u64, Content::Bytes(bytes))
@@ -321,7 +329,7 @@ impl<D: Device + Drop> Disk<D> {
         ensures says { OnOk result (1 ≤ blocks → size_on self.new ≡ Some (disk_size self.new)) }
         ensures kept { KeepsDisk self.old self.new }
         ensures cause { IfErr result (DiskCause self.new) }
-        ensures completed { Completes self.old (2 * most_batches true self.old blocks) self.new }
+        ensures completed { Completes self.old (most_batches true self.old blocks * batch_commands self.old.drive.geometry) self.new }
     {
         self.write_all(first, blocks, Content::Trim)
     }
@@ -352,17 +360,18 @@ impl<D: Device + Drop> Disk<D> {
     pub fn grow(&mut self, blocks: u64) -> Result<(), DiskFault>
         ensures flat { FlatCall (flat_of self.old) (grow blocks) (with_nothing result) (flat_of self.new) }
         ensures says { OnOk result (size_on self.new ≡ Some blocks) }
-        ensures written { OnOk result (self.new.drive.appended ≡ self.old.drive.appended + 1) }
+        ensures written { OnOk result (self.old.drive.appended < self.new.drive.appended) }
         ensures untouched { is_known (flat_of self.old) (grow blocks) ≡ true → self.new ≡ self.old }
         ensures kept { KeepsDisk self.old self.new }
         ensures cause { IfErr result (DiskCause self.new) }
-        ensures completed { Completes self.old 2 self.new }
+        ensures completed { Completes self.old (batch_commands self.old.drive.geometry) self.new }
     {
         self.check_growth(blocks)?;
         let grown = grow_batch(
             self.alloc,
             &mut self.tables,
             &mut self.device,
+            &mut self.cleaner,
             &mut self.batch,
             blocks as u32,
         );
@@ -375,17 +384,37 @@ impl<D: Device + Drop> Disk<D> {
         }
     }
 
-    /// One turn of cleaning. There is nothing to clean yet.
+    /// One turn of cleaning: the next step of the clean that runs or, where none runs, the start of one that is
+    /// due.
+    ///
+    /// After `OutOfMemory` and `Spent` the clean is as it was, and goes on at the next turn.
     pub fn idle(&mut self) -> Result<(), DiskFault>
         ensures flat { FlatCall (flat_of self.old) idle (with_nothing result) (flat_of self.new) }
-        ensures nothing { self.new ≡ self.old }
+        ensures untouched { is_known (flat_of self.old) idle ≡ true → self.new ≡ self.old }
+        ensures turn { self.old.status ≡ Serving → IsTurn self.old result self.new }
+        ensures turns { self.old.status ≡ Serving → OnOk result (TurnsFewer (mounted self.old.drive self.old.tables) (mounted self.new.drive self.new.tables) self.old.clean self.new.clean) }
         ensures kept { KeepsDisk self.old self.new }
         ensures cause { IfErr result (DiskCause self.new) }
+        ensures completed { Completes self.old 2 self.new }
     {
-        match self.status {
-            DiskStatus::Serving => Ok(()),
-            DiskStatus::Stopped => Err(DiskFault::Stopped),
+        let DiskStatus::Serving = self.status else {
+            return Err(DiskFault::Stopped);
+        };
+        match self.cleaner.turn(&mut self.tables, &mut self.device) {
+            Ok(()) => Ok(()),
+            Err(cause) => {
+                let fault = DiskFault::from(cause);
+                self.status = status_of(fault);
+                Err(fault)
+            }
         }
+    }
+
+    /// Whether a clean runs, of which turns are left.
+    pub fn is_cleaning(&self) -> bool
+        ensures { result ≡ is_some self.now.clean }
+    {
+        self.cleaner.running()
     }
 
     /// A report of all zones of the drive, as Zone Management Receive gives it (Zoned Namespace Command
@@ -396,6 +425,7 @@ impl<D: Device + Drop> Disk<D> {
         ensures zones { IfOk result (λ bytes. ReportsAll self.old.drive bytes.items self.new.drive) }
         ensures kept { KeepsDisk self.old self.new }
         ensures cause { IfErr result (DiskCause self.new) }
+        ensures turns { disk_turns self.new ≡ disk_turns self.old }
         ensures completed { Completes self.old 1 self.new }
     {
         let DiskStatus::Serving = self.status else {
@@ -416,6 +446,7 @@ impl<D: Device + Drop> Disk<D> {
         ensures untouched { is_known (flat_of self.old) (read first blocks) ≡ true → self.new ≡ self.old }
         ensures kept { KeepsDisk self.old self.new }
         ensures cause { IfErr result (DiskCause self.new) }
+        ensures turns { disk_turns self.new ≡ disk_turns self.old }
         ensures completed { Completes self.old blocks self.new }
     {
         into.clear();

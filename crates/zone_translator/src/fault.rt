@@ -1,5 +1,6 @@
 use std::alloc::AllocError;
 use thiserror::Error;
+use zone_cleaner::CleanFault;
 
 /// Why a call of a disk was refused.
 #[derive(Clone, Copy, Debug, PartialEq, Eq, Error)]
@@ -19,10 +20,6 @@ pub enum DiskFault {
     /// trim a front is in place, a growth is not done, and reads go on.
     #[error("no sequence number is left for a batch of the disk")]
     Spent,
-    /// No zone is left for the host's batches: none is opened or Closed, and the last Empty one is
-    /// kept. Of a write, a fill or a trim a front is in place, a growth is not done, and reads go on.
-    #[error("no zone is left to write to")]
-    NoRoom,
     /// A growth to fewer blocks than the disk has. Nothing was sent, and nothing changed.
     #[error("the disk has more blocks already")]
     Smaller,
@@ -39,5 +36,20 @@ impl From<AllocError> for DiskFault {
 
     fn from(_error: AllocError) -> DiskFault {
         DiskFault::OutOfMemory
+    }
+}
+
+impl From<CleanFault> for DiskFault {
+    ghost use Rattle.std.specs.Prelude.{◌≡◌};
+    ghost use Rattle.zone_translator.specs.Changes.{cleaning_fault};
+
+    ghost from_gives = { λ cause fault. fault ≡ cleaning_fault cause };
+
+    fn from(cause: CleanFault) -> DiskFault {
+        match cause {
+            CleanFault::OutOfMemory => DiskFault::OutOfMemory,
+            CleanFault::Stopped => DiskFault::Stopped,
+            CleanFault::Spent => DiskFault::Spent,
+        }
     }
 }

@@ -1,8 +1,7 @@
 ghost use Rattle.std.specs.Prelude.{◌≡◌, ◌≤◌, ◌+◌, ◌++◌, ◌<◌, [], IfErr, OnOk, length, replicate, slice_index_or};
-ghost use Rattle.zone_choice.specs.Agreement.{mounted, spelled};
+ghost use Rattle.zone_choice.specs.Agreement.{Agrees, mounted, spelled};
 ghost use Rattle.zone_choice.specs.Changes.{KeepsArray};
 ghost use Rattle.zone_choice.specs.Tables.{size_of};
-ghost use Rattle.zone_translator.specs.Changes.{AgreesWith};
 ghost use Rattle.zone_translator.specs.Read.{IsReadFault};
 
 use crate::fault::DiskFault;
@@ -28,9 +27,8 @@ pub(crate) fn read_into<D: Device>(
     block: u32,
     into: &mut Vec<u8>,
 ) -> Result<(), DiskFault>
-    requires agrees { AgreesWith (D.drive device.old) tables.now }
+    requires agrees { Agrees (mounted (D.drive device.old) tables.now) }
     requires in_range { block < size_of tables.now }
-    ensures agrees { AgreesWith (D.drive device.new) tables.now }
     ensures kept { KeepsArray (mounted (D.drive device.old) tables.now) (mounted (D.drive device.new) tables.now) }
     ensures ok { OnOk result (into.new.items ≡ slice_index_or (spelled (D.drive device.old) tables.now.given) block []) }
     ensures err { IfErr result (IsReadFault (D.drive device.new)) }
@@ -55,9 +53,8 @@ pub(crate) fn read_block<D: Device>(
     block: u32,
     into: &mut Vec<u8>,
 ) -> Result<(), DiskFault>
-    requires agrees { AgreesWith (D.drive device.old) tables.now }
+    requires agrees { Agrees (mounted (D.drive device.old) tables.now) }
     requires in_range { block < size_of tables.now }
-    ensures agrees { AgreesWith (D.drive device.new) tables.now }
     ensures kept { KeepsArray (mounted (D.drive device.old) tables.now) (mounted (D.drive device.new) tables.now) }
     ensures ok { OnOk result (into.new.items ≡ into.old.items ++ slice_index_or (spelled (D.drive device.old) tables.now.given) block []) }
     ensures err { IfErr result (IsReadFault (D.drive device.new)) }

@@ -1,8 +1,7 @@
 ghost use Rattle.std.specs.Prelude.{◌≡◌, ◌+◌, ◌≤◌, IfErr, IfOk};
-ghost use Rattle.zone_choice.specs.Agreement.{mounted};
+ghost use Rattle.zone_choice.specs.Agreement.{Agrees, mounted};
 ghost use Rattle.zone_choice.specs.Changes.{KeepsArray};
 ghost use Rattle.zone_translator.specs.Calls.{ReportsAll};
-ghost use Rattle.zone_translator.specs.Changes.{AgreesWith};
 ghost use Rattle.zone_translator.specs.Read.{IsReadFault};
 
 use crate::fault::DiskFault;
@@ -21,8 +20,7 @@ pub(crate) fn report_all<D: Device>(
     tables: &Tables,
     device: &mut D,
 ) -> Result<Vec<u8>, DiskFault>
-    requires agrees { AgreesWith (D.drive device.old) tables.now }
-    ensures agrees { AgreesWith (D.drive device.new) tables.now }
+    requires agrees { Agrees (mounted (D.drive device.old) tables.now) }
     ensures kept { KeepsArray (mounted (D.drive device.old) tables.now) (mounted (D.drive device.new) tables.now) }
     ensures zones { IfOk result (λ bytes. ReportsAll (D.drive device.old) bytes.items (D.drive device.new)) }
     ensures err { IfErr result (IsReadFault (D.drive device.new)) }

@@ -1,7 +1,7 @@
 ghost use Rattle.std.specs.Prelude.{◌≡◌, ◌+◌, ◌*◌, ◌≤◌, ◌<◌, IfOk, IfErr, IfSome, IfNone, OnOk, None, Some};
-ghost use Rattle.zone_choice.specs.Agreement.{mounted};
+ghost use Rattle.zone_choice.specs.Agreement.{Agrees, mounted};
 ghost use Rattle.zone_choice.specs.Roles.{empty_count, next_of};
-ghost use Rattle.zone_translator.specs.Changes.{AgreesWith, HasRoom, IsCause, RoomLeaves, TakesHost, disk_fault};
+ghost use Rattle.zone_translator.specs.Changes.{AgreesWith, HasRoom, IsCause, RetireLeaves, RoomLeaves, TakesHost, disk_fault};
 
 use crate::fault::DiskFault;
 use drive_port::{Device, Halt, finish};
@@ -24,13 +24,12 @@ fn retire<D: Device>(
     alloc: Global,
     tables: &mut Tables,
     device: &mut D,
-    cleaner: &Cleaner,
     host: Filling,
 ) -> Result<(), DiskFault>
-    requires agrees { AgreesWith (D.drive device.old) tables.old cleaner.now }
+    requires agrees { Agrees (mounted (D.drive device.old) tables.old) }
     requires host { tables.old.roles.host ≡ Some host }
     requires few { (D.drive device.old).geometry.capacity < host.written + 2 }
-    ensures leaves { RoomLeaves (mounted (D.drive device.old) tables.old) (mounted (D.drive device.new) tables.new) cleaner.now result }
+    ensures leaves { RetireLeaves (mounted (D.drive device.old) tables.old) (mounted (D.drive device.new) tables.new) result }
     ensures ok { OnOk result (tables.new.roles.host ≡ None) }
     ensures completed { (D.drive device.new).completed ≤ (D.drive device.old).completed + 1 }
     ensures err { IfErr result (λ fault. IsCause (D.drive device.new) tables.new.next fault) }
@@ -107,7 +106,7 @@ pub(crate) fn make_room<D: Device>(
         if host.written + 2 <= device.geometry().capacity {
             return Ok(host);
         }
-        retire(alloc, tables, device, cleaner, host)?;
+        retire(alloc, tables, device, host)?;
     }
     find_host(tables, device, cleaner)
 }

@@ -1,19 +1,19 @@
 ghost use Rattle.std.specs.Prelude.{◌≡◌, ◌⊎◌, ◌++◌, ◌+◌, ◌≤◌, ◌<◌, ◌^◌, ◌*◌, IfOk, IfErr, OnOk, [], length};
 ghost use Rattle.batch_log.specs.Header.{IsSize, entry_room, header_block};
-ghost use Rattle.zone_choice.specs.Agreement.{mounted};
+ghost use Rattle.zone_choice.specs.Agreement.{Agrees, mounted};
 ghost use Rattle.zone_choice.specs.Builder.{entries_from};
 ghost use Rattle.zone_choice.specs.Reserve.{FitsReserve};
 ghost use Rattle.zone_choice.specs.Tables.{MakesRoom, size_of};
 ghost use Rattle.zone_states.specs.Geometry.{IsInRange};
 ghost use Rattle.zone_translator.specs.Batches.{IsAfter, IsBatchCount, IsNextBatch, IsRoom, IsWhole, IsWithin, batch_count, blocks_of, bytes_of, host_heading, is_trim};
-ghost use Rattle.zone_translator.specs.Changes.{AgreesWith, GrowLeaves, IsCause, RoomLeaves, WriteLeaves};
+ghost use Rattle.zone_translator.specs.Changes.{AgreesWith, GrowLeaves, IsCause, RoomLeaves, WriteLeaves, batch_commands};
 
 use crate::fault::DiskFault;
 use crate::room::{fault_of, make_room};
 use batch_log::Kind;
 use drive_port::{Device, Geometry};
 use std::alloc::{AllocError, Global};
-use zone_choice::{BatchBuilder, Filling, Tables, append_batch, batch_most};
+use zone_choice::{BatchBuilder, Filling, Tables, batch_most};
 use zone_cleaner::Cleaner;
 
 /// What is written to blocks that follow one another.
@@ -139,14 +139,13 @@ fn add_content(batch: &mut BatchBuilder, content: Content, count: usize) -> Resu
 fn build_batch<D: Device>(
     tables: &mut Tables,
     device: &D,
-    cleaner: &Cleaner,
     batch: &mut BatchBuilder,
     host: Filling,
     first: u32,
     left: u32,
     content: Content,
 ) -> Result<u32, AllocError>
-    requires agrees { AgreesWith (D.drive device.now) tables.old cleaner.now }
+    requires agrees { Agrees (mounted (D.drive device.now) tables.old) }
     requires room { IsRoom (D.drive device.now) tables.old host }
     requires some { 1 ≤ left }
     requires in_range { first + left ≤ size_of tables.old }
@@ -185,12 +184,9 @@ pub(crate) fn next_batch<D: Device>(
     ensures completed { (D.drive device.new).completed ≤ (D.drive device.old).completed + batch_commands (D.drive device.old).geometry }
 {
     let host = find_room(alloc, tables, device, cleaner)?;
-    let count = build_batch(tables, device, cleaner, batch, host, first, left, content)?;
-    match append_batch(alloc, tables, device, host.zone, batch) {
-        Ok(()) => {
-            cleaner.forget(batch.entries());
-            Ok(count)
-        }
+    let count = build_batch(tables, device, batch, host, first, left, content)?;
+    match cleaner.append_batch(alloc, tables, device, host, batch) {
+        Ok(()) => Ok(count),
         Err(halt) => Err(fault_of(halt)),
     }
 }
@@ -215,7 +211,7 @@ pub(crate) fn grow_batch<D: Device>(
     let block_bytes = device.geometry().block;
     batch.start(Kind::Host, tables.next(), 0, Some(blocks));
     batch.encode(block_bytes)?;
-    match append_batch(alloc, tables, device, host.zone, batch) {
+    match cleaner.append_batch(alloc, tables, device, host, batch) {
         Ok(()) => Ok(()),
         Err(halt) => Err(fault_of(halt)),
     }
