@@ -95,6 +95,7 @@ step-keeps before after c new (Gather block place) is cleaned done = record {
   geometry = done.0.geometry;
   refused = done.0.refused;
   next = omega (arith, done.0.next, done.0.appended);
+  appended = omega (arith, done.0.appended);
 }
 step-keeps before after c new Move is cleaned done = let moved = move-trims before after c is.0 is.1 done.0 in record {
   mountable = cleans_mountable after new cleaned;
@@ -105,6 +106,7 @@ step-keeps before after c new Move is cleaned done = let moved = move-trims befo
   geometry = done.0.places.geometry;
   refused = done.0.places.refused;
   next = omega (arith, done.0.places.next, done.0.places.appended);
+  appended = omega (arith, done.0.places.appended);
 }
 step-keeps before after c new Reset is cleaned done = record {
   mountable = cleans_mountable after new cleaned;
@@ -115,6 +117,7 @@ step-keeps before after c new Reset is cleaned done = record {
   geometry = done.0.geometry;
   refused = done.0.refused;
   next = omega (arith, done.0.next, done.0.appended);
+  appended = omega (arith, done.0.appended);
 }
 
 -- ---- a step that is not done
@@ -132,6 +135,7 @@ keeps-kept before after c is kept =
         geometry = kept.geometry;
         refused = kept.refused;
         next = omega (arith, kept.next, kept.appended);
+        appended = omega (arith, kept.appended);
       },
     )
 
@@ -154,12 +158,13 @@ fails_give before after c new faults.Stopped is fails same = record {
     geometry = fails.geometry;
     refused = fails.refused;
     next = omega (arith, fails.next, fails.appended);
+    appended = omega (arith, fails.appended);
   };
   cause = fails.stopped;
 }
 fails_give before after c new faults.Spent is fails same = rw (same, fails.0) (record {
   goes_on = is;
-  keeps = record { mountable = cleans_mountable before (Some c) is; array = refl; size = refl; trimmed = refl; given = refl; geometry = refl; refused = refl; next = refl };
+  keeps = record { mountable = cleans_mountable before (Some c) is; array = refl; size = refl; trimmed = refl; given = refl; geometry = refl; refused = refl; next = refl; appended = omega arith };
   cause = fails.1;
 })
 
@@ -194,6 +199,7 @@ turn_gives before after None new (Ok done) is leaves =
         geometry = rw leaves.0 refl;
         refused = rw leaves.0 refl;
         next = omega (arith, started.3, ap (λ (d : DriveState). d.appended) leaves.0);
+        appended = omega (arith, ap (λ (d : DriveState). d.appended) leaves.0);
       };
       cause = tt;
     }
@@ -211,7 +217,7 @@ turns_fewer before after None new is leaves = record { fewer = λ some. absurd (
 
 -- the same before any turn
 pub keeps-none : (disk : Mounted) (clean : Option CleanView) → IsCleaned disk clean → KeepsByCleaning disk disk
-keeps-none disk clean is = record { mountable = cleans_mountable disk clean is; array = refl; size = refl; trimmed = refl; given = refl; geometry = refl; refused = refl; next = refl }
+keeps-none disk clean is = record { mountable = cleans_mountable disk clean is; array = refl; size = refl; trimmed = refl; given = refl; geometry = refl; refused = refl; next = refl; appended = omega arith }
 
 pub keeps-more : (a b c : Mounted) → KeepsByCleaning a b → KeepsByCleaning b c → KeepsByCleaning a c
 keeps-more a b c p q = record {
@@ -223,6 +229,7 @@ keeps-more a b c p q = record {
   geometry = q.geometry ∙ p.geometry;
   refused = q.refused ∙ p.refused;
   next = omega (arith, p.next, q.next);
+  appended = omega (arith, p.appended, q.appended);
 }
 
 pub on-done : (before after : Mounted) (old new : Option CleanView) (result : Result (Unit {0}) CleanFault) → IsCleaned before old → TurnLeaves before old result after new → OnOk result (TurnsFewer before after old new)

@@ -83,6 +83,7 @@ pub record KeepsByCleaning (before after : Mounted) : Type 0 where
   pub geometry : after.drive.geometry ≡ before.drive.geometry
   pub refused : after.drive.refused ≡ before.drive.refused
   pub next : after.tables.next + before.drive.appended ≡ before.tables.next + after.drive.appended
+  pub appended : before.drive.appended ≤ after.drive.appended
 
 -- After a turn that is done, a clean that ran has fewer turns left; and one that has begun fewer than a zone has blocks.
 pub record TurnsFewer (before after : Mounted) (old new : Option CleanView) : Type 0 where

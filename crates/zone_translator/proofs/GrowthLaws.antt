@@ -1,5 +1,5 @@
 -- A growth: an empty batch that says the new size.
-use Rattle.std.proofs.Common.{◌≡◌, ◌⊎◌, ℕ, ◌+◌, ◌*◌, ◌≤◌, true, [], length, Some, Result, Err, refl, sym, ap, ◌∙◌, inl, inr, arith, append-nil}
+use Rattle.std.proofs.Common.{◌≡◌, ◌⊎◌, ℕ, ◌+◌, ◌*◌, ◌≤◌, true, [], Option, Some, Result, Ok, Err, refl, sym, ap, subst, ◌∙◌, inl, inr, arith, append-nil}
 use Rattle.zone_states.specs.declared.geometry.Geometry.{Geometry}
 use Rattle.drive_port.specs.Drive.{DriveState}
 use Rattle.drive_port.specs.declared.device.Halt.{Halt}
@@ -7,21 +7,23 @@ use Rattle.drive_port.specs.declared.device.Halt.TheVariants as halt
 use Rattle.batch_log.specs.Header.{Heading, header_block}
 use Rattle.batch_log.specs.Log.{Batch, data_count, zero_block}
 use Rattle.zone_choice.specs.declared.roles.Filling.{Filling}
-use Rattle.zone_choice.specs.Agreement.{Mounted, mounted, mounted_array, spelled}
+use Rattle.zone_choice.specs.Agreement.{Agrees, Mounted, mounted, mounted_array, spelled}
 use Rattle.zone_choice.specs.Builder.{BuilderView, IsBuilt, built, entries_from}
-use Rattle.zone_choice.specs.Changes.{CanPlace, KeepsArray, Places, told_over}
-use Rattle.zone_choice.specs.Changes.{AppendLeaves as ChoiceLeaves}
+use Rattle.zone_choice.specs.Changes.{CanPlace, told_over}
 use Rattle.zone_choice.specs.Reserve.{FitsReserve}
 use Rattle.zone_choice.specs.Sizes.{extended, size_or}
 use Rattle.zone_choice.specs.Tables.{TablesView, size_of}
-use Rattle.zone_choice.proofs.AloneLaws.{memory-keeps, stops-tables}
-use Rattle.zone_choice.proofs.ChangeLaws.{keeps-join, large-block}
+use Rattle.zone_choice.proofs.AloneLaws.{stops-tables}
+use Rattle.zone_choice.proofs.ChangeLaws.{large-block}
+use Rattle.zone_cleaner.specs.Clean.{CleanView}
+use Rattle.zone_cleaner.specs.Host.{HostLeaves}
+use Rattle.zone_cleaner.specs.Start.{IsCleaned, KeepsByCleaning}
 use Rattle.zone_translator.specs.Batches.{IsRoom, host_heading}
 use Rattle.zone_translator.specs.declared.fault.DiskFault.{DiskFault}
-use Rattle.zone_translator.specs.declared.fault.DiskFault.TheVariants.{OutOfRange, OutOfMemory, Stopped, Spent, NoRoom, Smaller, Reserve}
-use Rattle.zone_translator.specs.Changes.{AgreesWith, GrowLeaves, Grows, IsCause, RoomLeaves, disk_fault}
-use Rattle.zone_translator.proofs.RoomLaws.{serves-kept, stops-join}
-use Rattle.zone_translator.proofs.WriteLaws.{append_stops, appended-size, built-batch, can_place, serves-placed}
+use Rattle.zone_translator.specs.declared.fault.DiskFault.TheVariants.{OutOfRange, OutOfMemory, Stopped, Spent, Smaller, Reserve}
+use Rattle.zone_translator.specs.Changes.{GrowLeaves, Grows, IsCause, RoomLeaves, disk_fault}
+use Rattle.zone_translator.proofs.RoomLaws.{room-stops}
+use Rattle.zone_translator.proofs.WriteLaws.{append_stops, appended-size, built-batch, can_place, keeps-placed, memory-left}
 
 -- its batch, without an entry, is built and can be appended
 pub record IsGrowthBatch (disk : Mounted) (host : Filling) (size : ℕ) (builder : BuilderView) : Type 0 where
@@ -31,10 +33,9 @@ pub record IsGrowthBatch (disk : Mounted) (host : Filling) (size : ℕ) (builder
   pub grows : size_of disk.tables ≤ size
   pub tells : told_over disk.drive.geometry.block (built disk.drive.geometry.block builder) (mounted_array disk) ≡ extended (zero_block disk.drive.geometry.block) size (mounted_array disk)
 
-pub growth-batch : (old : DriveState) (tables : TablesView) (host : Filling) (size : ℕ) (builder : BuilderView) → AgreesWith old tables → IsRoom old tables host → size_of tables ≤ size → FitsReserve old.geometry size
+pub growth-batch : (old : DriveState) (tables : TablesView) (host : Filling) (size : ℕ) (builder : BuilderView) → Agrees (mounted old tables) → IsRoom old tables host → size_of tables ≤ size → FitsReserve old.geometry size
     → builder.heading ≡ host_heading size tables.next true 0 0 → builder.bytes ≡ header_block old.geometry.block (host_heading size tables.next true 0 0) → IsGrowthBatch (mounted old tables) host size builder
-growth-batch old tables host size builder serves room grows reserve heading bytes =
-    let agrees = serves.agrees in
+growth-batch old tables host size builder agrees room grows reserve heading bytes =
     let g = old.geometry in
     let large = large-block g agrees.geometry in
     let header = header_block g.block (host_heading size tables.next true 0 0) in
@@ -42,59 +43,58 @@ growth-batch old tables host size builder serves room grows reserve heading byte
     let made = built-batch g.block size tables.next true 0 0 [] builder (omega (arith, large)) (reserve.0, reserve.1) (omega arith) (omega (arith, room.next)) (omega arith) none heading (bytes ∙ sym (append-nil header)) in
     record {
       built_is = made.built_is;
-      can = rw made.batch_is (can_place old tables host true 0 0 _ serves room (omega arith) (omega arith) (omega (arith, room.free)) size grows reserve (λ block low high. absurd (omega arith)) (rw heading at made.says));
+      can = rw made.batch_is (can_place old tables host true 0 0 _ agrees room (omega arith) (omega arith) (omega (arith, room.free)) size grows reserve (λ block low high. absurd (omega arith)) (rw heading at made.says));
       size_is = ap (λ (h : Heading). h.size) heading;
       grows = grows;
       tells = ap (λ (b : Batch). told_over g.block b (mounted_array (mounted old tables))) made.batch_is;
     }
 
 -- after a zone was found for it
-pub grow-next : (a b : DriveState) (t u : TablesView) (host : Filling) (size : ℕ) (builder : BuilderView) (g : Geometry) → g ≡ b.geometry → AgreesWith a t → KeepsArray (mounted a t) (mounted b u) → IsRoom b u host → size_of t ≤ size → FitsReserve a.geometry size
-    → builder.heading ≡ host_heading size u.next true 0 0 → builder.bytes ≡ header_block g.block (host_heading size u.next true 0 0) → IsGrowthBatch (mounted b u) host size builder
-grow-next a b t u host size builder g g-is serves kept room grows reserve heading bytes =
-    let same : size_of u ≡ size_of t = ap length kept.places in
-    growth-batch b u host size builder (serves-kept a b t u serves kept) room (omega (arith, same, grows)) (rw kept.geometry reserve) heading (rw g-is at bytes)
+pub grow-next : (a b : Mounted) (host : Filling) (size : ℕ) (builder : BuilderView) (g : Geometry) → g ≡ b.drive.geometry → KeepsByCleaning a b → Agrees b → IsRoom b.drive b.tables host → size_of a.tables ≤ size → FitsReserve a.drive.geometry size
+    → builder.heading ≡ host_heading size b.tables.next true 0 0 → builder.bytes ≡ header_block g.block (host_heading size b.tables.next true 0 0) → IsGrowthBatch b host size builder
+grow-next a b host size builder g g-is kept agrees room grows reserve heading bytes =
+    growth-batch b.drive b.tables host size builder agrees room (omega (arith, kept.size, grows)) (subst (λ (x : Geometry). FitsReserve x size) (sym kept.geometry) reserve) heading (rw g-is at bytes)
 
-pub growth-writes : (a b c : DriveState) (t u v : TablesView) (host : Filling) (size : ℕ) (builder : BuilderView) → AgreesWith a t → KeepsArray (mounted a t) (mounted b u) → IsGrowthBatch (mounted b u) host size builder
-    → Places (mounted b u) (mounted c v) host.zone (built b.geometry.block builder) → Grows (mounted a t) (mounted c v) size
-growth-writes a b c t u v host size builder serves kept next placed =
-    let here = serves-kept a b t u serves kept in
+grown-array : (a b : Mounted) (size : ℕ) → KeepsByCleaning a b → extended (zero_block b.drive.geometry.block) size (mounted_array b) ≡ extended (zero_block a.drive.geometry.block) size (mounted_array a)
+grown-array a b size kept = ap (λ (g : Geometry). extended (zero_block g.block) size (mounted_array b)) kept.geometry ∙ ap (extended (zero_block a.drive.geometry.block) size) kept.array
+
+pub growth-writes : (a b c : Mounted) (old new : Option CleanView) (host : Filling) (size : ℕ) (builder : BuilderView) → KeepsByCleaning a b → IsCleaned b old → IsGrowthBatch b host size builder
+    → HostLeaves b old host.zone (built b.drive.geometry.block builder) (Ok tt) c new → Grows a c new size
+growth-writes a b c old new host size builder kept is next leaves =
+    let placed = leaves.0 in
+    let batch = built b.drive.geometry.block builder in
+    let keeps = keeps-placed a b c new host.zone batch kept placed leaves.2.cleaned in
     record {
-      serves = serves-placed b c u v host.zone (built b.geometry.block builder) here placed;
-      size_is = placed.size ∙ ap (size_or (size_of u)) next.size_is;
-      given = placed.given ∙ kept.given;
-      array = placed.array ∙ next.tells ∙ rw (kept.array, kept.geometry) refl;
-      says = appended-size b c u v host.zone size (built b.geometry.block builder) here next.can next.size_is next.grows placed;
-      next = placed.next ∙ ap (λ (n : ℕ). n + 1) kept.next;
-      geometry = placed.geometry ∙ kept.geometry;
-      refused = placed.refused ∙ kept.refused;
-      appended = placed.appended ∙ ap (λ (n : ℕ). n + 1) kept.appended;
+      serves = leaves.2.cleaned;
+      keeps = keeps;
+      size_is = placed.size ∙ ap (size_or (size_of b.tables)) next.size_is;
+      array = placed.array ∙ next.tells ∙ grown-array a b size kept;
+      says = appended-size b.drive c.drive b.tables c.tables host.zone size batch is.0 next.can next.size_is next.grows placed;
+      appended = omega (arith, kept.appended, placed.appended);
     }
 
-pub growth-halts : (a b c : DriveState) (t u v : TablesView) (host : Filling) (size : ℕ) (builder : BuilderView) (fault : Halt) → AgreesWith a t → KeepsArray (mounted a t) (mounted b u) → IsGrowthBatch (mounted b u) host size builder
-    → ChoiceLeaves (mounted b u) (mounted c v) host.zone (built b.geometry.block builder) (Err fault)
-    → GrowLeaves (mounted a t) (mounted c v) size (Err (disk_fault fault)) × IsCause c v.next (disk_fault fault)
-growth-halts a b c t u v host size builder halt.Memory serves kept next leaves =
-    (keeps-join (mounted a t) (mounted b u) (mounted c v) kept (memory-keeps (mounted b u) (mounted c v) host.zone (built b.geometry.block builder) kept.agrees leaves), tt)
-growth-halts a b c t u v host size builder halt.Stopped serves kept next leaves =
-    let here = serves-kept a b t u serves kept in
-    let left : (spelled c u.given ≡ mounted_array (mounted a t)) ⊎ (spelled c u.given ≡ extended (zero_block a.geometry.block) size (mounted_array (mounted a t))) = elim leaves.left [
+pub growth-halts : (a b c : Mounted) (old new : Option CleanView) (host : Filling) (size : ℕ) (builder : BuilderView) (fault : Halt) → KeepsByCleaning a b → IsCleaned b old → IsGrowthBatch b host size builder
+    → HostLeaves b old host.zone (built b.drive.geometry.block builder) (Err fault) c new → GrowLeaves a c new size (Err (disk_fault fault)) × IsCause c.drive c.tables.next (disk_fault fault)
+growth-halts a b c old new host size builder halt.Memory kept is next leaves = (memory-left a b c old new host.zone (built b.drive.geometry.block builder) kept is leaves, tt)
+growth-halts a b c old new host size builder halt.Stopped kept is next leaves =
+    let stops = leaves.0 in
+    let batch = built b.drive.geometry.block builder in
+    let left : (spelled c.drive b.tables.given ≡ mounted_array a) ⊎ (spelled c.drive b.tables.given ≡ extended (zero_block a.drive.geometry.block) size (mounted_array a)) = elim stops.left [
       | inl same ↦ inl (same.array_is ∙ kept.array)
-      | inr more ↦ inr (more.array_is ∙ next.tells ∙ rw (kept.array, kept.geometry) refl)
+      | inr more ↦ inr (more.array_is ∙ next.tells ∙ grown-array a b size kept)
     ] in
-    ((stops-join (mounted a t) (mounted b u) (mounted c v) kept (append_stops b c u v host.zone (built b.geometry.block builder) here next.can leaves), rw (stops-tables (mounted b u) (mounted c v) host.zone (built b.geometry.block builder) leaves).given left), leaves.stopped)
+    ((append_stops a b c host.zone batch kept stops leaves.2, rw (stops-tables b c host.zone batch stops).given left), stops.stopped)
 
-growth-without : (a b : Mounted) (size : ℕ) (fault : DiskFault) → RoomLeaves {V = Filling} a b (Err fault) → GrowLeaves a b size (Err fault)
-growth-without a b size OutOfRange leaves = leaves
-growth-without a b size OutOfMemory leaves = leaves
-growth-without a b size Stopped leaves = (leaves.0, inl leaves.1)
-growth-without a b size Spent leaves = leaves
-growth-without a b size NoRoom leaves = leaves
-growth-without a b size Smaller leaves = leaves
-growth-without a b size Reserve leaves = leaves
+growth-without : (a b : Mounted) (clean : Option CleanView) (size : ℕ) (fault : DiskFault) → RoomLeaves {V = Filling} a b clean (Err fault) → IsCause b.drive b.tables.next fault → GrowLeaves a b clean size (Err fault)
+growth-without a b clean size OutOfRange leaves cause = leaves
+growth-without a b clean size OutOfMemory leaves cause = leaves
+growth-without a b clean size Stopped leaves cause = (room-stops a b leaves cause, inl leaves.array)
+growth-without a b clean size Spent leaves cause = leaves
+growth-without a b clean size Smaller leaves cause = leaves
+growth-without a b clean size Reserve leaves cause = leaves
 
-pub growth-no_room : (a b : Mounted) (size : ℕ) (fault : DiskFault) (result : Result (Unit {0}) DiskFault) → result ≡ Err fault → RoomLeaves {V = Filling} a b (Err fault) → GrowLeaves a b size result
-growth-no_room a b size fault result is leaves = rw is (growth-without a b size fault leaves)
+pub growth-no_room : (a b : Mounted) (clean : Option CleanView) (size : ℕ) (fault : DiskFault) (result : Result (Unit {0}) DiskFault) → result ≡ Err fault → RoomLeaves {V = Filling} a b clean (Err fault) → IsCause b.drive b.tables.next fault → GrowLeaves a b clean size result
+growth-no_room a b clean size fault result is leaves cause = rw is (growth-without a b clean size fault leaves cause)
 
-pub growth-no_memory : (a b : Mounted) (size : ℕ) (result : Result (Unit {0}) DiskFault) → result ≡ Err OutOfMemory → KeepsArray a b → GrowLeaves a b size result
-growth-no_memory a b size result is kept = rw is kept
+pub growth-no_memory : (a b : Mounted) (clean : Option CleanView) (size : ℕ) (result : Result (Unit {0}) DiskFault) → result ≡ Err OutOfMemory → KeepsByCleaning a b × IsCleaned b clean → GrowLeaves a b clean size result
+growth-no_memory a b clean size result is kept = rw is kept

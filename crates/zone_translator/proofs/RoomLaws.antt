@@ -1,11 +1,11 @@
 -- The host zone is sealed and taken, and the array stays.
-use Rattle.std.proofs.Common.{◌≡◌, ◌⊎◌, ℕ, suc, ◌*◌, ◌/◌, ◌<◌, ◌≤◌, Bool, true, false, ◌||◌, cond, List, [], ◌∷◌, ◌++◌, length, get_or, Option, Some, None, Result, Ok, Err, refl, ap, subst, ◌∙◌, inl, inr, arith}
+use Rattle.std.proofs.Common.{◌≡◌, ◌⊎◌, ℕ, ◌+◌, ◌*◌, ◌/◌, ◌<◌, ◌≤◌, Bool, true, false, ◌||◌, map, ◌++◌, Option, Some, None, is_some, Result, Ok, Err, refl, sym, ap, subst, ◌∙◌, inl, inr, arith}
 use Rattle.std.specs.Option.{option_map}
-use Rattle.std.specs.List.{count_by, list_any}
+use Rattle.std.specs.List.{list_any}
 use Rattle.std.proofs.lemmas.Bool.{eq-eqb}
 use Rattle.std.proofs.lemmas.List.Sums.{sum_by-cons}
 use Rattle.drive_port.specs.Calls.{CanFinish, Finished, FinishedContents, FinishGives, FinishKeeps, FinishLeaves, IsNotRefused, Obeys}
-use Rattle.drive_port.specs.Contents.{Content, Finishes, SameContents, contents, full, content_at, nothing}
+use Rattle.drive_port.specs.Contents.{Finishes, SameContents, contents, full, content_at}
 use Rattle.drive_port.specs.Drive.{DriveState, IsLawful}
 use Rattle.drive_port.specs.declared.calls.PortFault.{PortFault}
 use Rattle.drive_port.specs.declared.calls.PortFault.TheVariants as port
@@ -14,77 +14,103 @@ use Rattle.zone_choice.specs.declared.roles.Second.{Second}
 use Rattle.zone_choice.specs.Agreement.{Agrees, HoldsFilling, Mounted, drive_logs, mounted, spelled}
 use Rattle.zone_choice.specs.Changes.{IsHalt, KeepsArray, halt_of}
 use Rattle.zone_choice.specs.Mountable.{IsMountable}
-use Rattle.zone_choice.specs.Roles.{IsLowestEmpty, RolesView, closed, empty_count, fillings, is_at, is_filling_at, listed, sealed, second_with, taken}
+use Rattle.zone_choice.specs.declared.roles.Second.TheVariants.{Destination}
+use Rattle.zone_choice.specs.Roles.{IsLowestEmpty, RolesView, empty_count, is_at, is_filling_at, listed, next_of, promoted, sealed, taken}
 use Rattle.zone_choice.specs.Tables.{TablesView, size_of}
-use Rattle.zone_choice.proofs.AgreementLaws.{agrees_finish, agrees_mountable, agrees_same, agrees_seal, agrees_take, empty-spare, spare-taken, spelled_same, tables_with}
-use Rattle.zone_choice.proofs.ChangeLaws.{keeps-halt, keeps-join}
-use Rattle.zone_choice.proofs.CommandLaws.{can_finish, filling-few, filling-full, filling-in_range, none-active, zone-start}
+use Rattle.zone_choice.proofs.AgreementLaws.{agrees_finish, agrees_seal, agrees_take, spare-taken, tables_with}
+use Rattle.zone_choice.proofs.ChangeLaws.{keeps-halt, keeps-same}
+use Rattle.zone_choice.proofs.CommandLaws.{can_finish, filling-few, filling-full, filling-in_range, zone-start}
 use Rattle.zone_choice.proofs.MarkLaws.{sealed-seal, sealed-take}
 use Rattle.zone_choice.proofs.OpenLaws.{OpensNone, finish-opens}
 use Rattle.zone_choice.proofs.RolesLaws.{roles_with, second_list}
+use Rattle.zone_cleaner.specs.declared.fault.CleanFault.{CleanFault}
+use Rattle.zone_cleaner.specs.declared.fault.CleanFault.TheVariants as faults
+use Rattle.zone_cleaner.specs.Clean.{CleanView}
+use Rattle.zone_cleaner.specs.Start.{GoesOn, IsCleaned, IsCleaningCause, KeepsByCleaning, trims}
+use Rattle.zone_cleaner.proofs.NextLaws.{cleaned_kept, cleaning_kept, promote_gives}
+use Rattle.zone_cleaner.proofs.TurnLaws.{cleans_mountable, keeps-more}
 use Rattle.zone_translator.specs.declared.fault.DiskFault.{DiskFault}
-use Rattle.zone_translator.specs.declared.fault.DiskFault.TheVariants.{OutOfRange, OutOfMemory, Stopped, Spent, NoRoom, Smaller, Reserve}
-use Rattle.zone_translator.specs.Changes.{AgreesWith, IsFilledUp, IsCause, RoomLeaves, StopKeeps, disk_fault, is_empty_usage}
+use Rattle.zone_translator.specs.declared.fault.DiskFault.TheVariants.{OutOfRange, OutOfMemory, Stopped, Spent, Smaller, Reserve}
+use Rattle.zone_translator.specs.Changes.{AgreesWith, HasRoom, IsCause, RetireLeaves, RoomLeaves, StopKeeps, TakesHost, cleaning_fault, disk_fault}
 
 -- ---- a disk that serves
 
--- the second zone may be open or not
-none-second : (after before : Option Second) → option_map (second_with closed) after ≡ option_map (second_with closed) before → before ≡ None → after ≡ None
-none-second None before same none = refl
-none-second (Some s) before same none = let bad : Some (second_with closed s) ≡ None = same ∙ ap (option_map (second_with closed)) none in absurd (cc)
-
-pub serves-kept : (old new : DriveState) (tables tables' : TablesView) → AgreesWith old tables → KeepsArray (mounted old tables) (mounted new tables') → AgreesWith new tables'
-serves-kept old new tables tables' serves kept = record { agrees = kept.agrees; spare = kept.spare serves.spare; alone = none-second tables'.roles.second tables.roles.second kept.second serves.alone }
+pub serves-kept : (old new : DriveState) (tables tables' : TablesView) (clean : Option CleanView) → AgreesWith old tables clean → KeepsArray (mounted old tables) (mounted new tables') → AgreesWith new tables' clean
+serves-kept old new tables tables' clean serves kept = cleaned_kept (mounted old tables) (mounted new tables') clean serves kept
 
 -- its drive can be mounted
-pub serves_mountable : (drive : DriveState) (tables : TablesView) → AgreesWith drive tables → IsMountable drive tables.given
-serves_mountable drive tables serves = agrees_mountable drive tables serves.agrees (empty-spare drive tables serves.agrees serves.spare)
+pub serves_mountable : (drive : DriveState) (tables : TablesView) (clean : Option CleanView) → AgreesWith drive tables clean → IsMountable drive tables.given
+serves_mountable drive tables clean serves = cleans_mountable (mounted drive tables) clean serves
 
--- ---- a drive that stopped
+-- ---- parts of a call that write nothing for the host
 
--- where some tables of the same size would agree with it, and the array is the same
-pub stops-agreed : (V : Type 0) (old new : DriveState) (tables other : TablesView) → AgreesWith new other → other.given ≡ tables.given → size_of other ≡ size_of tables → Obeys {V = V} old (Err port.Stopped) new → StopKeeps (mounted old tables) (mounted new tables)
-stops-agreed V old new tables other serves given size obeys = record {
-  stopped = obeys.stops refl;
-  mountable = rw (← given) (serves_mountable new other serves);
-  size = refl;
-  given = refl;
-  next = refl;
-  geometry = obeys.geometry;
-  refused = (obeys.counts refl).refused;
-  appended = (obeys.counts refl).appended;
+-- the array is kept, and the disk serves
+pub keeps-serving : (a b : Mounted) (clean : Option CleanView) → IsCleaned a clean → KeepsArray a b → KeepsByCleaning a b × IsCleaned b clean
+keeps-serving a b clean is kept = (cleaning_kept a b clean is kept, cleaned_kept a b clean is kept)
+
+pub room-join : {V : Type 0} (a b c : Mounted) (clean : Option CleanView) (result : Result V DiskFault) → KeepsByCleaning a b → RoomLeaves b c clean result → RoomLeaves a c clean result
+room-join a b c clean (Ok done) kept leaves = (keeps-more a b c kept leaves.0, leaves.1)
+room-join a b c clean (Err OutOfRange) kept leaves = (keeps-more a b c kept leaves.0, leaves.1)
+room-join a b c clean (Err OutOfMemory) kept leaves = (keeps-more a b c kept leaves.0, leaves.1)
+room-join a b c clean (Err Stopped) kept leaves = keeps-more a b c kept leaves
+room-join a b c clean (Err Spent) kept leaves = (keeps-more a b c kept leaves.0, leaves.1)
+room-join a b c clean (Err Smaller) kept leaves = (keeps-more a b c kept leaves.0, leaves.1)
+room-join a b c clean (Err Reserve) kept leaves = (keeps-more a b c kept leaves.0, leaves.1)
+
+-- a refusal tells nothing of the value that was asked for
+pub room-err : (V W : Type 0) (a b : Mounted) (clean : Option CleanView) (fault : DiskFault) → RoomLeaves {V = V} a b clean (Err fault) → RoomLeaves {V = W} a b clean (Err fault)
+room-err V W a b clean OutOfRange leaves = leaves
+room-err V W a b clean OutOfMemory leaves = leaves
+room-err V W a b clean Stopped leaves = leaves
+room-err V W a b clean Spent leaves = leaves
+room-err V W a b clean Smaller leaves = leaves
+room-err V W a b clean Reserve leaves = leaves
+
+-- the drive stopped, while some tables agreed with it
+retire-stops : (a b : Mounted) (clean : Option CleanView) → IsCleaned a clean → RetireLeaves a b (Err Stopped) → KeepsByCleaning a b
+retire-stops a b clean is leaves =
+    let kept = leaves.1.1 in
+    let done = cleaning_kept a (mounted b.drive leaves.1.0) clean is kept in
+    let given : b.tables.given ≡ a.tables.given = ap (λ (t : TablesView). t.given) leaves.0 in
+    record {
+      mountable = rw (given, ← kept.given) done.mountable;
+      array = ap (spelled b.drive) (given ∙ sym kept.given) ∙ kept.array;
+      size = ap size_of leaves.0;
+      trimmed = ap (λ (t : TablesView). map trims t.map.places) leaves.0;
+      given = given;
+      geometry = kept.geometry;
+      refused = kept.refused;
+      next = omega (arith, ap (λ (t : TablesView). t.next) leaves.0, kept.appended);
+      appended = omega (arith, kept.appended);
+    }
+
+-- the host zone was sealed, or the drive stopped
+pub retire_room : (V : Type 0) (a b : Mounted) (clean : Option CleanView) (fault : DiskFault) → IsCleaned a clean → RetireLeaves a b (Err fault) → RoomLeaves {V = V} a b clean (Err fault)
+retire_room V a b clean OutOfRange is leaves = keeps-serving a b clean is leaves
+retire_room V a b clean OutOfMemory is leaves = keeps-serving a b clean is leaves
+retire_room V a b clean Stopped is leaves = retire-stops a b clean is leaves
+retire_room V a b clean Spent is leaves = keeps-serving a b clean is leaves
+retire_room V a b clean Smaller is leaves = keeps-serving a b clean is leaves
+retire_room V a b clean Reserve is leaves = keeps-serving a b clean is leaves
+
+-- the drive stopped, and the array is kept
+pub room-stops : (a b : Mounted) → KeepsByCleaning a b → b.drive.stopped ≡ true → StopKeeps a b
+room-stops a b kept stopped = record {
+  stopped = stopped;
+  keeps = record { mountable = kept.mountable; given = kept.given; geometry = kept.geometry; refused = kept.refused; next = kept.next };
+  size = kept.size;
 }
 
-pub stops-join : (a b c : Mounted) → KeepsArray a b → StopKeeps b c → StopKeeps a c
-stops-join a b c kept stops = record {
-  stopped = stops.stopped;
-  mountable = stops.mountable;
-  size = stops.size ∙ ap length kept.places;
-  given = stops.given ∙ kept.given;
-  next = stops.next ∙ kept.next;
-  geometry = stops.geometry ∙ kept.geometry;
-  refused = stops.refused ∙ kept.refused;
-  appended = stops.appended ∙ kept.appended;
-}
+-- a clean was not done to its end
+pub clean_room : (V : Type 0) (a b : Mounted) (clean : Option CleanView) (cause : CleanFault) → KeepsByCleaning a b → GoesOn (Err cause) b clean → RoomLeaves {V = V} a b clean (Err (cleaning_fault cause))
+clean_room V a b clean faults.OutOfMemory keeps on = (keeps, on)
+clean_room V a b clean faults.Stopped keeps on = keeps
+clean_room V a b clean faults.Spent keeps on = (keeps, on)
 
-pub room-join : {V : Type 0} (a b c : Mounted) (result : Result V DiskFault) → KeepsArray a b → RoomLeaves b c result → RoomLeaves a c result
-room-join a b c (Ok done) kept leaves = keeps-join a b c kept leaves
-room-join a b c (Err OutOfRange) kept leaves = keeps-join a b c kept leaves
-room-join a b c (Err OutOfMemory) kept leaves = keeps-join a b c kept leaves
-room-join a b c (Err Stopped) kept leaves = (stops-join a b c kept leaves.0, leaves.1 ∙ kept.array)
-room-join a b c (Err Spent) kept leaves = keeps-join a b c kept leaves
-room-join a b c (Err NoRoom) kept leaves = keeps-join a b c kept leaves
-room-join a b c (Err Smaller) kept leaves = keeps-join a b c kept leaves
-room-join a b c (Err Reserve) kept leaves = keeps-join a b c kept leaves
-
-pub room-err : (V W : Type 0) (a b : Mounted) (fault : DiskFault) → RoomLeaves {V = V} a b (Err fault) → RoomLeaves {V = W} a b (Err fault)
-room-err V W a b OutOfRange leaves = leaves
-room-err V W a b OutOfMemory leaves = leaves
-room-err V W a b Stopped leaves = leaves
-room-err V W a b Spent leaves = leaves
-room-err V W a b NoRoom leaves = leaves
-room-err V W a b Smaller leaves = leaves
-room-err V W a b Reserve leaves = leaves
+pub clean_cause : (drive : DriveState) (next : ℕ) (cause : CleanFault) → IsCleaningCause drive next cause → IsCause drive next (cleaning_fault cause)
+clean_cause drive next faults.OutOfMemory is = tt
+clean_cause drive next faults.Stopped is = is
+clean_cause drive next faults.Spent is = is
 
 -- ---- the host zone
 
@@ -134,9 +160,9 @@ finished_host old new tables host start agrees is start-is some room geometry fi
     (done.0, done.1, done.2)
 
 pub keeps-finish : (old new : DriveState) (tables after : TablesView) (host : Filling) (start : ℕ) → Agrees (mounted old tables) → tables.roles.host ≡ Some host → start ≡ host.zone * old.geometry.size → 1 ≤ host.written → host.written < old.geometry.capacity
-    → Finished old new start → FinishLeaves {V = Unit {0}} old start (Ok tt) new → IsLawful new → after ≡ record tables { roles = sealed tables.roles } → KeepsArray (mounted old tables) (mounted new after)
-keeps-finish old new tables after host start agrees is start-is some room finished leaves lawful after-is =
-    let done = finished_host old new tables host start agrees is start-is some room finished.geometry finished.contents (finish-opens {V = Unit {0}} old new start (Ok tt) leaves) lawful in
+    → Finished old new start → OpensNone old.zones new.zones → IsLawful new → after ≡ record tables { roles = sealed tables.roles } → KeepsArray (mounted old tables) (mounted new after)
+keeps-finish old new tables after host start agrees is start-is some room finished opens lawful after-is =
+    let done = finished_host old new tables host start agrees is start-is some room finished.geometry finished.contents opens lawful in
     rw after-is (record {
       agrees = done.0;
       logs = done.1;
@@ -155,26 +181,37 @@ keeps-finish old new tables after host start agrees is start-is some room finish
 -- a Finish of the host zone that did not succeed
 pub record FinishHalts (old new : DriveState) (tables : TablesView) (fault : PortFault) : Type 0 where
   pub halt : IsHalt fault
-  pub leaves : RoomLeaves {V = Unit {0}} (mounted old tables) (mounted new tables) (Err (disk_fault (halt_of fault)))
+  pub leaves : RetireLeaves (mounted old tables) (mounted new tables) (Err (disk_fault (halt_of fault)))
   pub cause : IsCause new tables.next (disk_fault (halt_of fault))
 
-pub finish_halts : (old new : DriveState) (tables : TablesView) (host : Filling) (start : ℕ) (fault : PortFault) → AgreesWith old tables → tables.roles.host ≡ Some host → start ≡ host.zone * old.geometry.size → 1 ≤ host.written → host.written < old.geometry.capacity
+pub finish_halts : (old new : DriveState) (tables : TablesView) (host : Filling) (start : ℕ) (fault : PortFault) → Agrees (mounted old tables) → tables.roles.host ≡ Some host → start ≡ host.zone * old.geometry.size → 1 ≤ host.written → host.written < old.geometry.capacity
     → FinishGives {V = Unit {0}} old start (Err fault) new → FinishKeeps {V = Unit {0}} old start (Err fault) new → FinishLeaves {V = Unit {0}} old start (Err fault) new → Obeys {V = Unit {0}} old (Err fault) new → (CanFinish old start → IsNotRefused {V = Unit {0}} (Err fault)) → FinishHalts old new tables fault
-finish_halts old new tables host start (port.Refused status) serves is start-is some room gives kept leaves obeys passed =
-    absurd (passed (can_finish old tables host.zone start serves.agrees (filling-host tables.roles host is) start-is))
-finish_halts old new tables host start port.Memory serves is start-is some room gives kept leaves obeys passed = record { halt = tt; leaves = keeps-halt old new tables gives.1.1.1 serves.agrees; cause = tt }
-finish_halts old new tables host start port.Stopped serves is start-is some room gives kept leaves obeys passed = record { halt = tt; leaves = by kept; cause = obeys.stops refl }
+finish_halts old new tables host start (port.Refused status) agrees is start-is some room gives kept leaves obeys passed = absurd (passed (can_finish old tables host.zone start agrees (filling-host tables.roles host is) start-is))
+finish_halts old new tables host start port.Memory agrees is start-is some room gives kept leaves obeys passed = record { halt = tt; leaves = keeps-halt old new tables gives.1.1.1 agrees; cause = tt }
+finish_halts old new tables host start port.Stopped agrees is start-is some room gives kept leaves obeys passed = record { halt = tt; leaves = (refl, by kept); cause = obeys.stops refl }
   where
     opens : OpensNone old.zones new.zones
     opens = finish-opens {V = Unit {0}} old new start (Err port.Stopped) leaves
 
-    by : SameContents old new ⊎ FinishedContents old new start → StopKeeps (mounted old tables) (mounted new tables) × (spelled new tables.given ≡ spelled old tables.given)
-    by (inl same) =
-        let agrees = agrees_same old new tables same opens obeys.lawful serves.agrees in
-        (stops-agreed (Unit {0}) old new tables tables (record { agrees = agrees; spare = serves.spare; alone = serves.alone }) refl refl obeys, spelled_same old new tables.given same)
+    by : SameContents old new ⊎ FinishedContents old new start → (after : TablesView) × KeepsArray (mounted old tables) (mounted new after)
+    by (inl same) = (tables, keeps-same old new tables agrees same opens obeys.lawful (obeys.counts refl).refused (obeys.counts refl).appended)
     by (inr finished) =
-        let done = finished_host old new tables host start serves.agrees is start-is some room finished.geometry finished.contents opens obeys.lawful in
-        (stops-agreed (Unit {0}) old new tables (record tables { roles = sealed tables.roles }) (record { agrees = done.0; spare = serves.spare; alone = serves.alone }) refl refl obeys, done.2)
+        let after = record tables { roles = sealed tables.roles } in
+        let done = finished_host old new tables host start agrees is start-is some room finished.geometry finished.contents opens obeys.lawful in
+        (after, record {
+          agrees = done.0;
+          logs = done.1;
+          array = done.2;
+          places = refl;
+          next = refl;
+          given = refl;
+          spare = λ h. h;
+          sealed = sealed-seal tables.roles;
+          second = refl;
+          geometry = finished.geometry;
+          refused = (obeys.counts refl).refused;
+          appended = (obeys.counts refl).appended;
+        })
 
 pub keeps-take : (drive : DriveState) (tables new : TablesView) (zone : ℕ) → Agrees (mounted drive tables) → tables.roles.host ≡ None → IsLowestEmpty tables.roles zone → 2 ≤ empty_count tables.roles → new ≡ record tables { roles = taken tables.roles zone }
     → KeepsArray (mounted drive tables) (mounted drive new)
@@ -194,32 +231,29 @@ keeps-take drive tables new zone agrees is lowest two new-is =
       appended = refl;
     })
 
--- ---- the last empty zone is kept
+-- ---- a host zone is found
 
-at_most : (b : Bool) → cond {A = ℕ} b 1 0 ≤ 1
-at_most true = omega arith
-at_most false = omega arith
+-- a zone with room became the host zone, and the array is kept
+pub record TakeGives (drive : DriveState) (old new : TablesView) (clean : Option CleanView) (host : Filling) : Type 0 where
+  pub leaves : RoomLeaves {V = Filling} (mounted drive old) (mounted drive new) clean (Ok host)
+  pub host_is : new.roles.host ≡ Some host
+  pub free : HasRoom drive host
 
-count-le : (zones : List Content) (empties : List Bool) → length empties ≡ length zones → ((k : ℕ) → k < length zones → get_or empties k false ≡ false → is_empty_usage (get_or zones k nothing).usage ≡ false)
-    → count_by (λ (zone : Content). is_empty_usage zone.usage) zones ≤ count_by (λ b. b) empties
-count-le [] empties e none = omega arith
-count-le (z ∷ zs) [] e none = absurd (omega arith)
-count-le (z ∷ zs) (b ∷ bs) e none =
-    let rest = count-le zs bs (omega arith) (λ k lt. none (suc k) (omega arith)) in
-    let here : cond {A = ℕ} (is_empty_usage z.usage) 1 0 ≤ cond {A = ℕ} b 1 0 = one b (none 0 (omega arith)) in
-    omega (arith, sum_by-cons (λ (zone : Content). cond {A = ℕ} (is_empty_usage zone.usage) 1 0) z zs, sum_by-cons (λ (x : Bool). cond {A = ℕ} x 1 0) b bs, rest, here)
-  where
-    one : (b : Bool) → (b ≡ false → is_empty_usage z.usage ≡ false) → cond {A = ℕ} (is_empty_usage z.usage) 1 0 ≤ cond {A = ℕ} b 1 0
-    one true h = at_most (is_empty_usage z.usage)
-    one false h = rw (h refl) (omega arith)
+-- a next zone is known only where no clean runs
+take-next : (drive : DriveState) (old new : TablesView) (clean : Option CleanView) (host : Filling) → IsCleaned (mounted drive old) clean → old.roles.host ≡ None → next_of old.roles.second ≡ Some host → new ≡ record old { roles = promoted old.roles } → TakeGives drive old new clean host
+take-next drive old new None host is none next new-is =
+    let gives = promote_gives drive old new host is none next new-is in
+    record { leaves = (gives.keeps, gives.cleaned); host_is = gives.host; free = gives.room }
+take-next drive old new (Some c) host is none next new-is = let bad : next_of (Some (Destination is.1.destination)) ≡ Some host = rw is.1.second at next in absurd (cc)
 
--- where no zone is being filled, and fewer than two zones have the role empty, the drive is filled up
-pub filled-up : (drive : DriveState) (tables : TablesView) → AgreesWith drive tables → tables.roles.host ≡ None → empty_count tables.roles < 2 → IsFilledUp drive
-filled-up drive tables serves is few =
-    let agrees = serves.agrees in
-    let none : fillings tables.roles ≡ [] = rw (is, serves.alone) refl in
-    let one = λ (k : ℕ) (lt : k < length (contents drive.zones)) (not_empty : get_or tables.roles.empty k false ≡ false). agrees.roles.sealed_are k lt not_empty (ap (list_any (is_at k)) none) in
-    record {
-      none_active = none-active drive tables agrees none;
-      few_empty = omega (arith, few, count-le (contents drive.zones) tables.roles.empty agrees.roles.count (λ k lt not_empty. rw ((one k lt not_empty).usage) refl));
-    }
+pub take_gives : (drive : DriveState) (old new : TablesView) (clean : Option CleanView) (host : Filling) → IsCleaned (mounted drive old) clean → old.roles.host ≡ None → TakesHost old host new → TakeGives drive old new clean host
+take_gives drive old new clean host is none (inl next) = take-next drive old new clean host is none next.0 next.1
+take_gives drive old new clean host is none (inr (no_next, two, lowest, host-is, new-is)) = record {
+  leaves = keeps-serving (mounted drive old) (mounted drive new) clean is (keeps-take drive old new host.zone is.0 none lowest two new-is);
+  host_is = rw new-is (ap (λ (f : Filling). Some f) (sym host-is));
+  free = omega (arith, ap (λ (f : Filling). f.written) host-is, is.0.geometry.capacity, is.0.geometry.size);
+}
+
+-- where a zone is next, one is found
+pub must-take : (old : TablesView) → is_some (next_of old.roles.second) ≡ true → next_of old.roles.second ≡ None → ⊥
+must-take old some none = let bad : is_some (next_of old.roles.second) ≡ false = rw none refl in absurd (cc)

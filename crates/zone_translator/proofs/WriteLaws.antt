@@ -1,6 +1,6 @@
 -- A batch of a write is built and appended, and what a stop inside its Append leaves.
-use Rattle.std.proofs.Common.{◌≡◌, ℕ, ◌+◌, ◌-◌, ◌*◌, ◌<◌, ◌≤◌, ◌^◌, Bool, true, false, List, ◌++◌, length, take, drop, Option, Some, None, Result, Err, refl, sym, ap, ◌∙◌, inl, inr, arith}
-use Rattle.std.specs.Option.{option_map}
+use Rattle.std.proofs.Common.{◌≡◌, ℕ, ◌+◌, ◌-◌, ◌*◌, ◌<◌, ◌≤◌, ◌^◌, Bool, true, false, List, ◌++◌, map, get_or, length, take, drop, Option, Some, None, Result, Ok, Err, refl, sym, ap, subst, ◌∙◌, inl, inr, arith}
+use Rattle.std.proofs.Math.ListN.{get_or-map}
 use Rattle.std.proofs.lemmas.List.{drop_at, length-map, length-take}
 use Rattle.zone_states.specs.declared.geometry.Geometry.{Geometry}
 use Rattle.zone_states.specs.Geometry.{IsInRange}
@@ -12,45 +12,42 @@ use Rattle.drive_port.specs.declared.device.Halt.TheVariants as halt
 use Rattle.batch_log.specs.Header.{Heading, IsHeading, IsSize, entry_room, header_block}
 use Rattle.batch_log.specs.Log.{Batch, batch_size, data_count}
 use Rattle.batch_log.proofs.HeaderLaws.{header_length}
+use Rattle.logical_map.specs.Places.{MapView}
+use Rattle.logical_map.specs.declared.place.Place.{Place}
 use Rattle.logical_map.specs.declared.place.Place.TheVariants as places
 use Rattle.zone_choice.specs.declared.roles.Filling.{Filling}
-use Rattle.zone_choice.specs.Agreement.{Mounted, drive_logs, mounted, mounted_array, spelled}
+use Rattle.zone_choice.specs.Agreement.{Agrees, Mounted, drive_logs, mounted, mounted_array, spelled}
 use Rattle.zone_choice.specs.Builder.{BuilderView, IsBuilt, built, entries_from}
-use Rattle.zone_choice.specs.Changes.{CanPlace, KeepsArray, Places, StopsInside, next_address, size_with, told_over}
-use Rattle.zone_choice.specs.Changes.{AppendLeaves as ChoiceLeaves}
+use Rattle.zone_choice.specs.Changes.{CanPlace, Places, StopsInside, next_address, size_with, told_over}
 use Rattle.zone_choice.specs.Reserve.{FitsReserve, batch_most}
-use Rattle.zone_choice.specs.Roles.{RolesView, grown, second_with}
+use Rattle.zone_choice.specs.Roles.{RolesView}
 use Rattle.zone_choice.specs.Records.{append_log}
 use Rattle.zone_choice.specs.Sizes.{encoded_size, extended, greatest, larger, size_or}
 use Rattle.zone_choice.specs.ZoneLogs.{zone_log}
-use Rattle.zone_choice.specs.Spare.{HasSpare}
+use Rattle.zone_choice.specs.Mountable.{IsMountable}
 use Rattle.zone_choice.specs.Tables.{AreReserved, MakesRoom, TablesView, size_of}
-use Rattle.zone_choice.proofs.AgreementLaws.{empty-spare, empty-spare_after, extended-same, length-spelled, size-encoded}
-use Rattle.zone_choice.proofs.AloneLaws.{alone-empty, alone-second, memory-keeps, stops-tables}
+use Rattle.zone_choice.proofs.AgreementLaws.{extended-same, length-spelled, size-encoded}
+use Rattle.zone_choice.proofs.AloneLaws.{stops-tables}
 use Rattle.zone_choice.proofs.BuilderLaws.{data_count-few}
-use Rattle.zone_choice.proofs.ChangeLaws.{keeps-join, keeps-room, large-block}
+use Rattle.zone_choice.proofs.ChangeLaws.{keeps-room, large-block}
 use Rattle.zone_choice.proofs.ReserveLaws.{positive-most}
 use Rattle.zone_choice.proofs.CommandLaws.{filling-in_range}
 use Rattle.zone_choice.proofs.SizeLaws.{greatest-append_log}
+use Rattle.zone_cleaner.specs.Clean.{CleanView}
+use Rattle.zone_cleaner.specs.Host.{HostLeaves}
+use Rattle.zone_cleaner.specs.Start.{IsCleaned, KeepsByCleaning, trims}
+use Rattle.zone_cleaner.proofs.NextLaws.{cleaning_kept}
+use Rattle.zone_cleaner.proofs.TurnLaws.{cleans_mountable, keeps-more}
 use Rattle.zone_translator.specs.declared.write.Content.{Content}
 use Rattle.zone_translator.specs.Batches.{IsBatchCount, IsNextBatch, IsRoom, IsWhole, batch_count, blocks_of, bytes_of, host_heading, is_trim}
 use Rattle.zone_translator.specs.declared.fault.DiskFault.{DiskFault}
-use Rattle.zone_translator.specs.declared.fault.DiskFault.TheVariants.{OutOfRange, OutOfMemory, Stopped, Spent, NoRoom, Smaller, Reserve}
-use Rattle.zone_translator.specs.Changes.{AgreesWith, IsCause, RoomLeaves, StopKeeps, WriteLeaves, WritesBlocks, disk_fault}
-use Rattle.zone_translator.specs.Flat.{IsFront}
+use Rattle.zone_translator.specs.declared.fault.DiskFault.TheVariants.{OutOfRange, OutOfMemory, Stopped, Spent, Smaller, Reserve}
+use Rattle.zone_translator.specs.Changes.{IsCause, Keeps, Names, RoomLeaves, StopKeeps, WriteLeaves, WritesBlocks, disk_fault}
+use Rattle.zone_translator.specs.Flat.{IsFront, replaced}
 use Rattle.zone_translator.proofs.BatchLaws.{data_count-entries, data_count-trims, entries-below, entries-ready, host-heading, host_batch, length-entries, names-placed}
 use Rattle.zone_translator.proofs.ContentLaws.{length-blocks, length-content, tells-content}
 use Rattle.zone_translator.proofs.FlatLaws.{replaced-none}
-use Rattle.zone_translator.proofs.RoomLaws.{filling-host, host-filled, serves-kept, stops-join}
-
--- after an Append a disk serves as before
-pub serves-placed : (old new : DriveState) (tables after : TablesView) (zone : ℕ) (b : Batch) → AgreesWith old tables → Places (mounted old tables) (mounted new after) zone b → AgreesWith new after
-serves-placed old new tables after zone b serves placed =
-    record {
-      agrees = placed.agrees;
-      spare = rw (placed.roles, alone-empty old.geometry tables.roles zone) serves.spare;
-      alone = ap (λ (r : RolesView). r.second) placed.roles ∙ ap (option_map (second_with (grown zone (batch_size b)))) (alone-second old.geometry tables.roles zone serves.alone);
-    }
+use Rattle.zone_translator.proofs.RoomLaws.{filling-host, host-filled, keeps-serving, room-stops}
 
 -- ---- what is built can be appended
 
@@ -107,11 +104,10 @@ data_count-anywhere true first other count = data_count-trims first count ∙ sy
 data_count-anywhere false first other count = data_count-entries first count ∙ sym (data_count-entries other count)
 
 -- a batch that was built can be appended to the host zone
-pub can_place : (old : DriveState) (tables : TablesView) (host : Filling) (trim : Bool) (first count : ℕ) (body : List (List ℕ)) → AgreesWith old tables → IsRoom old tables host → first + count ≤ size_of tables → count ≤ batch_most old.geometry
+pub can_place : (old : DriveState) (tables : TablesView) (host : Filling) (trim : Bool) (first count : ℕ) (body : List (List ℕ)) → Agrees (mounted old tables) → IsRoom old tables host → first + count ≤ size_of tables → count ≤ batch_most old.geometry
     → host.written + 1 + data_count (entries_from trim first count) ≤ old.geometry.capacity → (size : ℕ) → size_of tables ≤ size → FitsReserve old.geometry size → AreReserved tables.map first count
     → IsHeading old.geometry.block (host_heading size tables.next trim first count) → CanPlace (mounted old tables) host.zone (host_batch size tables.next trim first count body)
-can_place old tables host trim first count body serves room in_range most free size grows reserve reserved says =
-    let agrees = serves.agrees in
+can_place old tables host trim first count body agrees room in_range most free size grows reserve reserved says =
     let here = host-filled old tables host room.host_is agrees in
     let few_data = data_count-few (entries_from trim first count) in
     let long = length-entries trim first count in
@@ -132,12 +128,11 @@ can_place old tables host trim first count body serves room in_range most free s
     }
 
 -- the next batch of a write
-pub next-batch : (old : DriveState) (tables : TablesView) (host : Filling) (first left count : ℕ) (content : Content) (builder : BuilderView) → AgreesWith old tables → IsRoom old tables host → 1 ≤ left → first + left ≤ size_of tables → IsWhole old.geometry.block left content
+pub next-batch : (old : DriveState) (tables : TablesView) (host : Filling) (first left count : ℕ) (content : Content) (builder : BuilderView) → Agrees (mounted old tables) → IsRoom old tables host → 1 ≤ left → first + left ≤ size_of tables → IsWhole old.geometry.block left content
     → count ≡ batch_count old.geometry host left (is_trim content) → AreReserved tables.map first count → builder.heading ≡ host_heading (size_of tables) tables.next (is_trim content) first count
     → builder.bytes ≡ header_block old.geometry.block (host_heading (size_of tables) tables.next (is_trim content) first count) ++ bytes_of (count * old.geometry.block) content
     → IsNextBatch (mounted old tables) host (is_trim content) first count (blocks_of old.geometry.block left content) builder
-next-batch old tables host first left count content builder serves room some in_range whole count-is reserved heading bytes =
-    let agrees = serves.agrees in
+next-batch old tables host first left count content builder agrees room some in_range whole count-is reserved heading bytes =
     let g = old.geometry in
     let trim = is_trim content in
     let large = large-block g agrees.geometry in
@@ -150,7 +145,7 @@ next-batch old tables host first left count content builder serves room some in_
     let array = mounted_array (mounted old tables) in
     record {
       built_is = made.built_is;
-      can = rw made.batch_is (can_place old tables host trim first count _ serves room within takes.most (omega (arith, takes.room, data_count-anywhere trim first 0 count)) (size_of tables) (omega arith) agrees.reserve reserved (rw heading at made.says));
+      can = rw made.batch_is (can_place old tables host trim first count _ agrees room within takes.most (omega (arith, takes.room, data_count-anywhere trim first 0 count)) (size_of tables) (omega arith) agrees.reserve reserved (rw heading at made.says));
       some = takes.some;
       few = omega (arith, takes.few, length-blocks g.block left content);
       size = ap (λ (h : Heading). h.size) heading;
@@ -161,8 +156,11 @@ next-batch old tables host first left count content builder serves room some in_
 
 -- ---- after a zone and memory were found for it
 
-pub kept-room : (a b : DriveState) (t u w : TablesView) → KeepsArray (mounted a t) (mounted b u) → MakesRoom u w → KeepsArray (mounted a t) (mounted b w)
-kept-room a b t u w kept room = keeps-join (mounted a t) (mounted b u) (mounted b w) kept (keeps-room b u w room kept.agrees)
+-- what holds after room was found, and then memory for the batch
+pub kept-room : (a b : Mounted) (w : TablesView) (clean : Option CleanView) → KeepsByCleaning a b → IsCleaned b clean → MakesRoom b.tables w → KeepsByCleaning a (mounted b.drive w) × IsCleaned (mounted b.drive w) clean
+kept-room a b w clean kept is room =
+    let more = keeps-serving b (mounted b.drive w) clean is (keeps-room b.drive b.tables w room is.0) in
+    (keeps-more a b (mounted b.drive w) kept more.0, more.1)
 
 -- the tables have more room, and the zone that was found is the same
 pub same-room : (b : DriveState) (u w : TablesView) (host : Filling) → MakesRoom u w → IsRoom b u host → IsRoom b w host
@@ -173,12 +171,12 @@ same-room b u w host more is = record {
 }
 
 -- so the batch that is built then is the next one
-pub build-next : (drive : DriveState) (old new : TablesView) (host : Filling) (first left count : ℕ) (content : Content) (started builder : BuilderView) (g : Geometry) (trim : Bool) → g ≡ drive.geometry → trim ≡ is_trim content → AgreesWith drive old → IsRoom drive old host → 1 ≤ left → first + left ≤ size_of old
+pub build-next : (drive : DriveState) (old new : TablesView) (host : Filling) (first left count : ℕ) (content : Content) (started builder : BuilderView) (g : Geometry) (trim : Bool) → g ≡ drive.geometry → trim ≡ is_trim content → Agrees (mounted drive old) → IsRoom drive old host → 1 ≤ left → first + left ≤ size_of old
     → IsWhole drive.geometry.block left content → count ≡ batch_count g host left trim → MakesRoom old new → AreReserved new.map first count → started.heading ≡ host_heading (size_of old) old.next trim first count
     → started.bytes ≡ header_block g.block (host_heading (size_of old) old.next trim first count) → builder.heading ≡ started.heading → builder.bytes ≡ started.bytes ++ bytes_of (count * g.block) content
     → IsNextBatch (mounted drive new) host (is_trim content) first count (blocks_of drive.geometry.block left content) builder
-build-next drive old new host first left count content started builder g trim g-is trim-is serves room some in_range whole count-is more reserved heading bytes kept added =
-    let now = serves-kept drive drive old new serves (keeps-room drive old new more serves.agrees) in
+build-next drive old new host first left count content started builder g trim g-is trim-is agrees room some in_range whole count-is more reserved heading bytes kept added =
+    let now = (keeps-room drive old new more agrees).agrees in
     let same : size_of new ≡ size_of old = ap length more.places in
     let heading_is : builder.heading ≡ host_heading (size_of new) new.next (is_trim content) first count = rw (same, more.next, ← trim-is) (kept ∙ heading) in
     let bytes_are : builder.bytes ≡ header_block drive.geometry.block (host_heading (size_of new) new.next (is_trim content) first count) ++ bytes_of (count * drive.geometry.block) content =
@@ -194,115 +192,127 @@ says-size n zone size logs b lt has le = greatest-append_log logs zone b lt ∙ 
     grows (Some a) le = ap (λ (k : ℕ). Some k) (omega arith)
 
 -- the size on the drive after the Append
-pub appended-size : (b c : DriveState) (u v : TablesView) (zone size : ℕ) (batch : Batch) → AgreesWith b u → CanPlace (mounted b u) zone batch → batch.heading.size ≡ Some size → size_of u ≤ size → Places (mounted b u) (mounted c v) zone batch → greatest (drive_logs c) ≡ Some size
-appended-size b c u v zone size batch serves can has le placed =
-    let range : zone < length (drive_logs b) = omega (arith, filling-in_range b u zone serves.agrees can.filling, length-map b.zones content_of, length-map (contents b.zones) (zone_log b.geometry)) in
-    rw placed.logs (says-size u.given zone size (drive_logs b) batch range has (omega (arith, le, size-encoded (mounted b u) serves.agrees)))
+pub appended-size : (b c : DriveState) (u v : TablesView) (zone size : ℕ) (batch : Batch) → Agrees (mounted b u) → CanPlace (mounted b u) zone batch → batch.heading.size ≡ Some size → size_of u ≤ size → Places (mounted b u) (mounted c v) zone batch → greatest (drive_logs c) ≡ Some size
+appended-size b c u v zone size batch agrees can has le placed =
+    let range : zone < length (drive_logs b) = omega (arith, filling-in_range b u zone agrees can.filling, length-map b.zones content_of, length-map (contents b.zones) (zone_log b.geometry)) in
+    rw placed.logs (says-size u.given zone size (drive_logs b) batch range has (omega (arith, le, size-encoded (mounted b u) agrees)))
 
--- and what the batch writes
-pub writes : (a b c : DriveState) (t u v : TablesView) (host : Filling) (trim : Bool) (first count : ℕ) (blocks : List (List ℕ)) (builder : BuilderView) → AgreesWith a t → KeepsArray (mounted a t) (mounted b u)
-    → IsNextBatch (mounted b u) host trim first count blocks builder → first + count ≤ size_of t → Places (mounted b u) (mounted c v) host.zone (built b.geometry.block builder)
-    → WritesBlocks trim (mounted a t) (mounted c v) first (take count blocks)
-writes a b c t u v host trim first count blocks builder serves kept next within placed =
-    let here = serves-kept a b t u serves kept in
-    let same : size_with u (built b.geometry.block builder) ≡ size_of u = ap (size_or (size_of u)) next.size in
-    let all : extended places.None (size_with u (built b.geometry.block builder)) u.map.places ≡ t.map.places = rw same (extended-same places.None (size_of u) u.map.places refl) ∙ kept.places in
+-- ---- what the batch writes
+
+-- the newest record of each block is a trim, or has data, as before a clean
+trims-at : (old new : List Place) (block : ℕ) → map trims new ≡ map trims old → trims (get_or new block places.None) ≡ trims (get_or old block places.None)
+trims-at old new block same = sym (get_or-map trims new block places.None) ∙ ap (λ (all : List (Option Bool)). get_or all block None) same ∙ get_or-map trims old block places.None
+
+names-kept : (trim : Bool) (old mid new : List Place) (first count : ℕ) → map trims mid ≡ map trims old → Names trim mid first count new → Names trim old first count new
+names-kept trim old mid new first count same names = record { named = names.named; others = λ block out. names.others block out ∙ trims-at old mid block same }
+
+-- what a batch of the host keeps
+pub keeps-placed : (a b c : Mounted) (clean : Option CleanView) (zone : ℕ) (batch : Batch) → KeepsByCleaning a b → Places b c zone batch → IsCleaned c clean → Keeps a c
+keeps-placed a b c clean zone batch kept placed is = record {
+  mountable = cleans_mountable c clean is;
+  given = placed.given ∙ kept.given;
+  geometry = placed.geometry ∙ kept.geometry;
+  refused = placed.refused ∙ kept.refused;
+  next = omega (arith, kept.next, placed.next, placed.appended);
+}
+
+pub writes : (a b c : Mounted) (old new : Option CleanView) (host : Filling) (trim : Bool) (first count : ℕ) (blocks : List (List ℕ)) (builder : BuilderView) → KeepsByCleaning a b → IsCleaned b old
+    → IsNextBatch b host trim first count blocks builder → first + count ≤ size_of a.tables → HostLeaves b old host.zone (built b.drive.geometry.block builder) (Ok tt) c new → WritesBlocks trim a c new first (take count blocks)
+writes a b c old new host trim first count blocks builder kept is next within leaves =
+    let placed = leaves.0 in
+    let u = b.tables in
+    let batch = built b.drive.geometry.block builder in
+    let same : size_with u batch ≡ size_of u = ap (size_or (size_of u)) next.size in
+    let all : extended places.None (size_with u batch) u.map.places ≡ u.map.places = rw same (extended-same places.None (size_of u) u.map.places refl) in
     let took : length (take count blocks) ≡ count = omega (arith, length-take count blocks, next.few) in
-    let names = names-placed trim (next_address b host.zone) (next_address b host.zone + 1) first count t.map.places within in
+    let names = names-placed trim (next_address b.drive host.zone) (next_address b.drive host.zone + 1) first count u.map.places (omega (arith, within, kept.size)) in
     record {
-      serves = serves-placed b c u v host.zone (built b.geometry.block builder) here placed;
-      size = placed.size ∙ same ∙ ap length kept.places;
-      given = placed.given ∙ kept.given;
-      array = placed.array ∙ next.tells ∙ rw kept.array refl;
-      names = rw (took, placed.places, all, next.entries) names;
-      says = appended-size b c u v host.zone (size_of u) (built b.geometry.block builder) here next.can next.size (omega arith) placed ∙ ap (λ (k : ℕ). Some k) (sym (placed.size ∙ same));
-      next = placed.next ∙ ap (λ (n : ℕ). n + 1) kept.next;
-      geometry = placed.geometry ∙ kept.geometry;
-      refused = placed.refused ∙ kept.refused;
-      appended = placed.appended ∙ ap (λ (n : ℕ). n + 1) kept.appended;
+      serves = leaves.2.cleaned;
+      keeps = keeps-placed a b c new host.zone batch kept placed leaves.2.cleaned;
+      size = placed.size ∙ same ∙ kept.size;
+      array = placed.array ∙ next.tells ∙ ap (λ (xs : List (List ℕ)). replaced xs first (take count blocks)) kept.array;
+      names = names-kept trim a.tables.map.places u.map.places c.tables.map.places first (length (take count blocks)) kept.trimmed (rw (took, placed.places, all, next.entries) names);
+      says = appended-size b.drive c.drive u c.tables host.zone (size_of u) batch is.0 next.can next.size (omega arith) placed ∙ ap (λ (k : ℕ). Some k) (sym (placed.size ∙ same));
     }
 
 -- ---- a stop inside its Append
 
 -- the drive can be mounted
-pub append_stops : (old new : DriveState) (tables after : TablesView) (zone : ℕ) (b : Batch) → AgreesWith old tables → CanPlace (mounted old tables) zone b → StopsInside (mounted old tables) (mounted new after) zone b → StopKeeps (mounted old tables) (mounted new after)
-append_stops old new tables after zone b serves can stops =
-    let agrees = serves.agrees in
-    let spare : HasSpare old.geometry.block tables.given (drive_logs new) = elim stops.left [
-      | inl same ↦ rw same.logs_are (empty-spare old tables agrees serves.spare)
-      | inr more ↦ rw more.logs_are (empty-spare_after old tables zone b agrees serves.spare can.filling)
-    ] in
-    let same = stops-tables (mounted old tables) (mounted new after) zone b stops in
+pub append_stops : (a b c : Mounted) (zone : ℕ) (batch : Batch) → KeepsByCleaning a b → StopsInside b c zone batch → IsMountable c.drive c.tables.given → StopKeeps a c
+append_stops a b c zone batch kept stops mountable =
+    let same = stops-tables b c zone batch stops in
     record {
       stopped = stops.stopped;
-      mountable = rw same.given (stops.mountable spare);
-      size = rw same.map refl;
-      given = same.given;
-      next = same.next;
-      geometry = stops.geometry;
-      refused = stops.refused;
-      appended = stops.appended;
+      keeps = record {
+        mountable = mountable;
+        given = same.given ∙ kept.given;
+        geometry = stops.geometry ∙ kept.geometry;
+        refused = stops.refused ∙ kept.refused;
+        next = omega (arith, kept.next, same.next, stops.appended);
+      };
+      size = ap (λ (m : MapView). length m.places) same.map ∙ kept.size;
     }
 
 -- a front of none of the blocks
 pub front-none : (old new : List (List ℕ)) (first : ℕ) (blocks : List (List ℕ)) → new ≡ old → IsFront old first blocks new
 front-none old new first blocks same = record { done = 0; within = omega arith; written = same ∙ sym (replaced-none old first) }
 
-write_stops : (a b c : DriveState) (t u v : TablesView) (host : Filling) (trim : Bool) (first count : ℕ) (blocks : List (List ℕ)) (builder : BuilderView) → AgreesWith a t → KeepsArray (mounted a t) (mounted b u)
-    → IsNextBatch (mounted b u) host trim first count blocks builder → StopsInside (mounted b u) (mounted c v) host.zone (built b.geometry.block builder)
-    → StopKeeps (mounted a t) (mounted c v) × IsFront (mounted_array (mounted a t)) first blocks (mounted_array (mounted c v))
-write_stops a b c t u v host trim first count blocks builder serves kept next stops =
-    let here = serves-kept a b t u serves kept in
-    let array = mounted_array (mounted a t) in
-    let front : IsFront array first blocks (spelled c u.given) = elim stops.left [
-      | inl same ↦ front-none array (spelled c u.given) first blocks (same.array_is ∙ kept.array)
+write_stops : (a b c : Mounted) (host : Filling) (trim : Bool) (first count : ℕ) (blocks : List (List ℕ)) (builder : BuilderView) → KeepsByCleaning a b → IsNextBatch b host trim first count blocks builder
+    → StopsInside b c host.zone (built b.drive.geometry.block builder) → IsMountable c.drive c.tables.given → StopKeeps a c × IsFront (mounted_array a) first blocks (mounted_array c)
+write_stops a b c host trim first count blocks builder kept next stops mountable =
+    let array = mounted_array a in
+    let batch = built b.drive.geometry.block builder in
+    let front : IsFront array first blocks (spelled c.drive b.tables.given) = elim stops.left [
+      | inl same ↦ front-none array (spelled c.drive b.tables.given) first blocks (same.array_is ∙ kept.array)
       | inr more ↦ record {
         done = count;
         within = next.few;
-        written = more.array_is ∙ next.tells ∙ rw kept.array refl;
+        written = more.array_is ∙ next.tells ∙ ap (λ (xs : List (List ℕ)). replaced xs first (take count blocks)) kept.array;
       }
     ] in
-    (stops-join (mounted a t) (mounted b u) (mounted c v) kept (append_stops b c u v host.zone (built b.geometry.block builder) here next.can stops), rw (stops-tables (mounted b u) (mounted c v) host.zone (built b.geometry.block builder) stops).given front)
+    (append_stops a b c host.zone batch kept stops mountable, rw (stops-tables b c host.zone batch stops).given front)
 
 -- ---- refusals
 
+-- an Append for which memory lacked
+pub memory-left : (a b c : Mounted) (old new : Option CleanView) (zone : ℕ) (batch : Batch) → KeepsByCleaning a b → IsCleaned b old → HostLeaves b old zone batch (Err halt.Memory) c new → KeepsByCleaning a c × IsCleaned c new
+memory-left a b c old new zone batch kept is leaves = (keeps-more a b c kept (cleaning_kept b c old is leaves.0), leaves.2.cleaned)
+
 -- what an Append that did not succeed leaves of a write
-pub write_halts : (a b c : DriveState) (t u v : TablesView) (host : Filling) (trim : Bool) (first count : ℕ) (blocks : List (List ℕ)) (builder : BuilderView) (fault : Halt) → AgreesWith a t → KeepsArray (mounted a t) (mounted b u)
-    → IsNextBatch (mounted b u) host trim first count blocks builder → ChoiceLeaves (mounted b u) (mounted c v) host.zone (built b.geometry.block builder) (Err fault)
-    → WriteLeaves trim (mounted a t) (mounted c v) first blocks (Err (disk_fault fault)) × IsCause c v.next (disk_fault fault)
-write_halts a b c t u v host trim first count blocks builder halt.Memory serves kept next leaves =
-    (keeps-join (mounted a t) (mounted b u) (mounted c v) kept (memory-keeps (mounted b u) (mounted c v) host.zone (built b.geometry.block builder) kept.agrees leaves), tt)
-write_halts a b c t u v host trim first count blocks builder halt.Stopped serves kept next leaves = (write_stops a b c t u v host trim first count blocks builder serves kept next leaves, leaves.stopped)
+pub write_halts : (a b c : Mounted) (old new : Option CleanView) (host : Filling) (trim : Bool) (first count : ℕ) (blocks : List (List ℕ)) (builder : BuilderView) (fault : Halt) → KeepsByCleaning a b → IsCleaned b old
+    → IsNextBatch b host trim first count blocks builder → HostLeaves b old host.zone (built b.drive.geometry.block builder) (Err fault) c new
+    → WriteLeaves trim a c new first blocks (Err (disk_fault fault)) × IsCause c.drive c.tables.next (disk_fault fault)
+write_halts a b c old new host trim first count blocks builder halt.Memory kept is next leaves = (memory-left a b c old new host.zone (built b.drive.geometry.block builder) kept is leaves, tt)
+write_halts a b c old new host trim first count blocks builder halt.Stopped kept is next leaves = (write_stops a b c host trim first count blocks builder kept next leaves.0 leaves.2, leaves.0.stopped)
 
 -- what a refusal on the way to room leaves of it
-write_without : (trim : Bool) (a b : Mounted) (first : ℕ) (blocks : List (List ℕ)) (fault : DiskFault) → RoomLeaves {V = Filling} a b (Err fault) → WriteLeaves trim a b first blocks (Err fault)
-write_without trim a b first blocks OutOfRange leaves = leaves
-write_without trim a b first blocks OutOfMemory leaves = leaves
-write_without trim a b first blocks Stopped leaves = (leaves.0, front-none (mounted_array a) (mounted_array b) first blocks leaves.1)
-write_without trim a b first blocks Spent leaves = leaves
-write_without trim a b first blocks NoRoom leaves = leaves
-write_without trim a b first blocks Smaller leaves = leaves
-write_without trim a b first blocks Reserve leaves = leaves
+write_without : (trim : Bool) (a b : Mounted) (clean : Option CleanView) (first : ℕ) (blocks : List (List ℕ)) (fault : DiskFault) → RoomLeaves {V = Filling} a b clean (Err fault) → IsCause b.drive b.tables.next fault → WriteLeaves trim a b clean first blocks (Err fault)
+write_without trim a b clean first blocks OutOfRange leaves cause = leaves
+write_without trim a b clean first blocks OutOfMemory leaves cause = leaves
+write_without trim a b clean first blocks Stopped leaves cause = (room-stops a b leaves cause, front-none (mounted_array a) (mounted_array b) first blocks leaves.array)
+write_without trim a b clean first blocks Spent leaves cause = leaves
+write_without trim a b clean first blocks Smaller leaves cause = leaves
+write_without trim a b clean first blocks Reserve leaves cause = leaves
 
-pub write_no_room : (trim : Bool) (a b : Mounted) (first : ℕ) (blocks : List (List ℕ)) (fault : DiskFault) (result : Result ℕ DiskFault) → result ≡ Err fault → RoomLeaves {V = Filling} a b (Err fault) → WriteLeaves trim a b first blocks result
-write_no_room trim a b first blocks fault result is leaves = rw is (write_without trim a b first blocks fault leaves)
+pub write_no_room : (trim : Bool) (a b : Mounted) (clean : Option CleanView) (first : ℕ) (blocks : List (List ℕ)) (fault : DiskFault) (result : Result ℕ DiskFault) → result ≡ Err fault → RoomLeaves {V = Filling} a b clean (Err fault) → IsCause b.drive b.tables.next fault → WriteLeaves trim a b clean first blocks result
+write_no_room trim a b clean first blocks fault result is leaves cause = rw is (write_without trim a b clean first blocks fault leaves cause)
 
-pub write_no_memory : (trim : Bool) (a b : Mounted) (first : ℕ) (blocks : List (List ℕ)) (result : Result ℕ DiskFault) → result ≡ Err OutOfMemory → KeepsArray a b → WriteLeaves trim a b first blocks result
-write_no_memory trim a b first blocks result is kept = rw is kept
+pub write_no_memory : (trim : Bool) (a b : Mounted) (clean : Option CleanView) (first : ℕ) (blocks : List (List ℕ)) (result : Result ℕ DiskFault) → result ≡ Err OutOfMemory → KeepsByCleaning a b × IsCleaned b clean → WriteLeaves trim a b clean first blocks result
+write_no_memory trim a b clean first blocks result is kept = rw is kept
 
 -- ---- what is written, of what was handed over
 
-pub took-blocks : (a b c : DriveState) (t u v : TablesView) (host : Filling) (first left count : ℕ) (content : Content) (builder : BuilderView) → AgreesWith a t → KeepsArray (mounted a t) (mounted b u) → first + left ≤ size_of t
-    → IsNextBatch (mounted b u) host (is_trim content) first count (blocks_of b.geometry.block left content) builder → Places (mounted b u) (mounted c v) host.zone (built b.geometry.block builder)
-    → WritesBlocks (is_trim content) (mounted a t) (mounted c v) first (take count (blocks_of a.geometry.block left content))
-took-blocks a b c t u v host first left count content builder serves kept in_range next placed =
-    let few : count ≤ left = omega (arith, next.few, length-blocks b.geometry.block left content) in
-    let done = writes a b c t u v host (is_trim content) first count (blocks_of b.geometry.block left content) builder serves kept next (omega (arith, few, in_range)) placed in
-    rw kept.geometry at done
+pub took-blocks : (a b c : Mounted) (old new : Option CleanView) (host : Filling) (first left count : ℕ) (content : Content) (builder : BuilderView) → KeepsByCleaning a b → IsCleaned b old → first + left ≤ size_of a.tables
+    → IsNextBatch b host (is_trim content) first count (blocks_of b.drive.geometry.block left content) builder → HostLeaves b old host.zone (built b.drive.geometry.block builder) (Ok tt) c new
+    → WritesBlocks (is_trim content) a c new first (take count (blocks_of a.drive.geometry.block left content))
+took-blocks a b c old new host first left count content builder kept is in_range next leaves =
+    let few : count ≤ left = omega (arith, next.few, length-blocks b.drive.geometry.block left content) in
+    let done = writes a b c old new host (is_trim content) first count (blocks_of b.drive.geometry.block left content) builder kept is next (omega (arith, few, in_range)) leaves in
+    subst (λ (g : Geometry). WritesBlocks (is_trim content) a c new first (take count (blocks_of g.block left content))) kept.geometry done
 
-pub lost-blocks : (a b c : DriveState) (t u v : TablesView) (host : Filling) (first left count : ℕ) (content : Content) (builder : BuilderView) (fault : Halt) → AgreesWith a t → KeepsArray (mounted a t) (mounted b u)
-    → IsNextBatch (mounted b u) host (is_trim content) first count (blocks_of b.geometry.block left content) builder → ChoiceLeaves (mounted b u) (mounted c v) host.zone (built b.geometry.block builder) (Err fault)
-    → WriteLeaves (is_trim content) (mounted a t) (mounted c v) first (blocks_of a.geometry.block left content) (Err (disk_fault fault)) × IsCause c v.next (disk_fault fault)
-lost-blocks a b c t u v host first left count content builder fault serves kept next leaves =
-    let done = write_halts a b c t u v host (is_trim content) first count (blocks_of b.geometry.block left content) builder fault serves kept next leaves in
-    rw kept.geometry at done
+pub lost-blocks : (a b c : Mounted) (old new : Option CleanView) (host : Filling) (first left count : ℕ) (content : Content) (builder : BuilderView) (fault : Halt) → KeepsByCleaning a b → IsCleaned b old
+    → IsNextBatch b host (is_trim content) first count (blocks_of b.drive.geometry.block left content) builder → HostLeaves b old host.zone (built b.drive.geometry.block builder) (Err fault) c new
+    → WriteLeaves (is_trim content) a c new first (blocks_of a.drive.geometry.block left content) (Err (disk_fault fault)) × IsCause c.drive c.tables.next (disk_fault fault)
+lost-blocks a b c old new host first left count content builder fault kept is next leaves =
+    let done = write_halts a b c old new host (is_trim content) first count (blocks_of b.drive.geometry.block left content) builder fault kept is next leaves in
+    subst (λ (g : Geometry). WriteLeaves (is_trim content) a c new first (blocks_of g.block left content) (Err (disk_fault fault)) × IsCause c.drive c.tables.next (disk_fault fault)) kept.geometry done

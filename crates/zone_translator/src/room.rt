@@ -102,11 +102,14 @@ pub(crate) fn make_room<D: Device>(
     ensures err { IfErr result (λ fault. IsCause (D.drive device.new) tables.new.next fault) }
     ensures completed { (D.drive device.new).completed + 1 ≤ (D.drive device.old).completed + 2 * (D.drive device.old).geometry.capacity }
 {
-    if let Some(host) = tables.host() {
-        if host.written + 2 <= device.geometry().capacity {
-            return Ok(host);
-        }
-        retire(alloc, tables, device, host)?;
+    let Some(host) = tables.host() else {
+        return find_host(tables, device, cleaner);
+    };
+    if host.written + 2 <= device.geometry().capacity {
+        return Ok(host);
+    }
+    if let Err(fault) = retire(alloc, tables, device, host) {
+        return Err(fault);
     }
     find_host(tables, device, cleaner)
 }
