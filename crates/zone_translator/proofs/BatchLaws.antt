@@ -16,7 +16,8 @@ use Rattle.zone_choice.specs.Changes.{told_over}
 use Rattle.zone_choice.specs.Tables.{AreReserved}
 use Rattle.zone_choice.proofs.AgreementLaws.{extended-same}
 use Rattle.zone_translator.specs.Batches.{host_heading}
-use Rattle.zone_translator.specs.Changes.{Names, trims}
+use Rattle.zone_cleaner.specs.Start.{trims}
+use Rattle.zone_translator.specs.Changes.{Names}
 use Rattle.zone_translator.specs.Flat.{replaced}
 use Rattle.zone_translator.proofs.FlatLaws.{replaced-none, set-replaced}
 
@@ -128,9 +129,9 @@ names-more trim header address first count rest all lt more = record { named = n
           )
     ]
 
-    others : (block : ℕ) → (block < first) ⊎ (first + suc count ≤ block) → get_or (set rest first here) block places.None ≡ get_or all block places.None
-    others block (inl low) = apart block (λ e. omega (arith, low, e)) ∙ more.others block (inl (omega (arith, low)))
-    others block (inr high) = apart block (λ e. omega (arith, high, e)) ∙ more.others block (inr (omega (arith, high)))
+    others : (block : ℕ) → (block < first) ⊎ (first + suc count ≤ block) → trims (get_or (set rest first here) block places.None) ≡ trims (get_or all block places.None)
+    others block (inl low) = ap trims (apart block (λ e. omega (arith, low, e))) ∙ more.others block (inl (omega (arith, low)))
+    others block (inr high) = ap trims (apart block (λ e. omega (arith, high, e))) ∙ more.others block (inr (omega (arith, high)))
 
 pub names-placed : (trim : Bool) (header address first count : ℕ) (all : List Place) → first + count ≤ length all → Names trim all first count (placed header address (entries_from trim first count) all)
 names-placed trim header address first zero all le = record { named = λ block low high. absurd (omega arith); others = λ block out. refl }

@@ -1,5 +1,5 @@
 -- The calls of a disk: their answers, and the flat disk after them.
-use Rattle.std.proofs.Common.{◌≡◌, ◌==◌, ℕ, nat_lt, zero, suc, ◌+◌, ◌-◌, ◌<◌, ◌≤◌, Bool, true, false, List, [], ◌∷◌, ◌++◌, length, take, drop, get_or, Some, None, Ok, Err, refl, sym, ap, ◌∙◌, inl, inr, arith, append_assoc, append-nil}
+use Rattle.std.proofs.Common.{◌≡◌, ◌==◌, ℕ, nat_lt, zero, suc, ◌+◌, ◌-◌, ◌*◌, ◌<◌, ◌≤◌, Bool, true, false, List, [], ◌∷◌, ◌++◌, length, take, drop, get_or, Some, None, Ok, Err, refl, sym, ap, ◌∙◌, inl, inr, arith, append_assoc, append-nil}
 use Rattle.std.specs.Prelude.{Result}
 use Rattle.std.specs.Int.{div_ceil}
 use Rattle.std.specs.List.{concat}
@@ -7,6 +7,8 @@ use Rattle.std.specs.Result.{IfErr, OnErr, OnOk}
 use Rattle.std.proofs.lemmas.Bool.{cases_lt}
 use Rattle.std.proofs.lemmas.Bool.Decides.{nat_tests}
 use Rattle.std.proofs.lemmas.List.{get_or-drop, length-drop, length-take, take_all, take_more}
+use Rattle.std.proofs.Math.Nat.{add-mul}
+use Rattle.std.proofs.lemmas.Nat.{mul-le}
 use Rattle.zone_states.specs.Geometry.{IsInRange}
 use Rattle.drive_port.specs.Drive.{DriveState}
 use Rattle.batch_log.specs.Log.{zero_block}
@@ -16,13 +18,14 @@ use Rattle.zone_choice.specs.Reserve.{batch_most, most_size}
 use Rattle.zone_choice.specs.Sizes.{extended}
 use Rattle.zone_choice.proofs.ReserveLaws.{div_ceil-add, div_ceil-none, div_ceil-positive, positive-most}
 use Rattle.zone_translator.specs.declared.fault.DiskFault.{DiskFault}
-use Rattle.zone_translator.specs.declared.fault.DiskFault.TheVariants.{OutOfRange, OutOfMemory, Stopped, Spent, NoRoom, Smaller, Reserve}
+use Rattle.zone_translator.specs.declared.fault.DiskFault.TheVariants.{OutOfRange, OutOfMemory, Stopped, Spent, Smaller, Reserve}
 use Rattle.zone_translator.specs.declared.status.DiskStatus.{DiskStatus}
 use Rattle.zone_translator.specs.declared.status.DiskStatus.TheVariants as statuses
 use Rattle.zone_translator.specs.Batches.{IsBatchCount}
 use Rattle.zone_translator.specs.Calls.{Reads, answer_before, is_known, status_of}
-use Rattle.zone_translator.specs.Changes.{AreNamed, IsCause, Names, trims}
-use Rattle.zone_translator.specs.Flat.{Call, FlatCall, IsAfterFront, IsFront, answer_while, blocks_from, grow, known_answer, known_growth, known_range, may_refuse, read, replaced, report, status_after, with_nothing, write}
+use Rattle.zone_cleaner.specs.Start.{trims}
+use Rattle.zone_translator.specs.Changes.{AreNamed, IsCause, Names}
+use Rattle.zone_translator.specs.Flat.{Call, FlatCall, IsAfterFront, IsFront, answer_while, blocks_from, grow, idle, known_answer, known_growth, known_range, may_refuse, read, replaced, report, status_after, with_nothing, write}
 use Rattle.zone_translator.specs.Read.{IsReadFault}
 use Rattle.zone_translator.specs.View.{DiskCause, DiskView, array_of, disk_size, flat_of, most_batches, next_sequence}
 use Rattle.zone_translator.proofs.FlatLaws.{replaced-append}
@@ -86,7 +89,6 @@ status-refused OutOfRange = refl
 status-refused OutOfMemory = refl
 status-refused Stopped = refl
 status-refused Spent = refl
-status-refused NoRoom = refl
 status-refused Smaller = refl
 status-refused Reserve = refl
 
@@ -101,7 +103,6 @@ cause-of disk OutOfRange cause = tt
 cause-of disk OutOfMemory cause = cause
 cause-of disk Stopped cause = cause
 cause-of disk Spent cause = cause
-cause-of disk NoRoom cause = cause
 cause-of disk Smaller cause = tt
 cause-of disk Reserve cause = tt
 
@@ -110,7 +111,6 @@ read-cause disk OutOfRange cause = tt
 read-cause disk OutOfMemory cause = tt
 read-cause disk Stopped cause = cause
 read-cause disk Spent cause = absurd cause
-read-cause disk NoRoom cause = absurd cause
 read-cause disk Smaller cause = tt
 read-cause disk Reserve cause = tt
 
@@ -141,7 +141,6 @@ may-refuse disk first blocks OutOfRange cause = absurd cause
 may-refuse disk first blocks OutOfMemory cause = refl
 may-refuse disk first blocks Stopped cause = refl
 may-refuse disk first blocks Spent cause = refl
-may-refuse disk first blocks NoRoom cause = refl
 may-refuse disk first blocks Smaller cause = absurd cause
 may-refuse disk first blocks Reserve cause = absurd cause
 
@@ -181,6 +180,10 @@ batches-less true disk left count range some le is =
     ]
 batches-less false disk left count range some le is = omega (arith, some, le)
 
+-- the commands of one batch more
+pub spend : (left less each now new most : ℕ) → less + 1 ≤ left → new ≤ now + each → now + left * each ≤ most → new + less * each ≤ most
+spend left less each now new most fewer one so_far = omega (arith, mul-le (less + 1) each left each fewer (omega arith), add-mul less 1 each, one, so_far)
+
 -- ---- the answers of a growth
 
 pub growth-smaller : (disk : DiskView) (blocks : ℕ) → blocks < disk_size disk → known_growth (flat_of disk) blocks ≡ Some (Err Smaller)
@@ -214,7 +217,6 @@ growth-refuse disk blocks OutOfRange cause = absurd cause
 growth-refuse disk blocks OutOfMemory cause = refl
 growth-refuse disk blocks Stopped cause = refl
 growth-refuse disk blocks Spent cause = refl
-growth-refuse disk blocks NoRoom cause = refl
 growth-refuse disk blocks Smaller cause = absurd cause
 growth-refuse disk blocks Reserve cause = absurd cause
 
@@ -230,7 +232,6 @@ read-refuse drive first n OutOfRange cause = absurd cause
 read-refuse drive first n OutOfMemory cause = refl
 read-refuse drive first n Stopped cause = refl
 read-refuse drive first n Spent cause = absurd cause
-read-refuse drive first n NoRoom cause = absurd cause
 read-refuse drive first n Smaller cause = absurd cause
 read-refuse drive first n Reserve cause = absurd cause
 
@@ -280,7 +281,34 @@ pub read-one : (old new : DiskView) (first n : ℕ) (result : Result (Unit {0}) 
 read-one old new first n (Ok done) bytes known was one lt same size geometry ok serves status err nothing = read-done old new first n bytes known was (one-shown (array_of old) first n bytes one lt ok) same size serves geometry
 read-one old new first n (Err fault) bytes known was one lt same size geometry ok serves status err nothing = read-refused old new first n fault bytes known nothing same size status geometry err
 
--- ---- the answers of a report and of a turn
+-- ---- the answers of a turn
+
+pub idle-stopped : (old : DiskView) → old.status ≡ statuses.Stopped → FlatCall (flat_of old) idle (with_nothing (Err Stopped)) (flat_of old)
+idle-stopped old stopped = let known : known_answer (flat_of old) idle ≡ Some (Err Stopped) = ap answer_while stopped in rw known (refl, refl)
+
+pub idle-done : (old new : DiskView) → old.status ≡ statuses.Serving → array_of new ≡ array_of old → disk_size new ≡ disk_size old → new.status ≡ old.status → new.drive.geometry ≡ old.drive.geometry → FlatCall (flat_of old) idle (with_nothing (Ok tt)) (flat_of new)
+idle-done old new serves array size status geometry =
+    let none : known_answer (flat_of old) idle ≡ None = ap answer_while serves in
+    rw none (refl, flat-is old new (array_of old) (disk_size old) old.status array size status geometry)
+
+idle-refuse : (disk : DiskView) (fault : DiskFault) → IsCause disk.drive (next_sequence disk) fault → may_refuse idle fault ≡ true
+idle-refuse disk OutOfRange cause = absurd cause
+idle-refuse disk OutOfMemory cause = refl
+idle-refuse disk Stopped cause = refl
+idle-refuse disk Spent cause = refl
+idle-refuse disk Smaller cause = absurd cause
+idle-refuse disk Reserve cause = absurd cause
+
+pub idle-refused : (old new : DiskView) (fault : DiskFault) → old.status ≡ statuses.Serving → array_of new ≡ array_of old → disk_size new ≡ disk_size old → new.status ≡ status_of fault → new.drive.geometry ≡ old.drive.geometry → IsCause new.drive (next_sequence new) fault
+    → FlatCall (flat_of old) idle (with_nothing (Err fault)) (flat_of new)
+idle-refused old new fault serves array size status geometry cause =
+    let none : known_answer (flat_of old) idle ≡ None = ap answer_while serves in
+    rw none (idle-refuse new fault cause, refl, array, flat-refused old new fault size status geometry)
+
+pub idle-unknown : (old new : DiskView) → old.status ≡ statuses.Serving → is_known (flat_of old) idle ≡ true → new ≡ old
+idle-unknown old new serves known = let e : false ≡ true = rw serves at known in absurd (cc)
+
+-- ---- the answers of a report
 
 pub report-stopped : (old : DiskView) (call : Call) → known_answer (flat_of old) call ≡ answer_while old.status → old.status ≡ statuses.Stopped → FlatCall (flat_of old) call (with_nothing (Err Stopped)) (flat_of old)
 report-stopped old call known stopped = rw (known, stopped) (refl, refl)
@@ -295,7 +323,6 @@ report-refuse drive OutOfRange cause = absurd cause
 report-refuse drive OutOfMemory cause = refl
 report-refuse drive Stopped cause = refl
 report-refuse drive Spent cause = absurd cause
-report-refuse drive NoRoom cause = absurd cause
 report-refuse drive Smaller cause = absurd cause
 report-refuse drive Reserve cause = absurd cause
 

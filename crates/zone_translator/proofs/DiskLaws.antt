@@ -1,6 +1,7 @@
 -- A disk, by what its parts change.
-use Rattle.std.proofs.Common.{◌≡◌, ℕ, Bool, List, length, Err, refl, sym, ap, ◌∙◌, arith}
+use Rattle.std.proofs.Common.{◌≡◌, ℕ, Bool, List, length, Option, Err, refl, sym, ap, ◌∙◌, arith}
 use Rattle.std.specs.List.{AllByRecursion}
+use Rattle.zone_states.specs.declared.geometry.Geometry.{Geometry}
 use Rattle.drive_port.specs.Drive.{DriveState}
 use Rattle.zone_choice.specs.Agreement.{mounted, spelled}
 use Rattle.zone_choice.specs.Changes.{KeepsArray}
@@ -8,64 +9,61 @@ use Rattle.zone_choice.specs.Tables.{TablesView, size_of}
 use Rattle.zone_choice.proofs.AgreementLaws.{length-spelled, size-encoded}
 use Rattle.zone_choice.proofs.WholeLaws.{whole-spelled}
 use Rattle.zone_choice.specs.Mountable.{IsMountable}
+use Rattle.zone_choice.specs.Reserve.{batch_most}
+use Rattle.zone_cleaner.specs.declared.fault.CleanFault.{CleanFault}
+use Rattle.zone_cleaner.specs.declared.fault.CleanFault.TheVariants as faults
+use Rattle.zone_cleaner.specs.Clean.{CleanView, turns_left}
+use Rattle.zone_cleaner.specs.Start.{GoesOn, IsCleaningCause, KeepsByCleaning}
+use Rattle.zone_cleaner.proofs.NextLaws.{cleaning_kept}
 use Rattle.zone_translator.specs.declared.fault.DiskFault.{DiskFault}
-use Rattle.zone_translator.specs.declared.fault.DiskFault.TheVariants.{OutOfRange, OutOfMemory, Stopped, Spent, NoRoom, Smaller, Reserve}
+use Rattle.zone_translator.specs.declared.fault.DiskFault.TheVariants.{OutOfRange, OutOfMemory, Stopped, Spent, Smaller, Reserve}
 use Rattle.zone_translator.specs.declared.status.DiskStatus.{DiskStatus}
 use Rattle.zone_translator.specs.declared.status.DiskStatus.TheVariants as statuses
 use Rattle.zone_translator.specs.Calls.{Holds, status_of}
-use Rattle.zone_translator.specs.Changes.{AgreesWith, GrowLeaves, Grows, Names, StopKeeps, WriteLeaves, WritesBlocks}
+use Rattle.zone_translator.specs.Changes.{AgreesWith, GrowLeaves, Keeps, Names, StopKeeps, WriteLeaves, cleaning_fault}
 use Rattle.zone_translator.specs.Flat.{IsAfterFront, IsFront, grow}
 use Rattle.zone_translator.specs.Read.{IsReadFault}
 use Rattle.zone_translator.proofs.WriteLaws.{front-none}
-use Rattle.zone_translator.proofs.RoomLaws.{serves-kept, serves_mountable}
-use Rattle.zone_translator.specs.View.{DiskView, KeepsDisk, array_of, flat_of, given_size, places_of}
+use Rattle.zone_translator.proofs.RoomLaws.{room-stops, serves-kept, serves_mountable}
+use Rattle.zone_translator.specs.View.{DiskView, KeepsDisk, array_of, disk_turns, flat_of, given_size, places_of}
 
 -- what a disk of these parts is seen as
-abbrev pub view_of : DriveState → TablesView → DiskStatus → DiskView
-view_of drive tables status = record { drive = drive; tables = tables; status = status }
+abbrev pub view_of : DriveState → TablesView → Option CleanView → DiskStatus → DiskView
+view_of drive tables clean status = record { drive = drive; tables = tables; clean = clean; status = status }
 
 -- while the disk serves, the array has its number of blocks; and on a drive that can be mounted each is a whole block
-pub length-array : (drive : DriveState) (tables : TablesView) → AgreesWith drive tables → length (spelled drive tables.given) ≡ size_of tables
-length-array drive tables serves = length-spelled drive tables.given ∙ sym (size-encoded (mounted drive tables) serves.agrees)
+pub length-array : (drive : DriveState) (tables : TablesView) (clean : Option CleanView) → AgreesWith drive tables clean → length (spelled drive tables.given) ≡ size_of tables
+length-array drive tables clean serves = length-spelled drive tables.given ∙ sym (size-encoded (mounted drive tables) serves.0)
 
 pub whole-array : (disk : DiskView) → IsMountable disk.drive (given_size disk) → AllByRecursion (λ block. length block ≡ disk.drive.geometry.block) (array_of disk)
 whole-array disk mountable = whole-spelled disk.drive (given_size disk) mountable
 
-pub kept-disk : (old new : DriveState) (tables tables' : TablesView) (was is : DiskStatus) → AgreesWith old tables → KeepsArray (mounted old tables) (mounted new tables') → KeepsDisk (view_of old tables was) (view_of new tables' is)
-kept-disk old new tables tables' was is serves kept = record {
-  given = kept.given;
-  geometry = kept.geometry;
-  mountable = serves_mountable new tables' (serves-kept old new tables tables' serves kept);
-  refused = kept.refused;
-  next = omega (arith, kept.next, kept.appended);
+-- what a part of a call keeps, a disk keeps
+pub keeps-disk : (old new : DriveState) (tables tables' : TablesView) (clean clean' : Option CleanView) (was is : DiskStatus) → Keeps (mounted old tables) (mounted new tables') → KeepsDisk (view_of old tables clean was) (view_of new tables' clean' is)
+keeps-disk old new tables tables' clean clean' was is keeps = record {
+  given = keeps.given;
+  geometry = keeps.geometry;
+  mountable = keeps.mountable;
+  refused = keeps.refused;
+  next = keeps.next;
 }
 
-pub written-disk : (old new : DriveState) (tables tables' : TablesView) (trim : Bool) (first : ℕ) (blocks : List (List ℕ)) (was is : DiskStatus) → WritesBlocks trim (mounted old tables) (mounted new tables') first blocks → KeepsDisk (view_of old tables was) (view_of new tables' is)
-written-disk old new tables tables' trim first blocks was is written = record {
-  given = written.given;
-  geometry = written.geometry;
-  mountable = serves_mountable new tables' written.serves;
-  refused = written.refused;
-  next = omega (arith, written.next, written.appended);
+pub cleaned-disk : (old new : DriveState) (tables tables' : TablesView) (clean clean' : Option CleanView) (was is : DiskStatus) → KeepsByCleaning (mounted old tables) (mounted new tables') → KeepsDisk (view_of old tables clean was) (view_of new tables' clean' is)
+cleaned-disk old new tables tables' clean clean' was is keeps = record {
+  given = keeps.given;
+  geometry = keeps.geometry;
+  mountable = keeps.mountable;
+  refused = keeps.refused;
+  next = keeps.next;
 }
 
-pub grown-disk : (old new : DriveState) (tables tables' : TablesView) (size : ℕ) (was is : DiskStatus) → Grows (mounted old tables) (mounted new tables') size → KeepsDisk (view_of old tables was) (view_of new tables' is)
-grown-disk old new tables tables' size was is grown = record {
-  given = grown.given;
-  geometry = grown.geometry;
-  mountable = serves_mountable new tables' grown.serves;
-  refused = grown.refused;
-  next = omega (arith, grown.next, grown.appended);
-}
+-- what a disk keeps where only commands went that change nothing
+pub kept-disk : (old new : DriveState) (tables : TablesView) (clean : Option CleanView) (was is : DiskStatus) → AgreesWith old tables clean → KeepsArray (mounted old tables) (mounted new tables) → KeepsDisk (view_of old tables clean was) (view_of new tables clean is)
+kept-disk old new tables clean was is serves kept = cleaned-disk old new tables tables clean clean was is (cleaning_kept (mounted old tables) (mounted new tables) clean serves kept)
 
-pub stopped-disk : (old new : DriveState) (tables tables' : TablesView) (was is : DiskStatus) → StopKeeps (mounted old tables) (mounted new tables') → KeepsDisk (view_of old tables was) (view_of new tables' is)
-stopped-disk old new tables tables' was is stops = record {
-  given = stops.given;
-  geometry = stops.geometry;
-  mountable = stops.mountable;
-  refused = stops.refused;
-  next = omega (arith, stops.next, stops.appended);
-}
+-- and as many turns are left
+pub turns-same : (old new : DriveState) (tables : TablesView) (clean : Option CleanView) (was is : DiskStatus) → new.geometry ≡ old.geometry → disk_turns (view_of new tables clean is) ≡ disk_turns (view_of old tables clean was)
+turns-same old new tables clean was is same = ap (λ (g : Geometry). turns_left (batch_most g) tables clean) same
 
 pub kept-join : (a b c : DiskView) → KeepsDisk a b → KeepsDisk b c → KeepsDisk a c
 kept-join a b c p q = record {
@@ -82,108 +80,118 @@ kept-refl a mountable = record { given = refl; geometry = refl; mountable = moun
 -- ---- the parts of a disk
 
 -- a disk that serves, by the agreement of its tables and its drive
-pub holds-serving : (drive : DriveState) (tables : TablesView) → AgreesWith drive tables → Holds drive tables statuses.Serving
-holds-serving drive tables serves = record {
-  mountable = serves_mountable drive tables serves;
-  geometry = serves.agrees.geometry;
-  short = serves.agrees.reserve.1;
+pub holds-serving : (drive : DriveState) (tables : TablesView) (clean : Option CleanView) → AgreesWith drive tables clean → Holds drive tables clean statuses.Serving
+holds-serving drive tables clean serves = record {
+  mountable = serves_mountable drive tables clean serves;
+  geometry = serves.0.geometry;
+  short = serves.0.reserve.1;
   agrees = serves;
   stopped = λ e. absurd (cc);
 }
 
 -- one whose drive stopped
-pub holds-stopped : (old new : DriveState) (tables tables' : TablesView) → AgreesWith old tables → StopKeeps (mounted old tables) (mounted new tables') → Holds new tables' statuses.Stopped
-holds-stopped old new tables tables' serves stops = record {
-  mountable = stops.mountable;
-  geometry = rw stops.geometry serves.agrees.geometry;
-  short = omega (arith, stops.size, serves.agrees.reserve.1);
+pub holds-stopped : (old new : DriveState) (tables tables' : TablesView) (clean clean' : Option CleanView) → AgreesWith old tables clean → StopKeeps (mounted old tables) (mounted new tables') → Holds new tables' clean' statuses.Stopped
+holds-stopped old new tables tables' clean clean' serves stops = record {
+  mountable = stops.keeps.mountable;
+  geometry = rw stops.keeps.geometry serves.0.geometry;
+  short = omega (arith, stops.size, serves.0.reserve.1);
   agrees = tt;
   stopped = λ e. stops.stopped;
 }
 
--- one that was read, after a refusal
-pub holds-read : (drive : DriveState) (tables : TablesView) (fault : DiskFault) → AgreesWith drive tables → IsReadFault drive fault → Holds drive tables (status_of fault)
-holds-read drive tables OutOfRange serves cause = absurd cause
-holds-read drive tables OutOfMemory serves cause = holds-serving drive tables serves
-holds-read drive tables Stopped serves cause = record {
-  mountable = serves_mountable drive tables serves;
-  geometry = serves.agrees.geometry;
-  short = serves.agrees.reserve.1;
-  agrees = tt;
-  stopped = λ e. cause;
-}
-holds-read drive tables Spent serves cause = absurd cause
-holds-read drive tables NoRoom serves cause = absurd cause
-holds-read drive tables Smaller serves cause = absurd cause
-holds-read drive tables Reserve serves cause = absurd cause
+-- one that was read, and goes on or has stopped
+pub holds-kept : (old new : DriveState) (tables : TablesView) (clean : Option CleanView) → AgreesWith old tables clean → KeepsArray (mounted old tables) (mounted new tables) → Holds new tables clean statuses.Serving
+holds-kept old new tables clean serves kept = holds-serving new tables clean (serves-kept old new tables tables clean serves kept)
 
--- ---- a batch that was refused
+pub holds-read : (old new : DriveState) (tables : TablesView) (clean : Option CleanView) (fault : DiskFault) → AgreesWith old tables clean → KeepsArray (mounted old tables) (mounted new tables) → IsReadFault new fault → Holds new tables clean (status_of fault)
+holds-read old new tables clean OutOfRange serves kept cause = absurd cause
+holds-read old new tables clean OutOfMemory serves kept cause = holds-kept old new tables clean serves kept
+holds-read old new tables clean Stopped serves kept cause =
+    let now = serves-kept old new tables tables clean serves kept in
+    record {
+      mountable = serves_mountable new tables clean now;
+      geometry = now.0.geometry;
+      short = now.0.reserve.1;
+      agrees = tt;
+      stopped = λ e. cause;
+    }
+holds-read old new tables clean Spent serves kept cause = absurd cause
+holds-read old new tables clean Smaller serves kept cause = absurd cause
+holds-read old new tables clean Reserve serves kept cause = absurd cause
+
+-- ---- a part of a call that was refused
 
 -- the parts of the disk, and what it keeps
-pub record Refused (old new : DriveState) (tables tables' : TablesView) (fault : DiskFault) (was : DiskStatus) : Type 0 where
-  pub holds : Holds new tables' (status_of fault)
-  pub kept : KeepsDisk (view_of old tables was) (view_of new tables' (status_of fault))
+pub record Refused (old new : DriveState) (tables tables' : TablesView) (clean clean' : Option CleanView) (fault : DiskFault) (was : DiskStatus) : Type 0 where
+  pub holds : Holds new tables' clean' (status_of fault)
+  pub kept : KeepsDisk (view_of old tables clean was) (view_of new tables' clean' (status_of fault))
   pub size : size_of tables' ≡ size_of tables
 
-refused-kept : (old new : DriveState) (tables tables' : TablesView) (fault : DiskFault) (was : DiskStatus) → status_of fault ≡ statuses.Serving → AgreesWith old tables → KeepsArray (mounted old tables) (mounted new tables') → Refused old new tables tables' fault was
-refused-kept old new tables tables' fault was is serves kept = record {
-  holds = rw is (holds-serving new tables' (serves-kept old new tables tables' serves kept));
-  kept = kept-disk old new tables tables' was (status_of fault) serves kept;
-  size = ap length kept.places;
+refused-serving : (old new : DriveState) (tables tables' : TablesView) (clean clean' : Option CleanView) (fault : DiskFault) (was : DiskStatus) → status_of fault ≡ statuses.Serving → KeepsByCleaning (mounted old tables) (mounted new tables') × AgreesWith new tables' clean' → Refused old new tables tables' clean clean' fault was
+refused-serving old new tables tables' clean clean' fault was is kept = record {
+  holds = rw is (holds-serving new tables' clean' kept.1);
+  kept = cleaned-disk old new tables tables' clean clean' was (status_of fault) kept.0;
+  size = kept.0.size;
 }
 
-refused-stopped : (old new : DriveState) (tables tables' : TablesView) (was : DiskStatus) → AgreesWith old tables → StopKeeps (mounted old tables) (mounted new tables') → Refused old new tables tables' Stopped was
-refused-stopped old new tables tables' was serves stops = record {
-  holds = holds-stopped old new tables tables' serves stops;
-  kept = stopped-disk old new tables tables' was statuses.Stopped stops;
+refused-stopped : (old new : DriveState) (tables tables' : TablesView) (clean clean' : Option CleanView) (was : DiskStatus) → AgreesWith old tables clean → StopKeeps (mounted old tables) (mounted new tables') → Refused old new tables tables' clean clean' Stopped was
+refused-stopped old new tables tables' clean clean' was serves stops = record {
+  holds = holds-stopped old new tables tables' clean clean' serves stops;
+  kept = keeps-disk old new tables tables' clean clean' was statuses.Stopped stops.keeps;
   size = stops.size;
 }
 
+-- a turn that was not done
+pub refused-turn : (old new : DriveState) (tables tables' : TablesView) (clean clean' : Option CleanView) (cause : CleanFault) (was : DiskStatus) → AgreesWith old tables clean → KeepsByCleaning (mounted old tables) (mounted new tables') → GoesOn (Err cause) (mounted new tables') clean' → IsCleaningCause new tables'.next cause
+    → Refused old new tables tables' clean clean' (cleaning_fault cause) was
+refused-turn old new tables tables' clean clean' faults.OutOfMemory was serves kept on cause = refused-serving old new tables tables' clean clean' OutOfMemory was refl (kept, on)
+refused-turn old new tables tables' clean clean' faults.Stopped was serves kept on cause = refused-stopped old new tables tables' clean clean' was serves (room-stops (mounted old tables) (mounted new tables') kept cause)
+refused-turn old new tables tables' clean clean' faults.Spent was serves kept on cause = refused-serving old new tables tables' clean clean' Spent was refl (kept, on)
+
 -- with the front of a write that was made
-pub record RefusedWrite (old new : DriveState) (tables tables' : TablesView) (first : ℕ) (blocks : List (List ℕ)) (fault : DiskFault) (was : DiskStatus) : Type 0 where
-  pub refused : Refused old new tables tables' fault was
+pub record RefusedWrite (old new : DriveState) (tables tables' : TablesView) (clean clean' : Option CleanView) (first : ℕ) (blocks : List (List ℕ)) (fault : DiskFault) (was : DiskStatus) : Type 0 where
+  pub refused : Refused old new tables tables' clean clean' fault was
   pub front : IsFront (spelled old tables.given) first blocks (spelled new tables'.given)
 
-pub refused-write : (old new : DriveState) (tables tables' : TablesView) (trim : Bool) (first : ℕ) (blocks : List (List ℕ)) (fault : DiskFault) (was : DiskStatus) → AgreesWith old tables → WriteLeaves trim (mounted old tables) (mounted new tables') first blocks (Err fault)
-    → RefusedWrite old new tables tables' first blocks fault was
-refused-write old new tables tables' trim first blocks fault was serves leaves = by fault leaves
+pub refused-write : (old new : DriveState) (tables tables' : TablesView) (clean clean' : Option CleanView) (trim : Bool) (first : ℕ) (blocks : List (List ℕ)) (fault : DiskFault) (was : DiskStatus) → AgreesWith old tables clean
+    → WriteLeaves trim (mounted old tables) (mounted new tables') clean' first blocks (Err fault) → RefusedWrite old new tables tables' clean clean' first blocks fault was
+refused-write old new tables tables' clean clean' trim first blocks fault was serves leaves = by fault leaves
   where
-    same : (fault : DiskFault) → status_of fault ≡ statuses.Serving → KeepsArray (mounted old tables) (mounted new tables') → RefusedWrite old new tables tables' first blocks fault was
-    same fault is kept = record { refused = refused-kept old new tables tables' fault was is serves kept; front = front-none (spelled old tables.given) (spelled new tables'.given) first blocks kept.array }
+    same : (fault : DiskFault) → status_of fault ≡ statuses.Serving → KeepsByCleaning (mounted old tables) (mounted new tables') × AgreesWith new tables' clean' → RefusedWrite old new tables tables' clean clean' first blocks fault was
+    same fault is kept = record { refused = refused-serving old new tables tables' clean clean' fault was is kept; front = front-none (spelled old tables.given) (spelled new tables'.given) first blocks kept.0.array }
 
-    by : (fault : DiskFault) → WriteLeaves trim (mounted old tables) (mounted new tables') first blocks (Err fault) → RefusedWrite old new tables tables' first blocks fault was
+    by : (fault : DiskFault) → WriteLeaves trim (mounted old tables) (mounted new tables') clean' first blocks (Err fault) → RefusedWrite old new tables tables' clean clean' first blocks fault was
     by OutOfRange leaves = same OutOfRange refl leaves
     by OutOfMemory leaves = same OutOfMemory refl leaves
-    by Stopped leaves = record { refused = refused-stopped old new tables tables' was serves leaves.0; front = leaves.1 }
+    by Stopped leaves = record { refused = refused-stopped old new tables tables' clean clean' was serves leaves.0; front = leaves.1 }
     by Spent leaves = same Spent refl leaves
-    by NoRoom leaves = same NoRoom refl leaves
     by Smaller leaves = same Smaller refl leaves
     by Reserve leaves = same Reserve refl leaves
 
 -- with the array of a growth, which is the old one but where the drive stopped
-pub record RefusedGrowth (old new : DriveState) (tables tables' : TablesView) (size : ℕ) (fault : DiskFault) (was : DiskStatus) : Type 0 where
-  pub refused : Refused old new tables tables' fault was
-  pub front : IsAfterFront (flat_of (view_of old tables was)) (grow size) fault (spelled new tables'.given)
+pub record RefusedGrowth (old new : DriveState) (tables tables' : TablesView) (clean clean' : Option CleanView) (size : ℕ) (fault : DiskFault) (was : DiskStatus) : Type 0 where
+  pub refused : Refused old new tables tables' clean clean' fault was
+  pub front : IsAfterFront (flat_of (view_of old tables clean was)) (grow size) fault (spelled new tables'.given)
 
-pub refused-growth : (old new : DriveState) (tables tables' : TablesView) (size : ℕ) (fault : DiskFault) (was : DiskStatus) → AgreesWith old tables → GrowLeaves (mounted old tables) (mounted new tables') size (Err fault) → RefusedGrowth old new tables tables' size fault was
-refused-growth old new tables tables' size OutOfRange was serves leaves = record { refused = refused-kept old new tables tables' OutOfRange was refl serves leaves; front = leaves.array }
-refused-growth old new tables tables' size OutOfMemory was serves leaves = record { refused = refused-kept old new tables tables' OutOfMemory was refl serves leaves; front = leaves.array }
-refused-growth old new tables tables' size Stopped was serves leaves = record { refused = refused-stopped old new tables tables' was serves leaves.0; front = leaves.1 }
-refused-growth old new tables tables' size Spent was serves leaves = record { refused = refused-kept old new tables tables' Spent was refl serves leaves; front = leaves.array }
-refused-growth old new tables tables' size NoRoom was serves leaves = record { refused = refused-kept old new tables tables' NoRoom was refl serves leaves; front = leaves.array }
-refused-growth old new tables tables' size Smaller was serves leaves = record { refused = refused-kept old new tables tables' Smaller was refl serves leaves; front = leaves.array }
-refused-growth old new tables tables' size Reserve was serves leaves = record { refused = refused-kept old new tables tables' Reserve was refl serves leaves; front = leaves.array }
+pub refused-growth : (old new : DriveState) (tables tables' : TablesView) (clean clean' : Option CleanView) (size : ℕ) (fault : DiskFault) (was : DiskStatus) → AgreesWith old tables clean
+    → GrowLeaves (mounted old tables) (mounted new tables') clean' size (Err fault) → RefusedGrowth old new tables tables' clean clean' size fault was
+refused-growth old new tables tables' clean clean' size OutOfRange was serves leaves = record { refused = refused-serving old new tables tables' clean clean' OutOfRange was refl leaves; front = leaves.0.array }
+refused-growth old new tables tables' clean clean' size OutOfMemory was serves leaves = record { refused = refused-serving old new tables tables' clean clean' OutOfMemory was refl leaves; front = leaves.0.array }
+refused-growth old new tables tables' clean clean' size Stopped was serves leaves = record { refused = refused-stopped old new tables tables' clean clean' was serves leaves.0; front = leaves.1 }
+refused-growth old new tables tables' clean clean' size Spent was serves leaves = record { refused = refused-serving old new tables tables' clean clean' Spent was refl leaves; front = leaves.0.array }
+refused-growth old new tables tables' clean clean' size Smaller was serves leaves = record { refused = refused-serving old new tables tables' clean clean' Smaller was refl leaves; front = leaves.0.array }
+refused-growth old new tables tables' clean clean' size Reserve was serves leaves = record { refused = refused-serving old new tables tables' clean clean' Reserve was refl leaves; front = leaves.0.array }
 
 -- while it serves, its tables agree with its drive
-pub holds-agrees : (drive : DriveState) (tables : TablesView) (status : DiskStatus) → status ≡ statuses.Serving → Holds drive tables status → AgreesWith drive tables
-holds-agrees drive tables statuses.Serving e holds = holds.agrees
-holds-agrees drive tables statuses.Stopped e holds = absurd (cc)
+pub holds-agrees : (drive : DriveState) (tables : TablesView) (clean : Option CleanView) (status : DiskStatus) → status ≡ statuses.Serving → Holds drive tables clean status → AgreesWith drive tables clean
+holds-agrees drive tables clean statuses.Serving e holds = holds.agrees
+holds-agrees drive tables clean statuses.Stopped e holds = absurd (cc)
 
 -- ---- the tables name the places that the drive has
 
-pub places-on : (drive : DriveState) (tables : TablesView) (status : DiskStatus) → AgreesWith drive tables → tables.map.places ≡ places_of (view_of drive tables status)
-places-on drive tables status serves = serves.agrees.places
+pub places-on : (drive : DriveState) (tables : TablesView) (clean : Option CleanView) (status : DiskStatus) → AgreesWith drive tables clean → tables.map.places ≡ places_of (view_of drive tables clean status)
+places-on drive tables clean status serves = serves.0.places
 
-pub names-on : (old new : DriveState) (tables tables' : TablesView) (trim : Bool) (first count : ℕ) (was is : DiskStatus) → AgreesWith old tables → AgreesWith new tables' → Names trim tables.map.places first count tables'.map.places
-    → Names trim (places_of (view_of old tables was)) first count (places_of (view_of new tables' is))
-names-on old new tables tables' trim first count was is serves after names = rw (places-on old tables was serves, places-on new tables' is after) at names
+pub names-on : (old new : DriveState) (tables tables' : TablesView) (clean clean' : Option CleanView) (trim : Bool) (first count : ℕ) (was is : DiskStatus) → AgreesWith old tables clean → AgreesWith new tables' clean' → Names trim tables.map.places first count tables'.map.places
+    → Names trim (places_of (view_of old tables clean was)) first count (places_of (view_of new tables' clean' is))
+names-on old new tables tables' clean clean' trim first count was is serves after names = rw (places-on old tables clean was serves, places-on new tables' clean' is after) at names

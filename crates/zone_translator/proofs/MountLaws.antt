@@ -1,5 +1,5 @@
 -- A fresh drive is mounted.
-use Rattle.std.proofs.Common.{◌≡◌, ◌≢◌, ℕ, ◌+◌, replicate, length, sym, ap, ◌∙◌, arith}
+use Rattle.std.proofs.Common.{◌≡◌, ◌≢◌, ℕ, ◌+◌, replicate, length, None, sym, ap, ◌∙◌, arith}
 use Rattle.std.proofs.lemmas.List.{length-replicate}
 use Rattle.zone_states.specs.declared.geometry.Geometry.{Geometry}
 use Rattle.zone_states.specs.Geometry.{IsInRange}
@@ -14,6 +14,7 @@ use Rattle.zone_choice.specs.Agreement.{spelled}
 use Rattle.zone_choice.proofs.AgreementLaws.{agrees_same, spelled_same}
 use Rattle.zone_choice.proofs.FreshLaws.{IsFreshTables, fresh_agrees, fresh_spare, fresh_spelled}
 use Rattle.zone_choice.proofs.OpenLaws.{closing-opens}
+use Rattle.zone_cleaner.specs.Clean.{IsAlone}
 use Rattle.zone_translator.specs.Mount.{IsFresh, IsFreshDisk, MountRefuses}
 use Rattle.zone_translator.specs.declared.mount.MountFault.TheVariants.{NotFresh}
 
@@ -30,12 +31,10 @@ fresh-disk old new geometry blocks number tables same range fits all all_empty w
     let made = rw same at tables-are in
     let here = rw same at range in
     let agrees = fresh_agrees old tables blocks here (rw same at fits) was fresh made in
+    let second : tables.roles.second ≡ None = ap (λ (r : RolesView). r.second) tables-are.roles in
+    let alone : IsAlone new.geometry.capacity tables.roles.second = rw second tt in
     record {
-      agrees = record {
-        agrees = agrees_same old new tables contents_are (closing-opens old.zones new.zones closing) lawful agrees;
-        spare = fresh_spare old.geometry tables blocks here made;
-        alone = ap (λ (r : RolesView). r.second) tables-are.roles;
-      };
+      agrees = (agrees_same old new tables contents_are (closing-opens old.zones new.zones closing) lawful agrees, (fresh_spare old.geometry tables blocks here made, alone));
       size = size;
       given = tables-are.given;
       fresh = fresh;

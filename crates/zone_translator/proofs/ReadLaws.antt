@@ -8,18 +8,18 @@ use Rattle.drive_port.specs.declared.calls.PortFault.TheVariants as port
 use Rattle.batch_log.specs.Log.{zero_block}
 use Rattle.logical_map.specs.declared.place.Place.{Place}
 use Rattle.logical_map.specs.declared.place.Place.TheVariants as places
-use Rattle.zone_choice.specs.Agreement.{mounted, spelled}
+use Rattle.zone_choice.specs.Agreement.{Agrees, mounted, spelled}
 use Rattle.zone_choice.specs.Changes.{IsHalt, KeepsArray, halt_of}
 use Rattle.zone_choice.specs.Tables.{TablesView, size_of}
 use Rattle.zone_choice.proofs.ChangeLaws.{keeps-contents, keeps-halt, keeps-same}
 use Rattle.zone_choice.proofs.OpenLaws.{closing-opens}
 use Rattle.zone_choice.proofs.ReadLaws.{HoldsPlace, holds_place}
-use Rattle.zone_translator.specs.Changes.{AgreesWith, disk_fault}
+use Rattle.zone_translator.specs.Changes.{disk_fault}
 use Rattle.zone_translator.specs.Read.{IsReadFault}
 
 -- what stands at the place of a block
-pub holds : (drive : DriveState) (tables : TablesView) (block : ℕ) (p : Place) → AgreesWith drive tables → block < size_of tables → p ≡ get_or tables.map.places block places.None → HoldsPlace drive (spelled drive tables.given) block p
-holds drive tables block p serves lt e = rw e (holds_place drive tables block serves.agrees lt)
+pub holds : (drive : DriveState) (tables : TablesView) (block : ℕ) (p : Place) → Agrees (mounted drive tables) → block < size_of tables → p ≡ get_or tables.map.places block places.None → HoldsPlace drive (spelled drive tables.given) block p
+holds drive tables block p agrees lt e = rw e (holds_place drive tables block agrees lt)
 
 pub no-place : (drive : DriveState) (array : List (List ℕ)) (block : ℕ) (p : Place) → HoldsPlace drive array block p → ((address : ℕ) → p ≡ places.At address → ⊥) → get_or array block [] ≡ zero_block drive.geometry.block
 no-place drive array block places.None h other = h
@@ -35,25 +35,25 @@ pub record ReadHalts (old new : DriveState) (tables : TablesView) (fault : PortF
   pub kept : KeepsArray (mounted old tables) (mounted new tables)
   pub cause : IsReadFault new (disk_fault (halt_of fault))
 
-pub place_halts : (old new : DriveState) (tables : TablesView) (block address : ℕ) (returned : List ℕ) (fault : PortFault) → AgreesWith old tables → block < size_of tables → places.At address ≡ get_or tables.map.places block places.None
+pub place_halts : (old new : DriveState) (tables : TablesView) (block address : ℕ) (returned : List ℕ) (fault : PortFault) → Agrees (mounted old tables) → block < size_of tables → places.At address ≡ get_or tables.map.places block places.None
     → ReadGives {V = Unit {0}} old address 1 (Err fault) returned new → SameContents old new → IsClosing old.zones new.zones → Obeys {V = Unit {0}} old (Err fault) new → (CanRead old address 1 → IsNotRefused {V = Unit {0}} (Err fault)) → ReadHalts old new tables fault
-place_halts old new tables block address returned (port.Refused status) serves lt at gives same closing obeys passed = absurd (passed (holds old tables block (places.At address) serves lt at).can)
-place_halts old new tables block address returned port.Memory serves lt at gives same closing obeys passed = record { halt = tt; kept = keeps-halt old new tables gives.1.1 serves.agrees; cause = tt }
-place_halts old new tables block address returned port.Stopped serves lt at gives same closing obeys passed = record {
+place_halts old new tables block address returned (port.Refused status) agrees lt at gives same closing obeys passed = absurd (passed (holds old tables block (places.At address) agrees lt at).can)
+place_halts old new tables block address returned port.Memory agrees lt at gives same closing obeys passed = record { halt = tt; kept = keeps-halt old new tables gives.1.1 agrees; cause = tt }
+place_halts old new tables block address returned port.Stopped agrees lt at gives same closing obeys passed = record {
   halt = tt;
-  kept = keeps-same old new tables serves.agrees same (closing-opens old.zones new.zones closing) obeys.lawful (obeys.counts refl).refused (obeys.counts refl).appended;
+  kept = keeps-same old new tables agrees same (closing-opens old.zones new.zones closing) obeys.lawful (obeys.counts refl).refused (obeys.counts refl).appended;
   cause = obeys.stops refl;
 }
 
 -- and one that was done
-pub place_kept : (old new : DriveState) (tables : TablesView) → AgreesWith old tables → SameContents old new → IsClosing old.zones new.zones → IsLawful new → Counts old new 0 → KeepsArray (mounted old tables) (mounted new tables)
-place_kept old new tables serves same closing lawful counts = keeps-contents old new tables serves.agrees same (closing-opens old.zones new.zones closing) lawful counts
+pub place_kept : (old new : DriveState) (tables : TablesView) → Agrees (mounted old tables) → SameContents old new → IsClosing old.zones new.zones → IsLawful new → Counts old new 0 → KeepsArray (mounted old tables) (mounted new tables)
+place_kept old new tables agrees same closing lawful counts = keeps-contents old new tables agrees same (closing-opens old.zones new.zones closing) lawful counts
 
-pub place_shown : (drive : DriveState) (tables : TablesView) (block address : ℕ) (shown : List ℕ) → AgreesWith drive tables → block < size_of tables → places.At address ≡ get_or tables.map.places block places.None
+pub place_shown : (drive : DriveState) (tables : TablesView) (block address : ℕ) (shown : List ℕ) → Agrees (mounted drive tables) → block < size_of tables → places.At address ≡ get_or tables.map.places block places.None
     → shown ≡ bytes_at drive.geometry (contents drive.zones) address 1 → shown ≡ get_or (spelled drive tables.given) block []
 place_shown drive tables block address shown agrees lt at e = one-block drive address shown e ∙ (holds drive tables block (places.At address) agrees lt at).shown
 
 -- a block with no data
-pub zeros_shown : (drive : DriveState) (tables : TablesView) (block : ℕ) (p : Place) → AgreesWith drive tables → block < size_of tables → p ≡ get_or tables.map.places block places.None → ((address : ℕ) → p ≡ places.At address → ⊥)
+pub zeros_shown : (drive : DriveState) (tables : TablesView) (block : ℕ) (p : Place) → Agrees (mounted drive tables) → block < size_of tables → p ≡ get_or tables.map.places block places.None → ((address : ℕ) → p ≡ places.At address → ⊥)
     → replicate drive.geometry.block 0 ≡ get_or (spelled drive tables.given) block []
 zeros_shown drive tables block p agrees lt at other = sym (no-place drive (spelled drive tables.given) block p (holds drive tables block p agrees lt at) other)

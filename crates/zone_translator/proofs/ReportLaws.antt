@@ -16,13 +16,12 @@ use Rattle.drive_port.specs.Step.{end_of}
 use Rattle.drive_port.specs.declared.calls.PortFault.{PortFault}
 use Rattle.drive_port.specs.declared.calls.PortFault.TheVariants as port
 use Rattle.drive_port.proofs.ClosingLaws.{length-closing}
-use Rattle.zone_choice.specs.Agreement.{mounted}
+use Rattle.zone_choice.specs.Agreement.{Agrees, mounted}
 use Rattle.zone_choice.specs.Changes.{KeepsArray}
 use Rattle.zone_choice.specs.Tables.{TablesView}
 use Rattle.zone_choice.proofs.ChangeLaws.{keeps-contents, keeps-halt, keeps-same}
 use Rattle.zone_choice.proofs.OpenLaws.{closing-opens}
 use Rattle.zone_translator.specs.Calls.{ReportsAll, whole_report}
-use Rattle.zone_translator.specs.Changes.{AgreesWith}
 use Rattle.zone_translator.proofs.ReadLaws.{ReadHalts}
 
 -- ---- the bytes
@@ -59,15 +58,15 @@ reports-all old new dwords bytes range count is reported = record {
 can-report : (drive : DriveState) → IsInRange drive.geometry → 0 < end_of drive.geometry
 can-report drive range = let one : 1 * 1 ≤ drive.geometry.zones * drive.geometry.size = mul-le 1 1 drive.geometry.zones drive.geometry.size (omega (arith, range.zones)) (omega (arith, range.size, range.capacity)) in omega (arith, one)
 
-pub report_kept : (old new : DriveState) (tables : TablesView) (dwords : ℕ) (bytes : List ℕ) → AgreesWith old tables → SameContents old new → IsClosing old.zones new.zones → Obeys {V = Unit {0}} old (Ok tt) new → Reported old new 0 AnyState false dwords bytes → KeepsArray (mounted old tables) (mounted new tables)
-report_kept old new tables dwords bytes serves same closing obeys reported = keeps-contents old new tables serves.agrees same (closing-opens old.zones new.zones closing) obeys.lawful reported.counts
+pub report_kept : (old new : DriveState) (tables : TablesView) (dwords : ℕ) (bytes : List ℕ) → Agrees (mounted old tables) → SameContents old new → IsClosing old.zones new.zones → Obeys {V = Unit {0}} old (Ok tt) new → Reported old new 0 AnyState false dwords bytes → KeepsArray (mounted old tables) (mounted new tables)
+report_kept old new tables dwords bytes agrees same closing obeys reported = keeps-contents old new tables agrees same (closing-opens old.zones new.zones closing) obeys.lawful reported.counts
 
-pub report_halts : (old new : DriveState) (tables : TablesView) (dwords : ℕ) (returned : List ℕ) (fault : PortFault) → AgreesWith old tables → ReportGives {V = Unit {0}} old 0 AnyState false dwords (Err fault) returned new → SameContents old new → IsClosing old.zones new.zones
+pub report_halts : (old new : DriveState) (tables : TablesView) (dwords : ℕ) (returned : List ℕ) (fault : PortFault) → Agrees (mounted old tables) → ReportGives {V = Unit {0}} old 0 AnyState false dwords (Err fault) returned new → SameContents old new → IsClosing old.zones new.zones
     → Obeys {V = Unit {0}} old (Err fault) new → (0 < end_of old.geometry → IsNotRefused {V = Unit {0}} (Err fault)) → ReadHalts old new tables fault
-report_halts old new tables dwords returned (port.Refused status) serves gives same closing obeys passed = absurd (passed (can-report old serves.agrees.geometry))
-report_halts old new tables dwords returned port.Memory serves gives same closing obeys passed = record { halt = tt; kept = keeps-halt old new tables gives.1.1 serves.agrees; cause = tt }
-report_halts old new tables dwords returned port.Stopped serves gives same closing obeys passed = record {
+report_halts old new tables dwords returned (port.Refused status) agrees gives same closing obeys passed = absurd (passed (can-report old agrees.geometry))
+report_halts old new tables dwords returned port.Memory agrees gives same closing obeys passed = record { halt = tt; kept = keeps-halt old new tables gives.1.1 agrees; cause = tt }
+report_halts old new tables dwords returned port.Stopped agrees gives same closing obeys passed = record {
   halt = tt;
-  kept = keeps-same old new tables serves.agrees same (closing-opens old.zones new.zones closing) obeys.lawful (obeys.counts refl).refused (obeys.counts refl).appended;
+  kept = keeps-same old new tables agrees same (closing-opens old.zones new.zones closing) obeys.lawful (obeys.counts refl).refused (obeys.counts refl).appended;
   cause = obeys.stops refl;
 }

@@ -2,11 +2,10 @@ use Rattle.std.proofs.Common.{◌∙◌, ap}
 use Rattle.zone_states.specs.declared.geometry.Geometry.{Geometry}
 use Rattle.zone_choice.proofs.ChangeLaws.{keeps-refl}
 use Rattle.zone_translator.proofs.ReadLaws.{place_halts, place_kept, place_shown, zeros_shown}
-use Rattle.zone_translator.proofs.RoomLaws.{serves-kept}
 use Rattle.zone_translator.proofs.read.read_into.Goals as goal
 
 pub returns-in_default-clause-kept : goal.returns-in_default-clause-kept
-returns-in_default-clause-kept g c = keeps-refl _ c.args.tables.now c.requires.agrees.agrees
+returns-in_default-clause-kept g c = keeps-refl _ c.args.tables.now c.requires.agrees
 
 pub returns-in_default-clause-ok : goal.returns-in_default-clause-ok
 returns-in_default-clause-ok g c =
@@ -26,12 +25,5 @@ pub returns-clause-ok : goal.returns-clause-ok
 returns-clause-ok g c =
     place_shown (g.D.Device.drive c.args.device.now) c.args.tables.now c.args.block c.in-At.address _ c.requires.agrees c.requires.in_range c.in-At.ensures c.in_default-read.ensures.shown
 
-pub returns-in-Err-clause-agrees : goal.returns-in-Err-clause-agrees
-returns-in-Err-clause-agrees g c =
-    serves-kept _ _ c.args.tables.now c.args.tables.now c.requires.agrees (place_halts (g.D.Device.drive c.args.device.now) _ c.args.tables.now c.args.block c.in-At.address _ c.in-Err.fault c.requires.agrees c.requires.in_range c.in-At.ensures c.in-Err.ensures.gives c.read.ensures.kept c.read.ensures.closing c.in-Err.ensures.obeys c.in-Err.ensures.taken).kept
-
 pub returns-clause-kept : goal.returns-clause-kept
 returns-clause-kept g c = place_kept _ _ c.args.tables.now c.requires.agrees c.read.ensures.kept c.read.ensures.closing c.read.ensures.obeys.lawful c.in_default-read.ensures.counts
-
-pub returns-clause-agrees : goal.returns-clause-agrees
-returns-clause-agrees g c = serves-kept _ _ c.args.tables.now c.args.tables.now c.requires.agrees (place_kept _ _ c.args.tables.now c.requires.agrees c.read.ensures.kept c.read.ensures.closing c.read.ensures.obeys.lawful c.in_default-read.ensures.counts)

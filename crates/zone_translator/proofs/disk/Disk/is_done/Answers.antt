@@ -26,4 +26,4 @@ returns-in-Serving-clause-known g c =
 
 pub returns-in-Serving-clause-long : goal.returns-in-Serving-clause-long
 returns-in-Serving-clause-long g c =
-    rw (← c.self.view_is) (λ e. length-array _ c.self.inside.tables (holds-agrees _ c.self.inside.tables c.self.inside.status c.in-Serving.is c.self.invariant))
+    rw (← c.self.view_is) (λ e. length-array _ c.self.inside.tables c.self.inside.cleaner (holds-agrees _ c.self.inside.tables c.self.inside.cleaner c.self.inside.status c.in-Serving.is c.self.invariant))

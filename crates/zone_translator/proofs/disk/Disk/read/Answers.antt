@@ -19,6 +19,7 @@ loop-i-preserved g c =
       c.read_one.ensures.array ∙ so_far.3,
       shown-more (array_of c.args.self.now) c.args.first c.loop-i.i _ _ _ refl (omega (arith, range.1, c.in_ok-is_done.ensures.long c.if-branch.false)) so_far.4 (rw so_far.3 at c.in_default.ensures.ok),
       omega (arith, so_far.5, c.read_one.ensures.completed),
+      c.read_one.ensures.turns ∙ so_far.6,
     )
 
 pub returns-then-blocks-eq1-clause-flat : goal.returns-then-blocks-eq1-clause-flat

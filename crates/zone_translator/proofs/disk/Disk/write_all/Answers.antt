@@ -1,8 +1,9 @@
 use Rattle.std.proofs.Common.{◌≡◌, ◌∙◌, ◌-◌, ◌+◌, drop, sym, refl, ap, rules, arith}
 use Rattle.zone_states.specs.declared.geometry.Geometry.{Geometry}
 use Rattle.zone_translator.specs.Batches.{blocks_of, is_trim}
-use Rattle.zone_translator.specs.View.{array_of}
-use Rattle.zone_translator.proofs.CallLaws.{batches-less, batches-some, goes-begun, named-more, write-done, write-front, write-known, write-refused, write-unknown, written-more}
+use Rattle.zone_translator.specs.Changes.{batch_commands}
+use Rattle.zone_translator.specs.View.{array_of, most_batches}
+use Rattle.zone_translator.proofs.CallLaws.{batches-less, batches-some, goes-begun, named-more, spend, write-done, write-front, write-known, write-refused, write-unknown, written-more}
 use Rattle.zone_translator.proofs.ContentLaws.{length-blocks, rest-is, rest-whole}
 use Rattle.zone_translator.proofs.DiskLaws.{kept-join, kept-refl}
 use Rattle.zone_translator.proofs.FlatLaws.{replaced-none}
@@ -42,6 +43,7 @@ loop-done-preserved g c =
     let long = length-blocks disk.drive.geometry.block c.args.blocks c.args.content in
     let done = c.in-Ok.ensures in
     let fewer : c.args.blocks - (c.loop-done.done + c.in-Ok.count) ≡ left - c.in-Ok.count = omega (arith, done.count, so_far.3) in
+    let each = batch_commands disk.drive.geometry in
     let less = batches-less (is_trim c.args.content) disk left c.in-Ok.count c.is_done.ensures.range done.count.0 done.count.1 (rw (so_far.0.geometry, rest.trim) at done.count.2) in (
       kept-join disk c.loop-done.self c.write_some.new.self so_far.0 done.kept,
       done.size ∙ so_far.1,
@@ -51,7 +53,7 @@ loop-done-preserved g c =
           so_far.4 refl refl (omega (arith, long, so_far.3)) left_is done.ok,
       named-more (is_trim c.args.content) _ _ c.args.first c.loop-done.done _ c.in-Ok.count _ refl refl so_far.5 (rw rest.trim at done.names),
       λ some. done.says,
-      rw fewer (omega (arith, less, so_far.7, done.completed)),
+      rw fewer (spend (most_batches (is_trim c.args.content) disk left) _ each _ c.write_some.new.self.drive.completed _ less (rw so_far.0.geometry at done.completed) so_far.7),
     )
 
 pub returns-in-Err-clause-flat : goal.returns-in-Err-clause-flat
@@ -76,7 +78,9 @@ pub returns-in-Err-clause-completed : goal.returns-in-Err-clause-completed
 returns-in-Err-clause-completed g c =
     let so_far = c.loop-done.invariant in
     let one = batches-some (is_trim c.args.content) c.args.self.now (c.args.blocks - c.loop-done.done) c.is_done.ensures.range (omega (arith, c.loop-done-test.true)) in
-    omega (arith, one, so_far.7, c.in-Err.ensures.completed)
+    let each = batch_commands c.args.self.now.drive.geometry in
+    let last = spend (most_batches (is_trim c.args.content) c.args.self.now (c.args.blocks - c.loop-done.done)) 0 each _ c.write_some.new.self.drive.completed _ (omega (arith, one)) (rw so_far.0.geometry at c.in-Err.ensures.completed) so_far.7 in
+    omega (arith, last)
 
 pub returns-clause-flat : goal.returns-clause-flat
 returns-clause-flat g c =

@@ -1,7 +1,7 @@
 use Rattle.std.proofs.Common.{◌≡◌, ◌-◌, ◌+◌, ◌*◌, ◌≤◌, take, Some}
 use Rattle.zone_translator.specs.declared.status.DiskStatus.TheVariants.{Serving}
 use Rattle.zone_translator.specs.Batches.{blocks_of, is_trim}
-use Rattle.zone_translator.specs.Changes.{AreNamed}
+use Rattle.zone_translator.specs.Changes.{AreNamed, batch_commands}
 use Rattle.zone_translator.specs.Flat.{replaced}
 use Rattle.zone_translator.specs.View.{KeepsDisk, array_of, disk_size, most_batches, places_of, size_on}
 use Rattle.zone_translator.proofs.disk.Disk.write_all.Given as goal
@@ -11,7 +11,7 @@ invariant-loop-done g l =
     KeepsDisk l.fn.self l.self × (disk_size l.self ≡ disk_size l.fn.self) × (l.self.status ≡ Serving) × (l.done ≤ l.blocks)
     × (array_of l.self ≡ replaced (array_of l.fn.self) l.first (take l.done (blocks_of l.fn.self.drive.geometry.block l.blocks l.content)))
     × AreNamed (is_trim l.content) (places_of l.self) l.first l.done × (1 ≤ l.done → size_on l.self ≡ Some (disk_size l.self))
-    × (l.self.drive.completed + 2 * most_batches (is_trim l.content) l.fn.self (l.blocks - l.done) ≤ l.fn.self.drive.completed + 2 * most_batches (is_trim l.content) l.fn.self l.blocks)
+    × (l.self.drive.completed + most_batches (is_trim l.content) l.fn.self (l.blocks - l.done) * batch_commands l.fn.self.drive.geometry ≤ l.fn.self.drive.completed + most_batches (is_trim l.content) l.fn.self l.blocks * batch_commands l.fn.self.drive.geometry)
 
 abbrev pub decreases-loop-done : goal.decreases-loop-done
 decreases-loop-done g l = l.blocks - l.done

@@ -1,39 +1,38 @@
 use Rattle.zone_translator.specs.Batches.{is_trim}
 use Rattle.zone_translator.proofs.ContentLaws.{took-names}
-use Rattle.zone_translator.proofs.DiskLaws.{holds-agrees, holds-serving, names-on, refused-write, written-disk}
+use Rattle.zone_translator.proofs.DiskLaws.{holds-agrees, holds-serving, keeps-disk, names-on, refused-write}
 use Rattle.zone_translator.proofs.disk.Disk.write_some.Goals as goal
 
 pub invariant_of-self : goal.invariant_of-self
 invariant_of-self g c =
     let serves = rw (← c.self.view_is) at c.requires.serving in
-    rw serves (holds-serving (g.D.Device.drive c.next_batch-written.new.device) c.next_batch-written.new.tables c.in-Ok.ensures.leaves.serves)
+    rw serves (holds-serving (g.D.Device.drive c.next_batch-written.new.device) c.next_batch-written.new.tables c.next_batch-written.new.cleaner c.in-Ok.ensures.leaves.serves)
 
 pub invariant_of-self-in-Err : goal.invariant_of-self-in-Err
 invariant_of-self-in-Err g c =
-    let serves = holds-agrees _ c.self.inside.tables c.self.inside.status (rw (← c.self.view_is) at c.requires.serving) c.self.invariant in
-    rw c.status_of-self-inside.ensures (refused-write _ _ c.self.inside.tables c.next_batch-written.new.tables (is_trim c.args.content) _ _ c.in-Err.fault c.self.inside.status serves c.in-Err.ensures.leaves).refused.holds
+    let serves = holds-agrees _ c.self.inside.tables c.self.inside.cleaner c.self.inside.status (rw (← c.self.view_is) at c.requires.serving) c.self.invariant in
+    rw c.status_of-self-inside.ensures (refused-write (g.D.Device.drive c.self.inside.device) (g.D.Device.drive c.next_batch-written.new.device) c.self.inside.tables c.next_batch-written.new.tables c.self.inside.cleaner c.next_batch-written.new.cleaner (is_trim c.args.content) _ _ c.in-Err.fault c.self.inside.status serves c.in-Err.ensures.leaves).refused.holds
 
 pub returns-in-Ok-clause-kept : goal.returns-in-Ok-clause-kept
-returns-in-Ok-clause-kept g c =
-    rw (← c.self.view_is) (written-disk _ _ c.self.inside.tables c.next_batch-written.new.tables _ _ _ c.self.inside.status c.self.inside.status c.in-Ok.ensures.leaves)
+returns-in-Ok-clause-kept g c = rw (← c.self.view_is) (keeps-disk (g.D.Device.drive c.self.inside.device) (g.D.Device.drive c.next_batch-written.new.device) c.self.inside.tables c.next_batch-written.new.tables c.self.inside.cleaner c.next_batch-written.new.cleaner c.self.inside.status c.self.inside.status c.in-Ok.ensures.leaves.keeps)
 
 pub returns-in-Ok-clause-names : goal.returns-in-Ok-clause-names
 returns-in-Ok-clause-names g c =
-    let serves = holds-agrees _ c.self.inside.tables c.self.inside.status (rw (← c.self.view_is) at c.requires.serving) c.self.invariant in
+    let serves = holds-agrees _ c.self.inside.tables c.self.inside.cleaner c.self.inside.status (rw (← c.self.view_is) at c.requires.serving) c.self.invariant in
     let names = took-names _ _ _ _ _ _ _ _ (c.in-Ok.ensures.count.1) c.in-Ok.ensures.leaves.names in
-    rw (← c.self.view_is) (names-on (g.D.Device.drive c.self.inside.device) (g.D.Device.drive c.next_batch-written.new.device) c.self.inside.tables c.next_batch-written.new.tables _ _ _ c.self.inside.status c.self.inside.status serves c.in-Ok.ensures.leaves.serves names)
+    rw (← c.self.view_is) (names-on (g.D.Device.drive c.self.inside.device) (g.D.Device.drive c.next_batch-written.new.device) c.self.inside.tables c.next_batch-written.new.tables c.self.inside.cleaner c.next_batch-written.new.cleaner _ _ _ c.self.inside.status c.self.inside.status serves c.in-Ok.ensures.leaves.serves names)
 
 pub returns-in-Err-clause-kept : goal.returns-in-Err-clause-kept
 returns-in-Err-clause-kept g c =
-    let serves = holds-agrees _ c.self.inside.tables c.self.inside.status (rw (← c.self.view_is) at c.requires.serving) c.self.invariant in
-    rw (← c.self.view_is, c.status_of-self-inside.ensures) (refused-write _ _ c.self.inside.tables c.next_batch-written.new.tables (is_trim c.args.content) _ _ c.in-Err.fault c.self.inside.status serves c.in-Err.ensures.leaves).refused.kept
+    let serves = holds-agrees _ c.self.inside.tables c.self.inside.cleaner c.self.inside.status (rw (← c.self.view_is) at c.requires.serving) c.self.invariant in
+    rw (← c.self.view_is, c.status_of-self-inside.ensures) (refused-write (g.D.Device.drive c.self.inside.device) (g.D.Device.drive c.next_batch-written.new.device) c.self.inside.tables c.next_batch-written.new.tables c.self.inside.cleaner c.next_batch-written.new.cleaner (is_trim c.args.content) _ _ c.in-Err.fault c.self.inside.status serves c.in-Err.ensures.leaves).refused.kept
 
 pub returns-in-Err-clause-size : goal.returns-in-Err-clause-size
 returns-in-Err-clause-size g c =
-    let serves = holds-agrees _ c.self.inside.tables c.self.inside.status (rw (← c.self.view_is) at c.requires.serving) c.self.invariant in
-    rw (← c.self.view_is) (refused-write _ _ c.self.inside.tables c.next_batch-written.new.tables (is_trim c.args.content) _ _ c.in-Err.fault c.self.inside.status serves c.in-Err.ensures.leaves).refused.size
+    let serves = holds-agrees _ c.self.inside.tables c.self.inside.cleaner c.self.inside.status (rw (← c.self.view_is) at c.requires.serving) c.self.invariant in
+    rw (← c.self.view_is) (refused-write (g.D.Device.drive c.self.inside.device) (g.D.Device.drive c.next_batch-written.new.device) c.self.inside.tables c.next_batch-written.new.tables c.self.inside.cleaner c.next_batch-written.new.cleaner (is_trim c.args.content) _ _ c.in-Err.fault c.self.inside.status serves c.in-Err.ensures.leaves).refused.size
 
 pub returns-in-Err-clause-err : goal.returns-in-Err-clause-err
 returns-in-Err-clause-err g c =
-    let serves = holds-agrees _ c.self.inside.tables c.self.inside.status (rw (← c.self.view_is) at c.requires.serving) c.self.invariant in
-    rw (← c.self.view_is) (refused-write _ _ c.self.inside.tables c.next_batch-written.new.tables (is_trim c.args.content) _ _ c.in-Err.fault c.self.inside.status serves c.in-Err.ensures.leaves).front
+    let serves = holds-agrees _ c.self.inside.tables c.self.inside.cleaner c.self.inside.status (rw (← c.self.view_is) at c.requires.serving) c.self.invariant in
+    rw (← c.self.view_is) (refused-write (g.D.Device.drive c.self.inside.device) (g.D.Device.drive c.next_batch-written.new.device) c.self.inside.tables c.next_batch-written.new.tables c.self.inside.cleaner c.next_batch-written.new.cleaner (is_trim c.args.content) _ _ c.in-Err.fault c.self.inside.status serves c.in-Err.ensures.leaves).front
