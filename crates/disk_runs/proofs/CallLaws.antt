@@ -8,7 +8,7 @@ use Rattle.disk_files.specs.Reply.{block_line, block_lines, ok_text, out_of_rang
 use Rattle.zone_translator.specs.Calls.{Reads}
 use Rattle.zone_translator.specs.Flat.{Answer, FlatCall, FlatDisk, answer_while, blocks_from, known_answer, may_refuse, read, with_nothing}
 use Rattle.zone_translator.specs.declared.fault.DiskFault.{DiskFault}
-use Rattle.zone_translator.specs.declared.fault.DiskFault.TheVariants.{OutOfRange, OutOfMemory, Stopped, Spent, NoRoom, Smaller, Reserve}
+use Rattle.zone_translator.specs.declared.fault.DiskFault.TheVariants.{OutOfRange, OutOfMemory, Stopped, Spent, Smaller, Reserve}
 use Rattle.zone_translator.specs.declared.status.DiskStatus.{DiskStatus}
 use Rattle.zone_translator.specs.declared.status.DiskStatus.TheVariants as statuses
 use Rattle.zone_translator.specs.Changes.{IsCause}
@@ -59,7 +59,6 @@ same_refusal a b c d OutOfRange = refl
 same_refusal a b c d OutOfMemory = refl
 same_refusal a b c d Stopped = refl
 same_refusal a b c d Spent = refl
-same_refusal a b c d NoRoom = refl
 same_refusal a b c d Smaller = refl
 same_refusal a b c d Reserve = refl
 
@@ -69,7 +68,6 @@ no_reply first n OutOfRange may = absurd (cc)
 no_reply first n OutOfMemory may = refl
 no_reply first n Stopped may = refl
 no_reply first n Spent may = refl
-no_reply first n NoRoom may = refl
 no_reply first n Smaller may = absurd (cc)
 no_reply first n Reserve may = absurd (cc)
 
@@ -118,7 +116,6 @@ cause_of disk OutOfRange none cause = absurd (cc)
 cause_of disk OutOfMemory none cause = cause
 cause_of disk Stopped none cause = cause
 cause_of disk Spent none cause = cause
-cause_of disk NoRoom none cause = cause
 cause_of disk Smaller none cause = absurd (cc)
 cause_of disk Reserve none cause = absurd (cc)
 

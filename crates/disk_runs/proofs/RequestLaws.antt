@@ -1,9 +1,11 @@
 -- What lines ask for, and how it is answered.
-use Rattle.std.proofs.Common.{◌≡◌, ℕ, zero, suc, ◌<◌, List, [], Some, Ok, Err, refl, ◌∙◌, arith}
+use Rattle.std.proofs.Common.{◌≡◌, ℕ, zero, suc, ◌<◌, List, [], Some, None, Ok, Err, refl, ap, ◌∙◌, arith}
 use Rattle.std.specs.Prelude.{OnOk, Result}
-use Rattle.zone_translator.specs.Flat.{FlatCall, FlatDisk, idle, with_nothing}
+use Rattle.zone_translator.specs.Flat.{Answer, FlatCall, FlatDisk, answer_while, idle, known_answer, with_nothing}
 use Rattle.zone_translator.specs.declared.fault.DiskFault.{DiskFault}
-use Rattle.zone_translator.specs.declared.status.DiskStatus.TheVariants.{Serving}
+use Rattle.zone_translator.specs.declared.fault.DiskFault.TheVariants as faults
+use Rattle.zone_translator.specs.declared.status.DiskStatus.{DiskStatus}
+use Rattle.zone_translator.specs.declared.status.DiskStatus.TheVariants.{Serving, Stopped}
 use Rattle.disk_runs.specs.FlatLines.{FlatAnswer, RepliesTo, Request, Turns, TurnsDone, first_of, reply_of}
 use Rattle.disk_runs.specs.declared.fault.RunFault.{RunFault}
 
@@ -16,6 +18,21 @@ idle_done disk e = rw e (refl, refl)
 pub turns_done : (n : ℕ) (disk : FlatDisk) → (0 < n → disk.status ≡ Serving) → TurnsDone n disk disk
 turns_done zero disk serves = refl
 turns_done (suc n) disk serves = (disk, idle_done disk (serves (omega arith)), turns_done n disk (λ some. serves (omega arith)))
+
+-- one that is done leaves it as it was
+pub idle_unchanged : (old new : FlatDisk) → FlatCall old idle (with_nothing (Ok tt)) new → (new ≡ old) × (old.status ≡ Serving)
+idle_unchanged old new answered = by old.status refl
+  where
+    by : (status : DiskStatus) → old.status ≡ status → (new ≡ old) × (old.status ≡ Serving)
+    by Serving e =
+        let none : known_answer old idle ≡ None = ap answer_while e in
+        let begun = rw none at answered in
+        (begun.1, e)
+    by Stopped e =
+        let known : known_answer old idle ≡ Some (Err faults.Stopped) = ap answer_while e in
+        let so = rw known at answered in
+        let bad : Ok tt ≡ Err faults.Stopped = ap (λ (a : Answer). a.result) so.0 in
+        absurd (cc)
 
 -- or some of them, and is refused the next
 pub turns_stop : (n done : ℕ) (old middle new : FlatDisk) (fault : DiskFault) (result : Result (Unit {0}) DiskFault) → result ≡ Err fault → done < n → middle ≡ old → (0 < done → old.status ≡ Serving) → FlatCall middle idle (with_nothing (Err fault)) new → Turns n old result new
