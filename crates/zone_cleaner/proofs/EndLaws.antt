@@ -36,7 +36,8 @@ use Rattle.zone_cleaner.specs.declared.fault.CleanFault.TheVariants as faults
 use Rattle.zone_cleaner.specs.declared.step.Step.TheVariants.{Gather, Move}
 use Rattle.zone_cleaner.specs.Clean.{CleanView, IsClean}
 use Rattle.zone_cleaner.specs.LiveRecords.{content_of, data_of, move_of}
-use Rattle.zone_cleaner.specs.Turns.{EmptiesVictim, MovesRecords, StepFails, StepLeaves, StopsClean, clean_fault, next_step, with_record}
+use Rattle.zone_cleaner.specs.Turns.{EmptiesVictim, MovesRecords, OnlyMoves, StepFails, StepLeaves, StopsClean, clean_fault, next_step, with_record}
+use Rattle.zone_cleaner.proofs.OnlyLaws.{only-more, only-same, only-without}
 use Rattle.zone_cleaner.proofs.CarryLaws.{told_same}
 use Rattle.zone_cleaner.proofs.CleanLaws.{clean_spare}
 use Rattle.zone_cleaner.proofs.HistoryLaws.{moves-more, moves_have_spare}
@@ -72,6 +73,7 @@ carry_stops before after c agrees is stops =
     let kept = stops-tables before after is.destination.zone (move_of (size_of before.tables) before.tables.next c.victim c.gathered) stops in
     record {
       stopped = stops.stopped;
+      moves = only;
       mountable = rw kept.given (stops.mountable spare);
       array = ap (spelled after.drive) kept.given ∙ array;
       places = ap (λ m. m.places) kept.map;
@@ -84,6 +86,18 @@ carry_stops before after c agrees is stops =
   where
     b : Batch
     b = move_of (size_of before.tables) before.tables.next c.victim c.gathered
+
+    zone : ℕ
+    zone = is.destination.zone
+
+    in_range : zone < length (drive_logs before.drive)
+    in_range = omega (arith, filling-in_range before.drive before.tables zone agrees (second-filling before.tables.roles (Destination is.destination) is.second), zone-logs before.drive)
+
+    only : OnlyMoves (drive_logs before.drive) (drive_logs after.drive)
+    only = elim stops.left as (λ _. OnlyMoves (drive_logs before.drive) (drive_logs after.drive)) [
+      | inl same ↦ only-same (drive_logs before.drive) (drive_logs after.drive) same.logs_are
+      | inr more ↦ only-more (drive_logs before.drive) (drive_logs after.drive) zone b in_range refl more.logs_are
+    ]
 
     array : spelled after.drive before.tables.given ≡ mounted_array before
     array = elim stops.left as (λ _. spelled after.drive before.tables.given ≡ mounted_array before) [
@@ -159,6 +173,7 @@ reset_fails old new tables c start port.Stopped agrees is due start-is gives kep
         let after = reset_gives old new tables c agrees is due obeys.geometry obeys.lawful (rw (start-is, index) at done.contents) opens in
         record {
           stopped = obeys.stops refl;
+          moves = only-without (drive_logs old) (drive_logs new) c.victim (omega (arith, sealed-in_range (mounted old tables) c.victim agrees is.victim, zone-logs old)) after.logs;
           mountable = after.mountable;
           array = after.array;
           places = refl;

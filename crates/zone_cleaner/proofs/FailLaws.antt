@@ -2,7 +2,7 @@
 use Rattle.std.proofs.Common.{◌≡◌, ℕ, ◌+◌, ◌<◌, ◌≤◌, ◌^◌, true, List, [], ◌∷◌, arith}
 use Rattle.std.specs.List.{AllByRecursion}
 use Rattle.logical_map.specs.declared.place.Place.{Place}
-use Rattle.zone_choice.specs.Agreement.{Agrees, Mounted}
+use Rattle.zone_choice.specs.Agreement.{Agrees, Mounted, drive_logs}
 use Rattle.zone_choice.specs.Changes.{KeepsArray}
 use Rattle.zone_choice.specs.Reserve.{batch_most}
 use Rattle.zone_choice.specs.Tables.{size_of}
@@ -13,6 +13,7 @@ use Rattle.zone_cleaner.specs.declared.step.Step.TheVariants.{Gather}
 use Rattle.zone_cleaner.specs.Clean.{CleanView, IsClean}
 use Rattle.zone_cleaner.specs.LiveRecords.{LiveRecord}
 use Rattle.zone_cleaner.specs.Turns.{IsReadFault, StepFails, StopsClean, next_step}
+use Rattle.zone_cleaner.proofs.OnlyLaws.{only-same}
 use Rattle.zone_cleaner.proofs.CarryLaws.{gathered-below}
 use Rattle.zone_cleaner.proofs.CleanLaws.{clean_kept, clean_spare, gather-next}
 use Rattle.zone_cleaner.proofs.RecordLaws.{AreBetween}
@@ -21,6 +22,7 @@ use Rattle.zone_cleaner.proofs.StepLaws.{gather-due}
 pub stops_kept : (before after : Mounted) (c : CleanView) → Agrees before → IsClean before c → KeepsArray before after → after.drive.stopped ≡ true → StopsClean before after
 stops_kept before after c agrees is kept stopped = record {
   stopped = stopped;
+  moves = only-same (drive_logs before.drive) (drive_logs after.drive) kept.logs;
   mountable = agrees_mountable after.drive after.tables kept.agrees (clean_spare after c kept.agrees (clean_kept before after c agrees kept is));
   array = kept.array;
   places = kept.places;

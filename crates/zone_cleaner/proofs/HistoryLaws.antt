@@ -17,7 +17,7 @@ use Rattle.zone_cleaner.proofs.DeadLaws.{greatest-absorbs}
 
 -- ---- sequences and sizes of one zone
 
-zone-sequences : (P : ℕ → Type 0) (logs : List (List Batch)) (zone : ℕ) → AllByRecursion P (sequences logs) → AllByRecursion P (log_sequences (log_at logs zone))
+pub zone-sequences : (P : ℕ → Type 0) (logs : List (List Batch)) (zone : ℕ) → AllByRecursion P (sequences logs) → AllByRecursion P (log_sequences (log_at logs zone))
 zone-sequences P [] zone all = tt
 zone-sequences P (log ∷ logs) zero all = (all-parts P (log_sequences log) (sequences logs) all).0
 zone-sequences P (log ∷ logs) (suc zone) all = zone-sequences P logs zone (all-parts P (log_sequences log) (sequences logs) all).1

@@ -1,3 +1,4 @@
+pub mod OnlyLaws
 pub mod DeadLaws
 pub mod PlaceLaws
 pub mod RecordLaws

@@ -6,7 +6,7 @@ use Rattle.logical_map.specs.Places.{MapView}
 use Rattle.zone_choice.specs.declared.roles.Filling.{Filling}
 use Rattle.zone_choice.specs.declared.roles.Second.{Second}
 use Rattle.zone_choice.specs.declared.roles.Second.TheVariants.{Destination, Next}
-use Rattle.zone_choice.specs.Agreement.{Agrees, Mounted, mounted}
+use Rattle.zone_choice.specs.Agreement.{Agrees, Mounted, drive_logs, mounted}
 use Rattle.zone_choice.specs.Changes.{KeepsArray}
 use Rattle.zone_choice.specs.Roles.{closed, next_of, promoted, second_with, with_next}
 use Rattle.zone_choice.specs.Tables.{TablesView}
@@ -15,6 +15,7 @@ use Rattle.zone_choice.proofs.RolesLaws.{roles_with}
 use Rattle.zone_cleaner.specs.Clean.{CleanView, IsAlone}
 use Rattle.zone_cleaner.specs.Start.{IsCleaned, KeepsByCleaning, trims}
 use Rattle.zone_cleaner.proofs.CleanLaws.{clean_kept}
+use Rattle.zone_cleaner.proofs.OnlyLaws.{only-same}
 use Rattle.zone_cleaner.proofs.TurnLaws.{cleans_mountable}
 
 -- ---- the array is kept
@@ -42,6 +43,7 @@ pub cleaning_kept : (before after : Mounted) (clean : Option CleanView) → IsCl
 cleaning_kept before after clean is kept = record {
   mountable = cleans_mountable after clean (cleaned_kept before after clean is kept);
   array = kept.array;
+  moves = only-same (drive_logs before.drive) (drive_logs after.drive) kept.logs;
   size = ap length kept.places;
   trimmed = ap (map trims) kept.places;
   given = kept.given;
@@ -96,7 +98,7 @@ promote_gives drive old new f is none next new-is =
     let cleaned : IsCleaned (mounted drive (tables_with old.map (roles_with old.roles.empty (Some f) None) old.next old.given)) None = (agrees-promoted drive old.map old.roles.empty f old.next old.given plain, (is.1.0, tt)) in
     rw same (record {
       cleaned = cleaned;
-      keeps = record { mountable = cleans_mountable (mounted drive (tables_with old.map (roles_with old.roles.empty (Some f) None) old.next old.given)) None cleaned; array = refl; size = refl; trimmed = refl; given = refl; geometry = refl; refused = refl; next = refl; appended = omega arith };
+      keeps = record { mountable = cleans_mountable (mounted drive (tables_with old.map (roles_with old.roles.empty (Some f) None) old.next old.given)) None cleaned; array = refl; moves = only-same (drive_logs drive) (drive_logs drive) refl; size = refl; trimmed = refl; given = refl; geometry = refl; refused = refl; next = refl; appended = omega arith };
       host = refl;
       room = (let alone = rw second at is.1.1 in alone);
     })

@@ -30,6 +30,9 @@ use Rattle.zone_cleaner.proofs.CleanLaws.{clean_kept, clean_spare, gather_gives,
 use Rattle.zone_cleaner.proofs.EndLaws.{destination-is}
 use Rattle.zone_cleaner.proofs.KindLaws.{move-trims}
 use Rattle.zone_cleaner.proofs.MovedLaws.{move_gives}
+use Rattle.zone_cleaner.proofs.OnlyLaws.{only-join, only-more, only-same, only-without}
+use Rattle.zone_cleaner.proofs.SealedLaws.{second-filling, sealed-in_range, zone-logs}
+use Rattle.zone_choice.proofs.CommandLaws.{filling-in_range}
 use Rattle.zone_cleaner.proofs.StartLaws.{start_gives}
 use Rattle.zone_cleaner.proofs.StepLaws.{gather-due, move-due}
 
@@ -89,6 +92,7 @@ step-keeps : (before after : Mounted) (c : CleanView) (new : Option CleanView) (
 step-keeps before after c new (Gather block place) is cleaned done = record {
   mountable = cleans_mountable after new cleaned;
   array = done.0.array;
+  moves = only-same (drive_logs before.drive) (drive_logs after.drive) done.0.logs;
   size = ap length done.0.places;
   trimmed = ap (map trims) done.0.places;
   given = done.0.given;
@@ -100,6 +104,7 @@ step-keeps before after c new (Gather block place) is cleaned done = record {
 step-keeps before after c new Move is cleaned done = let moved = move-trims before after c is.0 is.1 done.0 in record {
   mountable = cleans_mountable after new cleaned;
   array = done.0.array;
+  moves = only-more (drive_logs before.drive) (drive_logs after.drive) done.0.destination.zone (move_of (size_of before.tables) before.tables.next c.victim c.gathered) (omega (arith, filling-in_range before.drive before.tables done.0.destination.zone is.0 (second-filling before.tables.roles (Destination done.0.destination) done.0.second), zone-logs before.drive)) refl done.0.places.logs;
   size = done.0.places.size;
   trimmed = moved;
   given = done.0.places.given;
@@ -111,6 +116,7 @@ step-keeps before after c new Move is cleaned done = let moved = move-trims befo
 step-keeps before after c new Reset is cleaned done = record {
   mountable = cleans_mountable after new cleaned;
   array = done.0.array;
+  moves = only-without (drive_logs before.drive) (drive_logs after.drive) c.victim (omega (arith, sealed-in_range before c.victim is.0 is.1.victim, zone-logs before.drive)) done.0.logs;
   size = ap length done.0.places;
   trimmed = ap (map trims) done.0.places;
   given = done.0.given;
@@ -129,6 +135,7 @@ keeps-kept before after c is kept =
       record {
         mountable = cleans_mountable after (Some c) cleaned;
         array = kept.array;
+        moves = only-same (drive_logs before.drive) (drive_logs after.drive) kept.logs;
         size = ap length kept.places;
         trimmed = ap (map trims) kept.places;
         given = kept.given;
@@ -152,6 +159,7 @@ fails_give before after c new faults.Stopped is fails same = record {
   keeps = record {
     mountable = fails.mountable;
     array = fails.array;
+    moves = fails.moves;
     size = ap length fails.places;
     trimmed = ap (map trims) fails.places;
     given = fails.given;
@@ -164,7 +172,7 @@ fails_give before after c new faults.Stopped is fails same = record {
 }
 fails_give before after c new faults.Spent is fails same = rw (same, fails.0) (record {
   goes_on = is;
-  keeps = record { mountable = cleans_mountable before (Some c) is; array = refl; size = refl; trimmed = refl; given = refl; geometry = refl; refused = refl; next = refl; appended = omega arith };
+  keeps = record { mountable = cleans_mountable before (Some c) is; array = refl; moves = only-same (drive_logs before.drive) (drive_logs before.drive) refl; size = refl; trimmed = refl; given = refl; geometry = refl; refused = refl; next = refl; appended = omega arith };
   cause = fails.1;
 })
 
@@ -193,6 +201,7 @@ turn_gives before after None new (Ok done) is leaves =
       keeps = record {
         mountable = cleans_mountable after new cleaned;
         array = rw (leaves.0, started.1) refl;
+        moves = only-same (drive_logs before.drive) (drive_logs after.drive) (ap drive_logs leaves.0);
         size = started.2;
         trimmed = started.4;
         given = started.1;
@@ -217,12 +226,13 @@ turns_fewer before after None new is leaves = record { fewer = λ some. absurd (
 
 -- the same before any turn
 pub keeps-none : (disk : Mounted) (clean : Option CleanView) → IsCleaned disk clean → KeepsByCleaning disk disk
-keeps-none disk clean is = record { mountable = cleans_mountable disk clean is; array = refl; size = refl; trimmed = refl; given = refl; geometry = refl; refused = refl; next = refl; appended = omega arith }
+keeps-none disk clean is = record { mountable = cleans_mountable disk clean is; array = refl; moves = only-same (drive_logs disk.drive) (drive_logs disk.drive) refl; size = refl; trimmed = refl; given = refl; geometry = refl; refused = refl; next = refl; appended = omega arith }
 
 pub keeps-more : (a b c : Mounted) → KeepsByCleaning a b → KeepsByCleaning b c → KeepsByCleaning a c
 keeps-more a b c p q = record {
   mountable = q.mountable;
   array = q.array ∙ p.array;
+  moves = only-join (drive_logs a.drive) (drive_logs b.drive) (drive_logs c.drive) p.moves q.moves;
   size = q.size ∙ p.size;
   trimmed = q.trimmed ∙ p.trimmed;
   given = q.given ∙ p.given;

@@ -5,7 +5,7 @@ use Rattle.drive_port.specs.Drive.{DriveState}
 use Rattle.logical_map.specs.Live.{live}
 use Rattle.logical_map.specs.declared.place.Place.{Place}
 use Rattle.logical_map.specs.declared.place.Place.TheVariants as places
-use Rattle.zone_choice.specs.Agreement.{Agrees, Mounted, mounted_array}
+use Rattle.zone_choice.specs.Agreement.{Agrees, Mounted, drive_logs, mounted_array}
 use Rattle.zone_choice.specs.Changes.{sequence_end}
 use Rattle.zone_choice.specs.Mountable.{IsMountable}
 use Rattle.zone_choice.specs.Reserve.{batch_most, fill}
@@ -14,7 +14,7 @@ use Rattle.zone_choice.specs.Tables.{IsLeastSealed, TablesView, size_of}
 use Rattle.zone_cleaner.specs.declared.fault.CleanFault.{CleanFault}
 use Rattle.zone_cleaner.specs.declared.fault.CleanFault.TheVariants as faults
 use Rattle.zone_cleaner.specs.Clean.{CleanView, Cleans, started, turns_left}
-use Rattle.zone_cleaner.specs.Turns.{StepLeaves, next_step}
+use Rattle.zone_cleaner.specs.Turns.{OnlyMoves, StepLeaves, next_step}
 
 -- A clean of this zone is due: there is no second zone, one or two zones are empty, it is the sealed zone with the fewest live records, the lowest of equals, and with these a zone has two free blocks left.
 pub record IsDue (geometry : Geometry) (tables : TablesView) (victim : ℕ) : Type 0 where
@@ -73,10 +73,11 @@ trims places.None = None
 trims (places.Trimmed address) = Some true
 trims (places.At address) = Some false
 
--- What every turn keeps, whatever it answers: a drive that can be mounted, with the same array, in which a block that is trimmed stays so. No command is refused, and the next sequence rises by one with each batch that is appended.
+-- What every turn keeps, whatever it answers: a drive that can be mounted, with the same array, in which a block that is trimmed stays so. Only Moves are written; no command is refused, and the next sequence rises by one with each batch that is appended.
 pub record KeepsByCleaning (before after : Mounted) : Type 0 where
   pub mountable : IsMountable after.drive after.tables.given
   pub array : mounted_array after ≡ mounted_array before
+  pub moves : OnlyMoves (drive_logs before.drive) (drive_logs after.drive)
   pub size : size_of after.tables ≡ size_of before.tables
   pub trimmed : map trims after.tables.map.places ≡ map trims before.tables.map.places
   pub given : after.tables.given ≡ before.tables.given

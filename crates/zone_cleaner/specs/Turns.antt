@@ -1,8 +1,11 @@
 -- What each turn of a clean does, and when a clean starts.
-use Rattle.std.specs.Prelude.{◌≡◌, ℕ, suc, ◌+◌, ◌≤◌, nat_lt, if◌then◌else◌, true, List, [], ◌∷◌, ◌++◌, length, Option, Some, None, Result, Ok, Err}
+use Rattle.std.specs.List.{AllByRecursion}
+use Rattle.std.specs.Prelude.{◌≡◌, ◌⊎◌, ℕ, suc, ◌+◌, ◌≤◌, nat_lt, if◌then◌else◌, true, List, [], ◌∷◌, ◌++◌, length, Option, Some, None, Result, Ok, Err}
 use Rattle.drive_port.specs.Drive.{DriveState}
 use Rattle.drive_port.specs.declared.device.Halt.{Halt}
 use Rattle.drive_port.specs.declared.device.Halt.TheVariants as halt
+use Rattle.batch_log.specs.declared.header.Kind.TheVariants as kinds
+use Rattle.batch_log.specs.Log.{Batch}
 use Rattle.logical_map.specs.Live.{first_record}
 use Rattle.logical_map.specs.declared.place.Place.{Place}
 use Rattle.zone_choice.specs.declared.roles.Filling.{Filling}
@@ -12,6 +15,7 @@ use Rattle.zone_choice.specs.Changes.{KeepsArray, Places, sequence_end}
 use Rattle.zone_choice.specs.Mountable.{IsMountable}
 use Rattle.zone_choice.specs.Records.{without}
 use Rattle.zone_choice.specs.Tables.{TablesView, size_of}
+use Rattle.zone_choice.specs.ZoneLogs.{log_at}
 use Rattle.zone_cleaner.specs.declared.step.Step.{Step}
 use Rattle.zone_cleaner.specs.declared.step.Step.TheVariants.{Gather, Move, Reset}
 use Rattle.zone_cleaner.specs.declared.fault.CleanFault.{CleanFault}
@@ -69,11 +73,21 @@ StepDone (Gather block place) before clean after new = KeepsArray before after �
 StepDone Move before clean after new = MovesRecords before clean after × (new ≡ Some (after_move clean))
 StepDone Reset before clean after new = EmptiesVictim before after clean.victim × (new ≡ None)
 
+-- ---- which batches a clean writes
+
+abbrev pub IsMove : Batch → Type 0
+IsMove batch = batch.heading.kind ≡ kinds.Move
+
+-- In each zone only Moves are new. They follow the batches that were there, or the zone was emptied before.
+abbrev pub OnlyMoves : List (List Batch) → List (List Batch) → Type 0
+OnlyMoves old new = (zone : ℕ) → (moves : List Batch) × AllByRecursion IsMove moves × ((log_at new zone ≡ moves) ⊎ (log_at new zone ≡ log_at old zone ++ moves))
+
 -- ---- a step that is not done
 
 -- The drive stopped inside the step: it can be mounted, and its array is the same.
 pub record StopsClean (before after : Mounted) : Type 0 where
   pub stopped : after.drive.stopped ≡ true
+  pub moves : OnlyMoves (drive_logs before.drive) (drive_logs after.drive)
   pub mountable : IsMountable after.drive after.tables.given
   pub array : mounted_array after ≡ mounted_array before
   pub places : after.tables.map.places ≡ before.tables.map.places

@@ -3,7 +3,7 @@ use Rattle.std.proofs.Common.{◌≡◌, ℕ, Bool, List, length, Option, Err, r
 use Rattle.std.specs.List.{AllByRecursion}
 use Rattle.zone_states.specs.declared.geometry.Geometry.{Geometry}
 use Rattle.drive_port.specs.Drive.{DriveState}
-use Rattle.zone_choice.specs.Agreement.{mounted, spelled}
+use Rattle.zone_choice.specs.Agreement.{drive_logs, mounted, spelled}
 use Rattle.zone_choice.specs.Changes.{KeepsArray}
 use Rattle.zone_choice.specs.Tables.{TablesView, size_of}
 use Rattle.zone_choice.proofs.AgreementLaws.{length-spelled, size-encoded}
@@ -19,10 +19,12 @@ use Rattle.zone_translator.specs.declared.fault.DiskFault.{DiskFault}
 use Rattle.zone_translator.specs.declared.fault.DiskFault.TheVariants.{OutOfRange, OutOfMemory, Stopped, Spent, Smaller, Reserve}
 use Rattle.zone_translator.specs.declared.status.DiskStatus.{DiskStatus}
 use Rattle.zone_translator.specs.declared.status.DiskStatus.TheVariants as statuses
+use Rattle.zone_translator.specs.Batches.{LogsAreCut}
 use Rattle.zone_translator.specs.Calls.{Holds, status_of}
 use Rattle.zone_translator.specs.Changes.{AgreesWith, GrowLeaves, Keeps, Names, StopKeeps, WriteLeaves, cleaning_fault}
 use Rattle.zone_translator.specs.Flat.{IsAfterFront, IsFront, grow}
 use Rattle.zone_translator.specs.Read.{IsReadFault}
+use Rattle.zone_translator.proofs.CutLaws.{cut-old}
 use Rattle.zone_translator.proofs.WriteLaws.{front-none}
 use Rattle.zone_translator.proofs.RoomLaws.{room-stops, serves-kept, serves_mountable}
 use Rattle.zone_translator.specs.View.{DiskView, KeepsDisk, array_of, disk_turns, flat_of, given_size, places_of}
@@ -195,3 +197,8 @@ places-on drive tables clean status serves = serves.0.places
 pub names-on : (old new : DriveState) (tables tables' : TablesView) (clean clean' : Option CleanView) (trim : Bool) (first count : ℕ) (was is : DiskStatus) → AgreesWith old tables clean → AgreesWith new tables' clean' → Names trim tables.map.places first count tables'.map.places
     → Names trim (places_of (view_of old tables clean was)) first count (places_of (view_of new tables' clean' is))
 names-on old new tables tables' clean clean' trim first count was is serves after names = rw (places-on old tables clean was serves, places-on new tables' clean' is after) at names
+
+-- ---- how the writes before were cut is not asked
+
+pub cut-before : (drive : DriveState) (tables : TablesView) (clean : Option CleanView) (status : DiskStatus) (last : ℕ) → Holds drive tables clean status → status ≡ statuses.Serving → LogsAreCut drive.geometry tables.next last (drive_logs drive)
+cut-before drive tables clean status last holds is = cut-old drive.geometry tables.next last tables.given (drive_logs drive) (holds-agrees drive tables clean status is holds).0.sound

@@ -2,6 +2,7 @@ pub mod RoomLaws
 pub mod FlatLaws
 pub mod BatchLaws
 pub mod ContentLaws
+pub mod CutLaws
 pub mod ReadLaws
 pub mod ReportLaws
 pub mod DiskLaws

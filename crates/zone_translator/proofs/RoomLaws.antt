@@ -66,6 +66,15 @@ room-err V W a b clean Spent leaves = leaves
 room-err V W a b clean Smaller leaves = leaves
 room-err V W a b clean Reserve leaves = leaves
 
+-- whatever the answer
+pub room-keeps : (V : Type 0) (a b : Mounted) (clean : Option CleanView) (fault : DiskFault) → RoomLeaves {V = V} a b clean (Err fault) → KeepsByCleaning a b
+room-keeps V a b clean OutOfRange leaves = leaves.0
+room-keeps V a b clean OutOfMemory leaves = leaves.0
+room-keeps V a b clean Stopped leaves = leaves
+room-keeps V a b clean Spent leaves = leaves.0
+room-keeps V a b clean Smaller leaves = leaves.0
+room-keeps V a b clean Reserve leaves = leaves.0
+
 -- the drive stopped, while some tables agreed with it
 retire-stops : (a b : Mounted) (clean : Option CleanView) → IsCleaned a clean → RetireLeaves a b (Err Stopped) → KeepsByCleaning a b
 retire-stops a b clean is leaves =
@@ -75,6 +84,7 @@ retire-stops a b clean is leaves =
     record {
       mountable = rw (given, ← kept.given) done.mountable;
       array = ap (spelled b.drive) (given ∙ sym kept.given) ∙ kept.array;
+      moves = done.moves;
       size = ap size_of leaves.0;
       trimmed = ap (λ (t : TablesView). map trims t.map.places) leaves.0;
       given = given;

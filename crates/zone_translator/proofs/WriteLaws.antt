@@ -1,5 +1,5 @@
 -- A batch of a write is built and appended, and what a stop inside its Append leaves.
-use Rattle.std.proofs.Common.{◌≡◌, ℕ, ◌+◌, ◌-◌, ◌*◌, ◌<◌, ◌≤◌, ◌^◌, Bool, true, false, List, ◌++◌, map, get_or, length, take, drop, Option, Some, None, Result, Ok, Err, refl, sym, ap, subst, ◌∙◌, inl, inr, arith}
+use Rattle.std.proofs.Common.{◌≡◌, ◌⊎◌, ℕ, ◌+◌, ◌-◌, ◌*◌, ◌<◌, ◌≤◌, ◌^◌, Bool, true, false, List, ◌++◌, map, get_or, length, take, drop, Option, Some, None, Result, Ok, Err, refl, sym, ap, subst, ◌∙◌, inl, inr, arith}
 use Rattle.std.proofs.Math.ListN.{get_or-map}
 use Rattle.std.proofs.lemmas.List.{drop_at, length-map, length-take}
 use Rattle.zone_states.specs.declared.geometry.Geometry.{Geometry}
@@ -10,7 +10,7 @@ use Rattle.drive_port.specs.Drive.{DriveState}
 use Rattle.drive_port.specs.declared.device.Halt.{Halt}
 use Rattle.drive_port.specs.declared.device.Halt.TheVariants as halt
 use Rattle.batch_log.specs.Header.{Heading, IsHeading, IsSize, entry_room, header_block}
-use Rattle.batch_log.specs.Log.{Batch, batch_size, data_count}
+use Rattle.batch_log.specs.Log.{Batch, data_count, log_size}
 use Rattle.batch_log.proofs.HeaderLaws.{header_length}
 use Rattle.logical_map.specs.Places.{MapView}
 use Rattle.logical_map.specs.declared.place.Place.{Place}
@@ -23,7 +23,7 @@ use Rattle.zone_choice.specs.Reserve.{FitsReserve, batch_most}
 use Rattle.zone_choice.specs.Roles.{RolesView}
 use Rattle.zone_choice.specs.Records.{append_log}
 use Rattle.zone_choice.specs.Sizes.{encoded_size, extended, greatest, larger, size_or}
-use Rattle.zone_choice.specs.ZoneLogs.{zone_log}
+use Rattle.zone_choice.specs.ZoneLogs.{log_at, zone_log}
 use Rattle.zone_choice.specs.Mountable.{IsMountable}
 use Rattle.zone_choice.specs.Tables.{AreReserved, MakesRoom, TablesView, size_of}
 use Rattle.zone_choice.proofs.AgreementLaws.{extended-same, length-spelled, size-encoded}
@@ -39,12 +39,13 @@ use Rattle.zone_cleaner.specs.Start.{IsCleaned, KeepsByCleaning, trims}
 use Rattle.zone_cleaner.proofs.NextLaws.{cleaning_kept}
 use Rattle.zone_cleaner.proofs.TurnLaws.{cleans_mountable, keeps-more}
 use Rattle.zone_translator.specs.declared.write.Content.{Content}
-use Rattle.zone_translator.specs.Batches.{IsBatchCount, IsNextBatch, IsRoom, IsWhole, batch_count, blocks_of, bytes_of, host_heading, is_trim}
+use Rattle.zone_translator.specs.Batches.{IsBatchCount, IsCut, LogsAreCut, IsNextBatch, IsRoom, IsWhole, batch_count, blocks_of, bytes_of, host_heading, is_trim}
 use Rattle.zone_translator.specs.declared.fault.DiskFault.{DiskFault}
 use Rattle.zone_translator.specs.declared.fault.DiskFault.TheVariants.{OutOfRange, OutOfMemory, Stopped, Spent, Smaller, Reserve}
 use Rattle.zone_translator.specs.Changes.{IsCause, Keeps, Names, RoomLeaves, StopKeeps, WriteLeaves, WritesBlocks, disk_fault}
 use Rattle.zone_translator.specs.Flat.{IsFront, replaced}
 use Rattle.zone_translator.proofs.BatchLaws.{data_count-entries, data_count-trims, entries-below, entries-ready, host-heading, host_batch, length-entries, names-placed}
+use Rattle.zone_translator.proofs.CutLaws.{cut-more, cut-next, cut-only}
 use Rattle.zone_translator.proofs.ContentLaws.{length-blocks, length-content, tells-content}
 use Rattle.zone_translator.proofs.FlatLaws.{replaced-none}
 use Rattle.zone_translator.proofs.RoomLaws.{filling-host, host-filled, keeps-serving, room-stops}
@@ -316,3 +317,25 @@ pub lost-blocks : (a b c : Mounted) (old new : Option CleanView) (host : Filling
 lost-blocks a b c old new host first left count content builder fault kept is next leaves =
     let done = write_halts a b c old new host (is_trim content) first count (blocks_of b.drive.geometry.block left content) builder fault kept is next leaves in
     subst (λ (g : Geometry). WriteLeaves (is_trim content) a c new first (blocks_of g.block left content) (Err (disk_fault fault)) × IsCause c.drive c.tables.next (disk_fault fault)) kept.geometry done
+
+-- ---- how it is cut
+
+-- a batch that may have been appended is cut as it should be
+pub cut-appended : (a b : Mounted) (c : DriveState) (w : TablesView) (g : Geometry) (start : ℕ) (host : Filling) (first left count : ℕ) (content : Content) (builder : BuilderView) → KeepsByCleaning a b → Agrees b → b.drive.geometry ≡ a.drive.geometry → IsRoom b.drive b.tables host → 1 ≤ left
+    → g ≡ b.drive.geometry → count ≡ batch_count b.drive.geometry host left (is_trim content) → builder.heading.entries ≡ entries_from (is_trim content) first count
+    → (drive_logs c ≡ drive_logs b.drive) ⊎ (drive_logs c ≡ append_log (drive_logs b.drive) host.zone (built g.block builder)) → LogsAreCut a.drive.geometry start (first + left - 1) (drive_logs a.drive) → LogsAreCut a.drive.geometry start (first + left - 1) (drive_logs c)
+cut-appended a b c w g start host first left count content builder kept agrees same room some g-is count-is entries logs cut =
+    let last = first + left - 1 in
+    let found = cut-only a.drive.geometry start last (drive_logs a.drive) (drive_logs b.drive) kept.moves cut in
+    let here = host-filled b.drive b.tables host room.host_is agrees in
+    let lt : host.zone < length (drive_logs b.drive) = omega (arith, filling-in_range b.drive b.tables host.zone agrees (filling-host b.tables.roles host room.host_is), length-map b.drive.zones content_of, length-map (contents b.drive.zones) (zone_log b.drive.geometry)) in
+    let one = cut-next b.drive.geometry start first left count (log_size (log_at (drive_logs b.drive) host.zone)) host (is_trim content) (built g.block builder) room.free some count-is entries here.batches in
+    elim logs as (λ _. LogsAreCut a.drive.geometry start last (drive_logs c)) [
+      | inl none ↦ subst (LogsAreCut a.drive.geometry start last) (sym none) found
+      | inr more ↦ cut-more a.drive.geometry start last (drive_logs b.drive) (drive_logs c) host.zone (built g.block builder) lt more (subst (λ (x : Geometry). IsCut x start last (log_size (log_at (drive_logs b.drive) host.zone)) (built g.block builder)) same one) found
+    ]
+
+-- which logs an Append that did not succeed leaves
+pub halted-logs : (b c : Mounted) (old new : Option CleanView) (zone : ℕ) (batch : Batch) (fault : Halt) → HostLeaves b old zone batch (Err fault) c new → (drive_logs c.drive ≡ drive_logs b.drive) ⊎ (drive_logs c.drive ≡ append_log (drive_logs b.drive) zone batch)
+halted-logs b c old new zone batch halt.Memory leaves = inl leaves.0.logs
+halted-logs b c old new zone batch halt.Stopped leaves = elim leaves.0.left as (λ _. (drive_logs c.drive ≡ drive_logs b.drive) ⊎ (drive_logs c.drive ≡ append_log (drive_logs b.drive) zone batch)) [ inl same ↦ inl same.logs_are | inr more ↦ inr more.logs_are ]

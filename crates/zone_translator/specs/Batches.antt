@@ -1,17 +1,21 @@
 -- The batches that a disk writes: of blocks that follow one another.
-use Rattle.std.specs.Prelude.{◌≡◌, ℕ, ◌-◌, ◌*◌, ◌<◌, ◌≤◌, min, if◌then◌else◌, Bool, true, false, List, [], length, replicate, take, drop, Some}
+use Rattle.std.specs.List.{list_any}
+use Rattle.std.specs.Prelude.{◌≡◌, ◌⊎◌, ◌==◌, ℕ, ◌+◌, ◌-◌, ◌*◌, ◌<◌, ◌≤◌, min, if◌then◌else◌, Bool, true, false, List, [], ◌∷◌, length, replicate, take, drop, Some}
 use Rattle.zone_states.specs.declared.geometry.Geometry.{Geometry}
 use Rattle.zone_states.specs.Zone.{cut_blocks}
 use Rattle.drive_port.specs.Drive.{DriveState}
+use Rattle.batch_log.specs.declared.header.Entry.{Entry}
 use Rattle.batch_log.specs.declared.header.Kind.TheVariants.{Host}
 use Rattle.batch_log.specs.Header.{Heading}
-use Rattle.batch_log.specs.Log.{zero_block}
+use Rattle.batch_log.specs.Log.{Batch, batch_size, zero_block}
 use Rattle.zone_choice.specs.declared.roles.Filling.{Filling}
 use Rattle.zone_choice.specs.Agreement.{Mounted, mounted_array}
 use Rattle.zone_choice.specs.Builder.{BuilderView, IsBuilt, built, entries_from}
 use Rattle.zone_choice.specs.Changes.{CanPlace, sequence_end, told_over}
 use Rattle.zone_choice.specs.Reserve.{batch_most}
 use Rattle.zone_choice.specs.Tables.{TablesView, size_of}
+use Rattle.zone_choice.specs.ZoneLogs.{log_at}
+use Rattle.zone_cleaner.specs.Turns.{IsMove}
 use Rattle.zone_translator.specs.declared.write.Content.{Content}
 use Rattle.zone_translator.specs.declared.write.Content.TheVariants.{Byte, Bytes, Trim}
 use Rattle.zone_translator.specs.Changes.{HasRoom}
@@ -82,3 +86,23 @@ pub record IsNextBatch (disk : Mounted) (host : Filling) (trim : Bool) (first co
   pub size : builder.heading.size ≡ Some (size_of disk.tables)
   pub entries : builder.heading.entries ≡ entries_from trim first count
   pub tells : told_over disk.drive.geometry.block (built disk.drive.geometry.block builder) (mounted_array disk) ≡ replaced (mounted_array disk) first (take count blocks)
+
+-- ---- into which batches a write is cut
+
+-- an entry names the block
+abbrev pub names : ℕ → List Entry → Bool
+names block entries = list_any (λ e. e.block == block) entries
+
+-- How a batch is cut that begins at this offset of its zone, of a write whose last block this is: it has as many entries as a batch can have, or names the last block, or ends its zone. Nothing is asked of Moves, nor of batches with a sequence below `start`, which were there before the write.
+abbrev pub IsCut : Geometry → ℕ → ℕ → ℕ → Batch → Type 0
+IsCut geometry start last offset batch =
+    (batch.heading.sequence < start) ⊎ IsMove batch ⊎ (length batch.heading.entries ≡ batch_most geometry) ⊎ (names last batch.heading.entries ≡ true) ⊎ (offset + batch_size batch ≡ geometry.capacity)
+
+-- each batch of a log whose first batch begins at this offset
+abbrev pub AreCut : Geometry → ℕ → ℕ → ℕ → List Batch → Type 0
+AreCut geometry start last offset [] = Unit {0}
+AreCut geometry start last offset (batch ∷ log) = IsCut geometry start last offset batch × AreCut geometry start last (offset + batch_size batch) log
+
+-- each batch of all logs
+abbrev pub LogsAreCut : Geometry → ℕ → ℕ → List (List Batch) → Type 0
+LogsAreCut geometry start last logs = (zone : ℕ) → AreCut geometry start last 0 (log_at logs zone)

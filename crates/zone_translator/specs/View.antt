@@ -2,6 +2,7 @@
 use Rattle.std.specs.Prelude.{◌≡◌, ℕ, ◌+◌, ◌≤◌, Bool, true, false, List, Option}
 use Rattle.std.specs.Int.{div_ceil}
 use Rattle.drive_port.specs.Drive.{DriveState}
+use Rattle.batch_log.specs.Log.{Batch}
 use Rattle.zone_choice.specs.Tables.{TablesView, size_of}
 use Rattle.logical_map.specs.declared.place.Place.{Place}
 use Rattle.zone_choice.specs.Agreement.{drive_logs, spelled}
@@ -41,6 +42,10 @@ array_of disk = spelled disk.drive (given_size disk)
 -- where the newest record of each block lies on the drive, by its logs
 abbrev pub places_of : DiskView → List Place
 places_of disk = map_of disk.drive.geometry.size (given_size disk) (drive_logs disk.drive)
+
+-- the logs of all zones of the drive
+abbrev pub logs_of : DiskView → List (List Batch)
+logs_of disk = drive_logs disk.drive
 
 -- the size that the headers on the drive say, if any does
 abbrev pub size_on : DiskView → Option ℕ

@@ -1,4 +1,4 @@
-ghost use Rattle.std.specs.Prelude.{◌≡◌, ◌+◌, ◌<◌, ◌≤◌, ◌++◌, ◌^◌, ◌*◌, [], IfErr, IfOk, OnOk, OnErr, Some, count_by, is_some, false, true, length, replicate, slice_index_or, take};
+ghost use Rattle.std.specs.Prelude.{◌≡◌, ℕ, ◌-◌, ◌+◌, ◌<◌, ◌≤◌, ◌++◌, ◌^◌, ◌*◌, [], IfErr, IfOk, OnOk, OnErr, Some, count_by, is_some, false, true, length, replicate, slice_index_or, take};
 ghost use Rattle.drive_port.specs.Calls.{block_count, data_blocks};
 ghost use Rattle.logical_map.specs.Live.{lies_in};
 ghost use Rattle.logical_map.specs.declared.place.Place.TheVariants as places;
@@ -9,14 +9,14 @@ ghost use Rattle.zone_states.specs.Geometry.{IsInRange};
 ghost use Rattle.zone_states.specs.Zone.{cut_blocks};
 ghost use Rattle.zone_cleaner.specs.Start.{TurnsFewer};
 ghost use Rattle.zone_translator.specs.Calls.{IsTurn, Reads, ReportsAll, answer_before, done_of, growth_before, is_known, status_of};
-ghost use Rattle.zone_translator.specs.Batches.{IsBatchCount, IsWhole, blocks_of, is_trim};
+ghost use Rattle.zone_translator.specs.Batches.{LogsAreCut, IsBatchCount, IsWhole, blocks_of, is_trim};
 ghost use Rattle.zone_translator.specs.Changes.{AreNamed, IsCause, Names, batch_commands};
 ghost use Rattle.zone_translator.specs.Flat.{FlatCall, IsFront, fill, grow, idle, known_growth, known_range, read, replaced, report, trim, with_nothing, write};
 ghost use Rattle.zone_translator.specs.declared.status.DiskStatus.TheVariants.{Serving};
 ghost use Rattle.batch_log.specs.Log.{zero_block};
 ghost use Rattle.zone_translator.specs.Mount.{IsFresh, KeepsDrive, MountRefuses};
 ghost use Rattle.zone_translator.specs.Read.{IsReadFault};
-ghost use Rattle.zone_translator.specs.View.{Completes, DiskCause, DiskView, KeepsDisk, array_of, disk_size, flat_of, disk_turns, given_size, most_batches, next_sequence, places_of, size_on};
+ghost use Rattle.zone_translator.specs.View.{Completes, DiskCause, DiskView, KeepsDisk, array_of, disk_size, flat_of, disk_turns, given_size, logs_of, most_batches, next_sequence, places_of, size_on};
 
 use crate::fault::DiskFault;
 use crate::mount::{MountFault, fresh_tables};
@@ -165,6 +165,7 @@ impl<D: Device + Drop> Disk<D> {
         ensures status { IfErr result (λ fault. self.new.status ≡ status_of fault) }
         ensures err { OnErr result (IsFront (array_of self.old) first (blocks_of self.old.drive.geometry.block left content.entry) (array_of self.new)) }
         ensures cause { IfErr result (λ fault. IsCause self.new.drive (next_sequence self.new) fault) }
+        ensures cut { (start : ℕ) → LogsAreCut self.old.drive.geometry start (first + left - 1) (logs_of self.old) → LogsAreCut self.old.drive.geometry start (first + left - 1) (logs_of self.new) }
         ensures completed { Completes self.old (batch_commands self.old.drive.geometry) self.new }
     {
         let written = next_batch(
@@ -195,6 +196,7 @@ impl<D: Device + Drop> Disk<D> {
         ensures says { OnOk result (1 ≤ blocks → size_on self.new ≡ Some (disk_size self.new)) }
         ensures kept { KeepsDisk self.old self.new }
         ensures cause { IfErr result (DiskCause self.new) }
+        ensures cut { self.old.status ≡ Serving → LogsAreCut self.old.drive.geometry (next_sequence self.old) (first + blocks - 1) (logs_of self.new) }
         ensures completed { Completes self.old (most_batches (is_trim content.entry) self.old blocks * batch_commands self.old.drive.geometry) self.new }
     {
         if self.is_done(first, blocks)? {
@@ -296,6 +298,7 @@ impl<D: Device + Drop> Disk<D> {
         ensures untouched { is_known (flat_of self.old) (fill self.old.drive.geometry.block first blocks byte) ≡ true → self.new ≡ self.old }
         ensures kept { KeepsDisk self.old self.new }
         ensures cause { IfErr result (DiskCause self.new) }
+        ensures cut { self.old.status ≡ Serving → LogsAreCut self.old.drive.geometry (next_sequence self.old) (first + blocks - 1) (logs_of self.new) }
         ensures completed { Completes self.old (blocks * batch_commands self.old.drive.geometry) self.new }
     {
         self.write_all(first, blocks, Content::Byte(byte))
@@ -312,6 +315,7 @@ impl<D: Device + Drop> Disk<D> {
         ensures untouched { is_known (flat_of self.old) (write first (data_blocks self.old.drive.geometry bytes.now)) ≡ true → self.new ≡ self.old }
         ensures kept { KeepsDisk self.old self.new }
         ensures cause { IfErr result (DiskCause self.new) }
+        ensures cut { self.old.status ≡ Serving → LogsAreCut self.old.drive.geometry (next_sequence self.old) (first + block_count self.old.drive.geometry bytes.now - 1) (logs_of self.new) }
         ensures completed { Completes self.old (block_count self.old.drive.geometry bytes.now * batch_commands self.old.drive.geometry) self.new }
     {
         let block = self.device.geometry().block as usize;
@@ -329,6 +333,7 @@ impl<D: Device + Drop> Disk<D> {
         ensures says { OnOk result (1 ≤ blocks → size_on self.new ≡ Some (disk_size self.new)) }
         ensures kept { KeepsDisk self.old self.new }
         ensures cause { IfErr result (DiskCause self.new) }
+        ensures cut { self.old.status ≡ Serving → LogsAreCut self.old.drive.geometry (next_sequence self.old) (first + blocks - 1) (logs_of self.new) }
         ensures completed { Completes self.old (most_batches true self.old blocks * batch_commands self.old.drive.geometry) self.new }
     {
         self.write_all(first, blocks, Content::Trim)

@@ -1,6 +1,9 @@
-use Rattle.std.proofs.Common.{rules}
-use Rattle.zone_choice.specs.Agreement.{mounted}
-use Rattle.zone_translator.proofs.WriteLaws.{batch-counted, kept-room, lost-blocks, same-room, took-blocks, write_no_memory, write_no_room}
+use Rattle.std.proofs.Common.{◌+◌, ◌-◌, rules, refl, inr}
+use Rattle.zone_choice.specs.Agreement.{drive_logs, mounted}
+use Rattle.zone_choice.specs.declared.roles.Filling.{Filling}
+use Rattle.zone_translator.proofs.CutLaws.{cut-only}
+use Rattle.zone_translator.proofs.RoomLaws.{room-keeps}
+use Rattle.zone_translator.proofs.WriteLaws.{batch-counted, cut-appended, halted-logs, kept-room, lost-blocks, same-room, took-blocks, write_no_memory, write_no_room}
 use Rattle.zone_translator.proofs.write.next_batch.Goals as goal
 
 pub returns-in_err-host-clause-leaves : goal.returns-in_err-host-clause-leaves
@@ -69,3 +72,35 @@ returns-in-Err-clause-cause g c =
     let after = mounted (g.D.Device.drive c.append_batch.new.device) c.append_batch.new.tables in
     rw c.fault_of.ensures
     (lost-blocks before ready after c.find_room.new.cleaner c.append_batch.new.self c.in_ok-host.host c.args.first c.args.left c.in_ok-count.count c.args.content c.build_batch.new.batch c.in-Err.halt room.0 room.1 c.in_ok-count.ensures.ok c.in-Err.ensures.leaves).1
+
+pub returns-in_err-host-clause-cut : goal.returns-in_err-host-clause-cut
+returns-in_err-host-clause-cut g c = λ start cut.
+    let before = mounted (g.D.Device.drive c.args.device.now) c.args.tables.now in
+    let found = mounted (g.D.Device.drive c.find_room.new.device) c.find_room.new.tables in
+    cut-only before.drive.geometry start (c.args.first + c.args.left - 1) (drive_logs before.drive) (drive_logs found.drive) (room-keeps Filling before found c.find_room.new.cleaner c.in_err-host.field-0.0 c.in_err-host.ensures.leaves).moves cut
+
+pub returns-in_err-count-clause-cut : goal.returns-in_err-count-clause-cut
+returns-in_err-count-clause-cut g c = λ start cut.
+    let before = mounted (g.D.Device.drive c.args.device.now) c.args.tables.now in
+    let found = mounted (g.D.Device.drive c.find_room.new.device) c.find_room.new.tables in
+    cut-only before.drive.geometry start (c.args.first + c.args.left - 1) (drive_logs before.drive) (drive_logs found.drive) c.in_ok-host.ensures.leaves.0.moves cut
+
+pub returns-in-Ok-clause-cut : goal.returns-in-Ok-clause-cut
+returns-in-Ok-clause-cut g c = λ start cut.
+    let before = mounted (g.D.Device.drive c.args.device.now) c.args.tables.now in
+    let found = mounted (g.D.Device.drive c.find_room.new.device) c.find_room.new.tables in
+    let room = kept-room before found c.build_batch.new.tables c.find_room.new.cleaner c.in_ok-host.ensures.leaves.0 c.in_ok-host.ensures.leaves.1 c.build_batch.ensures.kept in
+    let ready = mounted (g.D.Device.drive c.find_room.new.device) c.build_batch.new.tables in
+    let here = same-room (g.D.Device.drive c.find_room.new.device) c.find_room.new.tables c.build_batch.new.tables c.in_ok-host.host c.build_batch.ensures.kept c.in_ok-host.ensures.ok in
+    let next = c.in_ok-count.ensures.ok in
+    cut-appended before ready (g.D.Device.drive c.append_batch.new.device) c.build_batch.new.tables _ start c.in_ok-host.host c.args.first c.args.left c.in_ok-count.count c.args.content c.build_batch.new.batch room.0 room.1.0 room.0.geometry here c.requires.some refl c.in_ok-count.ensures.count next.entries (inr c.in-Ok.ensures.leaves.0.logs) cut
+
+pub returns-in-Err-clause-cut : goal.returns-in-Err-clause-cut
+returns-in-Err-clause-cut g c = λ start cut.
+    let before = mounted (g.D.Device.drive c.args.device.now) c.args.tables.now in
+    let found = mounted (g.D.Device.drive c.find_room.new.device) c.find_room.new.tables in
+    let room = kept-room before found c.build_batch.new.tables c.find_room.new.cleaner c.in_ok-host.ensures.leaves.0 c.in_ok-host.ensures.leaves.1 c.build_batch.ensures.kept in
+    let ready = mounted (g.D.Device.drive c.find_room.new.device) c.build_batch.new.tables in
+    let here = same-room (g.D.Device.drive c.find_room.new.device) c.find_room.new.tables c.build_batch.new.tables c.in_ok-host.host c.build_batch.ensures.kept c.in_ok-host.ensures.ok in
+    let next = c.in_ok-count.ensures.ok in
+    cut-appended before ready (g.D.Device.drive c.append_batch.new.device) c.build_batch.new.tables _ start c.in_ok-host.host c.args.first c.args.left c.in_ok-count.count c.args.content c.build_batch.new.batch room.0 room.1.0 room.0.geometry here c.requires.some refl c.in_ok-count.ensures.count next.entries (halted-logs ready (mounted (g.D.Device.drive c.append_batch.new.device) c.append_batch.new.tables) c.find_room.new.cleaner c.append_batch.new.self c.in_ok-host.host.zone _ c.in-Err.halt c.in-Err.ensures.leaves) cut
