@@ -45,8 +45,3 @@ pub use raw_line::parse_raw_line;
 pub use raw_reply::write_raw_reply;
 pub use reply::{block_line, ok_reply, out_of_range_reply, reserve_reply, smaller_reply};
 pub use trace_line::{TraceLine, is_skipped};
-
-#[cfg(test)]
-mod fakes;
-#[cfg(test)]
-mod tests;

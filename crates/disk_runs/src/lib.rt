@@ -42,8 +42,3 @@ pub use fault::RunFault;
 pub use fault_line::write_fault;
 pub use raw::run_raw;
 pub use trace::run_trace;
-
-#[cfg(test)]
-mod fakes;
-#[cfg(test)]
-mod tests;

@@ -16,6 +16,3 @@ mod index;
 mod order;
 
 pub use index::LiveIndex;
-
-#[cfg(test)]
-mod tests;

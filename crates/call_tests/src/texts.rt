@@ -2,7 +2,7 @@
 // of the replies.
 
 use crate::fakes::{FailingReader, FailingWriter};
-use crate::{LONGEST_LINE, LineFault, LineReader, WriteFault, write_out};
+use disk_files::{LONGEST_LINE, LineFault, LineReader, WriteFault, write_out};
 use std::alloc::{AllocError, Global};
 use std::io;
 use std::io::Read;

@@ -1,4 +1,4 @@
-use crate::LiveIndex;
+use live_index::LiveIndex;
 use std::test::Fail;
 
 #[test]

@@ -1,7 +1,7 @@
 // Readers and writers that fail. `worked_runs` has the rows of traces and raw lines.
 
 use crate::fakes::{FailingReader, FailingWriter};
-use crate::{RunFault, run_raw, run_trace, write_fault};
+use disk_runs::{RunFault, run_raw, run_trace, write_fault};
 use drive_port::Geometry;
 use std::alloc::Global;
 use std::process::Abort;

@@ -1,0 +1,17 @@
+//! Tests of what only a call can show: readers and writers that fail, counts and places. The worked examples,
+//! which `worked_runs` answers, show the rest.
+//!
+//! They stand in a crate of their own, since a crate with tests is proved twice: each library is proved once,
+//! and its tests load it. Here is nothing but tests, and the readers and writers that they need.
+#![tactic(auto)]
+
+#[cfg(test)]
+mod counts;
+#[cfg(test)]
+mod fakes;
+#[cfg(test)]
+mod places;
+#[cfg(test)]
+mod runs;
+#[cfg(test)]
+mod texts;
