@@ -1,5 +1,5 @@
 -- What a device has done, as counts.
-use Rattle.std.specs.Prelude.{ℕ, ◌+◌, ◌-◌, ◌^◌, min, nat_lt, ◌==◌, ◌||◌, if◌then◌else◌, List, length, take, Option, Some, None, Result, Ok}
+use Rattle.std.specs.Prelude.{ℕ, ◌+◌, ◌-◌, ◌^◌, min, nat_lt, ◌==◌, if◌then◌else◌, List, length, Option, Some, None, Result, Ok}
 use Rattle.nvme_wire.specs.Entry.{decode_of}
 use Rattle.nvme_wire.specs.Completion.{code_in}
 use Rattle.nvme_wire.specs.declared.command.Action.{Action}
@@ -9,9 +9,7 @@ use Rattle.nvme_wire.specs.declared.command.Command.TheVariants.{Read, Append, S
 use Rattle.nvme_wire.specs.declared.command.DecodeFault.{DecodeFault}
 use Rattle.batch_log.specs.declared.header.Kind.{Kind}
 use Rattle.batch_log.specs.declared.header.Kind.TheVariants.{Host, Move}
-use Rattle.batch_log.specs.Header.{head_size}
-use Rattle.batch_log.specs.Causes.{is_header}
-use Rattle.batch_log.specs.Reading.{heading_in}
+use Rattle.batch_log.specs.Reading.{kind_in}
 use Rattle.drive_port.specs.Drive.{DriveState}
 use Rattle.drive_counter.specs.declared.counts.Counts.{Counts}
 
@@ -46,13 +44,13 @@ with_command counts command = record counts { others = more counts.others 1 }
 
 -- ---- blocks
 
--- the kind of the batch whose header is this block, if it is a header
-abbrev pub kind_in_block : List ℕ → Option Kind
-kind_in_block block = if is_header block then Some (heading_in block).kind else None
-
--- the kind of the batch that these bytes are, where a block has that many bytes
-abbrev pub kind_of_batch : ℕ → List ℕ → Option Kind
-kind_of_batch block bytes = if nat_lt block head_size || nat_lt (length bytes) block then None else kind_in_block (take block bytes)
+-- The kind of batch that these bytes say they are, in the two bytes where a header has it. Of a batch it is its kind.
+abbrev pub kind_said : List ℕ → Option Kind
+kind_said bytes =
+    if nat_lt (length bytes) 12 then None
+    else if kind_in bytes == 1 then Some Host
+    else if kind_in bytes == 2 then Some Move
+    else None
 
 -- the blocks of an Append, the first of which is the header of a batch of this kind
 abbrev pub with_batch : Counts → ℕ → Option Kind → Counts
@@ -61,14 +59,14 @@ with_batch counts blocks (Some Host) = record counts { blocks = more counts.bloc
 with_batch counts blocks (Some Move) = record counts { blocks = more counts.blocks blocks; moved_blocks = more counts.moved_blocks (blocks - 1) }
 
 -- the blocks that a command writes which is not refused
-abbrev pub with_data : ℕ → Counts → Result Command DecodeFault → List ℕ → Counts
-with_data block counts (Ok (Append zslba blocks)) bytes = with_batch counts blocks (kind_of_batch block bytes)
-with_data block counts command bytes = counts
+abbrev pub with_data : Counts → Result Command DecodeFault → List ℕ → Counts
+with_data counts (Ok (Append zslba blocks)) bytes = with_batch counts blocks (kind_said bytes)
+with_data counts command bytes = counts
 
 -- ---- a completed command
 
 -- the counts after a command with this completion
-abbrev pub after : ℕ → Counts → List ℕ → List ℕ → List ℕ → Counts
-after block counts entry bytes completion =
+abbrev pub after : Counts → List ℕ → List ℕ → List ℕ → Counts
+after counts entry bytes completion =
     let counted = with_command counts (decode_of entry) in
-    if code_in completion == 0 then with_data block counted (decode_of entry) bytes else counted
+    if code_in completion == 0 then with_data counted (decode_of entry) bytes else counted

@@ -1,5 +1,5 @@
 -- Counts as text, a line for each.
-use Rattle.std.specs.Prelude.{ℕ, zero, ◌*◌, ◌/◌, ◌%◌, ◌==◌, if◌then◌else◌, List, ◌++◌, codes, decimal}
+use Rattle.std.specs.Prelude.{ℕ, ◌*◌, ◌/◌, ◌%◌, ◌==◌, if◌then◌else◌, List, ◌++◌, codes, decimal}
 use Rattle.drive_counter.specs.declared.counts.Counts.{Counts}
 use Rattle.drive_counter.specs.declared.spread.Spread.{Spread}
 

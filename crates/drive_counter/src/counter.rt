@@ -83,15 +83,14 @@ impl<D: Device + Drop> Device for Counter<D> {
         ensures gives { SubmitGives self.old.inner entry.now bytes.now result into.new.items self.new.inner }
         ensures was_lawful { IsLawful self.old.inner }
         ensures lawful { IsLawful self.new.inner }
-        ensures counted { IfOk result (λ completion. self.new.counts ≡ after self.old.inner.geometry.block self.old.counts entry.now bytes.now completion) }
+        ensures counted { IfOk result (λ completion. self.new.counts ≡ after self.old.counts entry.now bytes.now completion) }
         ensures halted { OnErr result (self.new.counts ≡ self.old.counts) }
     {
-        let block = self.device.geometry().block;
         let completion = self.device.submit(entry, bytes, into)?;
         let command = Command::decode(entry);
         self.counts.add_command(command);
         if is_done(&completion) {
-            self.counts.add_data(block, command, bytes);
+            self.counts.add_data(command, bytes);
         }
         Ok(completion)
     }

@@ -1,11 +1,14 @@
-ghost use Rattle.std.specs.Prelude.{◌≡◌, ◌<◌, ◌^◌};
-ghost use Rattle.drive_counter.specs.Counting.{kind_of_batch, more, none, with_action, with_batch, with_command, with_data};
+ghost use Rattle.std.specs.Prelude.{◌≡◌};
+ghost use Rattle.drive_counter.specs.Counting.{kind_said, more, none, with_action, with_batch, with_command, with_data};
 
-use batch_log::{Kind, read_header};
+use batch_log::Kind;
+use byteorder::{ByteOrder, LittleEndian};
 use nvme_wire::{Action, Command, DecodeFault};
 
-/// The bytes that a header has before its entries.
-const HEAD_SIZE: usize = 32;
+/// Where the kind stands in the header of a batch, and where it ends.
+const KIND_PLACE: usize = 10;
+
+const KIND_END: usize = 12;
 
 /// How many commands of each kind a device completed, also those that it refused, and how many blocks the Appends
 /// wrote that it did not refuse.
@@ -34,17 +37,18 @@ fn more(count: u64, by: u32) -> u64
     count.saturating_add(by as u64)
 }
 
-/// The kind of the batch whose header these bytes begin with, if they begin with one.
-fn kind_of_batch(block: usize, bytes: &[u8]) -> Option<Kind>
-    requires { block < 2 ^ 32 }
-    ensures { result ≡ kind_of_batch block bytes.now }
+/// The kind of batch that these bytes say they are, if they are a header and what follows it. The header is not
+/// checked.
+fn kind_said(bytes: &[u8]) -> Option<Kind>
+    ensures { result ≡ kind_said bytes.now }
 {
-    if block < HEAD_SIZE || bytes.len() < block {
+    if bytes.len() < KIND_END {
         return None;
     }
-    match read_header(&bytes[..block]) {
-        Ok(header) => Some(header.kind()),
-        Err(_) => None,
+    match LittleEndian::read_u16(&bytes[KIND_PLACE..]) {
+        1 => Some(Kind::Host),
+        2 => Some(Kind::Move),
+        _ => None,
     }
 }
 
@@ -93,16 +97,11 @@ impl Counts {
     }
 
     /// The blocks of a command that was not refused, if it is an Append.
-    pub(crate) fn add_data(
-        &mut self,
-        block: u32,
-        command: Result<Command, DecodeFault>,
-        bytes: &[u8],
-    )
-        ensures { self.new ≡ with_data block self.old command bytes.now }
+    pub(crate) fn add_data(&mut self, command: Result<Command, DecodeFault>, bytes: &[u8])
+        ensures { self.new ≡ with_data self.old command bytes.now }
     {
         if let Ok(Command::Append { blocks, .. }) = command {
-            self.add_batch(blocks, kind_of_batch(block as usize, bytes));
+            self.add_batch(blocks, kind_said(bytes));
         }
     }
 
