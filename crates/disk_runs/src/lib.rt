@@ -41,4 +41,4 @@ mod trace;
 pub use fault::RunFault;
 pub use fault_line::write_fault;
 pub use raw::run_raw;
-pub use trace::run_trace;
+pub use trace::{answer_trace, run_trace};

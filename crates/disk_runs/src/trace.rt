@@ -1,7 +1,8 @@
-ghost use Rattle.std.specs.Prelude.{◌≡◌};
+ghost use Rattle.std.specs.Prelude.{IfErr, OnOk};
 ghost use Rattle.zone_translator.specs.Flat.{FlatDisk};
 ghost use Rattle.zone_translator.specs.View.{flat_of};
 ghost use Rattle.disk_runs.specs.FlatLines.{flat};
+ghost use Rattle.disk_runs.specs.Run.{HasCause, Ran, Stopped, WhereKnown};
 ghost use Rattle.disk_runs.specs.Trace.{EndCause, KeepsServed, RunGives, RunLeaves};
 ghost use Rattle.disk_runs.specs.KeepingLaws.{keeps_again, keeps_same};
 
@@ -73,11 +74,37 @@ impl<D: Device + Drop> Answerer for TraceAnswerer<D> {
     }
 }
 
-/// Mounts the drive as a disk of `blocks` logical blocks, and writes the reply to each line of the reader,
-/// until the lines end. The drive is given back, as it stands.
+/// Answers each line of the reader by the calls of a disk, and writes its reply, until the lines end. The disk is
+/// given back, as it stands.
 ///
 /// After a fault the replies of all lines before stand and, where the writer failed, a beginning of the
 /// next one.
+pub fn answer_trace<R: Read + Drop, W: Write, D: Device + Drop>(
+    alloc: Global,
+    reader: R,
+    writer: &mut W,
+    disk: Disk<D>,
+) -> (Disk<D>, Result<(), RunFault>)
+    ensures ok { OnOk result.1 (WhereKnown (R.remaining reader) (W.contents writer.old) (λ input written.
+        Ran (flat disk.drive.geometry.block) input written (flat_of disk) (W.contents writer.new) (flat_of result.0))) }
+    ensures err { IfErr result.1 (λ fault. WhereKnown (R.remaining reader) (W.contents writer.old) (λ input written.
+        Stopped (flat disk.drive.geometry.block) input written (flat_of disk) fault (W.contents writer.new) (flat_of result.0))) }
+    ensures cause { IfErr result.1 (HasCause (EndCause result.0)) }
+    ensures keeps { KeepsServed disk result.0 }
+{
+    let mut reader = LineReader::new(reader);
+    let mut answerer = TraceAnswerer {
+        disk,
+        bytes: Vec::new(alloc),
+        block: Vec::new(alloc),
+        reply: Vec::new(alloc),
+    };
+    let result = answer_lines(alloc, &mut reader, writer, &mut answerer);
+    (answerer.disk, result)
+}
+
+/// Mounts the drive as a disk of `blocks` logical blocks, and answers each line of the reader by its calls, as
+/// [`answer_trace`] does. The drive is given back, as it stands.
 pub fn run_trace<R: Read + Drop, W: Write, D: Device + Drop>(
     alloc: Global,
     reader: R,
@@ -92,13 +119,6 @@ pub fn run_trace<R: Read + Drop, W: Write, D: Device + Drop>(
         Ok(disk) => disk,
         Err((fault, device)) => return (device, Err(RunFault::Mount(fault))),
     };
-    let mut reader = LineReader::new(reader);
-    let mut answerer = TraceAnswerer {
-        disk,
-        bytes: Vec::new(alloc),
-        block: Vec::new(alloc),
-        reply: Vec::new(alloc),
-    };
-    let result = answer_lines(alloc, &mut reader, writer, &mut answerer);
-    (answerer.disk.into_device(), result)
+    let (disk, result) = answer_trace(alloc, reader, writer, disk);
+    (disk.into_device(), result)
 }

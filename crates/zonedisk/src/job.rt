@@ -8,11 +8,13 @@ use zone_states::Geometry;
 #[derive(Clone, Copy, Debug, PartialEq, Eq)]
 pub enum Job {
     /// Makes a fresh drive in memory, mounts it as `blocks` logical blocks, and answers the lines of a
-    /// trace. With `report` the zones of the drive are shown after the replies.
+    /// trace. With `statistics` it is shown after the replies what was written and moved, and with `report`
+    /// the zones of the drive.
     Fresh {
         geometry: Geometry,
         blocks: u64,
         report: bool,
+        statistics: bool,
     },
     /// Makes a fresh drive in memory, and submits the entry of each raw line to it.
     FreshRaw {
@@ -82,18 +84,25 @@ fn geometry_options<'a>(alloc: Global, command: Command<'a>) -> Result<Command<'
         .arg(part(alloc, "open", "O", "Zones open at once at most: 1 to A"))
 }
 
+/// An option without a value.
+fn flag<'a>(alloc: Global, name: &'a str, help: &'a str) -> Arg<'a> {
+    Arg::new(alloc, name)
+        .long(name)
+        .help(help)
+        .action(ArgAction::SetTrue)
+}
+
 fn fresh_command<'a>(alloc: Global) -> Result<Command<'a>, AllocError> {
     let blocks = value_parser!(u64).range(0..=i64::MAX);
-    let report = Arg::new(alloc, "report")
-        .long("report")
-        .help("Shows the zones of the drive after the replies")
-        .action(ArgAction::SetTrue);
+    let report = "Shows the zones of the drive after the replies";
+    let statistics = "Shows what was written and moved after the replies";
     let command = Command::new(alloc, "fresh").about(
         "Answers the trace on standard input, over a fresh drive in memory",
     );
     geometry_options(alloc, command)?
         .arg(number_option(alloc, "blocks", "N", "Logical blocks", blocks))?
-        .arg(report)
+        .arg(flag(alloc, "report", report))?
+        .arg(flag(alloc, "statistics", statistics))
 }
 
 fn fresh_raw_command<'a>(alloc: Global) -> Result<Command<'a>, AllocError> {
@@ -144,6 +153,7 @@ fn fresh_job(matches: &ArgMatches<'_>) -> Result<Job, &'static str> {
         geometry: geometry(matches)?,
         blocks: number(matches, "blocks")?,
         report: matches.get_flag("report"),
+        statistics: matches.get_flag("statistics"),
     })
 }
 

@@ -11,14 +11,15 @@
 //!
 //! The lines are `read`, `fill`, `write`, `trim`, `idle` and `grow`, as `docs/formats.md` describes them.
 //! [`job_of`] reads the words of the command line, and [`run_job`] does what they ask for. What the replies
-//! are is promised by the runs below, [`run_trace`] and [`run_raw`]; the words, the zones that `--report`
-//! shows and the exit status are tested.
+//! are is promised by the runs below, [`run_trace`], [`answer_trace`] and [`run_raw`]; the words, what `--report`
+//! and `--statistics` show and the exit status are tested.
 #![tactic(auto)]
 
 mod job;
 mod program;
+mod statistics;
 
-pub use disk_runs::{RunFault, run_raw, run_trace, write_fault};
+pub use disk_runs::{RunFault, answer_trace, run_raw, run_trace, write_fault};
 pub use job::{Job, job_of};
 pub use program::run_job;
 

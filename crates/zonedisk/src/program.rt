@@ -1,4 +1,5 @@
 use crate::job::Job;
+use crate::statistics::run_counted;
 use disk_files::write_out;
 use disk_runs::{RunFault, run_raw, run_trace};
 use drive_port::Device;
@@ -39,16 +40,21 @@ fn show_zones<W: Write>(alloc: Global, drive: &Drive, output: &mut W) -> Result<
     Ok(())
 }
 
-/// Answers a trace over a fresh drive, and then shows its zones, if asked to.
+/// Answers a trace over a fresh drive, and then shows what was counted and its zones, if asked to.
 fn fresh<R: Read + Drop, W: Write>(
     alloc: Global,
     drive: Drive,
     blocks: u64,
     report: bool,
+    statistics: bool,
     input: R,
     output: &mut W,
 ) -> (Drive, Result<(), RunFault>) {
-    let (drive, mut result) = run_trace(alloc, input, output, drive, blocks);
+    let (drive, mut result) = if statistics {
+        run_counted(alloc, input, output, drive, blocks)
+    } else {
+        run_trace(alloc, input, output, drive, blocks)
+    };
     if report && result.is_ok() {
         result = show_zones(alloc, &drive, output);
     }
@@ -68,7 +74,12 @@ pub fn run_job<R: Read + Drop, W: Write>(
         Err(fault) => return (None, Err(fault)),
     };
     let (drive, result) = match job {
-        Job::Fresh { blocks, report, .. } => fresh(alloc, drive, blocks, report, input, output),
+        Job::Fresh {
+            blocks,
+            report,
+            statistics,
+            ..
+        } => fresh(alloc, drive, blocks, report, statistics, input, output),
         Job::FreshRaw { .. } => run_raw(alloc, input, output, drive),
     };
     (Some(drive), result)

@@ -35,6 +35,7 @@ fn reads_the_words(rt: HostRuntime) -> Result<(), Fail> {
         ("--blocks 9", 9, false),
         ("--report --blocks 9", 9, true),
         ("--blocks=0009", 9, false),
+        ("--blocks 9 --statistics", 9, false),
         (
             "--blocks 9223372036854775807 --report",
             9223372036854775807,
@@ -46,6 +47,7 @@ fn reads_the_words(rt: HostRuntime) -> Result<(), Fail> {
             geometry: FOUR_ZONES,
             blocks,
             report,
+            statistics: rest.ends_with("--statistics"),
         };
         assert_eq!(rt; job(&rt, rt.alloc(), &line).ok(), Some(want));
     }
@@ -113,6 +115,7 @@ start 24 state Empty pointer 24 capacity 6
         geometry,
         blocks: 9,
         report,
+        statistics: false,
     };
     let wide = Geometry {
         capacity: 9,

@@ -1,0 +1,48 @@
+use disk_files::write_out;
+use disk_runs::{RunFault, answer_trace};
+use drive_counter::{Counter, Spread, statistics_text};
+use drive_port::Device;
+use std::alloc::{AllocError, Global};
+use std::io::{Read, Write};
+use zone_drive::Drive;
+use zone_translator::Disk;
+
+/// How many blocks are live in each zone.
+fn live_blocks(alloc: Global, disk: &Disk<Counter<Drive>>) -> Result<Vec<u32>, AllocError> {
+    let mut live = Vec::new(alloc);
+    for zone in 0..disk.device().geometry().zones {
+        live.push(disk.live(zone))?;
+    }
+    Ok(live)
+}
+
+/// Writes what was counted of a disk, without a command.
+fn show_statistics<W: Write>(
+    alloc: Global,
+    disk: &Disk<Counter<Drive>>,
+    output: &mut W,
+) -> Result<(), RunFault> {
+    let mut live = live_blocks(alloc, disk)?;
+    let text = statistics_text(alloc, &disk.device().counts(), &Spread::of(&mut live))?;
+    write_out(output, text.as_bytes())?;
+    Ok(())
+}
+
+/// Answers a trace over a drive whose commands are counted, and then shows what was counted.
+pub fn run_counted<R: Read + Drop, W: Write>(
+    alloc: Global,
+    input: R,
+    output: &mut W,
+    drive: Drive,
+    blocks: u64,
+) -> (Drive, Result<(), RunFault>) {
+    let disk = match Disk::mount(alloc, Counter::new(drive), blocks) {
+        Ok(disk) => disk,
+        Err((fault, counter)) => return (counter.into_inner(), Err(RunFault::Mount(fault))),
+    };
+    let (disk, mut result) = answer_trace(alloc, input, output, disk);
+    if result.is_ok() {
+        result = show_statistics(alloc, &disk, output);
+    }
+    (disk.into_device().into_inner(), result)
+}
