@@ -90,7 +90,7 @@ impl Clean {
         }
     }
 
-    /// Takes a block out of the gathered records, if it is there. It allocates nothing.
+    /// Takes out the gathered records of the blocks that these entries name. It allocates nothing.
     pub fn forget(&mut self, entries: &[Entry])
         requires { AllByRecursion (λ e. e.block < 2 ^ 32) entries.now }
         ensures { self.new ≡ forgotten entries.now self.old }

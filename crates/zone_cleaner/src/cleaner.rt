@@ -76,8 +76,9 @@ impl Cleaner {
         self.clean.is_some()
     }
 
-    /// Takes the blocks out of the gathered records that a batch of the host names, after its Append. It allocates
-    /// nothing.
+    /// Takes out the gathered records of the blocks that a batch of the host names. It allocates nothing.
+    ///
+    /// It is called once the batch is appended: before that its blocks still have to be moved. `append_batch` does both.
     pub fn forget(&mut self, entries: &[Entry])
         requires { AllByRecursion (λ e. e.block < 2 ^ 32) entries.now }
         ensures { self.new ≡ option_map (forgotten entries.now) self.old }

@@ -61,7 +61,7 @@ impl Gathered {
         let _ = self.records.shift_remove(&block);
     }
 
-    /// Takes the records out of the blocks that these entries name. It allocates nothing.
+    /// Takes out the records of the blocks that these entries name. It allocates nothing.
     pub fn forget(&mut self, entries: &[Entry])
         requires { AllByRecursion (λ e. e.block < 2 ^ 32) entries.now }
         ensures { self.new ≡ without_all entries.now self.old }

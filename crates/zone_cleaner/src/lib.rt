@@ -8,14 +8,15 @@
 //! let mut cleaner = Cleaner::new(alloc);
 //! cleaner.turn(&mut tables, &mut drive)?;          // starts a clean, if one is due
 //! cleaner.turn(&mut tables, &mut drive)?;          // gathers a record, or appends a Move, or resets the victim
-//! cleaner.forget(batch.entries());                 // the host has written these blocks
+//! cleaner.append_batch(alloc, &mut tables, &mut drive, host, &batch)?;    // a batch of the host, beside the clean
 //! cleaner.run_to_end(&mut tables, &mut drive)?;    // all turns that are left
 //! ```
 //!
 //! What is promised, of any drive that obeys its rules: a turn does exactly the next step of the clean
 //! (`TurnLeaves` in specs/Start), with two commands at most; the array stays, and the drive can be mounted at each
-//! moment (`KeepsByCleaning`); each turn that is done leaves fewer turns, so the clean ends (`TurnsFewer`); and the
-//! destination keeps two free blocks (`HasRoomFor` in specs/Clean).
+//! moment (`KeepsByCleaning`); each turn that is done leaves fewer turns, so the clean ends (`TurnsFewer`), and a batch
+//! of the host leaves no more (`HostLeaves` in specs/Host); and the destination keeps two free blocks (`HasRoomFor` in
+//! specs/Clean).
 #![tactic(auto)]
 
 mod clean;

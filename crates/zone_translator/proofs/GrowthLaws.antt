@@ -1,5 +1,5 @@
 -- A growth: an empty batch that says the new size.
-use Rattle.std.proofs.Common.{◌≡◌, ◌⊎◌, ℕ, ◌+◌, ◌*◌, ◌≤◌, true, [], Option, Some, Result, Ok, Err, refl, sym, ap, subst, ◌∙◌, inl, inr, arith, append-nil}
+use Rattle.std.proofs.Common.{◌≡◌, ◌⊎◌, ℕ, ◌*◌, ◌≤◌, true, [], Option, Some, Result, Ok, Err, sym, ap, subst, ◌∙◌, inl, inr, arith, append-nil}
 use Rattle.zone_states.specs.declared.geometry.Geometry.{Geometry}
 use Rattle.drive_port.specs.Drive.{DriveState}
 use Rattle.drive_port.specs.declared.device.Halt.{Halt}

@@ -1,16 +1,13 @@
 -- The host zone is sealed and taken, and the array stays.
-use Rattle.std.proofs.Common.{◌≡◌, ◌⊎◌, ℕ, ◌+◌, ◌*◌, ◌/◌, ◌<◌, ◌≤◌, Bool, true, false, ◌||◌, map, ◌++◌, Option, Some, None, is_some, Result, Ok, Err, refl, sym, ap, subst, ◌∙◌, inl, inr, arith}
-use Rattle.std.specs.Option.{option_map}
+use Rattle.std.proofs.Common.{◌≡◌, ◌⊎◌, ℕ, ◌*◌, ◌/◌, ◌<◌, ◌≤◌, Bool, true, false, ◌||◌, map, ◌++◌, Option, Some, None, is_some, Result, Ok, Err, refl, sym, ap, subst, ◌∙◌, inl, inr, arith}
 use Rattle.std.specs.List.{list_any}
 use Rattle.std.proofs.lemmas.Bool.{eq-eqb}
-use Rattle.std.proofs.lemmas.List.Sums.{sum_by-cons}
 use Rattle.drive_port.specs.Calls.{CanFinish, Finished, FinishedContents, FinishGives, FinishKeeps, FinishLeaves, IsNotRefused, Obeys}
 use Rattle.drive_port.specs.Contents.{Finishes, SameContents, contents, full, content_at}
 use Rattle.drive_port.specs.Drive.{DriveState, IsLawful}
 use Rattle.drive_port.specs.declared.calls.PortFault.{PortFault}
 use Rattle.drive_port.specs.declared.calls.PortFault.TheVariants as port
 use Rattle.zone_choice.specs.declared.roles.Filling.{Filling}
-use Rattle.zone_choice.specs.declared.roles.Second.{Second}
 use Rattle.zone_choice.specs.Agreement.{Agrees, HoldsFilling, Mounted, drive_logs, mounted, spelled}
 use Rattle.zone_choice.specs.Changes.{IsHalt, KeepsArray, halt_of}
 use Rattle.zone_choice.specs.Mountable.{IsMountable}
@@ -207,21 +204,23 @@ finish_halts old new tables host start port.Stopped agrees is start-is some room
     by (inl same) = (tables, keeps-same old new tables agrees same opens obeys.lawful (obeys.counts refl).refused (obeys.counts refl).appended)
     by (inr finished) =
         let after = record tables { roles = sealed tables.roles } in
-        let done = finished_host old new tables host start agrees is start-is some room finished.geometry finished.contents opens obeys.lawful in
-        (after, record {
-          agrees = done.0;
-          logs = done.1;
-          array = done.2;
-          places = refl;
-          next = refl;
-          given = refl;
-          spare = λ h. h;
-          sealed = sealed-seal tables.roles;
-          second = refl;
-          geometry = finished.geometry;
-          refused = (obeys.counts refl).refused;
-          appended = (obeys.counts refl).appended;
-        })
+        let done = finished_host old new tables host start agrees is start-is some room finished.geometry finished.contents opens obeys.lawful in (
+          after,
+          record {
+            agrees = done.0;
+            logs = done.1;
+            array = done.2;
+            places = refl;
+            next = refl;
+            given = refl;
+            spare = λ h. h;
+            sealed = sealed-seal tables.roles;
+            second = refl;
+            geometry = finished.geometry;
+            refused = (obeys.counts refl).refused;
+            appended = (obeys.counts refl).appended;
+          },
+        )
 
 pub keeps-take : (drive : DriveState) (tables new : TablesView) (zone : ℕ) → Agrees (mounted drive tables) → tables.roles.host ≡ None → IsLowestEmpty tables.roles zone → 2 ≤ empty_count tables.roles → new ≡ record tables { roles = taken tables.roles zone }
     → KeepsArray (mounted drive tables) (mounted drive new)

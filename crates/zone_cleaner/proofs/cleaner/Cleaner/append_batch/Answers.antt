@@ -1,8 +1,6 @@
 use Rattle.std.proofs.Common.{◌≡◌, List, arith, ap, sym, subst, Option, ◌∙◌}
 use Rattle.std.specs.Option.{option_map}
 use Rattle.batch_log.specs.declared.header.Entry.{Entry}
-use Rattle.drive_port.specs.Drive.{DriveState}
-use Rattle.zone_states.specs.declared.geometry.Geometry.{Geometry}
 use Rattle.zone_choice.specs.Agreement.{mounted}
 use Rattle.zone_choice.specs.Builder.{built}
 use Rattle.std.specs.Prelude.{Ok}

@@ -1,7 +1,6 @@
 use Rattle.std.proofs.Common.{refl}
-use Rattle.zone_translator.proofs.CallLaws.{idle-done, idle-refused}
+use Rattle.zone_translator.proofs.CallLaws.{idle-done}
 use Rattle.zone_translator.proofs.DiskLaws.{cleaned-disk, holds-agrees, holds-serving, refused-turn, view_of}
-use Rattle.zone_translator.proofs.RoomLaws.{clean_cause}
 use Rattle.zone_translator.proofs.disk.Disk.idle.Goals as goal
 
 pub invariant_of-self : goal.invariant_of-self
