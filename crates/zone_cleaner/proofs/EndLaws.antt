@@ -33,7 +33,7 @@ use Rattle.zone_choice.proofs.OpenLaws.{OpensNone, reset-opens}
 use Rattle.zone_choice.proofs.ReserveLaws.{positive-most}
 use Rattle.zone_cleaner.specs.declared.fault.CleanFault.{CleanFault}
 use Rattle.zone_cleaner.specs.declared.fault.CleanFault.TheVariants as faults
-use Rattle.zone_cleaner.specs.declared.step.Step.TheVariants.{Gather, Move}
+use Rattle.zone_cleaner.specs.declared.step.Step.TheVariants.{Gather, Move, Reset}
 use Rattle.zone_cleaner.specs.Clean.{CleanView, IsClean}
 use Rattle.zone_cleaner.specs.LiveRecords.{content_of, data_of, move_of}
 use Rattle.zone_cleaner.specs.Turns.{EmptiesVictim, MovesRecords, OnlyMoves, StepFails, StepLeaves, StopsClean, clean_fault, next_step, with_record}
@@ -132,7 +132,7 @@ carry_stops before after c agrees is stops =
             moves_have_spare g.block before.tables.given c.victim f.zone (append_log logs f.zone b) apart (omega (arith, below, length-set logs f.zone (log_at logs f.zone ++ b ∷ []))) moved
 
 -- a Move that was not appended
-pub carry_fails : (before after : Mounted) (c : CleanView) (fault : Halt) → Agrees before → (is : IsClean before c) → AppendLeaves before after is.destination.zone (move_of (size_of before.tables) before.tables.next c.victim c.gathered) (Err fault) → StepFails (clean_fault fault) before after
+pub carry_fails : (before after : Mounted) (c : CleanView) (fault : Halt) → Agrees before → (is : IsClean before c) → AppendLeaves before after is.destination.zone (move_of (size_of before.tables) before.tables.next c.victim c.gathered) (Err fault) → StepFails Move (clean_fault fault) before after
 carry_fails before after c halt.Memory agrees is leaves = memory-keeps before after is.destination.zone (move_of (size_of before.tables) before.tables.next c.victim c.gathered) agrees leaves
 carry_fails before after c halt.Stopped agrees is leaves = carry_stops before after c agrees is leaves
 
@@ -155,7 +155,7 @@ can_reset drive tables c start agrees is start-is =
 -- a Reset that was not done
 pub record ResetFails (old new : DriveState) (tables : TablesView) (fault : PortFault) : Type 0 where
   pub halt : IsHalt fault
-  pub fails : StepFails (clean_fault (halt_of fault)) (mounted old tables) (mounted new tables)
+  pub fails : StepFails Reset (clean_fault (halt_of fault)) (mounted old tables) (mounted new tables)
 
 pub reset_fails : (old new : DriveState) (tables : TablesView) (c : CleanView) (start : ℕ) (fault : PortFault) → Agrees (mounted old tables) → IsClean (mounted old tables) c → ResetDue (mounted old tables) c → start ≡ c.victim * old.geometry.size
     → ResetGives {V = Unit {0}} old start (Err fault) new → ResetKeeps {V = Unit {0}} old start (Err fault) new → ResetLeaves {V = Unit {0}} old start (Err fault) new → Obeys {V = Unit {0}} old (Err fault) new → (CanReset old start → IsNotRefused {V = Unit {0}} (Err fault)) → ResetFails old new tables fault
@@ -243,7 +243,7 @@ carry_done old new tables mid after c f builder k placed =
     (move_gives (mounted old tables) (mounted new after) c k.agrees k.clean (carries-due old tables mid c f builder k) (rw (same, ← made.batch, ← k.mid_is) placed)).done
 
 pub carry_failed : (old new : DriveState) (tables mid after : TablesView) (c : CleanView) (f : Filling) (builder : BuilderView) (fault : Halt) → Carries old tables mid c f builder → AppendLeaves (mounted old mid) (mounted new after) f.zone (built old.geometry.block builder) (Err fault)
-    → StepFails (clean_fault fault) (mounted old tables) (mounted new after)
+    → StepFails Move (clean_fault fault) (mounted old tables) (mounted new after)
 carry_failed old new tables mid after c f builder fault k leaves =
     let made = carries-built old tables mid c f builder k in
     let same : k.clean.destination ≡ f = destination-is k.clean.destination f (sym k.clean.second ∙ k.second) in

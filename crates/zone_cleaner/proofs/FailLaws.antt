@@ -34,10 +34,10 @@ stops_kept before after c agrees is kept stopped = record {
 }
 
 -- a record that was not read
-pub read_fails : (before after : Mounted) (c : CleanView) (fault : CleanFault) → Agrees before → IsClean before c → KeepsArray before after → IsReadFault after.drive fault → StepFails fault before after
-read_fails before after c faults.OutOfMemory agrees is kept cause = kept
-read_fails before after c faults.Stopped agrees is kept cause = stops_kept before after c agrees is kept cause
-read_fails before after c faults.Spent agrees is kept cause = absurd cause
+pub read_fails : (before after : Mounted) (c : CleanView) (block : ℕ) (place : Place) (fault : CleanFault) → Agrees before → IsClean before c → KeepsArray before after → IsReadFault after.drive fault → StepFails (Gather block place) fault before after
+read_fails before after c block place faults.OutOfMemory agrees is kept cause = kept
+read_fails before after c block place faults.Stopped agrees is kept cause = stops_kept before after c agrees is kept cause
+read_fails before after c block place faults.Spent agrees is kept cause = absurd cause
 
 -- what is known of the next record
 pub record NextRecord (disk : Mounted) (c : CleanView) (block : ℕ) : Type 0 where

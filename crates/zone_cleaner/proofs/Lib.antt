@@ -21,6 +21,7 @@ pub mod KindLaws
 pub mod TurnLaws
 pub mod HostLaws
 pub mod RoomLaws
+pub mod RunLaws
 pub mod NeedLaws
 pub mod NextLaws
 pub mod BesideLaws

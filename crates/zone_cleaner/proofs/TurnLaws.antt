@@ -9,7 +9,7 @@ use Rattle.zone_choice.specs.declared.roles.Filling.{Filling}
 use Rattle.zone_choice.specs.declared.roles.Second.{Second}
 use Rattle.zone_choice.specs.declared.roles.Second.TheVariants.{Destination}
 use Rattle.zone_choice.specs.Agreement.{Mounted, drive_logs, mounted, mounted_array}
-use Rattle.zone_choice.specs.Changes.{KeepsArray, Places}
+use Rattle.zone_choice.specs.Changes.{KeepsArray, Places, sequence_end}
 use Rattle.zone_choice.specs.Mountable.{IsMountable}
 use Rattle.zone_choice.specs.Reserve.{batch_most}
 use Rattle.zone_choice.specs.Roles.{RolesView, clean_ended, empty_count, ended}
@@ -152,9 +152,15 @@ pub record TurnGives (before : Mounted) (old : Option CleanView) (result : Resul
   pub keeps : KeepsByCleaning before after
   pub cause : IfErr result (IsCleaningCause after.drive after.tables.next)
 
-fails_give : (before after : Mounted) (c : CleanView) (new : Option CleanView) (fault : CleanFault) → IsCleaned before (Some c) → StepFails fault before after → new ≡ Some c → TurnGives before (Some c) (Err fault) after new
-fails_give before after c new faults.OutOfMemory is fails same = let kept = keeps-kept before after c is fails in rw same (record { goes_on = kept.0; keeps = kept.1; cause = tt })
-fails_give before after c new faults.Stopped is fails same = record {
+-- a Move alone lacks a sequence
+spent-move : (before after : Mounted) (step : Step) → StepFails step faults.Spent before after → (after ≡ before) × (sequence_end before.drive.geometry ≤ before.tables.next)
+spent-move before after (Gather block place) fails = absurd fails
+spent-move before after Move fails = fails
+spent-move before after Reset fails = absurd fails
+
+fails_give : (before after : Mounted) (c : CleanView) (new : Option CleanView) (step : Step) (fault : CleanFault) → IsCleaned before (Some c) → StepFails step fault before after → new ≡ Some c → TurnGives before (Some c) (Err fault) after new
+fails_give before after c new step faults.OutOfMemory is fails same = let kept = keeps-kept before after c is fails in rw same (record { goes_on = kept.0; keeps = kept.1; cause = tt })
+fails_give before after c new step faults.Stopped is fails same = record {
   goes_on = tt;
   keeps = record {
     mountable = fails.mountable;
@@ -170,17 +176,17 @@ fails_give before after c new faults.Stopped is fails same = record {
   };
   cause = fails.stopped;
 }
-fails_give before after c new faults.Spent is fails same = rw (same, fails.0) (record {
+fails_give before after c new step faults.Spent is fails same = let spent = spent-move before after step fails in rw (same, spent.0) (record {
   goes_on = is;
   keeps = record { mountable = cleans_mountable before (Some c) is; array = refl; moves = only-same (drive_logs before.drive) (drive_logs before.drive) refl; size = refl; trimmed = refl; given = refl; geometry = refl; refused = refl; next = refl; appended = omega arith };
-  cause = fails.1;
+  cause = spent.1;
 })
 
 step_gives : (before after : Mounted) (c : CleanView) (new : Option CleanView) (result : Result (Unit {0}) CleanFault) → IsCleaned before (Some c) → StepLeaves (next_step (batch_most before.drive.geometry) before.tables c) before c result after new → TurnGives before (Some c) result after new
 step_gives before after c new (Ok done) is leaves =
     let forward = step_forward before after c new (next_step (batch_most before.drive.geometry) before.tables c) is refl leaves in
     record { goes_on = forward.cleaned; keeps = step-keeps before after c new (next_step (batch_most before.drive.geometry) before.tables c) is forward.cleaned leaves; cause = tt }
-step_gives before after c new (Err fault) is leaves = fails_give before after c new fault is leaves.0 leaves.1
+step_gives before after c new (Err fault) is leaves = fails_give before after c new (next_step (batch_most before.drive.geometry) before.tables c) fault is leaves.0 leaves.1
 
 -- ---- a turn
 

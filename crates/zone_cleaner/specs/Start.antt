@@ -1,5 +1,5 @@
 -- When a clean starts, and what a turn and a whole clean leave.
-use Rattle.std.specs.Prelude.{◌≡◌, ℕ, ◌+◌, ◌≤◌, ◌<◌, Bool, true, false, map, Option, Some, None, is_some, Result, Ok, Err}
+use Rattle.std.specs.Prelude.{◌≡◌, ℕ, zero, suc, ◌+◌, ◌≤◌, ◌<◌, Bool, true, false, map, Option, Some, None, is_some, Result, Ok, Err}
 use Rattle.zone_states.specs.declared.geometry.Geometry.{Geometry}
 use Rattle.drive_port.specs.Drive.{DriveState}
 use Rattle.logical_map.specs.Live.{live}
@@ -52,7 +52,30 @@ TurnLeaves before None (Ok done) after new = (after.drive ≡ before.drive) × S
 TurnLeaves before None (Err fault) after new = ⊥
 TurnLeaves before (Some clean) result after new = StepLeaves (next_step (batch_most before.drive.geometry) before.tables clean) before clean result after new
 
--- tables and drive agree, and a clean runs, or none does
+-- that many turns that are done, one after the other, each of a clean that runs
+abbrev pub AreTurns : ℕ → Mounted → Option CleanView → Mounted → Option CleanView → Type 0
+AreTurns zero before old after new = (after ≡ before) × (new ≡ old)
+AreTurns (suc n) before old after new = (is_some old ≡ true) × ((middle : Mounted) × (clean : Option CleanView) × TurnLeaves before old (Ok tt) middle clean × AreTurns n middle clean after new)
+
+-- turns that are done, and then one that is not
+pub record EndsBy (before : Mounted) (old : Option CleanView) (fault : CleanFault) (after : Mounted) (new : Option CleanView) : Type 0 where
+  pub turns : ℕ
+  pub middle : Mounted
+  pub clean : Option CleanView
+  pub done : AreTurns turns before old middle clean
+  pub refused : TurnLeaves middle clean (Err fault) after new
+
+-- what is left where a clean that runs is run to its end, by the answer: turns alone were taken
+abbrev pub EndLeaves : Mounted → Option CleanView → Result (Unit {0}) CleanFault → Mounted → Option CleanView → Type 0
+EndLeaves before old (Ok done) after new = (new ≡ None) × ((n : ℕ) × AreTurns n before old after new)
+EndLeaves before old (Err fault) after new = EndsBy before old fault after new
+
+-- where none runs, a turn starts the one that is due
+abbrev pub CleanLeaves : Mounted → Option CleanView → Result (Unit {0}) CleanFault → Mounted → Option CleanView → Type 0
+CleanLeaves before None result after new = (middle : Mounted) × (clean : Option CleanView) × TurnLeaves before None (Ok tt) middle clean × EndLeaves middle clean result after new
+CleanLeaves before (Some clean) result after new = EndLeaves before (Some clean) result after new
+
+-- tables and drive agree with each other, and with the clean that runs, if one does
 abbrev pub IsCleaned : Mounted → Option CleanView → Type 0
 IsCleaned disk clean = Agrees disk × Cleans disk clean
 

@@ -1,4 +1,4 @@
--- What each turn of a clean does, and when a clean starts.
+-- What each turn of a clean does.
 use Rattle.std.specs.List.{AllByRecursion}
 use Rattle.std.specs.Prelude.{◌≡◌, ◌⊎◌, ℕ, suc, ◌+◌, ◌≤◌, nat_lt, if◌then◌else◌, true, List, [], ◌∷◌, ◌++◌, length, Option, Some, None, Result, Ok, Err}
 use Rattle.drive_port.specs.Drive.{DriveState}
@@ -97,16 +97,17 @@ pub record StopsClean (before after : Mounted) : Type 0 where
   pub refused : after.drive.refused ≡ before.drive.refused
   pub appended : after.drive.appended ≡ before.drive.appended
 
--- What a step leaves that was not done, by its fault. Out of memory, the drive may have completed a Read or a Close; where no sequence is left for a Move, nothing was sent.
-abbrev pub StepFails : CleanFault → Mounted → Mounted → Type 0
-StepFails faults.OutOfMemory before after = KeepsArray before after
-StepFails faults.Stopped before after = StopsClean before after
-StepFails faults.Spent before after = (after ≡ before) × (sequence_end before.drive.geometry ≤ before.tables.next)
+-- What a step leaves that was not done, by its fault. Out of memory, the array is the same. A Move alone needs a sequence; where none is left for it, nothing was sent.
+abbrev pub StepFails : Step → CleanFault → Mounted → Mounted → Type 0
+StepFails step faults.OutOfMemory before after = KeepsArray before after
+StepFails step faults.Stopped before after = StopsClean before after
+StepFails Move faults.Spent before after = (after ≡ before) × (sequence_end before.drive.geometry ≤ before.tables.next)
+StepFails step faults.Spent before after = ⊥
 
 -- what a step leaves, by its answer: the clean goes on from here, or it has ended; where the step was not done, it is as it was
 abbrev pub StepLeaves : Step → Mounted → CleanView → Result (Unit {0}) CleanFault → Mounted → Option CleanView → Type 0
 StepLeaves step before clean (Ok done) after new = StepDone step before clean after new
-StepLeaves step before clean (Err fault) after new = StepFails fault before after × (new ≡ Some clean)
+StepLeaves step before clean (Err fault) after new = StepFails step fault before after × (new ≡ Some clean)
 
 -- what a halt of the drive is to a clean
 abbrev pub clean_fault : Halt → CleanFault

@@ -197,7 +197,7 @@ impl Clean {
         requires clean { IsClean (mounted (D.drive device.old) tables.old) self.now }
         requires due { next_step (batch_most (D.drive device.old).geometry) tables.old self.now ≡ Step.Reset }
         ensures ok { OnOk result (EmptiesVictim (mounted (D.drive device.old) tables.old) (mounted (D.drive device.new) tables.new) self.now.victim) }
-        ensures err { IfErr result (λ fault. StepFails fault (mounted (D.drive device.old) tables.old) (mounted (D.drive device.new) tables.new)) }
+        ensures err { IfErr result (λ fault. StepFails Step.Reset fault (mounted (D.drive device.old) tables.old) (mounted (D.drive device.new) tables.new)) }
         ensures completed { (D.drive device.new).completed ≤ (D.drive device.old).completed + 1 }
     {
         let start = self.victim as u64 * device.geometry().size as u64;

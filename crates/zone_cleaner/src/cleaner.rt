@@ -8,7 +8,7 @@ ghost use Rattle.zone_choice.specs.Reserve.{batch_most};
 ghost use Rattle.zone_choice.specs.Roles.{empty_count, next_of};
 ghost use Rattle.zone_cleaner.specs.Clean.{forgotten, turns_left};
 ghost use Rattle.zone_cleaner.specs.Host.{HostLeaves};
-ghost use Rattle.zone_cleaner.specs.Start.{FindsDue, GoesOn, IsCleaned, IsCleaningCause, KeepsByCleaning, LeavesRoom, StartLeaves, TurnLeaves, TurnsFewer};
+ghost use Rattle.zone_cleaner.specs.Start.{CleanLeaves, EndLeaves, FindsDue, GoesOn, IsCleaned, IsCleaningCause, KeepsByCleaning, LeavesRoom, StartLeaves, TurnLeaves, TurnsFewer};
 ghost use Rattle.zone_states.specs.Geometry.{IsInRange};
 
 use crate::clean::Clean;
@@ -177,6 +177,7 @@ impl Cleaner {
         device: &mut D,
     ) -> Result<(), CleanFault>
         requires cleaned { IsCleaned (mounted (D.drive device.old) tables.old) self.old }
+        ensures leaves { EndLeaves (mounted (D.drive device.old) tables.old) self.old result (mounted (D.drive device.new) tables.new) self.new }
         ensures ended { OnOk result (self.new ≡ None) }
         ensures room { OnOk result (LeavesRoom (mounted (D.drive device.old) tables.old) (mounted (D.drive device.new) tables.new) self.old None) }
         ensures goes_on { GoesOn result (mounted (D.drive device.new) tables.new) self.new }
@@ -185,7 +186,9 @@ impl Cleaner {
         ensures completed { (D.drive device.new).completed ≤ (D.drive device.old).completed + 2 * turns_left (batch_most (D.drive device.old).geometry) tables.old self.old }
     {
         while self.running() {
-            self.turn(tables, device)?;
+            if let Err(fault) = self.turn(tables, device) {
+                return Err(fault);
+            }
         }
         Ok(())
     }
@@ -202,6 +205,7 @@ impl Cleaner {
         requires host { tables.old.roles.host ≡ None }
         requires next { next_of tables.old.roles.second ≡ None }
         requires few { empty_count tables.old.roles < 2 }
+        ensures leaves { CleanLeaves (mounted (D.drive device.old) tables.old) self.old result (mounted (D.drive device.new) tables.new) self.new }
         ensures ended { OnOk result (self.new ≡ None) }
         ensures room { OnOk result ((tables.new.roles.host ≡ None) × (is_some (next_of tables.new.roles.second) ≡ true)) }
         ensures goes_on { GoesOn result (mounted (D.drive device.new) tables.new) self.new }

@@ -1,6 +1,7 @@
 use Rattle.std.proofs.Common.{arith, sym, ◌∙◌}
 use Rattle.zone_choice.specs.Agreement.{mounted}
 use Rattle.zone_cleaner.proofs.NeedLaws.{begins, left-few, on-room}
+use Rattle.zone_cleaner.proofs.RunLaws.{cleans-running, cleans-started}
 use Rattle.zone_cleaner.proofs.cleaner.Cleaner.clean_zone.Goals as goal
 
 pub returns-then-running-clause-completed : goal.returns-then-running-clause-completed
@@ -16,3 +17,12 @@ returns-clause-room g c =
 
 pub returns-clause-completed : goal.returns-clause-completed
 returns-clause-completed g c = omega (arith, c.run_to_end-2.ensures.completed, (begins c.geometry-geometry.result (g.D.Device.drive c.args.device.now) c.args.tables.now c.start.new.tables c.args.self.now c.start.new.self c.geometry-geometry.ensures.value (sym c.running.ensures ∙ c.if-running.false) c.requires.cleaned c.requires.host c.requires.next c.requires.few c.start.ensures).turns)
+
+pub returns-then-running-clause-leaves : goal.returns-then-running-clause-leaves
+returns-then-running-clause-leaves g c =
+    cleans-running (mounted (g.D.Device.drive c.args.device.now) c.args.tables.now) (mounted (g.D.Device.drive c.run_to_end.new.device) c.run_to_end.new.tables) c.args.self.now c.run_to_end.new.self c.run_to_end.result (sym c.running.ensures ∙ c.if-running.true) c.run_to_end.ensures.leaves
+
+pub returns-clause-leaves : goal.returns-clause-leaves
+returns-clause-leaves g c =
+    cleans-started c.geometry-geometry.result (g.D.Device.drive c.args.device.now) c.args.tables.now c.start.new.tables (mounted (g.D.Device.drive c.run_to_end-2.new.device) c.run_to_end-2.new.tables) c.args.self.now c.start.new.self c.run_to_end-2.new.self c.run_to_end-2.result c.geometry-geometry.ensures.value (sym c.running.ensures ∙ c.if-running.false) c.start.ensures
+    c.run_to_end-2.ensures.leaves
