@@ -73,7 +73,7 @@ host_cleaned before after (Some c) host b is host-is can done =
     let apart = host-apart before.tables.roles.host before.tables.roles.second host is.1.destination is.0.roles.apart.differ host-is is.1.second in
     (done.agrees, (host_gives before after c host.zone b is.1 can apart done).clean)
 
--- no more turns are left
+-- as many turns are left as before, or fewer
 pub host_turns : (before after : Mounted) (clean : Option CleanView) (host : Filling) (b : Batch) → IsCleaned before clean → before.tables.roles.host ≡ Some host → CanPlace before host.zone b → Places before after host.zone b
     → turns_left (batch_most before.drive.geometry) after.tables (option_map (forgotten b.heading.entries) clean) ≤ turns_left (batch_most before.drive.geometry) before.tables clean
 host_turns before after None host b is host-is can done = omega arith
@@ -108,7 +108,7 @@ host_stops before after clean host b is host-is can stops =
 
 -- ---- what it leaves, by its answer
 
-kept_turns : (before after : Mounted) (clean : Option CleanView) (most : ℕ) → IsCleaned before clean → KeepsArray before after → turns_left most after.tables clean ≤ turns_left most before.tables clean
+pub kept_turns : (before after : Mounted) (clean : Option CleanView) (most : ℕ) → IsCleaned before clean → KeepsArray before after → turns_left most after.tables clean ≤ turns_left most before.tables clean
 kept_turns before after None most is kept = omega arith
 kept_turns before after (Some c) most is kept = omega (arith, turns_kept before after c most is.0 kept is.1)
 

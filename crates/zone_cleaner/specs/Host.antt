@@ -11,7 +11,7 @@ use Rattle.zone_choice.specs.Reserve.{batch_most}
 use Rattle.zone_cleaner.specs.Clean.{CleanView, forgotten, turns_left}
 use Rattle.zone_cleaner.specs.Start.{IsCleaned}
 
--- a clean that runs goes on, with no more turns left
+-- a clean that runs goes on, and as many turns are left of it as before, or fewer
 pub record GoesOnBeside (before : Mounted) (old : Option CleanView) (after : Mounted) (new : Option CleanView) : Type 0 where
   pub cleaned : IsCleaned after new
   pub turns : turns_left (batch_most before.drive.geometry) after.tables new ≤ turns_left (batch_most before.drive.geometry) before.tables old

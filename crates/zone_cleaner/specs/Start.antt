@@ -109,7 +109,7 @@ pub record KeepsByCleaning (before after : Mounted) : Type 0 where
   pub next : after.tables.next + before.drive.appended ≡ before.tables.next + after.drive.appended
   pub appended : before.drive.appended ≤ after.drive.appended
 
--- After a turn that is done, a clean that ran has fewer turns left; and one that has begun fewer than a zone has blocks.
+-- After a turn that is done, a clean that ran has fewer turns left; and one that has begun fewer than the capacity.
 pub record TurnsFewer (before after : Mounted) (old new : Option CleanView) : Type 0 where
   pub fewer : is_some old ≡ true → turns_left (batch_most before.drive.geometry) after.tables new < turns_left (batch_most before.drive.geometry) before.tables old
   pub bound : is_some old ≡ false → turns_left (batch_most before.drive.geometry) after.tables new + 1 ≤ before.drive.geometry.capacity

@@ -78,7 +78,7 @@ impl Cleaner {
 
     /// Takes out the gathered records of the blocks that a batch of the host names. It allocates nothing.
     ///
-    /// It is called once the batch is appended: before that its blocks still have to be moved. `append_batch` does both.
+    /// It is called once the batch is appended: before that its blocks still have to be moved. `Cleaner::append_batch` does both.
     pub fn forget(&mut self, entries: &[Entry])
         requires { AllByRecursion (λ e. e.block < 2 ^ 32) entries.now }
         ensures { self.new ≡ option_map (forgotten entries.now) self.old }
@@ -89,7 +89,7 @@ impl Cleaner {
     }
 
     /// Appends a batch of the host to the host zone and, after the Append, takes the blocks that it names out of the
-    /// gathered records. A clean that runs goes on, with no more turns left.
+    /// gathered records. A clean that runs goes on, with as many turns left as before, or fewer.
     pub fn append_batch<D: Device>(
         &mut self,
         alloc: Global,
@@ -169,7 +169,7 @@ impl Cleaner {
         self.step(tables, device)
     }
 
-    /// Turns until the clean that runs has ended. Each completes two commands at most. Then the destination is the
+    /// Takes turns until the clean that runs has ended. Each completes two commands at most. Then the destination is the
     /// next zone, and has two free blocks.
     pub fn run_to_end<D: Device>(
         &mut self,

@@ -1,5 +1,5 @@
 -- A disk, by what its parts change.
-use Rattle.std.proofs.Common.{◌≡◌, ℕ, Bool, List, length, Option, Err, refl, sym, ap, ◌∙◌, arith}
+use Rattle.std.proofs.Common.{◌≡◌, ℕ, Bool, List, length, Option, Err, refl, sym, ap, subst, ◌≤◌, ◌∙◌, arith}
 use Rattle.std.specs.List.{AllByRecursion}
 use Rattle.zone_states.specs.declared.geometry.Geometry.{Geometry}
 use Rattle.drive_port.specs.Drive.{DriveState}
@@ -21,7 +21,7 @@ use Rattle.zone_translator.specs.declared.status.DiskStatus.{DiskStatus}
 use Rattle.zone_translator.specs.declared.status.DiskStatus.TheVariants as statuses
 use Rattle.zone_translator.specs.Batches.{LogsAreCut}
 use Rattle.zone_translator.specs.Calls.{Holds, status_of}
-use Rattle.zone_translator.specs.Changes.{AgreesWith, GrowLeaves, Keeps, Names, StopKeeps, WriteLeaves, cleaning_fault}
+use Rattle.zone_translator.specs.Changes.{AgreesWith, GrowLeaves, Keeps, Names, NoMoreTurns, StopKeeps, WriteLeaves, cleaning_fault}
 use Rattle.zone_translator.specs.Flat.{IsAfterFront, IsFront, grow}
 use Rattle.zone_translator.specs.Read.{IsReadFault}
 use Rattle.zone_translator.proofs.CutLaws.{cut-old}
@@ -66,6 +66,9 @@ kept-disk old new tables clean was is serves kept = cleaned-disk old new tables 
 -- and as many turns are left
 pub turns-same : (old new : DriveState) (tables : TablesView) (clean : Option CleanView) (was is : DiskStatus) → new.geometry ≡ old.geometry → disk_turns (view_of new tables clean is) ≡ disk_turns (view_of old tables clean was)
 turns-same old new tables clean was is same = ap (λ (g : Geometry). turns_left (batch_most g) tables clean) same
+
+pub turns-on : (old new : DriveState) (tables tables' : TablesView) (clean clean' : Option CleanView) (was is : DiskStatus) → new.geometry ≡ old.geometry → NoMoreTurns (mounted old tables) clean (mounted new tables') clean' → disk_turns (view_of new tables' clean' is) ≤ disk_turns (view_of old tables clean was)
+turns-on old new tables tables' clean clean' was is same turns = subst (λ (g : Geometry). turns_left (batch_most g) tables' clean' ≤ turns_left (batch_most old.geometry) tables clean) (sym same) turns
 
 pub kept-join : (a b c : DiskView) → KeepsDisk a b → KeepsDisk b c → KeepsDisk a c
 kept-join a b c p q = record {

@@ -1,7 +1,9 @@
 -- The host zone is sealed and taken, and the array stays.
 use Rattle.std.proofs.Common.{◌≡◌, ◌⊎◌, ℕ, ◌*◌, ◌/◌, ◌<◌, ◌≤◌, Bool, true, false, ◌||◌, map, ◌++◌, Option, Some, None, is_some, Result, Ok, Err, refl, sym, ap, subst, ◌∙◌, inl, inr, arith}
 use Rattle.std.specs.List.{list_any}
+use Rattle.std.specs.Prelude.{OnOk}
 use Rattle.std.proofs.lemmas.Bool.{eq-eqb}
+use Rattle.zone_states.specs.declared.geometry.Geometry.{Geometry}
 use Rattle.drive_port.specs.Calls.{CanFinish, Finished, FinishedContents, FinishGives, FinishKeeps, FinishLeaves, IsNotRefused, Obeys}
 use Rattle.drive_port.specs.Contents.{Finishes, SameContents, contents, full, content_at}
 use Rattle.drive_port.specs.Drive.{DriveState, IsLawful}
@@ -22,13 +24,15 @@ use Rattle.zone_choice.proofs.OpenLaws.{OpensNone, finish-opens}
 use Rattle.zone_choice.proofs.RolesLaws.{roles_with, second_list}
 use Rattle.zone_cleaner.specs.declared.fault.CleanFault.{CleanFault}
 use Rattle.zone_cleaner.specs.declared.fault.CleanFault.TheVariants as faults
-use Rattle.zone_cleaner.specs.Clean.{CleanView}
+use Rattle.zone_cleaner.specs.Clean.{CleanView, turns_left}
 use Rattle.zone_cleaner.specs.Start.{GoesOn, IsCleaned, IsCleaningCause, KeepsByCleaning, trims}
+use Rattle.zone_choice.specs.Reserve.{batch_most}
+use Rattle.zone_cleaner.proofs.BesideLaws.{kept_turns}
 use Rattle.zone_cleaner.proofs.NextLaws.{cleaned_kept, cleaning_kept, promote_gives}
 use Rattle.zone_cleaner.proofs.TurnLaws.{cleans_mountable, keeps-more}
 use Rattle.zone_translator.specs.declared.fault.DiskFault.{DiskFault}
 use Rattle.zone_translator.specs.declared.fault.DiskFault.TheVariants.{OutOfRange, OutOfMemory, Stopped, Spent, Smaller, Reserve}
-use Rattle.zone_translator.specs.Changes.{AgreesWith, HasRoom, IsCause, RetireLeaves, RoomLeaves, StopKeeps, TakesHost, cleaning_fault, disk_fault}
+use Rattle.zone_translator.specs.Changes.{AgreesWith, HasRoom, IsCause, NoMoreTurns, RetireLeaves, RoomLeaves, StopKeeps, TakesHost, cleaning_fault, disk_fault}
 
 -- ---- a disk that serves
 
@@ -247,12 +251,13 @@ pub record TakeGives (drive : DriveState) (old new : TablesView) (clean : Option
   pub leaves : RoomLeaves {V = Filling} (mounted drive old) (mounted drive new) clean (Ok host)
   pub host_is : new.roles.host ≡ Some host
   pub free : HasRoom drive host
+  pub turns : NoMoreTurns (mounted drive old) clean (mounted drive new) clean
 
 -- a next zone is known only where no clean runs
 take-next : (drive : DriveState) (old new : TablesView) (clean : Option CleanView) (host : Filling) → IsCleaned (mounted drive old) clean → old.roles.host ≡ None → next_of old.roles.second ≡ Some host → new ≡ record old { roles = promoted old.roles } → TakeGives drive old new clean host
 take-next drive old new None host is none next new-is =
     let gives = promote_gives drive old new host is none next new-is in
-    record { leaves = (gives.keeps, gives.cleaned); host_is = gives.host; free = gives.room }
+    record { leaves = (gives.keeps, gives.cleaned); host_is = gives.host; free = gives.room; turns = omega arith }
 take-next drive old new (Some c) host is none next new-is = let bad : next_of (Some (Destination is.1.destination)) ≡ Some host = rw is.1.second at next in absurd (cc)
 
 pub take_gives : (drive : DriveState) (old new : TablesView) (clean : Option CleanView) (host : Filling) → IsCleaned (mounted drive old) clean → old.roles.host ≡ None → TakesHost old host new → TakeGives drive old new clean host
@@ -261,7 +266,29 @@ take_gives drive old new clean host is none (inr (no_next, two, lowest, host-is,
   leaves = keeps-serving (mounted drive old) (mounted drive new) clean is (keeps-take drive old new host.zone is.0 none lowest two new-is);
   host_is = rw new-is (ap (λ (f : Filling). Some f) (sym host-is));
   free = omega (arith, ap (λ (f : Filling). f.written) host-is, is.0.geometry.capacity, is.0.geometry.size);
+  turns = rw new-is (same clean);
 }
+  where
+    same : (clean : Option CleanView) → NoMoreTurns (mounted drive old) clean (mounted drive (record old { roles = taken old.roles host.zone })) clean
+    same None = omega arith
+    same (Some c) = omega arith
+
+-- turns, part by part
+pub turns-join : (a b c : Mounted) (x y z : Option CleanView) → b.drive.geometry ≡ a.drive.geometry → NoMoreTurns a x b y → NoMoreTurns b y c z → NoMoreTurns a x c z
+turns-join a b c x y z same p q =
+    let there : turns_left (batch_most a.drive.geometry) c.tables z ≤ turns_left (batch_most a.drive.geometry) b.tables y = subst (λ (g : Geometry). turns_left (batch_most g) c.tables z ≤ turns_left (batch_most g) b.tables y) same q in
+    omega (arith, p, there)
+
+pub turns-kept : (a b : Mounted) (clean : Option CleanView) → IsCleaned a clean → KeepsArray a b → NoMoreTurns a clean b clean
+turns-kept a b clean is kept = kept_turns a b clean (batch_most a.drive.geometry) is kept
+
+pub ok-turns : {P Q : Type 0} {V : Type 0} (result : Result V DiskFault) → (P → Q) → OnOk result P → OnOk result Q
+ok-turns (Ok done) f is = f is
+ok-turns (Err fault) f is = tt
+
+-- once a clean has ended none are left
+pub turns-ended : (a b : Mounted) (x y : Option CleanView) → y ≡ None → NoMoreTurns a x b y
+turns-ended a b x y ended = rw ended (omega arith)
 
 -- where a zone is next, one is found
 pub must-take : (old : TablesView) → is_some (next_of old.roles.second) ≡ true → next_of old.roles.second ≡ None → ⊥

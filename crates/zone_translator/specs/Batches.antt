@@ -66,7 +66,7 @@ host_heading size sequence trim first count = record { kind = Host; sequence = s
 abbrev pub batch_count : Geometry → Filling → ℕ → Bool → ℕ
 batch_count geometry host left trim = if trim then min left (batch_most geometry) else min (min left (batch_most geometry)) (geometry.capacity - host.written - 1)
 
--- a batch of trims takes as many as its header names, wherever it goes
+-- a batch of trims takes as many as a header can name, or all that are left, wherever it goes
 abbrev pub IsBatchCount : Geometry → Bool → ℕ → ℕ → Type 0
 IsBatchCount geometry true left count = count ≡ min left (batch_most geometry)
 IsBatchCount geometry false left count = Unit {0}

@@ -11,12 +11,13 @@ use Rattle.zone_choice.specs.declared.roles.Filling.{Filling}
 use Rattle.zone_choice.specs.Agreement.{Mounted, drive_logs, mounted, mounted_array}
 use Rattle.zone_choice.specs.Changes.{KeepsArray, sequence_end}
 use Rattle.zone_choice.specs.Mountable.{IsMountable}
+use Rattle.zone_choice.specs.Reserve.{batch_most}
 use Rattle.zone_choice.specs.Roles.{IsLowestEmpty, empty_count, next_of, promoted, taken}
 use Rattle.zone_choice.specs.Sizes.{extended, greatest}
 use Rattle.zone_choice.specs.Tables.{TablesView, size_of}
 use Rattle.zone_cleaner.specs.declared.fault.CleanFault.{CleanFault}
 use Rattle.zone_cleaner.specs.declared.fault.CleanFault.TheVariants as faults
-use Rattle.zone_cleaner.specs.Clean.{CleanView}
+use Rattle.zone_cleaner.specs.Clean.{CleanView, turns_left}
 use Rattle.zone_cleaner.specs.Start.{IsCleaned, KeepsByCleaning, trims}
 use Rattle.zone_translator.specs.Flat.{IsFront, replaced}
 use Rattle.zone_translator.specs.declared.fault.DiskFault.{DiskFault}
@@ -68,6 +69,10 @@ AreNamed trim all first n = (block : ℕ) → first ≤ block → block < first 
 pub record Names (trim : Bool) (old : List Place) (first n : ℕ) (new : List Place) : Type 0 where
   pub named : AreNamed trim new first n
   pub others : (block : ℕ) → (block < first) ⊎ (first + n ≤ block) → trims (slice_index_or new block places.None) ≡ trims (slice_index_or old block places.None)
+
+-- as many turns are left of a clean as before, or fewer
+abbrev pub NoMoreTurns : Mounted → Option CleanView → Mounted → Option CleanView → Type 0
+NoMoreTurns before old after new = turns_left (batch_most before.drive.geometry) after.tables new ≤ turns_left (batch_most before.drive.geometry) before.tables old
 
 -- What each part of a call keeps: a drive that can be mounted. No command is refused, and the next sequence rises by one with each batch that is appended.
 pub record Keeps (before after : Mounted) : Type 0 where

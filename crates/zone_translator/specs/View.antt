@@ -81,7 +81,7 @@ disk_turns disk = turns_left (batch_most disk.drive.geometry) disk.tables disk.c
 
 -- ---- how many commands a call completes
 
--- at most how many batches a write of n blocks has: one for each block; and one of trims: all but the last name as many as fit
+-- at most how many batches a write of n blocks has: one for each block; a write of trims has as few as its entries allow
 abbrev pub most_batches : Bool → DiskView → ℕ → ℕ
 most_batches true disk n = div_ceil n (batch_most disk.drive.geometry)
 most_batches false disk n = n

@@ -148,8 +148,8 @@ impl<D: Device + Drop> Disk<D> {
         self.status
     }
 
-    /// One batch of a write. A refusal leaves none of the blocks that are left written; after a stop a front of
-    /// them may be.
+    /// One batch of a write. After a refusal none of the `left` blocks is written; after a stop a front of them may
+    /// be.
     fn write_some(&mut self, first: u32, left: u32, content: Content) -> Result<u32, DiskFault>
         requires some { 1 ≤ left }
         requires in_range { first + left ≤ disk_size self.old }
@@ -166,6 +166,7 @@ impl<D: Device + Drop> Disk<D> {
         ensures err { OnErr result (IsFront (array_of self.old) first (blocks_of self.old.drive.geometry.block left content.entry) (array_of self.new)) }
         ensures cause { IfErr result (λ fault. IsCause self.new.drive (next_sequence self.new) fault) }
         ensures cut { (start : ℕ) → LogsAreCut self.old.drive.geometry start (first + left - 1) (logs_of self.old) → LogsAreCut self.old.drive.geometry start (first + left - 1) (logs_of self.new) }
+        ensures turns { OnOk result (disk_turns self.new ≤ disk_turns self.old) }
         ensures completed { Completes self.old (batch_commands self.old.drive.geometry) self.new }
     {
         let written = next_batch(
@@ -197,6 +198,7 @@ impl<D: Device + Drop> Disk<D> {
         ensures kept { KeepsDisk self.old self.new }
         ensures cause { IfErr result (DiskCause self.new) }
         ensures cut { self.old.status ≡ Serving → LogsAreCut self.old.drive.geometry (next_sequence self.old) (first + blocks - 1) (logs_of self.new) }
+        ensures turns { OnOk result (disk_turns self.new ≤ disk_turns self.old) }
         ensures completed { Completes self.old (most_batches (is_trim content.entry) self.old blocks * batch_commands self.old.drive.geometry) self.new }
     {
         if self.is_done(first, blocks)? {
@@ -299,6 +301,7 @@ impl<D: Device + Drop> Disk<D> {
         ensures kept { KeepsDisk self.old self.new }
         ensures cause { IfErr result (DiskCause self.new) }
         ensures cut { self.old.status ≡ Serving → LogsAreCut self.old.drive.geometry (next_sequence self.old) (first + blocks - 1) (logs_of self.new) }
+        ensures turns { OnOk result (disk_turns self.new ≤ disk_turns self.old) }
         ensures completed { Completes self.old (blocks * batch_commands self.old.drive.geometry) self.new }
     {
         self.write_all(first, blocks, Content::Byte(byte))
@@ -316,6 +319,7 @@ impl<D: Device + Drop> Disk<D> {
         ensures kept { KeepsDisk self.old self.new }
         ensures cause { IfErr result (DiskCause self.new) }
         ensures cut { self.old.status ≡ Serving → LogsAreCut self.old.drive.geometry (next_sequence self.old) (first + block_count self.old.drive.geometry bytes.now - 1) (logs_of self.new) }
+        ensures turns { OnOk result (disk_turns self.new ≤ disk_turns self.old) }
         ensures completed { Completes self.old (block_count self.old.drive.geometry bytes.now * batch_commands self.old.drive.geometry) self.new }
     {
         let block = self.device.geometry().block as usize;
@@ -334,6 +338,7 @@ impl<D: Device + Drop> Disk<D> {
         ensures kept { KeepsDisk self.old self.new }
         ensures cause { IfErr result (DiskCause self.new) }
         ensures cut { self.old.status ≡ Serving → LogsAreCut self.old.drive.geometry (next_sequence self.old) (first + blocks - 1) (logs_of self.new) }
+        ensures turns { OnOk result (disk_turns self.new ≤ disk_turns self.old) }
         ensures completed { Completes self.old (most_batches true self.old blocks * batch_commands self.old.drive.geometry) self.new }
     {
         self.write_all(first, blocks, Content::Trim)
@@ -369,6 +374,7 @@ impl<D: Device + Drop> Disk<D> {
         ensures untouched { is_known (flat_of self.old) (grow blocks) ≡ true → self.new ≡ self.old }
         ensures kept { KeepsDisk self.old self.new }
         ensures cause { IfErr result (DiskCause self.new) }
+        ensures turns { OnOk result (disk_turns self.new ≤ disk_turns self.old) }
         ensures completed { Completes self.old (batch_commands self.old.drive.geometry) self.new }
     {
         self.check_growth(blocks)?;

@@ -1,7 +1,7 @@
 ghost use Rattle.std.specs.Prelude.{◌≡◌, ◌+◌, ◌*◌, ◌≤◌, ◌<◌, IfOk, IfErr, IfSome, IfNone, OnOk, None, Some};
 ghost use Rattle.zone_choice.specs.Agreement.{Agrees, mounted};
 ghost use Rattle.zone_choice.specs.Roles.{empty_count, next_of};
-ghost use Rattle.zone_translator.specs.Changes.{AgreesWith, HasRoom, IsCause, RetireLeaves, RoomLeaves, TakesHost, disk_fault};
+ghost use Rattle.zone_translator.specs.Changes.{AgreesWith, HasRoom, IsCause, NoMoreTurns, RetireLeaves, RoomLeaves, TakesHost, disk_fault};
 
 use crate::fault::DiskFault;
 use drive_port::{Device, Halt, finish};
@@ -75,6 +75,7 @@ fn find_host<D: Device>(
     ensures leaves { RoomLeaves (mounted (D.drive device.old) tables.old) (mounted (D.drive device.new) tables.new) cleaner.new result }
     ensures ok { IfOk result (λ host. (tables.new.roles.host ≡ Some host) × HasRoom (D.drive device.new) host) }
     ensures err { IfErr result (λ fault. IsCause (D.drive device.new) tables.new.next fault) }
+    ensures turns { OnOk result (NoMoreTurns (mounted (D.drive device.old) tables.old) cleaner.old (mounted (D.drive device.new) tables.new) cleaner.new) }
     ensures completed { (D.drive device.new).completed + 2 ≤ (D.drive device.old).completed + 2 * (D.drive device.old).geometry.capacity }
 {
     if let Some(host) = take(tables) {
@@ -100,6 +101,7 @@ pub(crate) fn make_room<D: Device>(
     ensures leaves { RoomLeaves (mounted (D.drive device.old) tables.old) (mounted (D.drive device.new) tables.new) cleaner.new result }
     ensures ok { IfOk result (λ host. (tables.new.roles.host ≡ Some host) × HasRoom (D.drive device.new) host) }
     ensures err { IfErr result (λ fault. IsCause (D.drive device.new) tables.new.next fault) }
+    ensures turns { OnOk result (NoMoreTurns (mounted (D.drive device.old) tables.old) cleaner.old (mounted (D.drive device.new) tables.new) cleaner.new) }
     ensures completed { (D.drive device.new).completed + 1 ≤ (D.drive device.old).completed + 2 * (D.drive device.old).geometry.capacity }
 {
     let Some(host) = tables.host() else {

@@ -6,7 +6,7 @@ ghost use Rattle.zone_choice.specs.Reserve.{FitsReserve};
 ghost use Rattle.zone_choice.specs.Tables.{MakesRoom, size_of};
 ghost use Rattle.zone_states.specs.Geometry.{IsInRange};
 ghost use Rattle.zone_translator.specs.Batches.{LogsAreCut, IsAfter, IsBatchCount, IsNextBatch, IsRoom, IsWhole, IsWithin, batch_count, blocks_of, bytes_of, host_heading, is_trim};
-ghost use Rattle.zone_translator.specs.Changes.{AgreesWith, GrowLeaves, IsCause, RoomLeaves, WriteLeaves, batch_commands};
+ghost use Rattle.zone_translator.specs.Changes.{AgreesWith, GrowLeaves, IsCause, NoMoreTurns, RoomLeaves, WriteLeaves, batch_commands};
 
 use crate::fault::DiskFault;
 use crate::room::{fault_of, make_room};
@@ -73,6 +73,7 @@ fn find_room<D: Device>(
     ensures leaves { RoomLeaves (mounted (D.drive device.old) tables.old) (mounted (D.drive device.new) tables.new) cleaner.new result }
     ensures ok { IfOk result (λ host. IsRoom (D.drive device.new) tables.new host) }
     ensures cause { IfErr result (λ fault. IsCause (D.drive device.new) tables.new.next fault) }
+    ensures turns { OnOk result (NoMoreTurns (mounted (D.drive device.old) tables.old) cleaner.old (mounted (D.drive device.new) tables.new) cleaner.new) }
     ensures completed { (D.drive device.new).completed + 1 ≤ (D.drive device.old).completed + 2 * (D.drive device.old).geometry.capacity }
 {
     let host = make_room(alloc, tables, device, cleaner)?;
@@ -182,6 +183,7 @@ pub(crate) fn next_batch<D: Device>(
     ensures count { IfOk result (λ count. (1 ≤ count) × (count ≤ left) × IsBatchCount (D.drive device.old).geometry (is_trim content.entry) left count) }
     ensures cut { (start : ℕ) → LogsAreCut (D.drive device.old).geometry start (first + left - 1) (drive_logs (D.drive device.old)) → LogsAreCut (D.drive device.old).geometry start (first + left - 1) (drive_logs (D.drive device.new)) }
     ensures cause { IfErr result (λ fault. IsCause (D.drive device.new) tables.new.next fault) }
+    ensures turns { OnOk result (NoMoreTurns (mounted (D.drive device.old) tables.old) cleaner.old (mounted (D.drive device.new) tables.new) cleaner.new) }
     ensures completed { (D.drive device.new).completed ≤ (D.drive device.old).completed + batch_commands (D.drive device.old).geometry }
 {
     let host = find_room(alloc, tables, device, cleaner)?;
@@ -206,6 +208,7 @@ pub(crate) fn grow_batch<D: Device>(
     requires reserve { FitsReserve (D.drive device.old).geometry blocks }
     ensures leaves { GrowLeaves (mounted (D.drive device.old) tables.old) (mounted (D.drive device.new) tables.new) cleaner.new blocks result }
     ensures cause { IfErr result (λ fault. IsCause (D.drive device.new) tables.new.next fault) }
+    ensures turns { OnOk result (NoMoreTurns (mounted (D.drive device.old) tables.old) cleaner.old (mounted (D.drive device.new) tables.new) cleaner.new) }
     ensures completed { (D.drive device.new).completed ≤ (D.drive device.old).completed + batch_commands (D.drive device.old).geometry }
 {
     let host = find_room(alloc, tables, device, cleaner)?;

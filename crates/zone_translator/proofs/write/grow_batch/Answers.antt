@@ -2,6 +2,7 @@ use Rattle.std.proofs.Common.{◌∙◌, rules, arith, true}
 use Rattle.zone_choice.specs.Agreement.{mounted}
 use Rattle.zone_translator.proofs.BatchLaws.{host-heading}
 use Rattle.zone_translator.proofs.GrowthLaws.{grow-next, growth-halts, growth-no_memory, growth-no_room, growth-writes}
+use Rattle.zone_translator.proofs.RoomLaws.{turns-join}
 use Rattle.zone_translator.proofs.write.grow_batch.Goals as goal
 
 pub returns-in_err-host-clause-leaves : goal.returns-in_err-host-clause-leaves
@@ -64,3 +65,10 @@ returns-in-Err-clause-cause g c =
     let after = mounted (g.D.Device.drive c.append_batch.new.device) c.append_batch.new.tables in
     rw c.fault_of.ensures
     (growth-halts before found after c.find_room.new.cleaner c.append_batch.new.self c.in_ok-host.host c.args.blocks c.encode.new.self c.in-Err.halt c.in_ok-host.ensures.leaves.0 c.in_ok-host.ensures.leaves.1 next c.in-Err.ensures.leaves).1
+
+pub returns-in-Ok-clause-turns : goal.returns-in-Ok-clause-turns
+returns-in-Ok-clause-turns g c =
+    let before = mounted (g.D.Device.drive c.args.device.now) c.args.tables.now in
+    let found = mounted (g.D.Device.drive c.find_room.new.device) c.find_room.new.tables in
+    let after = mounted (g.D.Device.drive c.append_batch.new.device) c.append_batch.new.tables in
+    turns-join before found after c.args.cleaner.now c.find_room.new.cleaner c.append_batch.new.self c.in_ok-host.ensures.leaves.0.geometry c.in_ok-host.ensures.turns c.in-Ok.ensures.leaves.2.turns

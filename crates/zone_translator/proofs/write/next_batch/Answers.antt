@@ -2,7 +2,8 @@ use Rattle.std.proofs.Common.{◌+◌, ◌-◌, rules, refl, inr}
 use Rattle.zone_choice.specs.Agreement.{drive_logs, mounted}
 use Rattle.zone_choice.specs.declared.roles.Filling.{Filling}
 use Rattle.zone_translator.proofs.CutLaws.{cut-only}
-use Rattle.zone_translator.proofs.RoomLaws.{room-keeps}
+use Rattle.zone_translator.proofs.RoomLaws.{room-keeps, turns-join, turns-kept}
+use Rattle.zone_choice.proofs.ChangeLaws.{keeps-room}
 use Rattle.zone_translator.proofs.WriteLaws.{batch-counted, cut-appended, halted-logs, kept-room, lost-blocks, same-room, took-blocks, write_no_memory, write_no_room}
 use Rattle.zone_translator.proofs.write.next_batch.Goals as goal
 
@@ -104,3 +105,15 @@ returns-in-Err-clause-cut g c = λ start cut.
     let here = same-room (g.D.Device.drive c.find_room.new.device) c.find_room.new.tables c.build_batch.new.tables c.in_ok-host.host c.build_batch.ensures.kept c.in_ok-host.ensures.ok in
     let next = c.in_ok-count.ensures.ok in
     cut-appended before ready (g.D.Device.drive c.append_batch.new.device) c.build_batch.new.tables _ start c.in_ok-host.host c.args.first c.args.left c.in_ok-count.count c.args.content c.build_batch.new.batch room.0 room.1.0 room.0.geometry here c.requires.some refl c.in_ok-count.ensures.count next.entries (halted-logs ready (mounted (g.D.Device.drive c.append_batch.new.device) c.append_batch.new.tables) c.find_room.new.cleaner c.append_batch.new.self c.in_ok-host.host.zone _ c.in-Err.halt c.in-Err.ensures.leaves) cut
+
+pub returns-in-Ok-clause-turns : goal.returns-in-Ok-clause-turns
+returns-in-Ok-clause-turns g c =
+    let before = mounted (g.D.Device.drive c.args.device.now) c.args.tables.now in
+    let found = mounted (g.D.Device.drive c.find_room.new.device) c.find_room.new.tables in
+    let ready = mounted (g.D.Device.drive c.find_room.new.device) c.build_batch.new.tables in
+    let after = mounted (g.D.Device.drive c.append_batch.new.device) c.append_batch.new.tables in
+    let here = c.find_room.new.cleaner in
+    let leaves = c.in_ok-host.ensures.leaves in
+    let made = turns-kept found ready here leaves.1 (keeps-room (g.D.Device.drive c.find_room.new.device) c.find_room.new.tables c.build_batch.new.tables c.build_batch.ensures.kept leaves.1.0) in
+    let one = turns-join before found ready c.args.cleaner.now here here leaves.0.geometry c.in_ok-host.ensures.turns made in
+    turns-join before ready after c.args.cleaner.now here c.append_batch.new.self leaves.0.geometry one c.in-Ok.ensures.leaves.2.turns

@@ -1,6 +1,6 @@
 use Rattle.std.proofs.Common.{refl}
 use Rattle.zone_translator.proofs.CallLaws.{growth-done, growth-refused}
-use Rattle.zone_translator.proofs.DiskLaws.{holds-agrees, holds-serving, keeps-disk, refused-growth, view_of}
+use Rattle.zone_translator.proofs.DiskLaws.{holds-agrees, holds-serving, keeps-disk, refused-growth, view_of, turns-on}
 use Rattle.zone_translator.proofs.disk.Disk.grow.Goals as goal
 
 pub invariant_of-self : goal.invariant_of-self
@@ -32,3 +32,7 @@ pub returns-in-Err-clause-kept : goal.returns-in-Err-clause-kept
 returns-in-Err-clause-kept g c =
     let serves = holds-agrees _ c.self.inside.tables c.self.inside.cleaner c.self.inside.status (rw (← c.self.view_is) at c.in_ok-check_growth.ensures.grows.2) c.self.invariant in
     rw (← c.self.view_is, c.status_of-self-inside.ensures) (refused-growth (g.D.Device.drive c.self.inside.device) (g.D.Device.drive c.grow_batch-grown.new.device) c.self.inside.tables c.grow_batch-grown.new.tables c.self.inside.cleaner c.grow_batch-grown.new.cleaner c.args.blocks c.in-Err.fault c.self.inside.status serves c.in-Err.ensures.leaves).refused.kept
+
+pub returns-in-Ok-clause-turns : goal.returns-in-Ok-clause-turns
+returns-in-Ok-clause-turns g c =
+    rw (← c.self.view_is) (turns-on (g.D.Device.drive c.self.inside.device) (g.D.Device.drive c.grow_batch-grown.new.device) c.self.inside.tables c.grow_batch-grown.new.tables c.self.inside.cleaner c.grow_batch-grown.new.cleaner c.self.inside.status c.self.inside.status c.in-Ok.ensures.leaves.keeps.geometry c.in-Ok.ensures.turns)

@@ -28,6 +28,7 @@ loop-done-init g c =
       λ some. absurd (omega arith),
       rw whole (omega arith),
       cut range.2,
+      omega arith,
     )
 
 pub write_some-requires-clause-whole : goal.write_some-requires-clause-whole
@@ -59,6 +60,7 @@ loop-done-preserved g c =
       λ some. done.says,
       rw fewer (spend (most_batches (is_trim c.args.content) disk left) _ each _ c.write_some.new.self.drive.completed _ less (rw so_far.0.geometry at done.completed) so_far.7),
       cut-step disk.drive.geometry c.loop-done.self.drive.geometry (next_sequence disk) (c.args.first + c.args.blocks - 1) _ (logs_of c.loop-done.self) (logs_of c.write_some.new.self) so_far.0.geometry (omega (arith, so_far.3)) (c.write_some.ensures.cut (next_sequence disk)) so_far.8,
+      omega (arith, so_far.9, done.turns),
     )
 
 pub returns-in-Err-clause-flat : goal.returns-in-Err-clause-flat

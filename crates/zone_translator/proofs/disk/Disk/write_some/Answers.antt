@@ -1,6 +1,6 @@
 use Rattle.zone_translator.specs.Batches.{is_trim}
 use Rattle.zone_translator.proofs.ContentLaws.{took-names}
-use Rattle.zone_translator.proofs.DiskLaws.{holds-agrees, holds-serving, keeps-disk, names-on, refused-write}
+use Rattle.zone_translator.proofs.DiskLaws.{holds-agrees, holds-serving, keeps-disk, names-on, refused-write, turns-on}
 use Rattle.zone_translator.proofs.disk.Disk.write_some.Goals as goal
 
 pub invariant_of-self : goal.invariant_of-self
@@ -36,3 +36,7 @@ pub returns-in-Err-clause-err : goal.returns-in-Err-clause-err
 returns-in-Err-clause-err g c =
     let serves = holds-agrees _ c.self.inside.tables c.self.inside.cleaner c.self.inside.status (rw (← c.self.view_is) at c.requires.serving) c.self.invariant in
     rw (← c.self.view_is) (refused-write (g.D.Device.drive c.self.inside.device) (g.D.Device.drive c.next_batch-written.new.device) c.self.inside.tables c.next_batch-written.new.tables c.self.inside.cleaner c.next_batch-written.new.cleaner (is_trim c.args.content) _ _ c.in-Err.fault c.self.inside.status serves c.in-Err.ensures.leaves).front
+
+pub returns-in-Ok-clause-turns : goal.returns-in-Ok-clause-turns
+returns-in-Ok-clause-turns g c =
+    rw (← c.self.view_is) (turns-on (g.D.Device.drive c.self.inside.device) (g.D.Device.drive c.next_batch-written.new.device) c.self.inside.tables c.next_batch-written.new.tables c.self.inside.cleaner c.next_batch-written.new.cleaner c.self.inside.status c.self.inside.status c.in-Ok.ensures.leaves.keeps.geometry c.in-Ok.ensures.turns)
