@@ -84,7 +84,7 @@ fn ends_where_the_writer_fails(rt: HostRuntime) -> Result<(), Fail> {
     Ok(())
 }
 
-const FAULTS: [(RunFault, &str, &str); 14] = [
+const FAULTS: [(RunFault, &str, &str); 13] = [
     (RunFault::Line(3), "fault line 3\n", "Line"),
     (
         RunFault::Long(u64::MAX),
