@@ -1,4 +1,4 @@
-use Rattle.std.proofs.Common.{◌≡◌, ◌∙◌, None, Option, is_some, sym, arith}
+use Rattle.std.proofs.Common.{◌∙◌, sym, arith}
 use Rattle.zone_choice.specs.Agreement.{mounted}
 use Rattle.zone_cleaner.proofs.RoomLaws.{room-more, room-none}
 use Rattle.zone_cleaner.proofs.RunLaws.{takes-more, takes-none}
