@@ -78,7 +78,8 @@ impl Cleaner {
 
     /// Takes out the gathered records of the blocks that a batch of the host names. It allocates nothing.
     ///
-    /// It is called once the batch is appended: before that its blocks still have to be moved. `Cleaner::append_batch` does both.
+    /// It is called once the batch is appended: before that its blocks still have to be moved. `Cleaner::append_batch`
+    /// appends, and then forgets.
     pub fn forget(&mut self, entries: &[Entry])
         requires { AllByRecursion (λ e. e.block < 2 ^ 32) entries.now }
         ensures { self.new ≡ option_map (forgotten entries.now) self.old }
