@@ -8,7 +8,7 @@ use Rattle.std.proofs.lemmas.Bool.Decides.{nat_tests}
 use Rattle.std.proofs.lemmas.List.{drop_more, drop_all, get_or_append_left, length-map, length-take, length-drop, take-append-drop}
 use Rattle.std.proofs.lemmas.Simd.{chunk-drop, length-chunk, mask_l-mod, take_more_put_chunk, splat_is_map, tops_compared, zip2_of_maps, zip2_splat, zip2_splat_left}
 use Rattle.hex.specs.Hex.{hex_digit_value}
-use Rattle.disk_files.specs.Words.{byte_of, bytes_of, joined, value_or_none, ◌>>=◌}
+use Rattle.disk_files.specs.Words.{byte_of, bytes_of, capped, joined, value_or_none, ◌>>=◌}
 
 -- ---- vectors that were computed lane by lane
 
@@ -44,11 +44,11 @@ number x = more (less (last_or_six x) 6) 16
 abbrev letter : ℕ → ℕ
 letter x = less (bit_or x 32) 97
 
-abbrev letter_or_six : ℕ → ℕ
-letter_or_six x = cond (ltb (letter x) 6) (letter x) 6
+abbrev letter_below : ℕ → ℕ
+letter_below x = cond (ltb (letter x) 245) (letter x) 245
 
 abbrev value : ℕ → ℕ
-value x = cond (ltb (number x) (more (letter_or_six x) 10)) (number x) (more (letter_or_six x) 10)
+value x = cond (ltb (number x) (more (letter_below x) 10)) (number x) (more (letter_below x) 10)
 
 both : (a b : Bool) → (a && b) ≡ true → (a ≡ true) × (b ≡ true)
 both true b h = (refl, h)
@@ -66,11 +66,11 @@ every-at p (suc n) i h lt = elim (cases_eq i n) [
   | inr other ↦ every-at p n i (both (p n) (every p n) h).1 (omega arith)
 ]
 
-value-is : (x : ℕ) → x < 256 → value x ≡ value_or_none x
-value-is x fits = eqb-true (value x) (value_or_none x) (every-at (λ y. value y == value_or_none y) 256 x refl fits)
+value-is : (x : ℕ) → x < 256 → capped (value x) ≡ value_or_none x
+value-is x fits = eqb-true (capped (value x)) (value_or_none x) (every-at (λ y. capped (value y) == value_or_none y) 256 x refl fits)
 
 -- the values of 64 digits, as a processor finds them
-map-value : (xs : List ℕ) → Each1 (Fits w8) xs → map value xs ≡ map value_or_none xs
+map-value : (xs : List ℕ) → Each1 (Fits w8) xs → map capped (map value xs) ≡ map value_or_none xs
 map-value [] fits = refl
 map-value (x ∷ xs) fits = rw (value-is x fits.0.fits, map-value xs fits.1) refl
 
@@ -85,10 +85,11 @@ lesser xs ys = sel_l (map (top 7) (zip2 (λ x y. cond (ltb x y) 255 0) xs ys)) x
 pub values-are : (xs : List ℕ) → length xs ≡ 64 → Each1 (Fits w8) xs
     → (tens bounded numbers letters small : List ℕ) → tens ≡ zip2 less xs (replicate 64 58) → bounded ≡ zip2 less (greater tens (replicate 64 6)) (replicate 64 6)
     → numbers ≡ zip2 more bounded (replicate 64 16) → letters ≡ zip2 less (zip2 bit_or xs (replicate 64 32)) (replicate 64 97)
-    → small ≡ zip2 more (lesser letters (replicate 64 6)) (replicate 64 10)
-    → lesser numbers small ≡ map value_or_none xs
+    → small ≡ zip2 more (lesser letters (replicate 64 245)) (replicate 64 10)
+    → map capped (lesser numbers small) ≡ map value_or_none xs
 values-are xs long fits tens bounded numbers letters small et eb en el es =
     let six : replicate 64 6 ≡ map (λ _. 6) xs = splat_is_map xs 64 6 long in
+    let highest : replicate 64 245 ≡ map (λ _. 245) xs = splat_is_map xs 64 245 long in
     let ten : replicate 64 10 ≡ map (λ _. 10) xs = splat_is_map xs 64 10 long in
     let sixteen : replicate 64 16 ≡ map (λ _. 16) xs = splat_is_map xs 64 16 long in
     let first : replicate 64 97 ≡ map (λ _. 97) xs = splat_is_map xs 64 97 long in
@@ -96,10 +97,23 @@ values-are xs long fits tens bounded numbers letters small et eb en el es =
     let b : bounded ≡ map (λ x. less (last_or_six x) 6) xs = eb ∙ zip2_of_maps less _ _ xs (chosen ltb _ _ _ _ xs t six six t) six in
     let n : numbers ≡ map number xs = en ∙ zip2_of_maps more _ _ xs b sixteen in
     let l : letters ≡ map letter xs = el ∙ zip2_of_maps less _ _ xs (zip2_splat bit_or xs 64 32 long) first in
-    let s : small ≡ map (λ x. more (letter_or_six x) 10) xs = es ∙ zip2_of_maps more _ _ xs (chosen ltb _ _ _ _ xs l six l six) ten in
-    chosen ltb _ _ _ _ xs n s n s ∙ map-value xs fits
+    let s : small ≡ map (λ x. more (letter_below x) 10) xs = es ∙ zip2_of_maps more _ _ xs (chosen ltb _ _ _ _ xs l highest l highest) ten in
+    rw (chosen ltb _ _ _ _ xs n s n s) (map-value xs fits)
 
 -- ---- whether all are values of digits
+
+pub all_below-capped : (vs : List ℕ) → all_below 16 (map capped vs) ≡ all_below 16 vs
+all_below-capped [] = refl
+all_below-capped (v ∷ vs) = elim (cases_lt v 16) [
+  | inl below ↦ grind (arith, nat_tests, all_below-capped vs)
+  | inr above ↦ grind (arith, nat_tests, all_below-capped vs)
+]
+
+pub capped-below : (vs : List ℕ) → all_below 16 vs ≡ true → map capped vs ≡ vs
+capped-below [] good = refl
+capped-below (v ∷ vs) good =
+    let each = both (ltb v 16) (all_below 16 vs) good in
+    rw (each.0, capped-below vs each.1) refl
 
 pub all_below-bits : (vs : List ℕ) → (mask_l (map (λ v. ltb 15 v) vs) == 0) ≡ all_below 16 vs
 all_below-bits [] = refl
