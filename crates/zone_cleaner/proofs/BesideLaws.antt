@@ -24,6 +24,7 @@ use Rattle.zone_choice.proofs.CommandLaws.{filling-in_range}
 use Rattle.zone_cleaner.specs.Clean.{CleanView, IsAlone, forgotten, turns_left}
 use Rattle.zone_cleaner.specs.Host.{HostLeaves}
 use Rattle.zone_cleaner.specs.Start.{IsCleaned}
+use Rattle.zone_cleaner.proofs.CloseLaws.{memory-closes}
 use Rattle.zone_cleaner.proofs.CleanLaws.{turns_kept}
 use Rattle.zone_cleaner.proofs.HistoryLaws.{moves-beside, moves_have_spare}
 use Rattle.zone_cleaner.proofs.HostLaws.{host_gives, next-batch}
@@ -120,7 +121,7 @@ host-leaves before after clean host b is host-is can done = (done, refl, record 
 pub host-halts : (before after : Mounted) (clean : Option CleanView) (host : Filling) (b : Batch) (fault : Halt) → IsCleaned before clean → before.tables.roles.host ≡ Some host → CanPlace before host.zone b → AppendLeaves before after host.zone b (Err fault) → HostLeaves before clean host.zone b (Err fault) after clean
 host-halts before after clean host b halt.Memory is host-is can leaves =
     let kept = memory-keeps before after host.zone b is.0 leaves in
-    (kept, refl, record { cleaned = cleaned_kept before after clean is kept; turns = kept_turns before after clean (batch_most before.drive.geometry) is kept })
+    (kept, refl, record { cleaned = cleaned_kept before after clean is kept; turns = kept_turns before after clean (batch_most before.drive.geometry) is kept }, memory-closes before after host.zone b leaves)
 host-halts before after clean host b halt.Stopped is host-is can leaves = (leaves, refl, host_stops before after clean host b is host-is can leaves)
 
 -- one Close at most comes before it

@@ -2,7 +2,7 @@
 use Rattle.std.proofs.Common.{◌≡◌, ℕ, ◌+◌, ◌<◌, ◌≤◌, Bool, true, false, cond, map, length, set, get_or, Option, Some, None, Result, Ok, Err, refl, sym, ap, ◌∙◌, arith}
 use Rattle.std.specs.List.{count_by}
 use Rattle.std.specs.Option.{option_map}
-use Rattle.std.specs.Prelude.{IfErr, OnOk}
+use Rattle.std.specs.Prelude.{IfErr, OnErr, OnOk}
 use Rattle.std.proofs.lemmas.List.Sums.{get_or-le-sum_by, sum_by-set}
 use Rattle.drive_port.specs.Drive.{DriveState}
 use Rattle.zone_choice.specs.declared.roles.Filling.{Filling}
@@ -27,6 +27,7 @@ use Rattle.zone_cleaner.specs.LiveRecords.{content_of, move_of}
 use Rattle.zone_cleaner.specs.Start.{GoesOn, IsCleaned, IsCleaningCause, KeepsByCleaning, StartLeaves, TurnLeaves, TurnsFewer, trims}
 use Rattle.zone_cleaner.specs.Turns.{StepDone, StepFails, StepLeaves, next_step, with_record}
 use Rattle.zone_cleaner.proofs.CleanLaws.{clean_kept, clean_spare, gather_gives, turns_kept}
+use Rattle.zone_cleaner.proofs.CloseLaws.{close-keeps, close-turns}
 use Rattle.zone_cleaner.proofs.EndLaws.{destination-is}
 use Rattle.zone_cleaner.proofs.KindLaws.{move-trims}
 use Rattle.zone_cleaner.proofs.MovedLaws.{move_gives}
@@ -159,23 +160,25 @@ spent-move before after Move fails = fails
 spent-move before after Reset fails = absurd fails
 
 fails_give : (before after : Mounted) (c : CleanView) (new : Option CleanView) (step : Step) (fault : CleanFault) → IsCleaned before (Some c) → StepFails step fault before after → new ≡ Some c → TurnGives before (Some c) (Err fault) after new
-fails_give before after c new step faults.OutOfMemory is fails same = let kept = keeps-kept before after c is fails in rw same (record { goes_on = kept.0; keeps = kept.1; cause = tt })
-fails_give before after c new step faults.Stopped is fails same = record {
-  goes_on = tt;
-  keeps = record {
-    mountable = fails.mountable;
-    array = fails.array;
-    moves = fails.moves;
-    size = ap length fails.places;
-    trimmed = ap (map trims) fails.places;
-    given = fails.given;
-    geometry = fails.geometry;
-    refused = fails.refused;
-    next = omega (arith, fails.next, fails.appended);
-    appended = omega (arith, fails.appended);
-  };
-  cause = fails.stopped;
-}
+fails_give before after c new step faults.OutOfMemory is fails same = let kept = keeps-kept before after c is fails.0 in rw same (record { goes_on = kept.0; keeps = kept.1; cause = tt })
+fails_give before after c new step faults.Stopped is fails same =
+    let but = close-keeps before after.tables fails.tables in
+    record {
+      goes_on = tt;
+      keeps = record {
+        mountable = fails.mountable;
+        array = fails.array;
+        moves = fails.moves;
+        size = ap (λ m. length m.places) but.map;
+        trimmed = ap (λ m. map trims m.places) but.map;
+        given = but.given;
+        geometry = fails.geometry;
+        refused = fails.refused;
+        next = omega (arith, but.next, fails.appended);
+        appended = omega (arith, fails.appended);
+      };
+      cause = fails.stopped;
+    }
 fails_give before after c new step faults.Spent is fails same = let spent = spent-move before after step fails in rw (same, spent.0) (record {
   goes_on = is;
   keeps = record { mountable = cleans_mountable before (Some c) is; array = refl; moves = only-same (drive_logs before.drive) (drive_logs before.drive) refl; size = refl; trimmed = refl; given = refl; geometry = refl; refused = refl; next = refl; appended = omega arith };
@@ -187,6 +190,18 @@ step_gives before after c new (Ok done) is leaves =
     let forward = step_forward before after c new (next_step (batch_most before.drive.geometry) before.tables c) is refl leaves in
     record { goes_on = forward.cleaned; keeps = step-keeps before after c new (next_step (batch_most before.drive.geometry) before.tables c) is forward.cleaned leaves; cause = tt }
 step_gives before after c new (Err fault) is leaves = fails_give before after c new (next_step (batch_most before.drive.geometry) before.tables c) fault is leaves.0 leaves.1
+
+-- ---- a turn that is not done adds none
+
+fails-turns : (before after : Mounted) (c : CleanView) (most : ℕ) (step : Step) (fault : CleanFault) → StepFails step fault before after → turns_left most after.tables (Some c) ≡ turns_left most before.tables (Some c)
+fails-turns before after c most step faults.OutOfMemory fails = close-turns before after.tables most (Some c) fails.1
+fails-turns before after c most step faults.Stopped fails = close-turns before after.tables most (Some c) fails.tables
+fails-turns before after c most step faults.Spent fails = rw (spent-move before after step fails).0 refl
+
+pub refused-turns : (before after : Mounted) (old new : Option CleanView) (most : ℕ) (result : Result (Unit {0}) CleanFault) → TurnLeaves before old result after new → OnErr result (turns_left most after.tables new ≡ turns_left most before.tables old)
+refused-turns before after old new most (Ok done) leaves = tt
+refused-turns before after None new most (Err fault) leaves = absurd leaves
+refused-turns before after (Some c) new most (Err fault) leaves = rw leaves.1 (fails-turns before after c most (next_step (batch_most before.drive.geometry) before.tables c) fault leaves.0)
 
 -- ---- a turn
 

@@ -1,4 +1,4 @@
-ghost use Rattle.std.specs.Prelude.{◌≡◌, ◌≢◌, ◌≤◌, ◌<◌, ◌+◌, ◌*◌, ◌^◌, true, Err, IfErr, IfOk, OnOk, None, Some, is_some, length};
+ghost use Rattle.std.specs.Prelude.{◌≡◌, ◌≢◌, ◌≤◌, ◌<◌, ◌+◌, ◌*◌, ◌^◌, true, Err, IfErr, IfOk, OnErr, OnOk, None, Some, is_some, length};
 ghost use Rattle.std.specs.List.{AllByRecursion};
 ghost use Rattle.std.specs.Option.{option_map};
 ghost use Rattle.zone_choice.specs.Agreement.{mounted};
@@ -164,6 +164,7 @@ impl Cleaner {
         ensures cause { IfErr result (IsCleaningCause (D.drive device.new) tables.new.next) }
         ensures keeps { KeepsByCleaning (mounted (D.drive device.old) tables.old) (mounted (D.drive device.new) tables.new) }
         ensures turns { OnOk result (TurnsFewer (mounted (D.drive device.old) tables.old) (mounted (D.drive device.new) tables.new) self.old self.new) }
+        ensures refused { OnErr result (turns_left (batch_most (D.drive device.old).geometry) tables.new self.new ≡ turns_left (batch_most (D.drive device.old).geometry) tables.old self.old) }
         ensures room { OnOk result (LeavesRoom (mounted (D.drive device.old) tables.old) (mounted (D.drive device.new) tables.new) self.old self.new) }
         ensures completed { (D.drive device.new).completed ≤ (D.drive device.old).completed + 2 }
     {

@@ -108,7 +108,7 @@ retire_room V a b clean Reserve is leaves = keeps-serving a b clean is leaves
 pub room-stops : (a b : Mounted) → KeepsByCleaning a b → b.drive.stopped ≡ true → StopKeeps a b
 room-stops a b kept stopped = record {
   stopped = stopped;
-  keeps = record { mountable = kept.mountable; given = kept.given; geometry = kept.geometry; refused = kept.refused; next = kept.next };
+  keeps = record { mountable = kept.mountable; given = kept.given; geometry = kept.geometry; refused = kept.refused; next = kept.next; appended = kept.appended };
   size = kept.size;
 }
 

@@ -215,6 +215,7 @@ keeps-placed a b c clean zone batch kept placed is = record {
   geometry = placed.geometry ∙ kept.geometry;
   refused = placed.refused ∙ kept.refused;
   next = omega (arith, kept.next, placed.next, placed.appended);
+  appended = omega (arith, kept.appended, placed.appended);
 }
 
 pub writes : (a b c : Mounted) (old new : Option CleanView) (host : Filling) (trim : Bool) (first count : ℕ) (blocks : List (List ℕ)) (builder : BuilderView) → KeepsByCleaning a b → IsCleaned b old
@@ -250,6 +251,7 @@ append_stops a b c zone batch kept stops mountable =
         geometry = stops.geometry ∙ kept.geometry;
         refused = stops.refused ∙ kept.refused;
         next = omega (arith, kept.next, same.next, stops.appended);
+        appended = omega (arith, kept.appended, stops.appended);
       };
       size = ap (λ (m : MapView). length m.places) same.map ∙ kept.size;
     }
@@ -321,7 +323,7 @@ lost-blocks a b c old new host first left count content builder fault kept is ne
 -- ---- how it is cut
 
 -- a batch that may have been appended is cut as it should be
-pub cut-appended : (a b : Mounted) (c : DriveState) (w : TablesView) (g : Geometry) (start : ℕ) (host : Filling) (first left count : ℕ) (content : Content) (builder : BuilderView) → KeepsByCleaning a b → Agrees b → b.drive.geometry ≡ a.drive.geometry → IsRoom b.drive b.tables host → 1 ≤ left
+pub cut-appended : (a b : Mounted) (c : DriveState) (w : TablesView) (g : Geometry) (start : List (List Batch)) (host : Filling) (first left count : ℕ) (content : Content) (builder : BuilderView) → KeepsByCleaning a b → Agrees b → b.drive.geometry ≡ a.drive.geometry → IsRoom b.drive b.tables host → 1 ≤ left
     → g ≡ b.drive.geometry → count ≡ batch_count b.drive.geometry host left (is_trim content) → builder.heading.entries ≡ entries_from (is_trim content) first count
     → (drive_logs c ≡ drive_logs b.drive) ⊎ (drive_logs c ≡ append_log (drive_logs b.drive) host.zone (built g.block builder)) → LogsAreCut a.drive.geometry start (first + left - 1) (drive_logs a.drive) → LogsAreCut a.drive.geometry start (first + left - 1) (drive_logs c)
 cut-appended a b c w g start host first left count content builder kept agrees same room some g-is count-is entries logs cut =

@@ -81,6 +81,7 @@ pub record Keeps (before after : Mounted) : Type 0 where
   pub geometry : after.drive.geometry ≡ before.drive.geometry
   pub refused : after.drive.refused ≡ before.drive.refused
   pub next : after.tables.next + before.drive.appended ≡ before.tables.next + after.drive.appended
+  pub appended : before.drive.appended ≤ after.drive.appended
 
 -- These blocks were written into the array, as data or by trims, and a header says the disk's size.
 pub record WritesBlocks (trim : Bool) (before after : Mounted) (clean : Option CleanView) (first : ℕ) (blocks : List (List ℕ)) : Type 0 where

@@ -1,4 +1,5 @@
-ghost use Rattle.std.specs.Prelude.{◌≡◌, ℕ, ◌-◌, ◌⊎◌, ◌++◌, ◌+◌, ◌≤◌, ◌<◌, ◌^◌, ◌*◌, IfOk, IfErr, OnOk, [], length};
+ghost use Rattle.std.specs.Prelude.{◌≡◌, ℕ, List, ◌-◌, ◌⊎◌, ◌++◌, ◌+◌, ◌≤◌, ◌<◌, ◌^◌, ◌*◌, IfOk, IfErr, OnOk, [], length};
+ghost use Rattle.batch_log.specs.Log.{Batch};
 ghost use Rattle.batch_log.specs.Header.{IsSize, entry_room, header_block};
 ghost use Rattle.zone_choice.specs.Agreement.{Agrees, drive_logs, mounted};
 ghost use Rattle.zone_choice.specs.Builder.{entries_from};
@@ -181,7 +182,7 @@ pub(crate) fn next_batch<D: Device>(
     requires whole { IsWhole (D.drive device.old).geometry.block left content }
     ensures leaves { WriteLeaves (is_trim content.entry) (mounted (D.drive device.old) tables.old) (mounted (D.drive device.new) tables.new) cleaner.new first (blocks_of (D.drive device.old).geometry.block left content.entry) result }
     ensures count { IfOk result (λ count. (1 ≤ count) × (count ≤ left) × IsBatchCount (D.drive device.old).geometry (is_trim content.entry) left count) }
-    ensures cut { (start : ℕ) → LogsAreCut (D.drive device.old).geometry start (first + left - 1) (drive_logs (D.drive device.old)) → LogsAreCut (D.drive device.old).geometry start (first + left - 1) (drive_logs (D.drive device.new)) }
+    ensures cut { (before : List (List Batch)) → LogsAreCut (D.drive device.old).geometry before (first + left - 1) (drive_logs (D.drive device.old)) → LogsAreCut (D.drive device.old).geometry before (first + left - 1) (drive_logs (D.drive device.new)) }
     ensures cause { IfErr result (λ fault. IsCause (D.drive device.new) tables.new.next fault) }
     ensures turns { OnOk result (NoMoreTurns (mounted (D.drive device.old) tables.old) cleaner.old (mounted (D.drive device.new) tables.new) cleaner.new) }
     ensures completed { (D.drive device.new).completed ≤ (D.drive device.old).completed + batch_commands (D.drive device.old).geometry }

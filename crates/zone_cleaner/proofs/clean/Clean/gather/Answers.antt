@@ -23,7 +23,7 @@ push-requires-clause-few g c = (next_record (mounted (g.D.Device.drive c.args.de
 
 pub returns-in-Err-clause-leaves : goal.returns-in-Err-clause-leaves
 returns-in-Err-clause-leaves g c =
-    (read_fails (mounted (g.D.Device.drive c.args.device.now) c.args.tables.now) (mounted (g.D.Device.drive c.fetch.new.device) c.args.tables.now) c.args.self.now c.args.block c.args.place c.in-Err.fault c.requires.agrees c.requires.clean c.in-Err.ensures.kept c.in-Err.ensures.err, rw c.buffer-buffer.ensures refl)
+    (read_fails (mounted (g.D.Device.drive c.args.device.now) c.args.tables.now) (mounted (g.D.Device.drive c.fetch.new.device) c.args.tables.now) c.args.self.now c.args.block c.args.place c.in-Err.fault c.requires.agrees c.requires.clean c.in-Err.ensures.kept refl c.in-Err.ensures.err, rw c.buffer-buffer.ensures refl)
 
 pub returns-in-Ok-clause-leaves : goal.returns-in-Ok-clause-leaves
 returns-in-Ok-clause-leaves g c = gathered_leaves _ _ c.args.self.now c.push.new.self c.args.block c.args.place _ c.push.result c.in-Ok.ensures.kept refl c.in-Ok.ensures.ok (rw c.buffer-buffer.ensures at c.push.ensures.ok) (rw c.buffer-buffer.ensures at c.push.ensures.err)
