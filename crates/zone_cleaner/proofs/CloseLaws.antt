@@ -11,7 +11,7 @@ use Rattle.zone_choice.specs.Changes.{AppendLeaves, StopsInside}
 use Rattle.zone_choice.specs.Roles.{closed, closed_unless, second_with}
 use Rattle.zone_choice.specs.Tables.{TablesView}
 use Rattle.zone_choice.proofs.AloneLaws.{SameBut}
-use Rattle.zone_cleaner.specs.Clean.{CleanView, moved_to, turns_left}
+use Rattle.zone_cleaner.specs.Clean.{CleanView, destination_written, turns_left}
 use Rattle.zone_cleaner.specs.Turns.{MayClose}
 
 pub stops-close : (before after : Mounted) (zone : ℕ) (batch : Batch) → StopsInside before after zone batch → MayClose before after.tables
@@ -36,7 +36,7 @@ closed-written zone f = by (eqb f.zone zone)
     by true = refl
     by false = refl
 
-closed-moved : (zone : ℕ) (second : Option Second) → moved_to (option_map (second_with (closed_unless zone)) second) ≡ moved_to second
+closed-moved : (zone : ℕ) (second : Option Second) → destination_written (option_map (second_with (closed_unless zone)) second) ≡ destination_written second
 closed-moved zone None = refl
 closed-moved zone (Some (Next f)) = refl
 closed-moved zone (Some (Destination f)) = closed-written zone f

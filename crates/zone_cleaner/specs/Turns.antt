@@ -20,7 +20,7 @@ use Rattle.zone_cleaner.specs.declared.step.Step.{Step}
 use Rattle.zone_cleaner.specs.declared.step.Step.TheVariants.{Gather, Move, Reset}
 use Rattle.zone_cleaner.specs.declared.fault.CleanFault.{CleanFault}
 use Rattle.zone_cleaner.specs.declared.fault.CleanFault.TheVariants as faults
-use Rattle.zone_cleaner.specs.Clean.{CleanView, moved_to}
+use Rattle.zone_cleaner.specs.Clean.{CleanView, destination_written}
 use Rattle.zone_cleaner.specs.LiveRecords.{LiveRecord, content_of, move_of}
 use Rattle.zone_choice.specs.Roles.{clean_ended}
 
@@ -38,7 +38,7 @@ step_of (Some found) last = Gather found.0 found.1
 -- A Move takes as many records as fit; before it they are gathered, in ascending order of their blocks.
 abbrev pub next_step : ℕ → TablesView → CleanView → Step
 next_step most tables clean =
-    if nat_lt (length clean.gathered) most then step_of (first_record tables.map clean.victim clean.cursor) (last_step (moved_to tables.roles.second) clean.gathered) else Move
+    if nat_lt (length clean.gathered) most then step_of (first_record tables.map clean.victim clean.cursor) (last_step (destination_written tables.roles.second) clean.gathered) else Move
 
 -- ---- what a step that is done leaves
 

@@ -9,7 +9,7 @@ ghost use Rattle.zone_choice.specs.Agreement.{Agrees, mounted, spelled};
 ghost use Rattle.zone_choice.specs.Changes.{KeepsArray};
 ghost use Rattle.zone_choice.specs.Reserve.{batch_most};
 ghost use Rattle.zone_choice.specs.Tables.{size_of};
-ghost use Rattle.zone_cleaner.specs.Clean.{IsClean, forgotten, moved_to, started};
+ghost use Rattle.zone_cleaner.specs.Clean.{IsClean, forgotten, destination_written, started};
 ghost use Rattle.zone_cleaner.specs.LiveRecords.{LiveRecord, content_of, data_of, move_of};
 ghost use Rattle.zone_cleaner.specs.Turns.{EmptiesVictim, IsReadFault, StepFails, StepLeaves, clean_fault, last_step, next_step, with_record};
 
@@ -233,7 +233,7 @@ impl Clean {
 
 /// What a clean does next whose records are all taken, by the second zone and the number of gathered records.
 fn last_step(second: Option<Second>, gathered: usize) -> Step
-    ensures { (rs : List LiveRecord) → length rs ≡ gathered → result ≡ last_step (moved_to second) rs }
+    ensures { (rs : List LiveRecord) → length rs ≡ gathered → result ≡ last_step (destination_written second) rs }
 {
     if gathered > 0 {
         return Step::Move;

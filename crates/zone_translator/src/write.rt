@@ -4,7 +4,7 @@ ghost use Rattle.batch_log.specs.Header.{IsSize, entry_room, header_block};
 ghost use Rattle.zone_choice.specs.Agreement.{Agrees, drive_logs, mounted};
 ghost use Rattle.zone_choice.specs.Builder.{entries_from};
 ghost use Rattle.zone_choice.specs.Reserve.{FitsReserve};
-ghost use Rattle.zone_choice.specs.Tables.{MakesRoom, size_of};
+ghost use Rattle.zone_choice.specs.Tables.{SameButReady, size_of};
 ghost use Rattle.zone_states.specs.Geometry.{IsInRange};
 ghost use Rattle.zone_translator.specs.Batches.{LogsAreCut, IsAfter, IsBatchCount, IsNextBatch, IsRoom, IsWhole, IsWithin, batch_count, blocks_of, bytes_of, host_heading, is_trim};
 ghost use Rattle.zone_translator.specs.Changes.{AgreesWith, GrowLeaves, IsCause, NoMoreTurns, RoomLeaves, WriteLeaves, batch_commands};
@@ -154,7 +154,7 @@ fn build_batch<D: Device>(
     requires whole { IsWhole (D.drive device.now).geometry.block left content }
     ensures ok { IfOk result (λ count. IsNextBatch (mounted (D.drive device.now) tables.new) host (is_trim content.entry) first count (blocks_of (D.drive device.now).geometry.block left content.entry) batch.new) }
     ensures count { IfOk result (λ count. count ≡ batch_count (D.drive device.now).geometry host left (is_trim content.entry)) }
-    ensures kept { MakesRoom tables.old tables.new }
+    ensures kept { SameButReady tables.old tables.new }
 {
     let geometry = device.geometry();
     let trim = content.is_trim();
