@@ -1,5 +1,5 @@
 -- A step that is not done closes the zone beside one at most: the clean goes on from where it was.
-use Rattle.std.proofs.Common.{◌≡◌, ℕ, ◌+◌, ◌≤◌, Bool, true, false, cond, eqb, Option, Some, None, Err, refl, sym, ap, inl, inr, arith}
+use Rattle.std.proofs.Common.{◌≡◌, ℕ, Bool, true, false, cond, eqb, Option, Some, None, Err, refl, ap, inl, inr}
 use Rattle.std.specs.Option.{option_map}
 use Rattle.drive_port.specs.declared.device.Halt.TheVariants as halt
 use Rattle.batch_log.specs.Log.{Batch}
