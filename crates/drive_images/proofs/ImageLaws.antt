@@ -17,7 +17,7 @@ use Rattle.drive_images.specs.declared.fault.ImageFault.{ImageFault}
 use Rattle.drive_images.proofs.TellingLaws.{after_front, tells_first}
 
 module _ (head : List ℕ) (long : length head ≡ 64) where
-  head_fault-at : (rest : List ℕ) → head_fault (head ++ rest) ≡ first_failing (head_checks head)
+  pub head_fault-at : (rest : List ℕ) → head_fault (head ++ rest) ≡ first_failing (head_checks head)
   head_fault-at rest =
       let enough : nat_lt (length (head ++ rest)) 64 ≡ false = grind (arith, nat_tests, length-append head rest) in
       rw (enough, take_at head rest 64 long) refl

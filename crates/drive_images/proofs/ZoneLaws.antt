@@ -46,7 +46,7 @@ module _ (geometry : Geometry) (counts : ZoneCounts) where
   tells_bad_head head rest fault long e = tells_first _ fault (zone_fault-at head rest long ∙ ap (fault_with geometry counts (length rest)) e)
 
   module _ (head : List ℕ) (told : ZoneHead) (long : length head ≡ 8) (e : told_head head ≡ Ok told) where
-    told-at : (rest : List ℕ) → zone_fault geometry counts (head ++ rest) ≡ fault_with geometry counts (length rest) (Ok told)
+    pub told-at : (rest : List ℕ) → zone_fault geometry counts (head ++ rest) ≡ fault_with geometry counts (length rest) (Ok told)
     told-at rest = zone_fault-at head rest long ∙ ap (fault_with geometry counts (length rest)) e
 
     pub too_many : (rest : List ℕ) → may_hold told.state geometry.capacity told.written ≡ false → zone_fault geometry counts (head ++ rest) ≡ Some faults.Written

@@ -1,3 +1,4 @@
 pub mod Image
+pub mod Meaning
 pub mod Reading
 pub mod Steps

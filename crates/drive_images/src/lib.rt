@@ -24,6 +24,7 @@ mod counts;
 mod fault;
 mod fill;
 mod head;
+pub mod laws;
 mod read;
 mod write;
 mod zone;
