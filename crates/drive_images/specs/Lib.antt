@@ -1,3 +1,4 @@
+pub mod FaultText
 pub mod Image
 pub mod Meaning
 pub mod Reading

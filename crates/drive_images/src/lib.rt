@@ -17,11 +17,12 @@
 //! * [`read_image`] accepts the images of drives and no other bytes. It gives the drive, which has completed no
 //!   command. It reads a zone at a time, straight into its place, so that it holds no copy of the file.
 //! * Other bytes are refused by the first fault in them, from the first byte on (`specs/Reading.antt`). Before that
-//!   fault is met, the reader may fail or memory may run out.
+//!   fault is met, the reader may fail or memory may run out. [`image_fault_line`] is the line that tells it.
 #![tactic(auto)]
 
 mod counts;
 mod fault;
+mod fault_line;
 mod fill;
 mod head;
 pub mod laws;
@@ -31,5 +32,6 @@ mod zone;
 mod zone_head;
 
 pub use fault::ImageFault;
+pub use fault_line::image_fault_line;
 pub use read::read_image;
 pub use write::write_image;

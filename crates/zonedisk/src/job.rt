@@ -4,9 +4,29 @@ use clap::{Arg, ArgAction, ArgMatches, Command, Error, value_parser};
 use std::alloc::{AllocError, Global};
 use zone_states::Geometry;
 
-/// What the words of a command line ask for.
-#[derive(Clone, Copy, Debug, PartialEq, Eq)]
+/// What the words of a command line ask for. `image` is the path of a file.
+#[derive(Debug, PartialEq, Eq, Drop)]
 pub enum Job {
+    /// Makes a fresh drive, and saves its image in the file.
+    Format {
+        image: String,
+        geometry: Geometry,
+    },
+    /// Reads a drive from the file, restarts it, mounts it as `blocks` logical blocks, answers the lines of a trace,
+    /// and saves it. With `zones` the zones of the drive are shown after the replies.
+    Run {
+        image: String,
+        blocks: u64,
+        zones: bool,
+    },
+    /// Shows the zones of the drive in the file, as they were saved.
+    Report {
+        image: String,
+    },
+    /// Reads a drive from the file, restarts it, submits the entry of each raw line to it, and saves it.
+    Nvme {
+        image: String,
+    },
     /// Makes a fresh drive in memory, mounts it as `blocks` logical blocks, and answers the lines of a
     /// trace. With `statistics` it is shown after the replies what was written and moved, and with `report`
     /// the zones of the drive.
@@ -23,11 +43,30 @@ pub enum Job {
 }
 
 impl Job {
-    /// The shape of the drive that the job makes.
-    pub fn geometry(&self) -> Geometry {
+    /// The path of the image file, if the job has one.
+    pub fn image(&self) -> Option<&str> {
         match self {
-            Job::Fresh { geometry, .. } | Job::FreshRaw { geometry } => *geometry,
+            Job::Format { image, .. }
+            | Job::Run { image, .. }
+            | Job::Report { image }
+            | Job::Nvme { image } => Some(image.as_str()),
+            Job::Fresh { .. } | Job::FreshRaw { .. } => None,
         }
+    }
+}
+
+/// Why words that the program takes are no job.
+#[derive(Clone, Copy)]
+enum WordFault {
+    /// The value of the option with this name is not in decimal digits.
+    Digits(&'static str),
+    /// An allocation failed.
+    Memory,
+}
+
+impl From<AllocError> for WordFault {
+    fn from(_error: AllocError) -> WordFault {
+        WordFault::Memory
     }
 }
 
@@ -92,15 +131,58 @@ fn flag<'a>(alloc: Global, name: &'a str, help: &'a str) -> Arg<'a> {
         .action(ArgAction::SetTrue)
 }
 
-fn fresh_command<'a>(alloc: Global) -> Result<Command<'a>, AllocError> {
+/// The path of an image file.
+fn image_option<'a>(alloc: Global) -> Arg<'a> {
+    Arg::new(alloc, "image")
+        .long("image")
+        .value_name("P")
+        .help("The file with the image of the drive")
+        .required(true)
+        .action(ArgAction::Set)
+}
+
+/// How many logical blocks the disk has: a number below 2^63.
+fn blocks_option<'a>(alloc: Global) -> Arg<'a> {
     let blocks = value_parser!(u64).range(0..=i64::MAX);
+    number_option(alloc, "blocks", "N", "Logical blocks", blocks)
+}
+
+fn format_command<'a>(alloc: Global) -> Result<Command<'a>, AllocError> {
+    let command = Command::new(alloc, "format")
+        .about("Makes a fresh drive in a file")
+        .arg(image_option(alloc))?;
+    geometry_options(alloc, command)
+}
+
+fn run_command<'a>(alloc: Global) -> Result<Command<'a>, AllocError> {
+    let zones = "Shows the zones of the drive after the replies";
+    Command::new(alloc, "run")
+        .about("Answers the trace on standard input, over the drive in a file")
+        .arg(image_option(alloc))?
+        .arg(blocks_option(alloc))?
+        .arg(flag(alloc, "zones", zones))
+}
+
+fn report_command<'a>(alloc: Global) -> Result<Command<'a>, AllocError> {
+    Command::new(alloc, "report")
+        .about("Shows the zones of the drive in a file")
+        .arg(image_option(alloc))
+}
+
+fn nvme_command<'a>(alloc: Global) -> Result<Command<'a>, AllocError> {
+    Command::new(alloc, "nvme")
+        .about("Submits the raw entries on standard input to the drive in a file")
+        .arg(image_option(alloc))
+}
+
+fn fresh_command<'a>(alloc: Global) -> Result<Command<'a>, AllocError> {
     let report = "Shows the zones of the drive after the replies";
     let statistics = "Shows what was written and moved after the replies";
     let command = Command::new(alloc, "fresh").about(
         "Answers the trace on standard input, over a fresh drive in memory",
     );
     geometry_options(alloc, command)?
-        .arg(number_option(alloc, "blocks", "N", "Logical blocks", blocks))?
+        .arg(blocks_option(alloc))?
         .arg(flag(alloc, "report", report))?
         .arg(flag(alloc, "statistics", statistics))
 }
@@ -117,26 +199,29 @@ fn program<'a>(alloc: Global) -> Result<Command<'a>, AllocError> {
     Command::new(alloc, "zonedisk")
         .about("An array of logical blocks above a zoned drive")
         .subcommand_required(true)
+        .subcommand(format_command(alloc)?)?
+        .subcommand(run_command(alloc)?)?
+        .subcommand(report_command(alloc)?)?
+        .subcommand(nvme_command(alloc)?)?
         .subcommand(fresh_command(alloc)?)?
         .subcommand(fresh_raw_command(alloc)?)
 }
 
-/// The number that an option was given. It is refused by the option's name where it is not spelled in
-/// decimal digits alone.
-fn number<'n>(matches: &ArgMatches<'_>, name: &'n str) -> Result<u64, &'n str> {
-    let digits = matches.get_str(name).ok_or(name)?;
+/// The number that an option was given. It is refused where it is not spelled in decimal digits alone.
+fn number(matches: &ArgMatches<'_>, name: &'static str) -> Result<u64, WordFault> {
+    let digits = matches.get_str(name).ok_or(WordFault::Digits(name))?;
     if !digits.bytes().all(|byte| byte.is_ascii_digit()) {
-        return Err(name);
+        return Err(WordFault::Digits(name));
     }
-    digits.parse().map_err(|_| name)
+    digits.parse().or(Err(WordFault::Digits(name)))
 }
 
 /// A number below 2^32.
-fn part_of<'n>(matches: &ArgMatches<'_>, name: &'n str) -> Result<u32, &'n str> {
-    u32::try_from(number(matches, name)?).map_err(|_| name)
+fn part_of(matches: &ArgMatches<'_>, name: &'static str) -> Result<u32, WordFault> {
+    u32::try_from(number(matches, name)?).or(Err(WordFault::Digits(name)))
 }
 
-fn geometry(matches: &ArgMatches<'_>) -> Result<Geometry, &'static str> {
+fn geometry(matches: &ArgMatches<'_>) -> Result<Geometry, WordFault> {
     Ok(Geometry {
         block: part_of(matches, "block")?,
         zones: part_of(matches, "zones")?,
@@ -148,19 +233,39 @@ fn geometry(matches: &ArgMatches<'_>) -> Result<Geometry, &'static str> {
     })
 }
 
-fn fresh_job(matches: &ArgMatches<'_>) -> Result<Job, &'static str> {
-    Ok(Job::Fresh {
-        geometry: geometry(matches)?,
-        blocks: number(matches, "blocks")?,
-        report: matches.get_flag("report"),
-        statistics: matches.get_flag("statistics"),
-    })
+fn image(alloc: Global, matches: &ArgMatches<'_>) -> Result<String, WordFault> {
+    let path = matches.get_str("image").unwrap_or("");
+    Ok(String::from_str(alloc, path)?)
 }
 
-fn fresh_raw_job(matches: &ArgMatches<'_>) -> Result<Job, &'static str> {
-    Ok(Job::FreshRaw {
-        geometry: geometry(matches)?,
-    })
+/// The job of a subcommand.
+fn subcommand_job(alloc: Global, name: &str, matches: &ArgMatches<'_>) -> Result<Job, WordFault> {
+    match name {
+        "format" => Ok(Job::Format {
+            image: image(alloc, matches)?,
+            geometry: geometry(matches)?,
+        }),
+        "run" => Ok(Job::Run {
+            image: image(alloc, matches)?,
+            blocks: number(matches, "blocks")?,
+            zones: matches.get_flag("zones"),
+        }),
+        "report" => Ok(Job::Report {
+            image: image(alloc, matches)?,
+        }),
+        "nvme" => Ok(Job::Nvme {
+            image: image(alloc, matches)?,
+        }),
+        "fresh" => Ok(Job::Fresh {
+            geometry: geometry(matches)?,
+            blocks: number(matches, "blocks")?,
+            report: matches.get_flag("report"),
+            statistics: matches.get_flag("statistics"),
+        }),
+        _ => Ok(Job::FreshRaw {
+            geometry: geometry(matches)?,
+        }),
+    }
 }
 
 /// The job that the words ask for; the first word is the program's name.
@@ -169,17 +274,14 @@ fn fresh_raw_job(matches: &ArgMatches<'_>) -> Result<Job, &'static str> {
 pub fn job_of(alloc: Global, words: &[String]) -> Result<Job, Error> {
     let mut program = program(alloc)?;
     let matches = program.try_get_matches_from_mut(words)?;
-    let job = match matches.subcommand() {
-        Some(("fresh", matches)) => fresh_job(matches),
-        Some((_, matches)) => fresh_raw_job(matches),
-        None => {
-            let text = "a subcommand is wanted";
-            return Err(program.error(ErrorKind::MissingSubcommand, text)?);
-        }
+    let Some((name, matches)) = matches.subcommand() else {
+        let text = "a subcommand is wanted";
+        return Err(program.error(ErrorKind::MissingSubcommand, text)?);
     };
-    match job {
+    match subcommand_job(alloc, name, matches) {
         Ok(job) => Ok(job),
-        Err(name) => {
+        Err(WordFault::Memory) => Err(Error::from(AllocError)),
+        Err(WordFault::Digits(name)) => {
             let text = format!(in alloc; "the value of '--{name}' is not in decimal digits")?;
             Err(program.error(ErrorKind::ValueValidation, &text)?)
         }
