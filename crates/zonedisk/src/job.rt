@@ -4,6 +4,21 @@ use clap::{Arg, ArgAction, ArgMatches, Command, Error, value_parser};
 use std::alloc::{AllocError, Global};
 use zone_states::Geometry;
 
+/// When the drive stops: after that many commands, the mount's included, and that many blocks into the Append after
+/// them, if there is one.
+#[derive(Clone, Copy, Debug, PartialEq, Eq)]
+pub struct Stop {
+    pub commands: u64,
+    pub tear: u32,
+}
+
+impl Stop {
+    pub const NEVER: Stop = Stop {
+        commands: u64::MAX,
+        tear: 0,
+    };
+}
+
 /// What the words of a command line ask for. `image` is the path of a file.
 #[derive(Debug, PartialEq, Eq, Drop)]
 pub enum Job {
@@ -18,6 +33,7 @@ pub enum Job {
         image: String,
         blocks: u64,
         zones: bool,
+        stop: Stop,
     },
     /// Shows the zones of the drive in the file, as they were saved.
     Report {
@@ -35,6 +51,7 @@ pub enum Job {
         blocks: u64,
         report: bool,
         statistics: bool,
+        stop: Stop,
     },
     /// Makes a fresh drive in memory, and submits the entry of each raw line to it.
     FreshRaw {
@@ -147,6 +164,20 @@ fn blocks_option<'a>(alloc: Global) -> Arg<'a> {
     number_option(alloc, "blocks", "N", "Logical blocks", blocks)
 }
 
+/// An option that takes a number below 2^63.
+fn stop_option<'a>(alloc: Global, name: &'a str, letter: &'a str, help: &'a str) -> Arg<'a> {
+    let parser = value_parser!(u64).range(0..=i64::MAX);
+    number_option(alloc, name, letter, help, parser).required(false)
+}
+
+fn stop_options<'a>(alloc: Global, command: Command<'a>) -> Result<Command<'a>, AllocError> {
+    let stop = "Stops the drive after K commands, the mount's included";
+    let tear = "Writes J blocks of the Append at which the drive stops";
+    command
+        .arg(stop_option(alloc, "stop-after", "K", stop))?
+        .arg(stop_option(alloc, "tear", "J", tear))
+}
+
 fn format_command<'a>(alloc: Global) -> Result<Command<'a>, AllocError> {
     let command = Command::new(alloc, "format")
         .about("Makes a fresh drive in a file")
@@ -156,11 +187,12 @@ fn format_command<'a>(alloc: Global) -> Result<Command<'a>, AllocError> {
 
 fn run_command<'a>(alloc: Global) -> Result<Command<'a>, AllocError> {
     let zones = "Shows the zones of the drive after the replies";
-    Command::new(alloc, "run")
+    let command = Command::new(alloc, "run")
         .about("Answers the trace on standard input, over the drive in a file")
         .arg(image_option(alloc))?
         .arg(blocks_option(alloc))?
-        .arg(flag(alloc, "zones", zones))
+        .arg(flag(alloc, "zones", zones))?;
+    stop_options(alloc, command)
 }
 
 fn report_command<'a>(alloc: Global) -> Result<Command<'a>, AllocError> {
@@ -181,10 +213,11 @@ fn fresh_command<'a>(alloc: Global) -> Result<Command<'a>, AllocError> {
     let command = Command::new(alloc, "fresh").about(
         "Answers the trace on standard input, over a fresh drive in memory",
     );
-    geometry_options(alloc, command)?
+    let command = geometry_options(alloc, command)?
         .arg(blocks_option(alloc))?
         .arg(flag(alloc, "report", report))?
-        .arg(flag(alloc, "statistics", statistics))
+        .arg(flag(alloc, "statistics", statistics))?;
+    stop_options(alloc, command)
 }
 
 fn fresh_raw_command<'a>(alloc: Global) -> Result<Command<'a>, AllocError> {
@@ -221,6 +254,24 @@ fn part_of(matches: &ArgMatches<'_>, name: &'static str) -> Result<u32, WordFaul
     u32::try_from(number(matches, name)?).or(Err(WordFault::Digits(name)))
 }
 
+/// The number that an option was given, if it was.
+fn number_or(matches: &ArgMatches<'_>, name: &'static str, missing: u64) -> Result<u64, WordFault> {
+    if matches.get_str(name).is_none() {
+        return Ok(missing);
+    }
+    number(matches, name)
+}
+
+/// When the drive stops. No Append has more blocks than 32 bits can count.
+fn stop_of(matches: &ArgMatches<'_>) -> Result<Stop, WordFault> {
+    let commands = number_or(matches, "stop-after", Stop::NEVER.commands)?;
+    let tear = number_or(matches, "tear", 0)?;
+    Ok(Stop {
+        commands,
+        tear: u32::try_from(tear).unwrap_or(u32::MAX),
+    })
+}
+
 fn geometry(matches: &ArgMatches<'_>) -> Result<Geometry, WordFault> {
     Ok(Geometry {
         block: part_of(matches, "block")?,
@@ -249,6 +300,7 @@ fn subcommand_job(alloc: Global, name: &str, matches: &ArgMatches<'_>) -> Result
             image: image(alloc, matches)?,
             blocks: number(matches, "blocks")?,
             zones: matches.get_flag("zones"),
+            stop: stop_of(matches)?,
         }),
         "report" => Ok(Job::Report {
             image: image(alloc, matches)?,
@@ -261,6 +313,7 @@ fn subcommand_job(alloc: Global, name: &str, matches: &ArgMatches<'_>) -> Result
             blocks: number(matches, "blocks")?,
             report: matches.get_flag("report"),
             statistics: matches.get_flag("statistics"),
+            stop: stop_of(matches)?,
         }),
         _ => Ok(Job::FreshRaw {
             geometry: geometry(matches)?,

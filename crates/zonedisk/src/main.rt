@@ -26,7 +26,7 @@ mod statistics;
 pub use disk_runs::{RunFault, answer_trace, run_raw, run_trace, write_fault};
 pub use fault::{ProgramFault, write_program_fault};
 pub use file::run_on_file;
-pub use job::{Job, job_of};
+pub use job::{Job, Stop, job_of};
 pub use program::run_job;
 
 #[cfg(test)]

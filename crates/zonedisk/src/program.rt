@@ -1,10 +1,10 @@
 use crate::fault::ProgramFault;
-use crate::job::Job;
+use crate::job::{Job, Stop};
 use crate::statistics::run_counted;
 use disk_files::{ok_reply, write_out};
 use disk_runs::{RunFault, run_raw, run_trace};
 use drive_images::read_image;
-use drive_port::Device;
+use drive_port::{Device, StopAfter};
 use nvme_wire::ReportingOptions;
 use std::alloc::Global;
 use std::io::{Read, Write};
@@ -42,6 +42,11 @@ fn show_zones<W: Write>(alloc: Global, drive: &Drive, output: &mut W) -> Result<
     Ok(())
 }
 
+/// A drive that stops.
+fn stopping(drive: Drive, stop: Stop) -> StopAfter<Drive> {
+    StopAfter::tearing(drive, stop.commands, stop.tear)
+}
+
 /// Answers a trace over a fresh drive, and then shows what was counted and its zones, if asked to.
 fn fresh<R: Read + Drop, W: Write>(
     alloc: Global,
@@ -49,14 +54,17 @@ fn fresh<R: Read + Drop, W: Write>(
     blocks: u64,
     report: bool,
     statistics: bool,
+    stop: Stop,
     input: R,
     output: &mut W,
 ) -> (Drive, Result<(), RunFault>) {
-    let (drive, mut result) = if statistics {
-        run_counted(alloc, input, output, drive, blocks)
+    let device = stopping(drive, stop);
+    let (device, mut result) = if statistics {
+        run_counted(alloc, input, output, device, blocks)
     } else {
-        run_trace(alloc, input, output, drive, blocks)
+        run_trace(alloc, input, output, device, blocks)
     };
+    let drive = device.into_inner();
     if report && result.is_ok() {
         result = show_zones(alloc, &drive, output);
     }
@@ -89,10 +97,13 @@ fn run<R: Read + Drop, W: Write>(
     drive: Drive,
     blocks: u64,
     zones: bool,
+    stop: Stop,
     input: R,
     output: &mut W,
 ) -> (Drive, Result<(), RunFault>) {
-    let (drive, mut result) = run_trace(alloc, input, output, drive, blocks);
+    let device = stopping(drive, stop);
+    let (device, mut result) = run_trace(alloc, input, output, device, blocks);
+    let drive = device.into_inner();
     if zones && result.is_ok() {
         result = show_zones(alloc, &drive, output);
     }
@@ -139,13 +150,28 @@ fn answer<R: Read + Drop, W: Write>(
     output: &mut W,
 ) -> (Drive, Result<(), RunFault>) {
     match job {
-        Job::Run { blocks, zones, .. } => run(alloc, drive, *blocks, *zones, input, output),
+        Job::Run {
+            blocks,
+            zones,
+            stop,
+            ..
+        } => run(alloc, drive, *blocks, *zones, *stop, input, output),
         Job::Fresh {
             blocks,
             report,
             statistics,
+            stop,
             ..
-        } => fresh(alloc, drive, *blocks, *report, *statistics, input, output),
+        } => fresh(
+            alloc,
+            drive,
+            *blocks,
+            *report,
+            *statistics,
+            *stop,
+            input,
+            output,
+        ),
         Job::Nvme { .. } | Job::FreshRaw { .. } => run_raw(alloc, input, output, drive),
         Job::Format { .. } | Job::Report { .. } => (drive, Ok(())),
     }

@@ -1,4 +1,4 @@
-use crate::{Job, ProgramFault, RunFault, job_of, run_job, write_program_fault};
+use crate::{Job, ProgramFault, RunFault, Stop, job_of, run_job, write_program_fault};
 use clap::error::ErrorKind;
 use drive_images::write_image;
 use drive_port::Geometry;
@@ -51,6 +51,7 @@ fn reads_the_words(rt: HostRuntime) -> Result<(), Fail> {
             blocks,
             report,
             statistics: rest.ends_with("--statistics"),
+            stop: Stop::NEVER,
         };
         assert_eq!(rt; job(&rt, rt.alloc(), &line).ok(), Some(want));
     }
@@ -65,14 +66,28 @@ fn reads_the_words(rt: HostRuntime) -> Result<(), Fail> {
         geometry: FOUR_ZONES,
     };
     assert_eq!(rt; job(&rt, rt.alloc(), &line).ok(), Some(want));
-    for (line, zones) in [
-        ("zonedisk run --image a/b --blocks 9", false),
-        ("zonedisk run --zones --blocks=9 --image=a/b", true),
+    let torn = Stop {
+        commands: 5,
+        tear: 2,
+    };
+    for (line, zones, stop) in [
+        ("zonedisk run --image a/b --blocks 9", false, Stop::NEVER),
+        (
+            "zonedisk run --zones --blocks=9 --image=a/b",
+            true,
+            Stop::NEVER,
+        ),
+        (
+            "zonedisk run --image a/b --blocks 9 --stop-after 5 --tear 2",
+            false,
+            torn,
+        ),
     ] {
         let want = Job::Run {
             image: String::from_str(rt.alloc(), "a/b")?,
             blocks: 9,
             zones,
+            stop,
         };
         assert_eq!(rt; job(&rt, rt.alloc(), line).ok(), Some(want));
     }
@@ -148,6 +163,7 @@ start 24 state Empty pointer 24 capacity 6
         blocks: 9,
         report,
         statistics: false,
+        stop: Stop::NEVER,
     };
     let wide = Geometry {
         capacity: 9,
@@ -203,6 +219,25 @@ fn works_on_images(rt: HostRuntime) -> Result<(), Fail> {
         image: path.clone()?,
         blocks: 9,
         zones: false,
+        stop: Stop::NEVER,
+    };
+    let stopped = Job::Run {
+        image: path.clone()?,
+        blocks: 9,
+        zones: true,
+        stop: Stop {
+            commands: 0,
+            tear: 0,
+        },
+    };
+    let torn = Job::Run {
+        image: path.clone()?,
+        blocks: 9,
+        zones: true,
+        stop: Stop {
+            commands: 1,
+            tear: 3,
+        },
     };
     let report = Job::Report {
         image: path.clone()?,
@@ -227,6 +262,14 @@ start 24 state Empty pointer 24 capacity 6
             b"".as_slice(),
             b"fault image 7 Short\n".as_slice(),
             0,
+        ),
+        (&format, b"", b"ok\n", 96),
+        (&stopped, b"read 0 1\n", b"fault mount 10 Halted\n", 96),
+        (
+            &torn,
+            b"fill 0 5 AA\n",
+            b"fault disk 3 Stopped\n",
+            96 + 3 * 512,
         ),
         (&format, b"", b"ok\n", 96),
         (&run, b"fill 0 5 AA\nnone\n", b"ok\nfault line 2\n", 4192),
