@@ -1,12 +1,15 @@
 // The words of the command line, and what they ask for. The stored run of `zonedisk` shows the rest.
 
 use clap::error::ErrorKind;
-use disk_jobs::{Job, job_of, run_job};
+use disk_jobs::{Job, ProgramFault, Stop, job_of, run_job, write_program_fault};
 use disk_runs::RunFault;
+use drive_images::write_image;
 use drive_port::Geometry;
 use std::alloc::Global;
+use std::io;
 use std::process::Abort;
 use std::test::Fail;
+use zone_drive::Drive;
 use zone_states::GeometryFault;
 
 const FOUR_ZONES: Geometry = Geometry {
@@ -51,6 +54,7 @@ fn reads_the_words(rt: HostRuntime) -> Result<(), Fail> {
             blocks,
             report,
             statistics: rest.ends_with("--statistics"),
+            stop: Stop::NEVER,
         };
         assert_eq!(rt; job(&rt, rt.alloc(), &line).ok(), Some(want));
     }
@@ -59,6 +63,43 @@ fn reads_the_words(rt: HostRuntime) -> Result<(), Fail> {
         geometry: FOUR_ZONES,
     };
     assert_eq!(rt; job(&rt, rt.alloc(), &line).ok(), Some(want));
+    let line = FRESH.replace(rt.alloc(), "fresh", "format --image a/b")?;
+    let want = Job::Format {
+        image: String::from_str(rt.alloc(), "a/b")?,
+        geometry: FOUR_ZONES,
+    };
+    assert_eq!(rt; job(&rt, rt.alloc(), &line).ok(), Some(want));
+    let torn = Stop {
+        commands: 5,
+        tear: 2,
+    };
+    for (line, zones, stop) in [
+        ("zonedisk run --image a/b --blocks 9", false, Stop::NEVER),
+        (
+            "zonedisk run --zones --blocks=9 --image=a/b",
+            true,
+            Stop::NEVER,
+        ),
+        (
+            "zonedisk run --image a/b --blocks 9 --stop-after 5 --tear 2",
+            false,
+            torn,
+        ),
+    ] {
+        let want = Job::Run {
+            image: String::from_str(rt.alloc(), "a/b")?,
+            blocks: 9,
+            zones,
+            stop,
+        };
+        assert_eq!(rt; job(&rt, rt.alloc(), line).ok(), Some(want));
+    }
+    let image = String::from_str(rt.alloc(), "b")?;
+    let read = job(&rt, rt.alloc(), "zonedisk report --image b").ok();
+    assert_eq!(rt; read, Some(Job::Report { image }));
+    let image = String::from_str(rt.alloc(), "b")?;
+    let read = job(&rt, rt.alloc(), "zonedisk nvme --image b").ok();
+    assert_eq!(rt; read, Some(Job::Nvme { image }));
     Ok(())
 }
 
@@ -84,7 +125,13 @@ fn refuses_other_words(rt: HostRuntime) -> Result<(), Fail> {
     }
     for (line, kind) in [
         ("zonedisk", ErrorKind::MissingSubcommand),
-        ("zonedisk run", ErrorKind::InvalidSubcommand),
+        ("zonedisk mount", ErrorKind::InvalidSubcommand),
+        ("zonedisk run --image b", ErrorKind::MissingRequiredArgument),
+        ("zonedisk report", ErrorKind::MissingRequiredArgument),
+        (
+            "zonedisk run --image b --blocks +9",
+            ErrorKind::ValueValidation,
+        ),
         ("zonedisk --help", ErrorKind::DisplayHelp),
         (
             "zonedisk fresh --block 4294967296",
@@ -119,6 +166,7 @@ start 24 state Empty pointer 24 capacity 6
         blocks: 9,
         report,
         statistics: false,
+        stop: Stop::NEVER,
     };
     let wide = Geometry {
         capacity: 9,
@@ -127,7 +175,8 @@ start 24 state Empty pointer 24 capacity 6
     let raw = Job::FreshRaw {
         geometry: FOUR_ZONES,
     };
-    let fault = RunFault::Geometry(GeometryFault::Capacity);
+    let fault = ProgramFault::Run(RunFault::Geometry(GeometryFault::Capacity));
+    let not_a_line = |line| ProgramFault::Run(RunFault::Line(line));
     for (job, lines, output, result) in [
         (
             fresh(FOUR_ZONES, true),
@@ -140,13 +189,110 @@ start 24 state Empty pointer 24 capacity 6
             fresh(FOUR_ZONES, true),
             b"fill 0 5 AA\nnone\n",
             b"ok\n",
-            Err(RunFault::Line(2)),
+            Err(not_a_line(2)),
         ),
         (fresh(wide, true), b"read 0 0\n", b"", Err(fault)),
-        (raw, b"fill 0 5 AA\n", b"", Err(RunFault::Line(1))),
+        (raw, b"fill 0 5 AA\n", b"", Err(not_a_line(1))),
     ] {
         let mut written = Vec::new(rt.alloc());
-        let (_, ended) = run_job(rt.alloc(), job, lines, &mut written);
+        let (_, ended) = run_job(rt.alloc(), &job, &mut io::empty(), lines, &mut written);
         assert_eq!(rt; (written.as_slice(), ended), (output, result));
     }
+}
+
+// The image of the drive that a job leaves to be saved.
+fn image_of(rt: &impl Abort, alloc: Global, drive: Option<Drive>) -> Vec<u8> {
+    let mut image = Vec::new(alloc);
+    if let Some(drive) = &drive {
+        write_image(drive, &mut image).expect(rt, "memory");
+    }
+    image
+}
+
+// Jobs on the image that the job before left: a fresh drive is made, mounted and written, and shown.
+#[test]
+fn works_on_images(rt: HostRuntime) -> Result<(), Fail> {
+    let alloc = rt.alloc();
+    let path = String::from_str(alloc, "b")?;
+    let format = Job::Format {
+        image: path.clone()?,
+        geometry: FOUR_ZONES,
+    };
+    let run = Job::Run {
+        image: path.clone()?,
+        blocks: 9,
+        zones: false,
+        stop: Stop::NEVER,
+    };
+    let stopped = Job::Run {
+        image: path.clone()?,
+        blocks: 9,
+        zones: true,
+        stop: Stop {
+            commands: 0,
+            tear: 0,
+        },
+    };
+    let torn = Job::Run {
+        image: path.clone()?,
+        blocks: 9,
+        zones: true,
+        stop: Stop {
+            commands: 1,
+            tear: 3,
+        },
+    };
+    let report = Job::Report {
+        image: path.clone()?,
+    };
+    let nvme = Job::Nvme { image: path };
+    let before = b"zones 4
+start 0 state Full pointer - capacity 6
+start 8 state ImplicitlyOpened pointer 10 capacity 6
+start 16 state Empty pointer 16 capacity 6
+start 24 state Empty pointer 24 capacity 6
+";
+    let after = b"zones 4
+start 0 state Full pointer - capacity 6
+start 8 state Closed pointer 10 capacity 6
+start 16 state Empty pointer 16 capacity 6
+start 24 state Empty pointer 24 capacity 6
+";
+    let mut image = Vec::new(alloc);
+    for (job, lines, output, saved) in [
+        (
+            &report,
+            b"".as_slice(),
+            b"fault image 7 Short\n".as_slice(),
+            0,
+        ),
+        (&format, b"", b"ok\n", 96),
+        (&stopped, b"read 0 1\n", b"fault mount 10 Halted\n", 96),
+        (
+            &torn,
+            b"fill 0 5 AA\n",
+            b"fault disk 3 Stopped\n",
+            96 + 3 * 512,
+        ),
+        (&format, b"", b"ok\n", 96),
+        (&run, b"fill 0 5 AA\nnone\n", b"ok\nfault line 2\n", 4192),
+        (&report, b"", before, 0),
+        (&run, b"read 0 1\n", b"fault mount 12 NotFresh\n", 4192),
+        (&report, b"", after, 0),
+        (&nvme, b"none\n", b"fault line 1\n", 4192),
+    ] {
+        let mut written = Vec::new(alloc);
+        let (drive, ended) = run_job(alloc, job, &mut image.as_slice(), lines, &mut written);
+        if let Err(fault) = ended {
+            let told = write_program_fault(alloc, fault, &mut written);
+            assert_eq!(rt; told, Ok(()));
+        }
+        assert_eq!(rt; written.as_slice(), output);
+        let left = image_of(&rt, alloc, drive);
+        assert_eq!(rt; left.len(), saved);
+        if saved > 0 {
+            image = left;
+        }
+    }
+    Ok(())
 }

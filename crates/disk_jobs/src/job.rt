@@ -4,9 +4,45 @@ use clap::{Arg, ArgAction, ArgMatches, Command, Error, value_parser};
 use std::alloc::{AllocError, Global};
 use zone_states::Geometry;
 
-/// What the words of a command line ask for.
+/// When the drive stops: after that many commands, the mount's included, and that many blocks into the Append after
+/// them, if there is one.
 #[derive(Clone, Copy, Debug, PartialEq, Eq)]
+pub struct Stop {
+    pub commands: u64,
+    pub tear: u32,
+}
+
+impl Stop {
+    pub const NEVER: Stop = Stop {
+        commands: u64::MAX,
+        tear: 0,
+    };
+}
+
+/// What the words of a command line ask for. `image` is the path of a file.
+#[derive(Debug, PartialEq, Eq, Drop)]
 pub enum Job {
+    /// Makes a fresh drive, and saves its image in the file.
+    Format {
+        image: String,
+        geometry: Geometry,
+    },
+    /// Reads a drive from the file, restarts it, mounts it as `blocks` logical blocks, answers the lines of a trace,
+    /// and saves it. With `zones` the zones of the drive are shown after the replies.
+    Run {
+        image: String,
+        blocks: u64,
+        zones: bool,
+        stop: Stop,
+    },
+    /// Shows the zones of the drive in the file, as they were saved.
+    Report {
+        image: String,
+    },
+    /// Reads a drive from the file, restarts it, submits the entry of each raw line to it, and saves it.
+    Nvme {
+        image: String,
+    },
     /// Makes a fresh drive in memory, mounts it as `blocks` logical blocks, and answers the lines of a
     /// trace. With `statistics` it is shown after the replies what was written and moved, and with `report`
     /// the zones of the drive.
@@ -15,6 +51,7 @@ pub enum Job {
         blocks: u64,
         report: bool,
         statistics: bool,
+        stop: Stop,
     },
     /// Makes a fresh drive in memory, and submits the entry of each raw line to it.
     FreshRaw {
@@ -23,11 +60,31 @@ pub enum Job {
 }
 
 impl Job {
-    /// The shape of the drive that the job makes.
-    pub fn geometry(&self) -> Geometry {
+    /// The path of the image file, if the job has one.
+    pub fn image(&self) -> Option<&str> {
         match self {
-            Job::Fresh { geometry, .. } | Job::FreshRaw { geometry } => *geometry,
+            Job::Format { image, .. }
+            | Job::Run { image, .. }
+            | Job::Report { image }
+            | Job::Nvme { image } => Some(image.as_str()),
+            Job::Fresh { .. } | Job::FreshRaw { .. } => None,
         }
+    }
+}
+
+/// Why words that the program takes are no job.
+#[derive(Clone, Copy)]
+enum WordFault {
+    NoSubcommand,
+    /// The value of the option with this name is not in decimal digits.
+    Digits(&'static str),
+    /// An allocation failed.
+    Memory,
+}
+
+impl From<AllocError> for WordFault {
+    fn from(_error: AllocError) -> WordFault {
+        WordFault::Memory
     }
 }
 
@@ -82,17 +139,76 @@ fn flag<'a>(alloc: Global, name: &'a str, help: &'a str) -> Arg<'a> {
         .action(ArgAction::SetTrue)
 }
 
-fn fresh_command<'a>(alloc: Global) -> Result<Command<'a>, AllocError> {
+/// The path of an image file.
+fn image_option<'a>(alloc: Global) -> Arg<'a> {
+    Arg::new(alloc, "image")
+        .long("image")
+        .value_name("P")
+        .help("The file with the image of the drive")
+        .required(true)
+        .action(ArgAction::Set)
+}
+
+/// How many logical blocks the disk has: a number below 2^63.
+fn blocks_option<'a>(alloc: Global) -> Arg<'a> {
     let blocks = value_parser!(u64).range(0..=i64::MAX);
+    number_option(alloc, "blocks", "N", "Logical blocks", blocks)
+}
+
+/// An option that takes a number below 2^63.
+fn stop_option<'a>(alloc: Global, name: &'a str, letter: &'a str, help: &'a str) -> Arg<'a> {
+    let parser = value_parser!(u64).range(0..=i64::MAX);
+    number_option(alloc, name, letter, help, parser).required(false)
+}
+
+fn stop_options<'a>(alloc: Global, command: Command<'a>) -> Result<Command<'a>, AllocError> {
+    let stop = "Stops the drive after K commands, the mount's included";
+    let tear = "Writes J blocks of the Append at which the drive stops";
+    command
+        .arg(stop_option(alloc, "stop-after", "K", stop))?
+        .arg(stop_option(alloc, "tear", "J", tear))
+}
+
+fn format_command<'a>(alloc: Global) -> Result<Command<'a>, AllocError> {
+    let command = Command::new(alloc, "format")
+        .about("Makes a fresh drive in a file")
+        .arg(image_option(alloc))?;
+    geometry_options(alloc, command)
+}
+
+fn run_command<'a>(alloc: Global) -> Result<Command<'a>, AllocError> {
+    let zones = "Shows the zones of the drive after the replies";
+    let command = Command::new(alloc, "run")
+        .about("Answers the trace on standard input, over the drive in a file")
+        .arg(image_option(alloc))?
+        .arg(blocks_option(alloc))?
+        .arg(flag(alloc, "zones", zones))?;
+    stop_options(alloc, command)
+}
+
+fn report_command<'a>(alloc: Global) -> Result<Command<'a>, AllocError> {
+    Command::new(alloc, "report")
+        .about("Shows the zones of the drive in a file")
+        .arg(image_option(alloc))
+}
+
+fn nvme_command<'a>(alloc: Global) -> Result<Command<'a>, AllocError> {
+    Command::new(alloc, "nvme")
+        .about("Submits the raw entries on standard input to the drive in a file")
+        .arg(image_option(alloc))
+}
+
+fn fresh_command<'a>(alloc: Global) -> Result<Command<'a>, AllocError> {
     let report = "Shows the zones of the drive after the replies";
     let statistics = "Shows what was written and moved after the replies";
     let command = Command::new(alloc, "fresh").about(
         "Answers the trace on standard input, over a fresh drive in memory",
     );
-    geometry_options(alloc, command)?
-        .arg(number_option(alloc, "blocks", "N", "Logical blocks", blocks))?
+    let command = geometry_options(alloc, command)?
+        .arg(blocks_option(alloc))?
         .arg(flag(alloc, "report", report))?
-        .arg(flag(alloc, "statistics", statistics))
+        .arg(flag(alloc, "statistics", statistics))?;
+    stop_options(alloc, command)
 }
 
 fn fresh_raw_command<'a>(alloc: Global) -> Result<Command<'a>, AllocError> {
@@ -107,26 +223,47 @@ fn program<'a>(alloc: Global) -> Result<Command<'a>, AllocError> {
     Command::new(alloc, "zonedisk")
         .about("An array of logical blocks above a zoned drive")
         .subcommand_required(true)
+        .subcommand(format_command(alloc)?)?
+        .subcommand(run_command(alloc)?)?
+        .subcommand(report_command(alloc)?)?
+        .subcommand(nvme_command(alloc)?)?
         .subcommand(fresh_command(alloc)?)?
         .subcommand(fresh_raw_command(alloc)?)
 }
 
-/// The number that an option was given. It is refused by the option's name where it is not spelled in
-/// decimal digits alone.
-fn number<'n>(matches: &ArgMatches<'_>, name: &'n str) -> Result<u64, &'n str> {
-    let digits = matches.get_str(name).ok_or(name)?;
+/// The number that an option was given. It is refused where it is not spelled in decimal digits alone.
+fn number(matches: &ArgMatches<'_>, name: &'static str) -> Result<u64, WordFault> {
+    let digits = matches.get_str(name).ok_or(WordFault::Digits(name))?;
     if !digits.bytes().all(|byte| byte.is_ascii_digit()) {
-        return Err(name);
+        return Err(WordFault::Digits(name));
     }
-    digits.parse().map_err(|_| name)
+    digits.parse().or(Err(WordFault::Digits(name)))
 }
 
 /// A number below 2^32.
-fn part_of<'n>(matches: &ArgMatches<'_>, name: &'n str) -> Result<u32, &'n str> {
-    u32::try_from(number(matches, name)?).map_err(|_| name)
+fn part_of(matches: &ArgMatches<'_>, name: &'static str) -> Result<u32, WordFault> {
+    u32::try_from(number(matches, name)?).or(Err(WordFault::Digits(name)))
 }
 
-fn geometry(matches: &ArgMatches<'_>) -> Result<Geometry, &'static str> {
+/// The number that an option was given, if it was.
+fn number_or(matches: &ArgMatches<'_>, name: &'static str, missing: u64) -> Result<u64, WordFault> {
+    if matches.get_str(name).is_none() {
+        return Ok(missing);
+    }
+    number(matches, name)
+}
+
+/// When the drive stops. No Append has more blocks than 32 bits can count.
+fn stop_of(matches: &ArgMatches<'_>) -> Result<Stop, WordFault> {
+    let commands = number_or(matches, "stop-after", Stop::NEVER.commands)?;
+    let tear = number_or(matches, "tear", 0)?;
+    Ok(Stop {
+        commands,
+        tear: u32::try_from(tear).unwrap_or(u32::MAX),
+    })
+}
+
+fn geometry(matches: &ArgMatches<'_>) -> Result<Geometry, WordFault> {
     Ok(Geometry {
         block: part_of(matches, "block")?,
         zones: part_of(matches, "zones")?,
@@ -138,51 +275,62 @@ fn geometry(matches: &ArgMatches<'_>) -> Result<Geometry, &'static str> {
     })
 }
 
-fn fresh_job(matches: &ArgMatches<'_>) -> Result<Job, &'static str> {
-    Ok(Job::Fresh {
-        geometry: geometry(matches)?,
-        blocks: number(matches, "blocks")?,
-        report: matches.get_flag("report"),
-        statistics: matches.get_flag("statistics"),
-    })
+fn image(alloc: Global, matches: &ArgMatches<'_>) -> Result<String, WordFault> {
+    let path = matches.get_str("image").unwrap_or("");
+    Ok(String::from_str(alloc, path)?)
 }
 
-fn fresh_raw_job(matches: &ArgMatches<'_>) -> Result<Job, &'static str> {
-    Ok(Job::FreshRaw {
-        geometry: geometry(matches)?,
-    })
+/// The job of a subcommand.
+fn subcommand_job(alloc: Global, name: &str, matches: &ArgMatches<'_>) -> Result<Job, WordFault> {
+    match name {
+        "format" => Ok(Job::Format {
+            image: image(alloc, matches)?,
+            geometry: geometry(matches)?,
+        }),
+        "run" => Ok(Job::Run {
+            image: image(alloc, matches)?,
+            blocks: number(matches, "blocks")?,
+            zones: matches.get_flag("zones"),
+            stop: stop_of(matches)?,
+        }),
+        "report" => Ok(Job::Report {
+            image: image(alloc, matches)?,
+        }),
+        "nvme" => Ok(Job::Nvme {
+            image: image(alloc, matches)?,
+        }),
+        "fresh" => Ok(Job::Fresh {
+            geometry: geometry(matches)?,
+            blocks: number(matches, "blocks")?,
+            report: matches.get_flag("report"),
+            statistics: matches.get_flag("statistics"),
+            stop: stop_of(matches)?,
+        }),
+        _ => Ok(Job::FreshRaw {
+            geometry: geometry(matches)?,
+        }),
+    }
 }
 
-/// Why words are refused that are options of the program.
-#[derive(Clone, Copy)]
-enum Refused {
-    NoSubcommand,
-    /// The value of this option is not in decimal digits.
-    Digits(&'static str),
-}
-
-fn asked(matches: &ArgMatches<'_>) -> Result<Job, Refused> {
+/// The job of the subcommand, if there is one.
+fn asked(alloc: Global, matches: &ArgMatches<'_>) -> Result<Job, WordFault> {
     match matches.subcommand() {
-        Some(("fresh", matches)) => fresh_job(matches).map_err(Refused::Digits),
-        Some((_, matches)) => fresh_raw_job(matches).map_err(Refused::Digits),
-        None => Err(Refused::NoSubcommand),
+        Some((name, matches)) => subcommand_job(alloc, name, matches),
+        None => Err(WordFault::NoSubcommand),
     }
 }
 
 /// The text to show of a refusal.
-fn refusal(
-    alloc: Global,
-    program: &mut Command<'_>,
-    refused: Refused,
-) -> Result<Error, AllocError> {
-    match refused {
-        Refused::NoSubcommand => {
+fn refusal(alloc: Global, program: &mut Command<'_>, fault: WordFault) -> Result<Error, AllocError> {
+    match fault {
+        WordFault::NoSubcommand => {
             program.error(ErrorKind::MissingSubcommand, "a subcommand is wanted")
         }
-        Refused::Digits(name) => {
+        WordFault::Digits(name) => {
             let text = format!(in alloc; "the value of '--{name}' is not in decimal digits")?;
             program.error(ErrorKind::ValueValidation, &text)
         }
+        WordFault::Memory => Err(AllocError),
     }
 }
 
@@ -192,8 +340,8 @@ fn refusal(
 pub fn job_of(alloc: Global, words: &[String]) -> Result<Job, Error> {
     let mut program = program(alloc)?;
     let matches = program.try_get_matches_from_mut(words)?;
-    match asked(&matches) {
+    match asked(alloc, &matches) {
         Ok(job) => Ok(job),
-        Err(refused) => Err(refusal(alloc, &mut program, refused)?),
+        Err(fault) => Err(refusal(alloc, &mut program, fault)?),
     }
 }

@@ -2,20 +2,25 @@
 //!
 //! ```text
 //! let job = job_of(rt.alloc(), &words)?;
-//! match run_job(rt.alloc(), job, rt.reader(), &mut output) {
-//!     (_, Ok(())) => ..,       // each line was answered
-//!     (_, Err(fault)) => ..,   // the run ended in this fault
-//! }
+//! let done = match job.image() {
+//!     Some(path) => run_on_file(&rt, rt.alloc(), &job, path, rt.reader(), &mut output),
+//!     None => run_job(rt.alloc(), &job, &mut io::empty(), rt.reader(), &mut output).1,
+//! };
 //! ```
 //!
-//! [`job_of`] reads the words, and refuses others with the text to show. [`run_job`] makes the drive in memory and
-//! runs the lines over it: what the replies are is promised by the runs below, `run_trace`, `answer_trace` and
-//! `run_raw` of `disk_runs`. The words, and what `--report` and `--statistics` show, are tested in `call_tests`.
+//! [`job_of`] reads the words, and refuses others with the text to show. [`run_job`] does what they ask for, and
+//! [`run_on_file`] does it on the drive of a file. What the replies are is promised by the runs below, `run_trace`,
+//! `answer_trace` and `run_raw` of `disk_runs`, and what the file holds by `drive_images`. The words, what `--zones`,
+//! `--report` and `--statistics` show, and the order of faults are tested in `call_tests`.
 #![tactic(auto)]
 
+mod fault;
+mod file;
 mod job;
 mod program;
 mod statistics;
 
-pub use job::{Job, job_of};
+pub use fault::{ProgramFault, write_program_fault};
+pub use file::run_on_file;
+pub use job::{Job, Stop, job_of};
 pub use program::run_job;

@@ -1,8 +1,10 @@
-use crate::job::Job;
+use crate::fault::ProgramFault;
+use crate::job::{Job, Stop};
 use crate::statistics::run_counted;
-use disk_files::write_out;
+use disk_files::{ok_reply, write_out};
 use disk_runs::{RunFault, run_raw, run_trace};
-use drive_port::Device;
+use drive_images::read_image;
+use drive_port::{Device, StopAfter};
 use nvme_wire::ReportingOptions;
 use std::alloc::Global;
 use std::io::{Read, Write};
@@ -40,6 +42,11 @@ fn show_zones<W: Write>(alloc: Global, drive: &Drive, output: &mut W) -> Result<
     Ok(())
 }
 
+/// A drive that stops.
+fn stopping(drive: Drive, stop: Stop) -> StopAfter<Drive> {
+    StopAfter::tearing(drive, stop.commands, stop.tear)
+}
+
 /// Answers a trace over a fresh drive, and then shows what was counted and its zones, if asked to.
 fn fresh<R: Read + Drop, W: Write>(
     alloc: Global,
@@ -47,40 +54,144 @@ fn fresh<R: Read + Drop, W: Write>(
     blocks: u64,
     report: bool,
     statistics: bool,
+    stop: Stop,
     input: R,
     output: &mut W,
 ) -> (Drive, Result<(), RunFault>) {
-    let (drive, mut result) = if statistics {
-        run_counted(alloc, input, output, drive, blocks)
+    let device = stopping(drive, stop);
+    let (device, mut result) = if statistics {
+        run_counted(alloc, input, output, device, blocks)
     } else {
-        run_trace(alloc, input, output, drive, blocks)
+        run_trace(alloc, input, output, device, blocks)
     };
+    let drive = device.into_inner();
     if report && result.is_ok() {
         result = show_zones(alloc, &drive, output);
     }
     (drive, result)
 }
 
-/// Does a job: reads the lines of `input`, and writes to `output`. The drive is handed back, where one was
-/// made.
-pub fn run_job<R: Read + Drop, W: Write>(
+/// Makes a fresh drive, and says so.
+fn format<W: Write>(
     alloc: Global,
-    job: Job,
+    geometry: Geometry,
+    output: &mut W,
+) -> Result<Drive, ProgramFault> {
+    let drive = fresh_drive(alloc, geometry)?;
+    let mut reply = Vec::new(alloc);
+    ok_reply(&mut reply)?;
+    write_out(output, &reply)?;
+    Ok(drive)
+}
+
+/// Reads a drive, and restarts it.
+fn restarted_drive<I: Read>(alloc: Global, image: &mut I) -> Result<Drive, ProgramFault> {
+    let mut drive = read_image(alloc, image)?;
+    drive.restart();
+    Ok(drive)
+}
+
+/// Answers a trace over a drive, and then shows its zones, if asked to.
+fn run<R: Read + Drop, W: Write>(
+    alloc: Global,
+    drive: Drive,
+    blocks: u64,
+    zones: bool,
+    stop: Stop,
     input: R,
     output: &mut W,
-) -> (Option<Drive>, Result<(), RunFault>) {
-    let drive = match fresh_drive(alloc, job.geometry()) {
-        Ok(drive) => drive,
-        Err(fault) => return (None, Err(fault)),
-    };
-    let (drive, result) = match job {
+) -> (Drive, Result<(), RunFault>) {
+    let device = stopping(drive, stop);
+    let (device, mut result) = run_trace(alloc, input, output, device, blocks);
+    let drive = device.into_inner();
+    if zones && result.is_ok() {
+        result = show_zones(alloc, &drive, output);
+    }
+    (drive, result)
+}
+
+/// Shows the zones of a drive as it was saved.
+fn report<I: Read, W: Write>(
+    alloc: Global,
+    image: &mut I,
+    output: &mut W,
+) -> Result<(), ProgramFault> {
+    let drive = read_image(alloc, image)?;
+    show_zones(alloc, &drive, output)?;
+    Ok(())
+}
+
+/// The drive that a job works on, if it works on one after this: a fresh one, or the one in the image.
+fn drive_of<I: Read, W: Write>(
+    alloc: Global,
+    job: &Job,
+    image: &mut I,
+    output: &mut W,
+) -> Result<Option<Drive>, ProgramFault> {
+    match job {
+        Job::Format { geometry, .. } => Ok(Some(format(alloc, *geometry, output)?)),
+        Job::Run { .. } | Job::Nvme { .. } => Ok(Some(restarted_drive(alloc, image)?)),
+        Job::Report { .. } => {
+            report(alloc, image, output)?;
+            Ok(None)
+        }
+        Job::Fresh { geometry, .. } | Job::FreshRaw { geometry } => {
+            Ok(Some(fresh_drive(alloc, *geometry)?))
+        }
+    }
+}
+
+/// Answers the lines of a job over its drive.
+fn answer<R: Read + Drop, W: Write>(
+    alloc: Global,
+    job: &Job,
+    drive: Drive,
+    input: R,
+    output: &mut W,
+) -> (Drive, Result<(), RunFault>) {
+    match job {
+        Job::Run {
+            blocks,
+            zones,
+            stop,
+            ..
+        } => run(alloc, drive, *blocks, *zones, *stop, input, output),
         Job::Fresh {
             blocks,
             report,
             statistics,
+            stop,
             ..
-        } => fresh(alloc, drive, blocks, report, statistics, input, output),
-        Job::FreshRaw { .. } => run_raw(alloc, input, output, drive),
-    };
-    (Some(drive), result)
+        } => fresh(
+            alloc,
+            drive,
+            *blocks,
+            *report,
+            *statistics,
+            *stop,
+            input,
+            output,
+        ),
+        Job::Nvme { .. } | Job::FreshRaw { .. } => run_raw(alloc, input, output, drive),
+        Job::Format { .. } | Job::Report { .. } => (drive, Ok(())),
+    }
+}
+
+/// Does a job, but for opening and saving its file: reads `image` and then the lines of `input`, and writes to
+/// `output`. The drive is handed back, also after a fault, where the job has one to save.
+pub fn run_job<I: Read, R: Read + Drop, W: Write>(
+    alloc: Global,
+    job: &Job,
+    image: &mut I,
+    input: R,
+    output: &mut W,
+) -> (Option<Drive>, Result<(), ProgramFault>) {
+    match drive_of(alloc, job, image, output) {
+        Ok(Some(drive)) => {
+            let (drive, result) = answer(alloc, job, drive, input, output);
+            (Some(drive), result.map_err(ProgramFault::Run))
+        }
+        Ok(None) => (None, Ok(())),
+        Err(fault) => (None, Err(fault)),
+    }
 }

@@ -4,11 +4,13 @@ use drive_counter::{Counter, Spread, statistics_text};
 use drive_port::Device;
 use std::alloc::{AllocError, Global};
 use std::io::{Read, Write};
-use zone_drive::Drive;
 use zone_translator::Disk;
 
 /// How many blocks are live in each zone.
-fn live_blocks(alloc: Global, disk: &Disk<Counter<Drive>>) -> Result<Vec<u32>, AllocError> {
+fn live_blocks<D: Device + Drop>(
+    alloc: Global,
+    disk: &Disk<Counter<D>>,
+) -> Result<Vec<u32>, AllocError> {
     let mut live = Vec::new(alloc);
     for zone in 0..disk.device().geometry().zones {
         live.push(disk.live(zone))?;
@@ -17,9 +19,9 @@ fn live_blocks(alloc: Global, disk: &Disk<Counter<Drive>>) -> Result<Vec<u32>, A
 }
 
 /// Writes what was counted of a disk, without a command.
-fn show_statistics<W: Write>(
+fn show_statistics<W: Write, D: Device + Drop>(
     alloc: Global,
-    disk: &Disk<Counter<Drive>>,
+    disk: &Disk<Counter<D>>,
     output: &mut W,
 ) -> Result<(), RunFault> {
     let mut live = live_blocks(alloc, disk)?;
@@ -28,15 +30,15 @@ fn show_statistics<W: Write>(
     Ok(())
 }
 
-/// Answers a trace over a drive whose commands are counted, and then shows what was counted.
-pub fn run_counted<R: Read + Drop, W: Write>(
+/// Answers a trace over a device whose commands are counted, and then shows what was counted.
+pub fn run_counted<R: Read + Drop, W: Write, D: Device + Drop>(
     alloc: Global,
     input: R,
     output: &mut W,
-    drive: Drive,
+    device: D,
     blocks: u64,
-) -> (Drive, Result<(), RunFault>) {
-    let disk = match Disk::mount(alloc, Counter::new(drive), blocks) {
+) -> (D, Result<(), RunFault>) {
+    let disk = match Disk::mount(alloc, Counter::new(device), blocks) {
         Ok(disk) => disk,
         Err((fault, counter)) => return (counter.into_inner(), Err(RunFault::Mount(fault))),
     };

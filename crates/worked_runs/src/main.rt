@@ -18,6 +18,7 @@ mod calls;
 mod fault;
 mod flat;
 mod grammar;
+mod images;
 mod logs;
 mod questions;
 mod requests;

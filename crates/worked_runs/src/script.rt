@@ -5,6 +5,7 @@ use crate::bench::Setting;
 use crate::calls::{show_calls, show_disk};
 use crate::fault::ScriptFault;
 use crate::grammar::{show_raw_lines, show_trace_lines};
+use crate::images::{show_all_changes, show_changed_images, show_image, show_random_images};
 use crate::logs::show_logs;
 use crate::questions::{
     show_array, show_contents, show_drive_fault, show_moves, show_reserve, show_room, show_zones,
@@ -264,10 +265,19 @@ impl<'a> Session<'a> {
             "restart" => done(self.restart(out)),
             "zones" => done(self.zones(out)),
             "contents" => done(show_contents(&self.world, out)),
+            "image" => done(show_image(self.alloc, &self.world, out)),
             "logs" => done(show_logs(self.alloc, &self.world, out)),
             "reserve" => done(show_reserve(&self.world.geometry, out)),
             _ => Ok(false),
         }
+    }
+
+    // Images of random drives of the same shape.
+    fn random_images(&self, words: &[&str], out: &mut String) -> Result<(), ScriptFault> {
+        let ["of", count, "random", "drives"] = words else {
+            return Err(ScriptFault::Words);
+        };
+        show_random_images(self.alloc, self.world.geometry, number(count)?, out)
     }
 
     // Lines of more words that ask something.
@@ -277,6 +287,8 @@ impl<'a> Session<'a> {
             "room" => done(show_room(&self.world.geometry, words, out)),
             "moves" => done(show_moves(&self.world.geometry, words, out)),
             "header" => done(self.header(words, out)),
+            "image" => done(show_all_changes(self.alloc, &self.world, words, out)),
+            "images" => done(self.random_images(words, out)),
             _ => Ok(false),
         }
     }
@@ -359,6 +371,9 @@ impl<'a> Session<'a> {
         let halts = self.halts;
         self.setting = Setting::PLAIN;
         self.halts = None;
+        if let ["changed", "images"] = words {
+            return show_changed_images(self.alloc, &self.world, lines, out);
+        }
         if let [name, "lines"] = words {
             return self.judge(name, lines, out);
         }

@@ -1,22 +1,24 @@
-//! The program: an array of logical blocks above a zoned drive. Lines of calls go in, lines of replies come
-//! out.
+//! The program: an array of logical blocks above a zoned drive, which a file keeps. Lines of calls go in, lines of
+//! replies come out.
 //!
 //! ```text
-//! $ printf 'fill 0 2 aa\nread 1 1\n' | zonedisk fresh --block 512 --zones 4 --size 8 --capacity 6 \
-//!       --transfer 4 --active 2 --open 2 --blocks 9
+//! $ zonedisk format --image my.drive --block 512 --zones 4 --size 8 --capacity 6 --transfer 4 --active 2 --open 2
+//! ok
+//! $ printf 'fill 0 2 aa\nread 1 1\n' | zonedisk run --image my.drive --blocks 9
 //! ok
 //! 1 aa*512
 //! ok
 //! ```
 //!
 //! The lines are `read`, `fill`, `write`, `trim`, `idle` and `grow`, as `docs/formats.md` describes them.
-//! [`job_of`] reads the words of the command line, and [`run_job`] does what they ask for. What the replies
-//! are is promised by the runs below, [`run_trace`], [`answer_trace`] and [`run_raw`]; the words, what `--report`
-//! and `--statistics` show and the exit status are tested.
+//! [`job_of`] reads the words of the command line, [`run_job`] does what they ask for, and [`run_on_file`] does it on
+//! the drive of a file. What the replies are is promised by the runs below, [`run_trace`], [`answer_trace`] and
+//! [`run_raw`], and what the file holds by `drive_images`; the words, what `--zones`, `--report` and `--statistics` show,
+//! the order of faults and the exit status are tested.
 #![tactic(auto)]
 
 use clap::error::ErrorKind;
-pub use disk_jobs::{Job, job_of, run_job};
+pub use disk_jobs::{Job, ProgramFault, Stop, job_of, run_job, run_on_file, write_program_fault};
 pub use disk_runs::{RunFault, answer_trace, run_raw, run_trace, write_fault};
 use std::alloc::Global;
 use std::env::Env;
@@ -32,9 +34,11 @@ fn words<R: Env + Alloc<A = Global>>(rt: &R) -> io::Result<Vec<String>> {
     Ok(std::env::args(rt)?.collect(rt.alloc())?)
 }
 
+const OUT_OF_MEMORY: ProgramFault = ProgramFault::Run(RunFault::Memory);
+
 /// Writes the line of a fault, and gives the exit status of one, also where the line can't be written.
-fn fail<W: Write>(alloc: Global, fault: RunFault, output: &mut W) -> ExitCode {
-    match write_fault(alloc, fault, output) {
+fn fail<W: Write>(alloc: Global, fault: ProgramFault, output: &mut W) -> ExitCode {
+    match write_program_fault(alloc, fault, output) {
         Ok(()) | Err(_) => ExitCode::FAILURE,
     }
 }
@@ -45,7 +49,7 @@ fn main(rt: HostRuntime) -> io::Result<ExitCode> {
     let words = match words(&rt) {
         Ok(words) => words,
         Err(error) if error.kind() == io::ErrorKind::OutOfMemory => {
-            return Ok(fail(alloc, RunFault::Memory, &mut output));
+            return Ok(fail(alloc, OUT_OF_MEMORY, &mut output));
         }
         Err(_) => {
             eprintln!(rt; "error: a word of the command line is not UTF-8")?;
@@ -55,15 +59,19 @@ fn main(rt: HostRuntime) -> io::Result<ExitCode> {
     let job = match job_of(alloc, &words) {
         Ok(job) => job,
         Err(error) if error.kind() == ErrorKind::OutOfMemory => {
-            return Ok(fail(alloc, RunFault::Memory, &mut output));
+            return Ok(fail(alloc, OUT_OF_MEMORY, &mut output));
         }
         Err(error) => {
             eprint!(rt; "{error}")?;
             return Ok(ExitCode::from(REFUSED));
         }
     };
-    match run_job(alloc, job, rt.reader(), &mut output) {
-        (_, Ok(())) => Ok(ExitCode::SUCCESS),
-        (_, Err(fault)) => Ok(fail(alloc, fault, &mut output)),
+    let result = match job.image() {
+        Some(path) => run_on_file(&rt, alloc, &job, path, rt.reader(), &mut output),
+        None => run_job(alloc, &job, &mut io::empty(), rt.reader(), &mut output).1,
+    };
+    match result {
+        Ok(()) => Ok(ExitCode::SUCCESS),
+        Err(fault) => Ok(fail(alloc, fault, &mut output)),
     }
 }

@@ -1,0 +1,54 @@
+use disk_files::{WriteFault, write_out};
+use disk_runs::{RunFault, write_fault};
+use drive_images::{ImageFault, image_fault_line};
+use std::alloc::{AllocError, Global};
+use std::io::Write;
+
+/// Why the program ends with status 1.
+#[derive(Clone, Copy, Debug, PartialEq, Eq)]
+pub enum ProgramFault {
+    /// The run of the lines ended, or there is no drive to run them on.
+    Run(RunFault),
+    /// The file has no image of a drive.
+    Image(ImageFault),
+    /// The file cannot be opened or saved.
+    File,
+}
+
+impl From<RunFault> for ProgramFault {
+    fn from(fault: RunFault) -> ProgramFault {
+        ProgramFault::Run(fault)
+    }
+}
+
+impl From<ImageFault> for ProgramFault {
+    fn from(fault: ImageFault) -> ProgramFault {
+        ProgramFault::Image(fault)
+    }
+}
+
+impl From<AllocError> for ProgramFault {
+    fn from(_error: AllocError) -> ProgramFault {
+        ProgramFault::Run(RunFault::Memory)
+    }
+}
+
+impl From<WriteFault> for ProgramFault {
+    fn from(_fault: WriteFault) -> ProgramFault {
+        ProgramFault::Run(RunFault::Output)
+    }
+}
+
+/// Writes the line of a fault.
+pub fn write_program_fault<W: Write>(
+    alloc: Global,
+    fault: ProgramFault,
+    output: &mut W,
+) -> Result<(), ProgramFault> {
+    match fault {
+        ProgramFault::Run(fault) => write_fault(alloc, fault, output)?,
+        ProgramFault::Image(fault) => write_out(output, &image_fault_line(alloc, fault)?)?,
+        ProgramFault::File => write_out(output, b"fault file\n")?,
+    }
+    Ok(())
+}

@@ -1,0 +1,29 @@
+//! What holds of all images. Each function carries one law as its contract, and does nothing.
+
+ghost use Rattle.std.specs.Prelude.{◌≡◌, List, ℕ, true, false};
+ghost use Rattle.zone_states.specs.Geometry.{IsInRange};
+ghost use Rattle.zone_drive.specs.Stored.{unused};
+ghost use Rattle.drive_port.specs.Drive.{DriveState, IsLawful};
+ghost use Rattle.drive_images.specs.Image.{IsImage, image_bytes};
+ghost use Rattle.drive_images.specs.Meaning.{is_of_bytes};
+ghost use Rattle.drive_images.specs.Reading.{IsImageFault};
+ghost use Rattle.drive_images.specs.declared.fault.ImageFault.{ImageFault};
+
+/// What is written is read again: the image of a drive is that of the same drive, which has completed no command.
+pub fn image_again()
+    ensures { (drive : DriveState) → IsInRange drive.geometry → IsLawful drive →
+        IsImage (image_bytes drive.geometry drive.zones) (unused drive.geometry drive.zones) }
+{}
+
+/// Bytes are the image of one drive at most.
+pub fn one_drive()
+    ensures { (bytes : List ℕ) (a b : DriveState) → IsImage bytes a → IsImage bytes b → a ≡ b }
+{}
+
+/// An image has no fault, and other bytes have one first fault at most.
+pub fn one_fault()
+    ensures none { (bytes : List ℕ) (drive : DriveState) (fault : ImageFault) →
+        IsImage bytes drive → IsImageFault bytes fault → is_of_bytes fault ≡ false }
+    ensures first { (bytes : List ℕ) (a b : ImageFault) → is_of_bytes a ≡ true → is_of_bytes b ≡ true →
+        IsImageFault bytes a → IsImageFault bytes b → a ≡ b }
+{}

@@ -1,0 +1,37 @@
+//! The image of a drive: all that it holds, as bytes that a file keeps.
+//!
+//! ```text
+//! let mut image = Vec::new(alloc);
+//! write_image(&drive, &mut image)?;
+//! let again = read_image(alloc, &mut image.as_slice())?; // a drive with the same zones
+//! ```
+//!
+//! An image is a head of 64 bytes with the geometry, and then each zone in order: 8 bytes with its state and the
+//! number of its written blocks, and these blocks. Nothing follows. So each drive has one image
+//! (`specs/Image.antt`).
+//!
+//! # What is promised
+//!
+//! * [`write_image`] writes the image, straight from the zones, and after a fault a beginning of it. It allocates
+//!   nothing.
+//! * [`read_image`] accepts the images of drives and no other bytes. It gives the drive, which has completed no
+//!   command. It reads a zone at a time, straight into its place, so that it holds no copy of the file.
+//! * Other bytes are refused by the first fault in them, from the first byte on (`specs/Reading.antt`). Before that
+//!   fault is met, the reader may fail or memory may run out. [`image_fault_line`] is the line that tells it.
+#![tactic(auto)]
+
+mod counts;
+mod fault;
+mod fault_line;
+mod fill;
+mod head;
+pub mod laws;
+mod read;
+mod write;
+mod zone;
+mod zone_head;
+
+pub use fault::ImageFault;
+pub use fault_line::image_fault_line;
+pub use read::read_image;
+pub use write::write_image;
