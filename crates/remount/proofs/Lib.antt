@@ -1,0 +1,6 @@
+pub mod EntryLaws
+pub mod ReadLaws
+pub mod TakeLaws
+pub mod ZeroLaws
+pub mod NextLaws
+pub mod ScanLaws
