@@ -4,3 +4,4 @@ pub mod TakeLaws
 pub mod ZeroLaws
 pub mod NextLaws
 pub mod ScanLaws
+pub mod AllScanLaws

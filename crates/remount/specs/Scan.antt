@@ -1,12 +1,12 @@
 -- What a mount reads of a drive, zone by zone and batch by batch, and the first fault that it meets.
-use Rattle.std.specs.Prelude.{◌≡◌, ◌⊎◌, ℕ, suc, ◌+◌, ◌<◌, ◌≤◌, ◌^◌, nat_le, if◌then◌else◌, true, List, [], ◌∷◌, ◌++◌, length, take, drop, slice_index_or, Bool, false, Option, Some, None, Result, Ok, Err}
+use Rattle.std.specs.Prelude.{◌≡◌, ◌⊎◌, ℕ, suc, ◌+◌, ◌<◌, ◌≤◌, ◌^◌, nat_le, if◌then◌else◌, true, List, [], ◌∷◌, ◌++◌, length, take, drop, slice_get, slice_index_or, Bool, false, Option, Some, None, Result, Ok, Err}
 use Rattle.std.specs.List.{list_any}
 use Rattle.std.specs.Ordering.{nat_cmp}
 use Rattle.std.specs.BTreeSet.{insert_key}
 use Rattle.std.specs.BTreeMap.{is_at}
 use Rattle.zone_states.specs.declared.geometry.Geometry.{Geometry}
 use Rattle.drive_port.specs.Contents.{Content, content_at, contents, is_full, usage_of}
-use Rattle.drive_port.specs.Drive.{DriveState}
+use Rattle.drive_port.specs.Drive.{DriveState, IsLawful}
 use Rattle.drive_port.specs.declared.calls.PortFault.{PortFault}
 use Rattle.drive_port.specs.declared.calls.PortFault.TheVariants as port
 use Rattle.batch_log.specs.Header.{Heading}
@@ -17,6 +17,9 @@ use Rattle.remount.specs.declared.fault.MountFault.{MountFault}
 use Rattle.remount.specs.declared.fault.MountFault.TheVariants.{Log, SequenceRepeated, Spent, Halted, OutOfMemory}
 use Rattle.batch_log.specs.declared.fault.LogFault.TheVariants.{Torn}
 use Rattle.remount.specs.declared.reported.ReportedZone.{ReportedZone}
+use Rattle.remount.specs.declared.scan.ScannedZone.{ScannedZone}
+use Rattle.zone_states.specs.Geometry.{IsInRange}
+use Rattle.remount.specs.Reported.{IsKnown}
 use Rattle.remount.specs.Heads.{HeadsView, heads_of, with_heading}
 
 -- ---- readings
@@ -154,3 +157,37 @@ MeetsHeader zone reported old before heading (Ok (Some is_torn_zone)) new seen =
 MeetsHeader zone reported old before heading (Err fault) new seen =
     (fault ≡ OutOfMemory) ⊎ ((old.blocks + 1 + data_count heading.entries ≤ reported.blocks) × (heading_fault before heading ≡ Some fault))
     ⊎ ((reported.blocks < old.blocks + 1 + data_count heading.entries) × (is_full (usage_of reported.state) ≡ true) × (fault ≡ Log zone old.blocks Torn))
+
+-- ---- all zones
+
+-- this is kept of a zone that was read so
+pub record IsScanned (reading : ZoneReading) (scanned : ScannedZone) : Type 0 where
+  pub heads_are : scanned.heads ≡ heads_of reading.log
+  pub torn_is : scanned.is_torn ≡ is_torn reading.ending
+
+abbrev pub AreScanned : List ZoneReading → List ScannedZone → Type 0
+AreScanned [] [] = Unit {0}
+AreScanned (reading ∷ readings) (zone ∷ zones) = IsScanned reading zone × AreScanned readings zones
+AreScanned readings zones = ⊥
+
+-- The first zones were read, and none has a fault.
+pub record ScansFirst (geometry : Geometry) (zones : List Content) (scanned : List ScannedZone) (seen : List ℕ) : Type 0 where
+  pub readings : List ZoneReading
+  pub reads : ReadsZones geometry (take (length readings) zones) readings
+  pub none : HaveNoFault 0 [] readings
+  pub are : AreScanned readings scanned
+  pub seen_are : seen ≡ seen_after [] readings
+
+-- All zones were read, and none has a fault.
+pub record ScansAll (geometry : Geometry) (zones : List Content) (scanned : List ScannedZone) : Type 0 where
+  pub readings : List ZoneReading
+  pub reads : ReadsZones geometry zones readings
+  pub none : HaveNoFault 0 [] readings
+  pub are : AreScanned readings scanned
+
+-- What is known of all zones.
+pub record AreKnown (drive : DriveState) (reported : List ReportedZone) : Type 0 where
+  pub geometry : IsInRange drive.geometry
+  pub lawful : IsLawful drive
+  pub count : length reported ≡ length drive.zones
+  pub each : (zone : ℕ) (r : ReportedZone) → slice_get reported zone ≡ Some r → IsKnown drive zone r

@@ -9,4 +9,4 @@ mod scan;
 pub use fault::MountFault;
 pub use heads::{Head, ZoneHeads};
 pub use reported::ReportedZone;
-pub use scan::{ScannedZone, scan_zone};
+pub use scan::{ScannedZone, scan_zone, scan_zones};

@@ -8,7 +8,7 @@ ghost use Rattle.drive_port.specs.Contents.{content_at, contents, is_full, is_us
 ghost use Rattle.drive_port.specs.Drive.{IsLawful};
 ghost use Rattle.remount.specs.Reported.{IsKnown, KeepsZones};
 ghost use Rattle.remount.specs.Heads.{no_heads, with_heading};
-ghost use Rattle.remount.specs.Scan.{EndsZone, FailsBy, FailsIn, MeetsHeader, Scans, Takes, TakesNext, block_of, blocks_of, ending_fault, heading_fault, mount_fault};
+ghost use Rattle.remount.specs.Scan.{AreKnown, EndsZone, FailsBy, FailsFirst, FailsIn, MeetsHeader, Scans, ScansAll, Takes, TakesNext, block_of, blocks_of, ending_fault, heading_fault, mount_fault};
 ghost use Rattle.batch_log.specs.Ending.{Ending, ended};
 ghost use Rattle.batch_log.specs.Log.{data_count};
 ghost use Rattle.zone_choice.specs.Changes.{IsHalt};
@@ -236,4 +236,34 @@ pub fn scan_zone<D: Device>(
         heads,
         is_torn: false,
     })
+}
+
+/// Reads the headers of the batches of all zones, in ascending order. No zone is Read Only or Offline.
+pub fn scan_zones<D: Device>(
+    alloc: Global,
+    device: &mut D,
+    zones: &[ReportedZone],
+) -> Result<Vec<ScannedZone>, MountFault>
+    requires zones { AreKnown (D.drive device.old) zones.now }
+    ensures ok { IfOk result (λ scanned. ScansAll (D.drive device.old).geometry (contents (D.drive device.old).zones) scanned.items) }
+    ensures err { IfErr result (FailsBy (FailsFirst (D.drive device.old).geometry (contents (D.drive device.old).zones)) (D.drive device.new)) }
+    ensures kept { KeepsZones (D.drive device.old) (D.drive device.new) }
+{
+    let mut seen = BTreeSet::new(alloc);
+    let mut block = Vec::new(alloc);
+    let mut scanned = Vec::new(alloc);
+    for (zone, reported) in zones.iter().enumerate() {
+        let heads = scan_zone(
+            alloc,
+            device,
+            zone as u32,
+            *reported,
+            &mut seen,
+            &mut block,
+        )?;
+        if scanned.push(heads).is_err() {
+            return Err(MountFault::OutOfMemory);
+        }
+    }
+    Ok(scanned)
 }
