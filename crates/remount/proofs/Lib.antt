@@ -5,3 +5,4 @@ pub mod ZeroLaws
 pub mod NextLaws
 pub mod ScanLaws
 pub mod AllScanLaws
+pub mod ReportLaws

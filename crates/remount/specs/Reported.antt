@@ -1,10 +1,13 @@
 -- What a report tells of the zones of a drive, and what a look at a drive keeps.
-use Rattle.std.specs.Prelude.{◌≡◌, ◌⊎◌, ℕ, ◌<◌, ◌≤◌, ◌+◌, true, false, List, [], ◌∷◌, length}
-use Rattle.nvme_wire.specs.declared.zone_state.ZoneState.{ZoneState}
-use Rattle.nvme_wire.specs.declared.zone_state.ZoneState.TheVariants.{ImplicitlyOpened, Closed}
+use Rattle.std.specs.Prelude.{◌≡◌, ℕ, ◌<◌, ◌^◌, true, List, [], ◌∷◌, length}
+use Rattle.std.specs.List.{AllByRecursion, flat_map}
+use Rattle.nvme_wire.specs.declared.descriptor.Descriptor.{Descriptor}
+use Rattle.nvme_wire.specs.declared.command.ReportingOptions.TheVariants.{AnyState}
+use Rattle.nvme_wire.specs.Descriptor.{descriptor_bytes}
+use Rattle.zone_report.specs.Report.{descriptor_of, matching, status_of}
 use Rattle.zone_states.specs.declared.geometry.Geometry.{Geometry}
 use Rattle.zone_states.specs.Geometry.{IsInRange}
-use Rattle.zone_states.specs.Zone.{Zone}
+use Rattle.zone_states.specs.Zone.{IsLawfulZone, Zone}
 use Rattle.drive_port.specs.Contents.{content_at, content_of, contents, is_usable, usage_of}
 use Rattle.drive_port.specs.Drive.{DriveState, IsClosing, IsLawful}
 use Rattle.remount.specs.declared.reported.ReportedZone.{ReportedZone}
@@ -27,6 +30,22 @@ abbrev pub AreReported : Geometry → List Zone → List ReportedZone → Type 0
 AreReported geometry [] [] = Unit {0}
 AreReported geometry (zone ∷ zones) (reported ∷ others) = IsReported geometry zone reported × AreReported geometry zones others
 AreReported geometry zones others = ⊥
+
+-- A descriptor is that of a lawful zone, which has this capacity.
+pub record DescribesZone (geometry : Geometry) (capacity : ℕ) (zone : Zone) (descriptor : Descriptor) : Type 0 where
+  pub capacity_is : capacity ≡ geometry.capacity
+  pub small : capacity < 2 ^ 32
+  pub lawful : IsLawfulZone geometry zone
+  pub number : ℕ
+  pub is : descriptor ≡ descriptor_of geometry number (status_of zone)
+
+-- These bytes are the descriptors of lawful zones, all that a drive has.
+pub record TellsZones (geometry : Geometry) (capacity : ℕ) (zones : List Zone) (bytes : List ℕ) : Type 0 where
+  pub in_range : IsInRange geometry
+  pub capacity_is : capacity ≡ geometry.capacity
+  pub count : length zones ≡ geometry.zones
+  pub lawful : AllByRecursion (IsLawfulZone geometry) zones
+  pub bytes_are : bytes ≡ flat_map descriptor_bytes (matching geometry AnyState 0 zones)
 
 -- These are the zones as they were at a moment of the call: a closing of those before it, which those after it are a closing of.
 pub record ReportsZones (old : DriveState) (reported : List ReportedZone) (new : DriveState) : Type 0 where

@@ -8,5 +8,5 @@ mod scan;
 
 pub use fault::MountFault;
 pub use heads::{Head, ZoneHeads};
-pub use reported::ReportedZone;
+pub use reported::{ReportedZone, report_zones};
 pub use scan::{ScannedZone, scan_zone, scan_zones};

@@ -8,18 +8,17 @@ ghost use Rattle.drive_port.specs.Contents.{content_at, contents, is_full, is_us
 ghost use Rattle.drive_port.specs.Drive.{IsLawful};
 ghost use Rattle.remount.specs.Reported.{IsKnown, KeepsZones};
 ghost use Rattle.remount.specs.Heads.{no_heads, with_heading};
-ghost use Rattle.remount.specs.Scan.{AreKnown, EndsZone, FailsBy, FailsFirst, FailsIn, MeetsHeader, Scans, ScansAll, Takes, TakesNext, block_of, blocks_of, ending_fault, heading_fault, mount_fault};
+ghost use Rattle.remount.specs.Scan.{AreKnown, EndsZone, FailsBy, FailsFirst, FailsIn, MeetsHeader, Scans, ScansAll, Takes, TakesNext, block_of, blocks_of, ending_fault, heading_fault};
 ghost use Rattle.batch_log.specs.Ending.{Ending, ended};
 ghost use Rattle.batch_log.specs.Log.{data_count};
-ghost use Rattle.zone_choice.specs.Changes.{IsHalt};
 ghost use Rattle.zone_choice.specs.ZoneLogs.{readable};
 ghost use Rattle.zone_states.specs.Geometry.{IsInRange};
 
 use crate::fault::MountFault;
 use crate::heads::ZoneHeads;
-use crate::reported::ReportedZone;
+use crate::reported::{ReportedZone, fault_of};
 use batch_log::{HeaderView, LogFault, read_header};
-use drive_port::{Device, PortFault, read};
+use drive_port::{Device, read};
 use nvme_wire::ZoneState;
 use std::alloc::Global;
 use std::collections::BTreeSet;
@@ -30,18 +29,6 @@ pub struct ScannedZone {
     pub heads: ZoneHeads,
     /// Whether a torn tail follows the batches.
     pub is_torn: bool,
-}
-
-/// What a fault of a Read is to a mount. The drive refuses none of its Reads.
-fn fault_of(fault: PortFault) -> MountFault
-    requires { IsHalt fault }
-    ensures { result ≡ mount_fault fault }
-{
-    match fault {
-        PortFault::Memory => MountFault::OutOfMemory,
-        PortFault::Stopped => MountFault::Halted,
-        PortFault::Refused(_) => unreachable!(),
-    }
 }
 
 fn is_full(state: ZoneState) -> bool
