@@ -1,25 +1,27 @@
 -- What stands at the block where the next batch of a zone may begin.
-use Rattle.std.proofs.Common.{◌≡◌, ℕ, suc, ◌+◌, ◌-◌, ◌*◌, ◌/◌, ◌<◌, ◌≤◌, ◌^◌, ◌⊎◌, inl, inr, Bool, true, false, List, [], ◌∷◌, ◌++◌, length, drop, get_or, map, Option, Some, None, Result, Ok, Err, refl, sym, ap, subst, ◌∙◌, arith}
+use Rattle.std.proofs.Common.{◌≡◌, ℕ, suc, ◌+◌, ◌-◌, ◌*◌, ◌/◌, ◌<◌, ◌≤◌, ◌^◌, ◌⊎◌, inl, inr, not, ◌&&◌, nat_lt, Bool, true, false, List, [], ◌∷◌, ◌++◌, length, drop, get_or, map, Option, Some, None, Result, Ok, Err, refl, sym, ap, subst, ◌∙◌, arith}
 use Rattle.std.specs.Prelude.{IfErr, IfOk, OnOk}
 use Rattle.std.specs.Result.{IsErrAnd}
+use Rattle.std.proofs.lemmas.Bool.{lt-ltb}
 use Rattle.std.proofs.lemmas.List.{drop_more, drop_all, length-append, length-drop, length-map}
 use Rattle.std.specs.List.{list_all}
-use Rattle.drive_port.specs.Contents.{content_at, contents, is_full, usage_of}
+use Rattle.zone_states.specs.declared.geometry.Geometry.{Geometry}
+use Rattle.drive_port.specs.Contents.{Content, content_at, contents, is_full, usage_of}
 use Rattle.drive_port.specs.Drive.{DriveState}
 use Rattle.batch_log.specs.declared.fault.LogFault.{LogFault}
 use Rattle.batch_log.specs.declared.fault.LogFault.TheVariants.{ForeignTail, Torn}
 use Rattle.batch_log.specs.Causes.{header_fault, is_zero}
 use Rattle.batch_log.specs.Header.{Heading, IsHeaderBlock, IsNoHeader}
 use Rattle.batch_log.specs.Ending.{Ending, ended, torn, failed, ending_of, foreign_ending}
-use Rattle.batch_log.specs.Log.{BeginsWithNoBatch, data_count}
+use Rattle.batch_log.specs.Log.{BeginsWithNoBatch, IsTail, data_count}
 use Rattle.remount.specs.declared.fault.MountFault.{MountFault}
 use Rattle.remount.specs.declared.fault.MountFault.TheVariants.{Log, OutOfMemory}
 use Rattle.remount.specs.declared.reported.ReportedZone.{ReportedZone}
 use Rattle.remount.specs.Heads.{HeadsView, kept_entry, with_heading}
 use Rattle.remount.specs.Reported.{IsKnown, KeepsZones}
 use Rattle.remount.specs.Scan.{EndsZone, FailsBy, FailsIn, MeetsHeader, Scans, Takes, TakesNext, block_of, blocks_of, ending_fault}
-use Rattle.remount.proofs.ReadLaws.{kept-contents, known-few}
-use Rattle.remount.proofs.TakeLaws.{empty-begins, none-begins, short-begins, takes-all, takes-bad, takes-fault, takes-more}
+use Rattle.remount.proofs.ReadLaws.{kept-blocks, kept-contents, known-few}
+use Rattle.remount.proofs.TakeLaws.{none-begins, short-begins, takes-all, takes-bad, takes-fault, takes-more}
 
 -- ---- faults
 
@@ -98,9 +100,14 @@ small drive zone reported known = at known.geometry.block
     at (inl b) = omega (arith, b)
     at (inr b) = omega (arith, b)
 
+-- a torn tail: a header block, and fewer blocks than its entries need
+torn-tail : (drive : DriveState) (zone : ℕ) (reported : ReportedZone) (block : List ℕ) (others : List (List ℕ)) (heading : Heading) → is_full (content_at (contents drive.zones) zone).usage ≡ false → IsHeaderBlock drive.geometry.block block heading → length others < data_count heading.entries
+    → IsTail drive.geometry.block (is_full (content_at (contents drive.zones) zone).usage) (block ∷ others)
+torn-tail drive zone reported block others heading full header few = rw full (inr (record { heading = heading; body = others; says = header.says; few = few; spelled = ap (λ (b : List ℕ). b ∷ others) header.spelled }))
+
 pub met-next : (drive : DriveState) (zone : ℕ) (reported : ReportedZone) (block : List ℕ) (heading : Heading) (old new : HeadsView) (before seen seen' : List ℕ) (next : Option Bool) → Meets drive zone reported old block heading
     → MeetsHeader zone reported old seen heading (Ok next) new seen' → Takes drive.geometry (content_at (contents drive.zones) zone) before old seen
-    → TakesNext drive.geometry (content_at (contents drive.zones) zone) zone before old next new seen'
+    → TakesNext drive.geometry (content_at (contents drive.zones) zone) before old next new seen'
 met-next drive zone reported block heading old new before seen seen' None m met takes =
     let split = zone-split drive zone old.blocks reported block m.known m.in_range m.block_is in
     let left = left-over drive zone old.blocks reported m.known m.in_range in
@@ -113,9 +120,11 @@ met-next drive zone reported block heading old new before seen seen' (Some t) m 
     let left = left-over drive zone old.blocks reported m.known m.in_range in
     let header : IsHeaderBlock drive.geometry.block block heading = rw m.long at m.header in
     let few : length (drop (old.blocks + 1) (blocks_of drive zone)) < data_count heading.entries = omega (arith, left, met.0) in
-    let none : BeginsWithNoBatch drive.geometry.block (drop old.blocks (blocks_of drive zone)) = rw split (short-begins drive.geometry.block block (drop (old.blocks + 1) (blocks_of drive zone)) heading (small drive zone reported m.known) header few) in
-    let is : torn ≡ ending_of (is_full (content_at (contents drive.zones) zone).usage) (drop old.blocks (blocks_of drive zone)) = rw (split, zone-full drive zone reported m.known, m.sound, met.1) refl in
-    rw (met.3, met.4) (takes-all drive.geometry (content_at (contents drive.zones) zone) zone before seen old torn t none is refl met.2 takes)
+    let full : is_full (content_at (contents drive.zones) zone).usage ≡ false = zone-full drive zone reported m.known ∙ met.1 in
+    let tail = torn-tail drive zone reported block (drop (old.blocks + 1) (blocks_of drive zone)) heading full header few in
+    let told : true ≡ (not (is_full (content_at (contents drive.zones) zone).usage) && nat_lt 0 (length (drop old.blocks (blocks_of drive zone)))) =
+      sym (ap (λ (f : Bool). not f && nat_lt 0 (length (drop old.blocks (blocks_of drive zone)))) full ∙ ap (λ (xs : List (List ℕ)). nat_lt 0 (length xs)) split ∙ lt-ltb 0 (length (block ∷ drop (old.blocks + 1) (blocks_of drive zone))) (omega arith)) in
+    rw (met.2, met.3, met.4) (takes-all drive.geometry (content_at (contents drive.zones) zone) before seen old true (small drive zone reported m.known) (rw split tail) told takes)
 
 pub met-fails : (drive new-drive : DriveState) (zone : ℕ) (reported : ReportedZone) (block : List ℕ) (heading : Heading) (old new : HeadsView) (seen seen' : List ℕ) (fault : MountFault) → Meets drive zone reported old block heading
     → MeetsHeader zone reported old seen heading (Err fault) new seen'
@@ -138,20 +147,33 @@ met-fails drive new-drive zone reported block heading old new seen seen' fault m
 
 -- ---- the ends
 
-pub ended-next : (drive : DriveState) (zone : ℕ) (heads : HeadsView) (before seen : List ℕ) → EndsZone drive zone heads.blocks ended → Takes drive.geometry (content_at (contents drive.zones) zone) before heads seen
-    → Scans drive.geometry (content_at (contents drive.zones) zone) zone before heads false seen
-ended-next drive zone heads before seen ends takes = takes-all drive.geometry (content_at (contents drive.zones) zone) zone before seen heads ended false ends.no_more ends.ending_is refl refl takes
+untorn-told : (full : Bool) (tail : List (List ℕ)) → (full ≡ true) ⊎ (tail ≡ []) → false ≡ (not full && nat_lt 0 (length tail))
+untorn-told full tail (inl is) = rw is refl
+untorn-told true tail (inr none) = refl
+untorn-told false tail (inr none) = rw none refl
+
+-- the batches end in a Full zone
+pub ended-next : (drive : DriveState) (zone : ℕ) (reported : ReportedZone) (heads : HeadsView) (before seen : List ℕ) → IsKnown drive zone reported → is_full (content_at (contents drive.zones) zone).usage ≡ true
+    → IsTail drive.geometry.block (is_full (content_at (contents drive.zones) zone).usage) (drop heads.blocks (blocks_of drive zone))
+    → Takes drive.geometry (content_at (contents drive.zones) zone) before heads seen → Scans drive.geometry (content_at (contents drive.zones) zone) before heads false seen
+ended-next drive zone reported heads before seen known full tail takes =
+    takes-all drive.geometry (content_at (contents drive.zones) zone) before seen heads false (small drive zone reported known) tail (untorn-told (is_full (content_at (contents drive.zones) zone).usage) (drop heads.blocks (blocks_of drive zone)) (inl full)) takes
 
 pub bad-next : (drive : DriveState) (zone : ℕ) (heads : HeadsView) (seen : List ℕ) (fault : MountFault) → ((ending : Ending) × EndsZone drive zone heads.blocks ending × (ending_fault zone heads.blocks ending ≡ Some fault))
     → (before : List ℕ) → Takes drive.geometry (content_at (contents drive.zones) zone) before heads seen → FailsIn drive.geometry (content_at (contents drive.zones) zone) zone before fault
 bad-next drive zone heads seen fault ends before takes = takes-bad drive.geometry (content_at (contents drive.zones) zone) zone before seen heads ends.0 fault ends.1.no_more ends.1.ending_is ends.2 takes
 
 -- all readable blocks are batches
+no-tail : (size : ℕ) (full : Bool) → IsTail size full []
+no-tail size true = refl
+no-tail size false = inl refl
+
 pub all-next : (drive : DriveState) (zone : ℕ) (reported : ReportedZone) (heads : HeadsView) (before seen : List ℕ) → IsKnown drive zone reported → reported.blocks ≤ heads.blocks → Takes drive.geometry (content_at (contents drive.zones) zone) before heads seen
-    → Scans drive.geometry (content_at (contents drive.zones) zone) zone before heads false seen
+    → Scans drive.geometry (content_at (contents drive.zones) zone) before heads false seen
 all-next drive zone reported heads before seen known le takes =
     let none : drop heads.blocks (blocks_of drive zone) ≡ [] = drop_all heads.blocks (blocks_of drive zone) (omega (arith, le, known.blocks)) in
-    takes-all drive.geometry (content_at (contents drive.zones) zone) zone before seen heads ended false (rw none (empty-begins drive.geometry.block)) (rw none refl) refl refl takes
+    takes-all drive.geometry (content_at (contents drive.zones) zone) before seen heads false (small drive zone reported known) (rw none (no-tail drive.geometry.block (is_full (content_at (contents drive.zones) zone).usage)))
+    (untorn-told (is_full (content_at (contents drive.zones) zone).usage) (drop heads.blocks (blocks_of drive zone)) (inr none)) takes
 
 -- ---- as the code has them
 
@@ -162,7 +184,7 @@ meets drive zone offset reported heads items block heading known lt at read long
 
 pub met-ok : (drive : DriveState) (zone : ℕ) (reported : ReportedZone) (block : List ℕ) (heading : Heading) (old new : HeadsView) (seen seen' : List ℕ) (result : Result (Option Bool) MountFault) → Meets drive zone reported old block heading
     → MeetsHeader zone reported old seen heading result new seen'
-    → IfOk result (λ next. (before : List ℕ) → Takes drive.geometry (content_at (contents drive.zones) zone) before old seen → TakesNext drive.geometry (content_at (contents drive.zones) zone) zone before old next new seen')
+    → IfOk result (λ next. (before : List ℕ) → Takes drive.geometry (content_at (contents drive.zones) zone) before old seen → TakesNext drive.geometry (content_at (contents drive.zones) zone) before old next new seen')
 met-ok drive zone reported block heading old new seen seen' (Ok next) m met = λ before takes. met-next drive zone reported block heading old new before seen seen' next m met takes
 met-ok drive zone reported block heading old new seen seen' (Err fault) m met = tt
 
@@ -193,3 +215,16 @@ bad-kept old new last zone offset heads seen fault kept at fails = fails-more _ 
 pub if-fault : {V : Type 0} (r : Result V MountFault) (fault : MountFault) (P : MountFault → Type 0) → IsErrAnd r (λ f. f ≡ fault) → P fault → IfErr r P
 if-fault (Ok value) fault P handed p = tt
 if-fault (Err f) fault P handed p = rw handed p
+
+pub end-ok : (old new : DriveState) (zone offset : ℕ) (reported : ReportedZone) (heads : HeadsView) (before seen : List ℕ) → KeepsZones old new → IsKnown old zone reported → offset ≡ heads.blocks → is_full (usage_of reported.state) ≡ true
+    → IsTail new.geometry.block (is_full (content_at (contents new.zones) zone).usage) (drop offset (blocks_of new zone))
+    → Takes old.geometry (content_at (contents old.zones) zone) before heads seen → Scans old.geometry (content_at (contents old.zones) zone) before heads false seen
+end-ok old new zone offset reported heads before seen kept known at full tail takes =
+    let same = kept-contents old new kept in
+    let blocks = kept-blocks old new zone kept in
+    let there : IsTail old.geometry.block (is_full (content_at (contents old.zones) zone).usage) (drop heads.blocks (blocks_of old zone)) =
+      subst (λ (n : ℕ). IsTail old.geometry.block (is_full (content_at (contents old.zones) zone).usage) (drop n (blocks_of old zone))) at
+      (subst (λ (bs : List (List ℕ)). IsTail old.geometry.block (is_full (content_at (contents old.zones) zone).usage) (drop offset bs)) blocks
+      (subst (λ (x : List Content). IsTail old.geometry.block (is_full (content_at x zone).usage) (drop offset (blocks_of new zone))) same
+      (subst (λ (x : Geometry). IsTail x.block (is_full (content_at (contents new.zones) zone).usage) (drop offset (blocks_of new zone))) kept.geometry tail))) in
+    ended-next old zone reported heads before seen known (zone-full old zone reported known ∙ full) there takes

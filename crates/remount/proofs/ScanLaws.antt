@@ -16,8 +16,8 @@ takes-kept : (first now : DriveState) (zone : ℕ) (before seen : List ℕ) (hea
 takes-kept first now zone before seen heads kept takes = rw (kept.geometry, kept-contents first now kept) takes
 
 pub step-ok : (first now : DriveState) (zone : ℕ) (before seen seen' : List ℕ) (old new : HeadsView) (next : Option Bool) → KeepsZones first now → TakesOn first zone before old seen
-    → ((b : List ℕ) → TakesOn now zone b old seen → TakesNext now.geometry (content_at (contents now.zones) zone) zone b old next new seen')
-    → TakesNext first.geometry (content_at (contents first.zones) zone) zone before old next new seen'
+    → ((b : List ℕ) → TakesOn now zone b old seen → TakesNext now.geometry (content_at (contents now.zones) zone) b old next new seen')
+    → TakesNext first.geometry (content_at (contents first.zones) zone) before old next new seen'
 step-ok first now zone before seen seen' old new next kept takes more =
     let there = more before (takes-kept first now zone before seen old kept takes) in
     rw (kept.geometry, kept-contents first now kept) at there
@@ -33,7 +33,7 @@ step-err first now last zone before seen old fault kept takes fails = fails-more
         rw (kept.geometry, kept-contents first now kept) at here
 
 -- one batch more was taken
-pub taken-next : (first : DriveState) (zone : ℕ) (before seen : List ℕ) (old new : HeadsView) (next : Option Bool) → TakesNext first.geometry (content_at (contents first.zones) zone) zone before old next new seen → ((t : Bool) → next ≡ Some t → ⊥)
+pub taken-next : (first : DriveState) (zone : ℕ) (before seen : List ℕ) (old new : HeadsView) (next : Option Bool) → TakesNext first.geometry (content_at (contents first.zones) zone) before old next new seen → ((t : Bool) → next ≡ Some t → ⊥)
     → TakesOn first zone before new seen × (old.blocks < new.blocks)
 taken-next first zone before seen old new None takes never = takes
 taken-next first zone before seen old new (Some t) takes never = absurd (never t refl)

@@ -1,21 +1,23 @@
 -- The headers of a zone are taken, one after the other.
-use Rattle.std.proofs.Common.{◌≡◌, ℕ, zero, suc, ◌+◌, ◌-◌, ◌<◌, ◌≤◌, ◌^◌, ◌⊎◌, inl, inr, Bool, true, false, List, [], ◌∷◌, ◌++◌, length, take, drop, get_or, Option, Some, None, refl, sym, ap, subst, ◌∙◌, arith, append_assoc, append-nil}
+use Rattle.std.proofs.Common.{◌≡◌, ℕ, zero, suc, ◌+◌, ◌-◌, ◌<◌, ◌≤◌, ◌^◌, ◌⊎◌, inl, inr, not, ◌&&◌, nat_lt, Bool, true, false, List, [], ◌∷◌, ◌++◌, length, take, drop, get_or, Option, Some, None, refl, sym, ap, subst, ◌∙◌, arith, append_assoc, append-nil}
 use Rattle.std.proofs.lemmas.List.{drop_more, length-append, length-drop, length-take}
 use Rattle.std.specs.List.{AllByRecursion, flat_map}
+use Rattle.std.proofs.lemmas.Bool.{le-ltb, lt-ltb}
 use Rattle.std.specs.Ordering.{nat_cmp}
 use Rattle.std.specs.BTreeSet.{insert_key}
 use Rattle.zone_states.specs.declared.geometry.Geometry.{Geometry}
 use Rattle.drive_port.specs.Contents.{Content, is_full}
 use Rattle.batch_log.specs.Header.{Heading, IsHeaderBlock, IsHeading, header_block}
-use Rattle.batch_log.specs.Ending.{Ending, ended, torn, failed, ending_of}
-use Rattle.batch_log.specs.Log.{Batch, BeginsWith, BeginsWithNoBatch, IsBatch, batch_blocks, batch_size, data_count, log_size}
+use Rattle.batch_log.specs.Ending.{Ending, ending_of}
+use Rattle.batch_log.specs.Log.{Batch, BeginsWith, BeginsWithNoBatch, IsBatch, IsLog, IsTail, batch_blocks, batch_size, data_count, log_of, log_size}
 use Rattle.batch_log.proofs.HeaderLaws.{one_header}
-use Rattle.batch_log.proofs.LogLaws.{spelled_length}
+use Rattle.batch_log.proofs.LogLaws.{count_tail, one_log, spelled_length}
 use Rattle.zone_choice.proofs.AllLaws.{all-append}
-use Rattle.zone_choice.specs.ZoneLogs.{readable}
+use Rattle.zone_choice.specs.ZoneLogs.{has_torn_tail, readable, zone_log}
+use Rattle.zone_choice.proofs.ZoneLogLaws.{readable-not_full}
 use Rattle.remount.specs.declared.fault.MountFault.{MountFault}
 use Rattle.remount.specs.Heads.{HeadsView, heads_after, heads_of, no_heads, with_heading}
-use Rattle.remount.specs.Scan.{FailsIn, Scans, Takes, ZoneReading, ending_fault, heading_fault, is_torn, log_fault, or_else, seen_with, zone_fault}
+use Rattle.remount.specs.Scan.{FailsIn, Scans, Takes, ending_fault, heading_fault, log_fault, or_else, seen_with}
 
 -- ---- one batch more
 
@@ -134,19 +136,36 @@ ends geometry content before seen heads t =
     let at : heads.blocks ≡ log_size t.log = ap (λ (v : HeadsView). v.blocks) t.heads_are ∙ blocks-are t.log in
     record { at = at; rest_is = rest-is geometry.block (readable geometry content) t.rest t.log t.front ∙ ap (λ (n : ℕ). drop n (readable geometry content)) (sym at) }
 
-pub takes-all : (geometry : Geometry) (content : Content) (zone : ℕ) (before seen : List ℕ) (heads : HeadsView) (ending : Ending) (torn_is : Bool)
-    → BeginsWithNoBatch geometry.block (drop heads.blocks (readable geometry content)) → ending ≡ ending_of (is_full content.usage) (drop heads.blocks (readable geometry content))
-    → ending_fault zone heads.blocks ending ≡ None → torn_is ≡ is_torn ending
-    → Takes geometry content before heads seen → Scans geometry content zone before heads torn_is seen
-takes-all geometry content zone before seen heads ending torn_is no_more is none told t =
+-- whether a torn tail stands there
+torn-is : (geometry : Geometry) (content : Content) (log : List Batch) (rest : List (List ℕ)) (full told : Bool) → geometry.block < 2 ^ 32 → is_full content.usage ≡ full → BeginsWith geometry.block (readable geometry content) log rest
+    → log_of (readable geometry content) ≡ log → told ≡ (not full && nat_lt 0 (length rest)) → told ≡ has_torn_tail content
+unfolding has_torn_tail
+torn-is geometry content log rest true told small full front one is = rw full is
+torn-is geometry content log rest false told small full front one is =
+    let blocks : readable geometry content ≡ content.blocks = readable-not_full geometry content full in
+    let front' : BeginsWith geometry.block content.blocks log rest = rw blocks at front in
+    let one' : log_of content.blocks ≡ log = rw blocks at one in
+    let count = count_tail geometry.block content.blocks rest log front' one' in
+    rw full (is ∙ at (length rest) (log_size (log_of content.blocks)) (length content.blocks) count)
+  where
+    at : (tail size all : ℕ) → all ≡ size + tail → nat_lt 0 tail ≡ nat_lt size all
+    at zero size all e = sym (le-ltb size all (omega (arith, e)))
+    at (suc n) size all e = lt-ltb 0 (suc n) (omega arith) ∙ sym (lt-ltb size all (omega (arith, e)))
+
+pub takes-all : (geometry : Geometry) (content : Content) (before seen : List ℕ) (heads : HeadsView) (told : Bool) → geometry.block < 2 ^ 32
+    → IsTail geometry.block (is_full content.usage) (drop heads.blocks (readable geometry content)) → told ≡ (not (is_full content.usage) && nat_lt 0 (length (drop heads.blocks (readable geometry content))))
+    → Takes geometry content before heads seen → Scans geometry content before heads told seen
+unfolding zone_log
+takes-all geometry content before seen heads told small tail is t =
     let e = ends geometry content before seen heads t in
+    let log : IsLog geometry.block (is_full content.usage) (readable geometry content) t.log = record { tail = t.rest; front = t.front; end = rw e.rest_is tail } in
+    let one : log_of (readable geometry content) ≡ t.log = one_log geometry.block (is_full content.usage) (readable geometry content) t.log small log in
     record {
-      reading = record { log = t.log; ending = ending };
-      reads = record { tail = t.rest; front = t.front; no_more = rw e.rest_is no_more; ending_is = rw e.rest_is is };
-      none = rw (t.none, ← e.at) none;
-      heads_are = t.heads_are;
-      torn_is = told;
-      seen_are = t.seen_are;
+      has = rw one log;
+      none = rw one t.none;
+      heads_are = rw one t.heads_are;
+      torn_is = torn-is geometry content t.log t.rest (is_full content.usage) told small refl t.front one (rw e.rest_is is);
+      seen_are = rw one t.seen_are;
     }
 
 pub takes-bad : (geometry : Geometry) (content : Content) (zone : ℕ) (before seen : List ℕ) (heads : HeadsView) (ending : Ending) (fault : MountFault)

@@ -9,8 +9,8 @@ ghost use Rattle.drive_port.specs.Drive.{IsLawful};
 ghost use Rattle.remount.specs.Reported.{IsKnown, KeepsZones};
 ghost use Rattle.remount.specs.Heads.{no_heads, with_heading};
 ghost use Rattle.remount.specs.Scan.{AreKnown, EndsZone, FailsBy, FailsFirst, FailsIn, MeetsHeader, Scans, ScansAll, Takes, TakesNext, block_of, blocks_of, ending_fault, heading_fault};
-ghost use Rattle.batch_log.specs.Ending.{Ending, ended};
-ghost use Rattle.batch_log.specs.Log.{data_count};
+ghost use Rattle.batch_log.specs.Ending.{Ending};
+ghost use Rattle.batch_log.specs.Log.{IsTail, data_count};
 ghost use Rattle.zone_choice.specs.ZoneLogs.{readable};
 ghost use Rattle.zone_states.specs.Geometry.{IsInRange};
 
@@ -105,7 +105,7 @@ fn end_at<D: Device>(
     requires cause { header_fault block.old.items ≡ Some cause }
     requires none { IsNoHeader block.old.items }
     requires long { length block.old.items ≡ (D.drive device.old).geometry.block }
-    ensures ok { OnOk result (EndsZone (D.drive device.old) zone offset ended) }
+    ensures ok { OnOk result ((is_full (usage_of reported.state) ≡ true) × IsTail (D.drive device.old).geometry.block (is_full (content_at (contents (D.drive device.old).zones) zone).usage) (drop offset (blocks_of (D.drive device.old) zone))) }
     ensures err { IfErr result (FailsBy (λ fault. (ending : Ending) × EndsZone (D.drive device.old) zone offset ending × (ending_fault zone offset ending ≡ Some fault)) (D.drive device.new)) }
     ensures kept { KeepsZones (D.drive device.old) (D.drive device.new) }
 {
@@ -182,7 +182,7 @@ fn next_head<D: Device>(
     requires few { length heads.old.entries ≤ 508 * heads.old.blocks }
     ensures few { OnOk result (length heads.new.entries ≤ 508 * heads.new.blocks) }
     ensures ok { IfOk result (λ next. (before : List ℕ) → Takes (D.drive device.old).geometry (content_at (contents (D.drive device.old).zones) zone) before heads.old seen.old.keys
-        → TakesNext (D.drive device.old).geometry (content_at (contents (D.drive device.old).zones) zone) zone before heads.old next heads.new seen.new.keys) }
+        → TakesNext (D.drive device.old).geometry (content_at (contents (D.drive device.old).zones) zone) before heads.old next heads.new seen.new.keys) }
     ensures err { IfErr result (FailsBy (λ fault. (before : List ℕ) → Takes (D.drive device.old).geometry (content_at (contents (D.drive device.old).zones) zone) before heads.old seen.old.keys
         → FailsIn (D.drive device.old).geometry (content_at (contents (D.drive device.old).zones) zone) zone before fault) (D.drive device.new)) }
     ensures kept { KeepsZones (D.drive device.old) (D.drive device.new) }
@@ -209,7 +209,7 @@ pub fn scan_zone<D: Device>(
     block: &mut Vec<u8>,
 ) -> Result<ScannedZone, MountFault>
     requires zone { IsKnown (D.drive device.old) zone reported }
-    ensures ok { IfOk result (λ scanned. Scans (D.drive device.old).geometry (content_at (contents (D.drive device.old).zones) zone) zone seen.old.keys scanned.heads scanned.is_torn seen.new.keys) }
+    ensures ok { IfOk result (λ scanned. Scans (D.drive device.old).geometry (content_at (contents (D.drive device.old).zones) zone) seen.old.keys scanned.heads scanned.is_torn seen.new.keys) }
     ensures err { IfErr result (FailsBy (FailsIn (D.drive device.old).geometry (content_at (contents (D.drive device.old).zones) zone) zone seen.old.keys) (D.drive device.new)) }
     ensures kept { KeepsZones (D.drive device.old) (D.drive device.new) }
 {

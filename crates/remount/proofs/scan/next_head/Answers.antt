@@ -1,6 +1,6 @@
 use Rattle.std.proofs.Common.{◌≡◌, ◌+◌, ◌<◌, [], slice_index_or, length, refl, sym, ap, ◌∙◌}
 use Rattle.remount.proofs.ReadLaws.{keeps-both, kept-known, kept-blocks}
-use Rattle.remount.proofs.NextLaws.{bad-kept, ended-next, ends-kept, if-fault, meet-few, meets, met-err, met-few, met-ok}
+use Rattle.remount.proofs.NextLaws.{bad-kept, end-ok, if-fault, meet-few, meets, met-err, met-few, met-ok}
 use Rattle.remount.proofs.scan.next_head.Goals as goal
 
 pub meet_header-requires-clause-few : goal.meet_header-requires-clause-few
@@ -37,7 +37,7 @@ returns-in-Ok-clause-err g c =
 
 pub returns-in_ok-end_at-in-Err-clause-ok : goal.returns-in_ok-end_at-in-Err-clause-ok
 returns-in_ok-end_at-in-Err-clause-ok g c =
-    λ before takes. ended-next (g.D.Device.drive c.args.device.now) c.args.zone c.args.heads.now before _ (ends-kept (g.D.Device.drive c.args.device.now) _ c.args.zone c.blocks-offset.result _ _ c.read_block.ensures.kept c.blocks-offset.ensures c.in_ok-end_at-in-Err.ensures.ok) takes
+    λ before takes. end-ok (g.D.Device.drive c.args.device.now) _ c.args.zone c.blocks-offset.result c.args.reported c.args.heads.now before _ c.read_block.ensures.kept c.requires.zone c.blocks-offset.ensures c.in_ok-end_at-in-Err.ensures.ok.0 c.in_ok-end_at-in-Err.ensures.ok.1 takes
 
 pub returns-in_ok-end_at-in-Err-clause-kept : goal.returns-in_ok-end_at-in-Err-clause-kept
 returns-in_ok-end_at-in-Err-clause-kept g c = keeps-both _ _ _ c.read_block.ensures.kept c.end_at.ensures.kept
