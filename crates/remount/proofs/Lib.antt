@@ -6,3 +6,5 @@ pub mod NextLaws
 pub mod ScanLaws
 pub mod AllScanLaws
 pub mod ReportLaws
+pub mod SoundLaws
+pub mod HeadLaws

@@ -29,7 +29,7 @@ seen-more : (seen : List ℕ) (log : List Batch) (batch : Batch) → seen_with s
 seen-more seen [] batch = refl
 seen-more seen (b ∷ bs) batch = seen-more (insert_key nat_cmp seen b.heading.sequence) bs batch
 
-or-none : (a b : Option MountFault) → or_else a b ≡ None → (a ≡ None) × (b ≡ None)
+pub or-none : (a b : Option MountFault) → or_else a b ≡ None → (a ≡ None) × (b ≡ None)
 or-none None b is = (refl, is)
 or-none (Some a) b is = absurd (cc)
 

@@ -1,3 +1,4 @@
 pub mod Reported
 pub mod Heads
 pub mod Scan
+pub mod Survey

@@ -101,7 +101,7 @@ fn is_move(kind: Kind) -> bool
     }
 }
 
-fn larger(size: Option<u32>, other: Option<u32>) -> Option<u32>
+pub(crate) fn larger(size: Option<u32>, other: Option<u32>) -> Option<u32>
     ensures { result ≡ larger size other }
 {
     let Some(first) = size else {
@@ -135,6 +135,20 @@ impl ZoneHeads {
         ensures { result ≡ self.now.blocks }
     {
         self.blocks
+    }
+
+    /// The greatest size that the headers say, if one says a size.
+    pub fn size(&self) -> Option<u32>
+        ensures { result ≡ self.now.size }
+    {
+        self.size
+    }
+
+    /// The greatest block that is named, 0 where none is.
+    pub fn highest(&self) -> u64
+        ensures { result ≡ self.now.highest }
+    {
+        self.highest
     }
 
     fn source_with(&self, source: u32) -> u32

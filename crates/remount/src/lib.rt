@@ -5,8 +5,10 @@ mod fault;
 mod heads;
 mod reported;
 mod scan;
+mod survey;
 
 pub use fault::MountFault;
 pub use heads::{Head, ZoneHeads};
-pub use reported::{ReportedZone, report_zones};
-pub use scan::{ScannedZone, scan_zone, scan_zones};
+pub use reported::ReportedZone;
+pub use scan::ScannedZone;
+pub use survey::{Survey, survey_drive};
