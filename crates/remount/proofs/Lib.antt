@@ -8,3 +8,4 @@ pub mod AllScanLaws
 pub mod ReportLaws
 pub mod SoundLaws
 pub mod HeadLaws
+pub mod SurveyLaws

@@ -82,6 +82,16 @@ fn greatest_size(scanned: &[ScannedZone]) -> Option<u32>
     size
 }
 
+/// How many logical blocks the drive has: `blocks` where no header says how many.
+fn found_size(scanned: &[ScannedZone], blocks: u32) -> u32
+    ensures { result ≡ size_or blocks (greatest_in (heads_in scanned.now)) }
+{
+    match greatest_size(scanned) {
+        Some(size) => size,
+        None => blocks,
+    }
+}
+
 /// Whether all batches name blocks below a size.
 fn are_below(scanned: &[ScannedZone], size: u32) -> bool
     ensures { IsTrue result ↔ AreBelow size scanned.now }
@@ -131,7 +141,7 @@ pub fn survey_drive<D: Device>(
 {
     let zones = usable_zones(alloc, device, blocks)?;
     let scanned = scan_zones(alloc, device, &zones)?;
-    let size = greatest_size(&scanned).unwrap_or(blocks as u32);
+    let size = found_size(&scanned, blocks as u32);
     if !fits_reserve(&device.geometry(), size as u64) {
         return Err(MountFault::Reserve);
     }
