@@ -1,4 +1,4 @@
-//! Tests of what only a call can show: readers and writers that fail, counts and places. The worked examples,
+//! Tests of what only a call can show: readers and writers that fail, the words of a command line, counts and places. The worked examples,
 //! which `worked_runs` answers, show the rest.
 //!
 //! They stand in a crate of their own, since a crate with tests is proved twice: each library is proved once,
@@ -9,6 +9,8 @@
 mod counts;
 #[cfg(test)]
 mod fakes;
+#[cfg(test)]
+mod jobs;
 #[cfg(test)]
 mod places;
 #[cfg(test)]

@@ -1,5 +1,5 @@
 -- Digits are decoded 64 at a time.
-use Rattle.std.proofs.Common.{◌≡◌, ℕ, zero, suc, ◌+◌, ◌-◌, ◌*◌, ◌%◌, ◌<◌, ◌≤◌, ◌^◌, Bool, true, false, cond, ltb, ◌&&◌, ◌==◌, Fits, List, [], ◌∷◌, ◌++◌, length, map, get_or, drop, take, take-add, append-nil, ◌⊎◌, replicate, Option, Some, None, inl, inr, refl, sym, ap, ◌∙◌, arith, w8}
+use Rattle.std.proofs.Common.{◌≡◌, ℕ, zero, suc, ◌+◌, ◌-◌, ◌*◌, ◌%◌, ◌<◌, ◌≤◌, ◌^◌, Bool, true, false, cond, ltb, ◌&&◌, ◌==◌, Fits, List, [], ◌∷◌, ◌++◌, length, map, get_or, drop, take, take-add, append-nil, ◌⊎◌, replicate, bit_or, Option, Some, None, inl, inr, refl, sym, ap, ◌∙◌, arith, w8}
 use Rattle.std.specs.Option.{unwrap_or}
 use Rattle.std.specs.List.{range_with_len}
 use Rattle.std.specs.Simd.Lanes.{Each1, all_below, chunk, mask_l, put_chunk, sel_l, top, zip2}
@@ -8,7 +8,7 @@ use Rattle.std.proofs.lemmas.Bool.Decides.{nat_tests}
 use Rattle.std.proofs.lemmas.List.{drop_more, drop_all, get_or_append_left, length-map, length-take, length-drop, take-append-drop}
 use Rattle.std.proofs.lemmas.Simd.{chunk-drop, length-chunk, mask_l-mod, take_more_put_chunk, splat_is_map, tops_compared, zip2_of_maps, zip2_splat, zip2_splat_left}
 use Rattle.hex.specs.Hex.{hex_digit_value}
-use Rattle.disk_files.specs.Words.{byte_of, bytes_of, joined, value_or_none, ◌>>=◌}
+use Rattle.disk_files.specs.Words.{byte_of, bytes_of, capped, joined, value_or_none, ◌>>=◌}
 
 -- ---- vectors that were computed lane by lane
 
@@ -31,14 +31,24 @@ less a b = (a + (256 - b)) % 256
 abbrev more : ℕ → ℕ → ℕ
 more a b = (a + b) % 256
 
-abbrev letter : ℕ → ℕ
-letter x = cond (ltb (less x 65) (less x 97)) (less x 65) (less x 97)
+-- the digits 0 to 9 become the greatest ten numbers
+abbrev last_ten : ℕ → ℕ
+last_ten x = less x 58
 
-abbrev letter_or_six : ℕ → ℕ
-letter_or_six x = cond (ltb (letter x) 6) (letter x) 6
+abbrev last_or_six : ℕ → ℕ
+last_or_six x = cond (ltb (last_ten x) 6) 6 (last_ten x)
+
+abbrev number : ℕ → ℕ
+number x = more (less (last_or_six x) 6) 16
+
+abbrev letter : ℕ → ℕ
+letter x = less (bit_or x 32) 97
+
+abbrev letter_below : ℕ → ℕ
+letter_below x = cond (ltb (letter x) 245) (letter x) 245
 
 abbrev value : ℕ → ℕ
-value x = cond (ltb (less x 48) 10) (less x 48) (more (letter_or_six x) 10)
+value x = cond (ltb (number x) (more (letter_below x) 10)) (number x) (more (letter_below x) 10)
 
 both : (a b : Bool) → (a && b) ≡ true → (a ≡ true) × (b ≡ true)
 both true b h = (refl, h)
@@ -56,31 +66,54 @@ every-at p (suc n) i h lt = elim (cases_eq i n) [
   | inr other ↦ every-at p n i (both (p n) (every p n) h).1 (omega arith)
 ]
 
-value-is : (x : ℕ) → x < 256 → value x ≡ value_or_none x
-value-is x fits = eqb-true (value x) (value_or_none x) (every-at (λ y. value y == value_or_none y) 256 x refl fits)
+value-is : (x : ℕ) → x < 256 → capped (value x) ≡ value_or_none x
+value-is x fits = eqb-true (capped (value x)) (value_or_none x) (every-at (λ y. capped (value y) == value_or_none y) 256 x refl fits)
 
 -- the values of 64 digits, as a processor finds them
-map-value : (xs : List ℕ) → Each1 (Fits w8) xs → map value xs ≡ map value_or_none xs
+map-value : (xs : List ℕ) → Each1 (Fits w8) xs → map capped (map value xs) ≡ map value_or_none xs
 map-value [] fits = refl
 map-value (x ∷ xs) fits = rw (value-is x fits.0.fits, map-value xs fits.1) refl
 
+-- the greater and the lesser of two vectors, lane by lane
+abbrev greater : List ℕ → List ℕ → List ℕ
+greater xs ys = sel_l (map (top 7) (zip2 (λ x y. cond (ltb x y) 255 0) xs ys)) ys xs
+
+abbrev lesser : List ℕ → List ℕ → List ℕ
+lesser xs ys = sel_l (map (top 7) (zip2 (λ x y. cond (ltb x y) 255 0) xs ys)) xs ys
+
 -- one operator or comparison of each after the other
 pub values-are : (xs : List ℕ) → length xs ≡ 64 → Each1 (Fits w8) xs
-    → (number upper lower letters bounded : List ℕ) → number ≡ zip2 less xs (replicate 64 48) → upper ≡ zip2 less xs (replicate 64 65) → lower ≡ zip2 less xs (replicate 64 97)
-    → letters ≡ sel_l (map (top 7) (zip2 (λ x y. cond (ltb x y) 255 0) upper lower)) upper lower
-    → bounded ≡ sel_l (map (top 7) (zip2 (λ x y. cond (ltb x y) 255 0) letters (replicate 64 6))) letters (replicate 64 6)
-    → sel_l (map (top 7) (zip2 (λ x y. cond (ltb x y) 255 0) number (replicate 64 10))) number (zip2 more bounded (replicate 64 10)) ≡ map value_or_none xs
-values-are xs long fits number upper lower letters bounded en eu el es eb =
-    let n : number ≡ map (λ x. less x 48) xs = en ∙ zip2_splat less xs 64 48 long in
-    let u : upper ≡ map (λ x. less x 65) xs = eu ∙ zip2_splat less xs 64 65 long in
-    let l : lower ≡ map (λ x. less x 97) xs = el ∙ zip2_splat less xs 64 97 long in
-    let s : letters ≡ map letter xs = es ∙ chosen ltb _ _ _ _ xs u l u l in
+    → (tens bounded numbers letters small : List ℕ) → tens ≡ zip2 less xs (replicate 64 58) → bounded ≡ zip2 less (greater tens (replicate 64 6)) (replicate 64 6)
+    → numbers ≡ zip2 more bounded (replicate 64 16) → letters ≡ zip2 less (zip2 bit_or xs (replicate 64 32)) (replicate 64 97)
+    → small ≡ zip2 more (lesser letters (replicate 64 245)) (replicate 64 10)
+    → map capped (lesser numbers small) ≡ map value_or_none xs
+values-are xs long fits tens bounded numbers letters small et eb en el es =
     let six : replicate 64 6 ≡ map (λ _. 6) xs = splat_is_map xs 64 6 long in
+    let highest : replicate 64 245 ≡ map (λ _. 245) xs = splat_is_map xs 64 245 long in
     let ten : replicate 64 10 ≡ map (λ _. 10) xs = splat_is_map xs 64 10 long in
-    let b : bounded ≡ map letter_or_six xs = eb ∙ chosen ltb _ _ _ _ xs s six s six in
-    chosen ltb _ _ _ _ xs n ten n (zip2_of_maps more _ _ xs b ten) ∙ map-value xs fits
+    let sixteen : replicate 64 16 ≡ map (λ _. 16) xs = splat_is_map xs 64 16 long in
+    let first : replicate 64 97 ≡ map (λ _. 97) xs = splat_is_map xs 64 97 long in
+    let t : tens ≡ map last_ten xs = et ∙ zip2_splat less xs 64 58 long in
+    let b : bounded ≡ map (λ x. less (last_or_six x) 6) xs = eb ∙ zip2_of_maps less _ _ xs (chosen ltb _ _ _ _ xs t six six t) six in
+    let n : numbers ≡ map number xs = en ∙ zip2_of_maps more _ _ xs b sixteen in
+    let l : letters ≡ map letter xs = el ∙ zip2_of_maps less _ _ xs (zip2_splat bit_or xs 64 32 long) first in
+    let s : small ≡ map (λ x. more (letter_below x) 10) xs = es ∙ zip2_of_maps more _ _ xs (chosen ltb _ _ _ _ xs l highest l highest) ten in
+    rw (chosen ltb _ _ _ _ xs n s n s) (map-value xs fits)
 
 -- ---- whether all are values of digits
+
+pub all_below-capped : (vs : List ℕ) → all_below 16 (map capped vs) ≡ all_below 16 vs
+all_below-capped [] = refl
+all_below-capped (v ∷ vs) = elim (cases_lt v 16) [
+  | inl below ↦ grind (arith, nat_tests, all_below-capped vs)
+  | inr above ↦ grind (arith, nat_tests, all_below-capped vs)
+]
+
+pub capped-below : (vs : List ℕ) → all_below 16 vs ≡ true → map capped vs ≡ vs
+capped-below [] good = refl
+capped-below (v ∷ vs) good =
+    let each = both (ltb v 16) (all_below 16 vs) good in
+    rw (each.0, capped-below vs each.1) refl
 
 pub all_below-bits : (vs : List ℕ) → (mask_l (map (λ v. ltb 15 v) vs) == 0) ≡ all_below 16 vs
 all_below-bits [] = refl

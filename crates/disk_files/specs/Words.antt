@@ -57,6 +57,10 @@ byte_of (high ∷ low ∷ more ∷ rest) = None
 abbrev pub value_or_none : ℕ → ℕ
 value_or_none digit = unwrap_or (hex_digit_value digit) 16
 
+-- the same where all values from 16 on stand for none
+abbrev pub capped : ℕ → ℕ
+capped value = if nat_lt value 16 then value else 16
+
 -- the bytes of pairs of digits with these values
 abbrev pub joined : List ℕ → List ℕ
 joined [] = []

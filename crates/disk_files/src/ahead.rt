@@ -18,7 +18,7 @@ pub enum Part {
 }
 
 /// How many bytes are read ahead at most.
-const ROOM: usize = 65_536;
+const ROOM: usize = 16_384;
 
 /// Bytes that were read ahead.
 #[derive(Drop)]

@@ -1,6 +1,6 @@
 ghost use Rattle.std.specs.Prelude.{◌≡◌, ◌*◌, Some, None, length, map, true, false};
 ghost use Rattle.std.specs.Simd.Lanes.{all_below};
-ghost use Rattle.disk_files.specs.Words.{bytes_of, joined, value_or_none};
+ghost use Rattle.disk_files.specs.Words.{bytes_of, capped, joined, value_or_none};
 
 use std::simd::prelude::*;
 
@@ -16,17 +16,17 @@ const SECOND: [usize; 32] = [
     51, 53, 55, 57, 59, 61, 63,
 ];
 
-/// The value of each hexadecimal digit, of either case; 16 for a byte that is none. Differences of lanes wrap:
-/// that of a byte below the first digit or letter is large.
+/// The value of each hexadecimal digit, of either case; 16 or more for a byte that is none. Sums and
+/// differences of lanes wrap: the digits 0 to 9 become the greatest ten numbers, and a byte below the first
+/// letter a large one.
 #[inline(always)]
 fn values(digits: u8x64) -> u8x64
-    ensures { result ≡ map value_or_none digits }
+    ensures { map capped result ≡ map value_or_none digits }
 {
-    let number = digits - u8x64::splat(b'0');
-    let upper = digits - u8x64::splat(b'A');
-    let lower = digits - u8x64::splat(b'a');
-    let letter = upper.simd_min(lower).simd_min(u8x64::splat(6)) + u8x64::splat(10);
-    number.simd_lt(u8x64::splat(10)).select(number, letter)
+    let last_ten = digits - u8x64::splat(b'9' + 1);
+    let number = last_ten.saturating_sub(u8x64::splat(6)) + u8x64::splat(16);
+    let letter = (digits | u8x64::splat(0x20)) - u8x64::splat(b'a');
+    number.simd_min(letter.simd_min(u8x64::splat(245)) + u8x64::splat(10))
 }
 
 /// Whether all of these are values of digits.

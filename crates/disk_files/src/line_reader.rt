@@ -38,7 +38,7 @@ impl From<AllocError> for LineFault {
     }
 }
 
-/// Reads the lines of a reader, up to 64 KiB at a time. It is seen as the bytes that are left to read, where
+/// Reads the lines of a reader, up to 16 KiB at a time. It is seen as the bytes that are left to read, where
 /// those are known.
 #[derive(Drop)]
 pub struct LineReader<R: Read + Drop> {

@@ -7,9 +7,10 @@ ghost use Rattle.std.specs.Prelude.{◌≡◌, ◌*◌, OnOk, length};
 ghost use Rattle.drive_port.specs.Calls.{block_count};
 
 use drive_port::{Device, Geometry};
+use std::alloc::Global;
 use std::io;
-use zone_drive::Drive;
-use zone_translator::{Disk, DiskFault, written_reads_back};
+use zone_drive::{Drive, DriveFault};
+use zone_translator::{Disk, DiskFault, MountFault, written_reads_back};
 
 /// Four zones of 6 blocks of 512 bytes, in steps of 8 addresses.
 const GEOMETRY: Geometry = Geometry {
@@ -43,21 +44,38 @@ fn write_and_read<D: Device + Drop>(
     disk.read(first, blocks, shown)
 }
 
-fn main(rt: HostRuntime) -> io::Result<()> {
-    let alloc = rt.alloc();
+/// Why the blocks were not written and read back.
+#[derive(Clone, Copy, Debug)]
+enum Fault {
+    Drive(DriveFault),
+    Mount(MountFault),
+    Disk(DiskFault),
+}
+
+/// Makes a drive, mounts it as a disk, writes three blocks, and reads them back into `shown`. Gives how many
+/// commands the drive has completed.
+fn use_disk(alloc: Global, shown: &mut Vec<u8>) -> Result<u64, Fault> {
     let drive = match Drive::new(alloc, GEOMETRY) {
         Ok(drive) => drive,
-        Err(fault) => return println!(rt; "no drive: {fault:?}"),
+        Err(fault) => return Err(Fault::Drive(fault)),
     };
     let mut disk = match Disk::mount(alloc, drive, BLOCKS) {
         Ok(disk) => disk,
-        Err((fault, _drive)) => return println!(rt; "not mounted: {fault:?}"),
+        Err((fault, _drive)) => return Err(Fault::Mount(fault)),
     };
-    let mut shown = Vec::new(alloc);
-    match write_and_read(&mut disk, 2, 3, &[0xaa; 3 * 512], &mut shown) {
-        Ok(()) => println!(rt; "{} bytes were written and read back", shown.len())?,
-        Err(fault) => println!(rt; "refused: {fault:?}")?,
+    match write_and_read(&mut disk, 2, 3, &[0xaa; 3 * 512], shown) {
+        Ok(()) => Ok(disk.into_device().completed()),
+        Err(fault) => Err(Fault::Disk(fault)),
     }
-    let zones = disk.into_device();
-    println!(rt; "{} commands were completed", zones.completed())
+}
+
+fn main(rt: HostRuntime) -> io::Result<()> {
+    let mut shown = Vec::new(rt.alloc());
+    match use_disk(rt.alloc(), &mut shown) {
+        Ok(commands) => {
+            println!(rt; "{} bytes were written and read back", shown.len())?;
+            println!(rt; "{commands} commands were completed")
+        }
+        Err(fault) => println!(rt; "refused: {fault:?}"),
+    }
 }

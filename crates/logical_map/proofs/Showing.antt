@@ -6,12 +6,7 @@ use Rattle.std.proofs.lemmas.List.FromFn.{fill_by_all, length-map-range_with_len
 use Rattle.std.proofs.lemmas.Bool.{cases_eq, cases_lt}
 use Rattle.logical_map.specs.declared.place.Place.{Place}
 use Rattle.logical_map.specs.declared.place.Place.TheVariants as places
-use Rattle.std.specs.Prelude.{Box}
-use Rattle.std.specs.declared.alloc.Global.{Global}
-use Rattle.std.specs.Ordering.{nat_cmp}
-use Rattle.std.specs.BTreeMap.{is_at}
 use Rattle.std.proofs.lemmas.Bool.{false≢true}
-use Rattle.std.proofs.lemmas.Bool.Decides.{nat_tests}
 use Rattle.logical_map.specs.Places.{Grows, MapView, Reserves}
 use Rattle.logical_map.specs.Pages.{HasNoneFrom, place_in, place_of, shown, ready}
 
@@ -136,16 +131,9 @@ sets page page' n zones size block p place h long old new others = both (shown p
     both : (a a' : List Place) (b b' : List Bool) → a ≡ a' → b ≡ b' → made a b zones size ≡ made a' b' zones size
     both a a' b b' e f = rw (e, f) refl
 
-pub is_at-other : (a m : ℕ) → m ≢ a → is_at (nat_cmp a) m ≡ false
-is_at-other a m h = grind (arith, nat_tests)
-
-pub there-from : (o : Option (Box (List ℕ) Global)) → true ≡ is_some o → is_some (option_map (λ b. map place_of b.value) o) ≡ true
-there-from Option.None e = sym e
-there-from (Some b) e = refl
-
-pub missing-from : (o : Option (Box (List ℕ) Global)) → false ≡ is_some o → option_map (λ b. map place_of b.value) o ≡ Option.None
+pub missing-from : (o : Option (List Place)) → false ≡ is_some o → o ≡ Option.None
 missing-from Option.None e = refl
-missing-from (Some b) e = absurd (false≢true e)
+missing-from (Some p) e = absurd (false≢true e)
 
 -- ---- no places past the end
 

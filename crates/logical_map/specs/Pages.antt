@@ -1,10 +1,8 @@
 -- Pages of places, seen as one list: a page that is missing holds no place.
-use Rattle.std.specs.Prelude.{◌≡◌, ℕ, ◌≤◌, ◌-◌, ◌/◌, ◌%◌, ◌==◌, if◌then◌else◌, Bool, List, map, slice_index_or, Option, Box}
+use Rattle.std.specs.Prelude.{◌≡◌, ◌≢◌, ℕ, ◌≤◌, ◌-◌, ◌/◌, ◌%◌, ◌==◌, if◌then◌else◌, Bool, List, length, map, replicate, slice_index_or, slice_set, Option, None, Some, Box}
 use Rattle.std.specs.declared.alloc.Global.{Global}
 use Rattle.std.specs.List.{range_with_len}
 use Rattle.std.specs.Option.{unwrap_or, option_map, is_some}
-use Rattle.std.specs.Ordering.{nat_cmp}
-use Rattle.std.specs.BTreeMap.{BTreeMap, get}
 use Rattle.logical_map.specs.declared.place.Place.{Place}
 use Rattle.logical_map.specs.declared.place.Place.TheVariants as places
 
@@ -24,9 +22,28 @@ shown page n = map (place_in page) (range_with_len 0 n)
 abbrev pub HasNoneFrom : (ℕ → Option (List Place)) → ℕ → Type 0
 HasNoneFrom page end = (block : ℕ) → end ≤ block → place_in page block ≡ places.None
 
--- a map's page, by a look-up of its number
-abbrev pub page_of : BTreeMap ℕ (Box (List ℕ) Global) → ℕ → Option (List Place)
-page_of pages number = option_map (λ b. map place_of b.value) (get nat_cmp pages number)
+-- a page by its number; one past the end is missing
+abbrev pub page_of : List (Option (Box (List ℕ) Global)) → ℕ → Option (List Place)
+page_of pages number = option_map (λ b. map place_of b.value) (slice_index_or pages number None)
+
+-- a page is there in which no block has a place, and the others stayed
+pub record MakesPage (old : ℕ → Option (List Place)) (number : ℕ) (new : ℕ → Option (List Place)) : Type 0 where
+  pub made : new number ≡ Some (replicate 256 places.None)
+  pub others : (m : ℕ) → m ≢ number → new m ≡ old m
+
+-- a block's place was changed in its page, and the other pages stayed
+pub record ChangesPage (old : ℕ → Option (List Place)) (block : ℕ) (place was : Place) (new : ℕ → Option (List Place)) : Type 0 where
+  pub page : List Place
+  pub long : length page ≡ 256
+  pub found : old (block / 256) ≡ Some page
+  pub was_is : was ≡ slice_index_or page (block % 256) places.None
+  pub set : new (block / 256) ≡ Some (slice_set page (block % 256) place)
+  pub others : (m : ℕ) → m ≢ block / 256 → new m ≡ old m
+
+-- what changing a block's place answers: the old one, or none where its page is missing
+abbrev pub Changes : (ℕ → Option (List Place)) → ℕ → Place → Option Place → (ℕ → Option (List Place)) → Type 0
+Changes old block place None new = old (block / 256) ≡ None
+Changes old block place (Some was) new = ChangesPage old block place was new
 
 -- whether a block's page is there
 abbrev pub ready : (ℕ → Option (List Place)) → ℕ → List Bool

@@ -104,7 +104,7 @@ impl ZoneList {
     /// no memory.
     pub fn tidy(&mut self, pages: &Pages, zone_size: u32, zone: u64)
         ensures whole { self.new.whole ≡ self.old.whole }
-        ensures kept { (block : _) → lies_in zone_size zone (place_in (page_of pages.now) block) ≡ true → Contains self.old.blocks block → Contains self.new.blocks block }
+        ensures kept { (block : _) → lies_in zone_size zone (place_in (page_of pages.now.items) block) ≡ true → Contains self.old.blocks block → Contains self.new.blocks block }
     {
         self.sorted = false;
         self.blocks
@@ -160,7 +160,7 @@ pub fn shorten(
     was: Option<u64>,
     zone: Option<u64>,
 )
-    ensures { Shortens (page_of pages.now) zone_size lists.old.items lists.new.items }
+    ensures { Shortens (page_of pages.now.items) zone_size lists.old.items lists.new.items }
 {
     if was == zone {
         return;

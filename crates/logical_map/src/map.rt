@@ -7,10 +7,9 @@ ghost use Rattle.logical_map.specs.Places.{ArePlacedReady, Grows, IsReady, Reser
 ghost use Rattle.logical_map.specs.declared.place.Place.TheVariants as places;
 
 use crate::lists::{ZoneList, first_from, is_whole, make_lists, note, shorten};
-use crate::pages::{PAGE, Pages, lies_in, place_at, zone_of};
+use crate::pages::{PAGE, Pages, change, has_page, lies_in, make_page, place_at, zone_of};
 use crate::place::Place;
 use std::alloc::{AllocError, Global};
-use std::collections::BTreeMap;
 use std::marker::Model;
 
 /// Where each of a number of logical blocks lies, on a drive of `zones` zones with `zone_size` addresses
@@ -39,9 +38,9 @@ impl Model for Map {
 
     ghost Value = { MapView };
 
-    ghost view = { λ m. record { places = shown (page_of m.pages) m.count; ready = ready (page_of m.pages) m.count; zones = m.zones; zone_size = m.zone_size } };
+    ghost view = { λ m. record { places = shown (page_of m.pages.items) m.count; ready = ready (page_of m.pages.items) m.count; zones = m.zones; zone_size = m.zone_size } };
 
-    ghost invariant = { λ m. IsKept (page_of m.pages) m.count m.zones m.zone_size m.counts.items × AreListed (page_of m.pages) m.zone_size m.lists.items };
+    ghost invariant = { λ m. IsKept (page_of m.pages.items) m.count m.zones m.zone_size m.counts.items × AreListed (page_of m.pages.items) m.zone_size m.lists.items };
 }
 
 impl Map {
@@ -57,7 +56,7 @@ impl Map {
             zones,
             zone_size,
             alloc,
-            pages: BTreeMap::new(alloc),
+            pages: Vec::new(alloc),
             counts: Vec::new(alloc),
             lists: Vec::new(alloc),
         }
@@ -96,12 +95,11 @@ impl Map {
         ensures err { OnErr result (self.new ≡ self.old) }
     {
         let page = block / PAGE;
-        if self.pages.contains_key(&page) {
+        if has_page(&self.pages, page) {
             return Ok(());
         }
         self.counts.resize(self.zones as usize, 0)?;
-        let fresh = Box::new(self.alloc, [0; 256])?;
-        self.pages.insert(page, fresh)?;
+        make_page(self.alloc, &mut self.pages, page)?;
         Ok(())
     }
 
@@ -128,10 +126,9 @@ impl Map {
         ensures set { self.new ≡ record self.old { places = slice_set self.old.places block place } }
         ensures old { result ≡ slice_index_or self.old.places block places.None }
     {
-        let Some(page) = self.pages.get_mut(&(block / PAGE)) else {
+        let Some(old) = change(&mut self.pages, block, place) else {
             return Place::None;
         };
-        let old = put(page, (block % PAGE) as usize, place);
         let was = zone_of(self.zone_size, old);
         let zone = zone_of(self.zone_size, place);
         lower(&mut self.counts, was);
@@ -211,7 +208,7 @@ fn first_listed(
     blocks: &[u32],
     first: usize,
 ) -> Option<usize>
-    ensures { FindsThere (page_of pages.now) zone_size zone blocks.now first result }
+    ensures { FindsThere (page_of pages.now.items) zone_size zone blocks.now first result }
 {
     for position in first..blocks.len() {
         if lies_in(zone_size, zone as u64, place_at(pages, blocks[position])) {
@@ -223,7 +220,7 @@ fn first_listed(
 
 /// The first block from `from` to before `count` that lies in a zone.
 fn first_placed(pages: &Pages, zone_size: u32, zone: u32, from: u32, count: u32) -> Option<u32>
-    ensures { FindsBlock (page_of pages.now) zone_size zone from count result }
+    ensures { FindsBlock (page_of pages.now.items) zone_size zone from count result }
 {
     for block in from..count {
         if lies_in(zone_size, zone as u64, place_at(pages, block)) {
@@ -258,17 +255,4 @@ fn raise(counts: &mut Vec<u32>, zone: Option<u64>)
         return;
     }
     counts[zone as usize] += 1;
-}
-
-/// Writes one place of a page, and answers the old one.
-fn put(page: &mut [u64; 256], index: usize, place: Place) -> Place
-    requires in_range { index < 256 }
-    requires fits { address_of place + 1 < 2 ^ 63 }
-    ensures old { result ≡ slice_index_or (map place_of page.old) index places.None }
-    ensures set { map place_of page.new ≡ slice_set (map place_of page.old) index place }
-    ensures long { length page.old ≡ 256 }
-{
-    let old = Place::from_word(page[index]);
-    page[index] = place.word();
-    old
 }

@@ -40,8 +40,8 @@ fn call_of(line: &[u8], bytes: &mut Vec<u8>) -> Result<TraceLine, ScriptFault> {
     }
 }
 
-fn write_call(
-    disk: &mut Disk<Bench>,
+fn write_call<D: Device + Drop>(
+    disk: &mut Disk<D>,
     first: u64,
     bytes: &[u8],
 ) -> Result<Result<(), DiskFault>, ScriptFault> {
@@ -51,7 +51,7 @@ fn write_call(
     Ok(disk.write(first, bytes))
 }
 
-fn idle_calls(disk: &mut Disk<Bench>, turns: u32) -> Result<(), DiskFault> {
+fn idle_calls<D: Device + Drop>(disk: &mut Disk<D>, turns: u32) -> Result<(), DiskFault> {
     for _ in 0..turns {
         disk.idle()?;
     }
@@ -59,8 +59,8 @@ fn idle_calls(disk: &mut Disk<Bench>, turns: u32) -> Result<(), DiskFault> {
 }
 
 // Makes the calls of a line, and puts what they show into `shown`.
-fn disk_call(
-    disk: &mut Disk<Bench>,
+fn disk_call<D: Device + Drop>(
+    disk: &mut Disk<D>,
     line: &[u8],
     bytes: &mut Vec<u8>,
     shown: &mut Vec<u8>,
@@ -111,6 +111,10 @@ fn show_disk_call(
     Ok(())
 }
 
+fn report_of<D: Device + Drop>(disk: &mut Disk<D>) -> Result<Vec<u8>, DiskFault> {
+    disk.report()
+}
+
 // Asks the disk for a report of all zones, and shows the commands that were sent and the report.
 fn show_disk_report(
     alloc: Global,
@@ -118,7 +122,7 @@ fn show_disk_report(
     calls: &mut Calls,
     out: &mut String,
 ) -> Result<(), ScriptFault> {
-    let answer = disk.report();
+    let answer = report_of(disk);
     calls.sent = show_new(alloc, disk.device().entries(), calls.sent, out)?;
     match answer {
         Ok(report) => {
@@ -191,6 +195,17 @@ fn show_refused_mount(
     show_unreached(lines, out)
 }
 
+// Makes the calls of each line, and gives the drive back.
+fn show_mounted(
+    alloc: Global,
+    mut disk: Disk<Bench>,
+    lines: &[&str],
+    out: &mut String,
+) -> (Bench, Result<(), ScriptFault>) {
+    let result = show_disk_calls(alloc, &mut disk, lines, out);
+    (disk.into_device(), result)
+}
+
 /// Mounts the drive as a disk, and makes the calls of each line, also after a refusal. The line `report`
 /// asks it for a report of all zones, `place L` where block `L` lies, `live I` how many blocks lie in zone `I`.
 pub fn show_disk(
@@ -202,16 +217,15 @@ pub fn show_disk(
     out: &mut String,
 ) -> Result<World, ScriptFault> {
     let bench = bench_of(alloc, world, setting)?;
-    match Disk::mount(alloc, bench, blocks) {
-        Ok(mut disk) => {
-            show_disk_calls(alloc, &mut disk, lines, out)?;
-            world_of(alloc, world.geometry, disk.into_device())
-        }
+    let (bench, result) = match Disk::mount(alloc, bench, blocks) {
+        Ok(disk) => show_mounted(alloc, disk, lines, out),
         Err((fault, bench)) => {
-            show_refused_mount(alloc, fault, &bench, lines, out)?;
-            world_of(alloc, world.geometry, bench)
+            let result = show_refused_mount(alloc, fault, &bench, lines, out);
+            (bench, result)
         }
-    }
+    };
+    result?;
+    world_of(alloc, world.geometry, bench)
 }
 
 // What a typed call answers.
@@ -238,44 +252,44 @@ fn numbered(answer: Result<u64, PortFault>) -> Answer {
     }
 }
 
-fn append_call(alloc: Global, bench: &mut Bench, start: u64, bytes: &[u8]) -> Answer {
-    let block = bench.geometry().block as usize;
+fn append_call<D: Device>(alloc: Global, device: &mut D, start: u64, bytes: &[u8]) -> Answer {
+    let block = device.geometry().block as usize;
     if block == 0 || bytes.is_empty() || bytes.len() % block != 0 || bytes.len() / block > 65536 {
         return Answer::None;
     }
-    numbered(append(alloc, bench, start, bytes))
+    numbered(append(alloc, device, start, bytes))
 }
 
-fn read_call(bench: &mut Bench, slba: u64, blocks: u32, data: &mut Vec<u8>) -> Answer {
+fn read_call<D: Device>(device: &mut D, slba: u64, blocks: u32, data: &mut Vec<u8>) -> Answer {
     if blocks < 1 || blocks > 65536 {
         return Answer::None;
     }
-    done(read(bench, slba, blocks, data))
+    done(read(device, slba, blocks, data))
 }
 
-fn send_call(alloc: Global, bench: &mut Bench, start: u64, action: Action) -> Answer {
+fn send_call<D: Device>(alloc: Global, device: &mut D, start: u64, action: Action) -> Answer {
     match action {
-        Action::Close => done(close(alloc, bench, start)),
-        Action::Finish => done(finish(alloc, bench, start)),
-        Action::Reset => done(reset(alloc, bench, start)),
+        Action::Close => done(close(alloc, device, start)),
+        Action::Finish => done(finish(alloc, device, start)),
+        Action::Reset => done(reset(alloc, device, start)),
         Action::Open | Action::Offline => Answer::None,
     }
 }
 
-fn typed_call(
+fn typed_call<D: Device>(
     alloc: Global,
-    bench: &mut Bench,
+    device: &mut D,
     request: &Request,
     is_count: bool,
     data: &mut Vec<u8>,
 ) -> Answer {
     data.clear();
     match Command::decode(&request.entry) {
-        Ok(Command::Append { zslba, .. }) => append_call(alloc, bench, zslba, &request.bytes),
-        Ok(Command::Read { slba, blocks }) => read_call(bench, slba, blocks, data),
-        Ok(Command::Send { slba, action, .. }) => send_call(alloc, bench, slba, action),
+        Ok(Command::Append { zslba, .. }) => append_call(alloc, device, zslba, &request.bytes),
+        Ok(Command::Read { slba, blocks }) => read_call(device, slba, blocks, data),
+        Ok(Command::Send { slba, action, .. }) => send_call(alloc, device, slba, action),
         Ok(Command::Receive { options, .. }) if is_count => {
-            numbered(count_zones(bench, options, data))
+            numbered(count_zones(device, options, data))
         }
         Ok(
             Command::Receive {
@@ -288,7 +302,7 @@ fn typed_call(
             if dwords < 16 || dwords > 1 << 32 {
                 return Answer::None;
             }
-            done(report(bench, slba, options, partial, dwords, data))
+            done(report(device, slba, options, partial, dwords, data))
         }
         _ => Answer::None,
     }

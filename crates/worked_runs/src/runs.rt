@@ -31,6 +31,20 @@ pub struct Ran {
     pub bench: Bench,
 }
 
+// Runs a text of lines over a device, and gives it back.
+fn run_over<D: Device + Drop>(
+    alloc: Global,
+    device: D,
+    lines: Lines,
+    text: &[u8],
+    replies: &mut Vec<u8>,
+) -> (D, Result<(), RunFault>) {
+    match lines {
+        Lines::Trace(blocks) => run_trace(alloc, text, replies, device, blocks),
+        Lines::Raw | Lines::Commands => run_raw(alloc, text, replies, device),
+    }
+}
+
 /// Runs a text of lines over a drive that holds what `world` says.
 pub fn run(
     alloc: Global,
@@ -41,10 +55,7 @@ pub fn run(
 ) -> Result<Ran, ScriptFault> {
     let bench = bench_of(alloc, world, setting)?;
     let mut replies = Vec::new(alloc);
-    let (bench, result) = match lines {
-        Lines::Trace(blocks) => run_trace(alloc, text, &mut replies, bench, blocks),
-        Lines::Raw | Lines::Commands => run_raw(alloc, text, &mut replies, bench),
-    };
+    let (bench, result) = run_over(alloc, bench, lines, text, &mut replies);
     Ok(Ran {
         replies,
         result,

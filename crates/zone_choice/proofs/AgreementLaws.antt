@@ -23,7 +23,7 @@ use Rattle.zone_choice.specs.Spare.{HasSpare}
 use Rattle.zone_choice.specs.ZoneLogs.{HasLog, has_torn_tail, log_at, sequences, spelled_array, zone_log, zone_logs, zone_tails}
 use Rattle.zone_choice.specs.Mountable.{AreSound, IsMountable, is_partly_written}
 use Rattle.zone_choice.specs.Roles.{RolesView, closed_unless, empty_count, fillings, is_empty_at, is_filling_at, taken, wrote}
-use Rattle.zone_choice.specs.Tables.{MakesRoom, TablesView, size_of}
+use Rattle.zone_choice.specs.Tables.{SameButReady, TablesView, size_of}
 use Rattle.zone_choice.specs.Agreement.{Agrees, HoldsFilling, Mounted, RolesAgree, drive_logs, mounted, spelled}
 use Rattle.zone_choice.specs.Laws.{IsNext, Writes}
 use Rattle.zone_choice.proofs.AllLaws.{all-at, all-weaker}
@@ -338,7 +338,7 @@ spare-taken roles zone lt here two =
     omega (arith, fewer, two)
 
 -- the same tables, with more room
-pub agrees_room : (drive : DriveState) (old new : TablesView) → MakesRoom old new → Agrees (mounted drive old) → Agrees (mounted drive new)
+pub agrees_room : (drive : DriveState) (old new : TablesView) → SameButReady old new → Agrees (mounted drive old) → Agrees (mounted drive new)
 agrees_room drive old new room agrees = record {
   geometry = agrees.geometry;
   reserve = rw room.places agrees.reserve;

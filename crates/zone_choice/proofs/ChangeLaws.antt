@@ -28,7 +28,7 @@ use Rattle.zone_choice.specs.Changes.{AppendLeaves, CanPlace, IsHalt, KeepsArray
 use Rattle.zone_choice.specs.Records.{append_log, batch_records, entry_records, over, place, record_of, shown}
 use Rattle.zone_choice.specs.Roles.{RolesView, closed, fillings, second_with, wrote}
 use Rattle.zone_choice.specs.Sizes.{extended, size_or}
-use Rattle.zone_choice.specs.Tables.{GrowsTo, MakesRoom, TablesView, size_of}
+use Rattle.zone_choice.specs.Tables.{GrowsTo, SameButReady, TablesView, size_of}
 use Rattle.zone_choice.proofs.AgreementLaws.{AppendsBatch, IsPlaced, agrees_append, agrees_room, agrees_same, length-extended, size-placed, spelled_append, spelled_same, tables_after, written_in}
 use Rattle.zone_choice.proofs.AllLaws.{all-weaker}
 use Rattle.zone_choice.proofs.BuilderLaws.{placed-over, with_places}
@@ -82,7 +82,7 @@ keeps-join a b c p q = record {
 }
 
 -- the tables have more room
-pub keeps-room : (drive : DriveState) (old new : TablesView) → MakesRoom old new → Agrees (mounted drive old) → KeepsArray (mounted drive old) (mounted drive new)
+pub keeps-room : (drive : DriveState) (old new : TablesView) → SameButReady old new → Agrees (mounted drive old) → KeepsArray (mounted drive old) (mounted drive new)
 keeps-room drive old new room agrees = record {
   agrees = agrees_room drive old new room agrees;
   logs = refl;

@@ -37,7 +37,7 @@ abbrev pub AreReserved : MapView → ℕ → ℕ → Type 0
 AreReserved map first count = (block : ℕ) → first ≤ block → block < first + count → IsReady map block
 
 -- which blocks are ready to be placed may have changed, and all else is the same
-pub record MakesRoom (old new : TablesView) : Type 0 where
+pub record SameButReady (old new : TablesView) : Type 0 where
   pub places : new.map.places ≡ old.map.places
   pub zones : new.map.zones ≡ old.map.zones
   pub zone_size : new.map.zone_size ≡ old.map.zone_size

@@ -77,7 +77,6 @@ impl BatchBuilder {
         ensures heading { self.new.heading ≡ self.old.heading }
         ensures bytes { OnOk result (self.new.bytes ≡ header_block block_bytes self.old.heading) }
     {
-        self.bytes.clear();
         self.bytes.resize(block_bytes as usize, 0)?;
         header_bytes(&self.header, &mut self.bytes);
         Ok(())

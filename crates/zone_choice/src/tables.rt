@@ -5,7 +5,7 @@ ghost use Rattle.logical_map.specs.Live.{first_record, live};
 ghost use Rattle.logical_map.specs.Places.{ArePlacedReady, IsReady, Reserves, address_of};
 ghost use Rattle.logical_map.specs.declared.place.Place.TheVariants as places;
 ghost use Rattle.zone_choice.specs.Roles.{IsLowestEmpty, clean_ended, closed_beside, empty_count, fillings, is_sealed_at, next_of, open_beside, promoted, sealed, taken, unused, with_destination, wrote};
-ghost use Rattle.zone_choice.specs.Tables.{AreReserved, GrowsTo, IsLeastSealed, MakesRoom, size_of};
+ghost use Rattle.zone_choice.specs.Tables.{AreReserved, GrowsTo, IsLeastSealed, SameButReady, size_of};
 
 use crate::roles::{Filling, Roles, Second};
 use live_index::LiveIndex;
@@ -130,7 +130,7 @@ impl Tables {
         requires in_range { first + count ≤ size_of self.old }
         requires few { first + count < 2 ^ 32 }
         ensures ok { OnOk result (AreReserved self.new.map first count) }
-        ensures kept { MakesRoom self.old self.new }
+        ensures kept { SameButReady self.old self.new }
     {
         self.map.reserve_in(zone, count)?;
         for block in first..first + count {

@@ -21,9 +21,10 @@ use Rattle.zone_choice.specs.ZoneLogs.{log_at}
 use Rattle.zone_choice.proofs.AgreementLaws.{empty-spare_after, sound-weaker}
 use Rattle.zone_choice.proofs.AloneLaws.{alone-empty, memory-keeps, stops-tables}
 use Rattle.zone_choice.proofs.CommandLaws.{filling-in_range}
-use Rattle.zone_cleaner.specs.Clean.{CleanView, IsAlone, forgotten, turns_left}
+use Rattle.zone_cleaner.specs.Clean.{CleanView, HasNoDestination, forgotten, turns_left}
 use Rattle.zone_cleaner.specs.Host.{HostLeaves}
-use Rattle.zone_cleaner.specs.Start.{IsCleaned}
+use Rattle.zone_cleaner.specs.Start.{AgreesWithClean}
+use Rattle.zone_cleaner.proofs.CloseLaws.{memory-closes}
 use Rattle.zone_cleaner.proofs.CleanLaws.{turns_kept}
 use Rattle.zone_cleaner.proofs.HistoryLaws.{moves-beside, moves_have_spare}
 use Rattle.zone_cleaner.proofs.HostLaws.{host_gives, next-batch}
@@ -44,20 +45,20 @@ same-beside geometry roles zone blocks f ne b = by b
     by true = rw other refl
     by false = rw (other, other) refl
 
-alone-beside : (geometry : Geometry) (roles : RolesView) (host : Filling) (blocks : ℕ) → Differ (Some host) roles.second → IsAlone geometry.capacity roles.second → IsAlone geometry.capacity (wrote (roles_alone geometry roles host.zone) host.zone blocks).second
+alone-beside : (geometry : Geometry) (roles : RolesView) (host : Filling) (blocks : ℕ) → Differ (Some host) roles.second → HasNoDestination geometry.capacity roles.second → HasNoDestination geometry.capacity (wrote (roles_alone geometry roles host.zone) host.zone blocks).second
 alone-beside geometry roles host blocks differ alone = whole (ltb 1 geometry.open)
   where
     zone : ℕ
     zone = host.zone
 
-    by : (b : Bool) (second : Option Second) → Differ (Some host) second → IsAlone geometry.capacity second → IsAlone geometry.capacity (option_map (second_with (grown zone blocks)) (cond b second (option_map (second_with (closed_unless zone)) second)))
+    by : (b : Bool) (second : Option Second) → Differ (Some host) second → HasNoDestination geometry.capacity second → HasNoDestination geometry.capacity (option_map (second_with (grown zone blocks)) (cond b second (option_map (second_with (closed_unless zone)) second)))
     by true None differ alone = tt
     by false None differ alone = tt
     by b (Some (Destination f)) differ alone = absurd alone
     by true (Some (Next f)) differ alone = omega (arith, alone, same-beside geometry roles zone blocks f (λ same. differ (sym same)) true)
     by false (Some (Next f)) differ alone = omega (arith, alone, same-beside geometry roles zone blocks f (λ same. differ (sym same)) false)
 
-    whole : (b : Bool) → IsAlone geometry.capacity (wrote (cond b roles (closed_beside roles zone)) zone blocks).second
+    whole : (b : Bool) → HasNoDestination geometry.capacity (wrote (cond b roles (closed_beside roles zone)) zone blocks).second
     whole true = by true roles.second differ alone
     whole false = by false roles.second differ alone
 
@@ -66,7 +67,7 @@ host-apart host second h f differ host-is second-is = let here = rw (host-is, se
 
 -- ---- a batch of the host
 
-pub host_cleaned : (before after : Mounted) (clean : Option CleanView) (host : Filling) (b : Batch) → IsCleaned before clean → before.tables.roles.host ≡ Some host → CanPlace before host.zone b → Places before after host.zone b → IsCleaned after (option_map (forgotten b.heading.entries) clean)
+pub host_cleaned : (before after : Mounted) (clean : Option CleanView) (host : Filling) (b : Batch) → AgreesWithClean before clean → before.tables.roles.host ≡ Some host → CanPlace before host.zone b → Places before after host.zone b → AgreesWithClean after (option_map (forgotten b.heading.entries) clean)
 host_cleaned before after None host b is host-is can done =
     (done.agrees, (rw (done.roles, alone-empty before.drive.geometry before.tables.roles host.zone) is.1.0, rw (done.roles, done.geometry) (alone-beside before.drive.geometry before.tables.roles host (batch_size b) (rw host-is at is.0.roles.apart.differ) is.1.1)))
 host_cleaned before after (Some c) host b is host-is can done =
@@ -74,7 +75,7 @@ host_cleaned before after (Some c) host b is host-is can done =
     (done.agrees, (host_gives before after c host.zone b is.1 can apart done).clean)
 
 -- as many turns are left as before, or fewer
-pub host_turns : (before after : Mounted) (clean : Option CleanView) (host : Filling) (b : Batch) → IsCleaned before clean → before.tables.roles.host ≡ Some host → CanPlace before host.zone b → Places before after host.zone b
+pub host_turns : (before after : Mounted) (clean : Option CleanView) (host : Filling) (b : Batch) → AgreesWithClean before clean → before.tables.roles.host ≡ Some host → CanPlace before host.zone b → Places before after host.zone b
     → turns_left (batch_most before.drive.geometry) after.tables (option_map (forgotten b.heading.entries) clean) ≤ turns_left (batch_most before.drive.geometry) before.tables clean
 host_turns before after None host b is host-is can done = omega arith
 host_turns before after (Some c) host b is host-is can done =
@@ -83,7 +84,7 @@ host_turns before after (Some c) host b is host-is can done =
 
 -- ---- a stop inside its Append
 
-spare-beside : (before : Mounted) (clean : Option CleanView) (host : Filling) (b : Batch) → IsCleaned before clean → before.tables.roles.host ≡ Some host → CanPlace before host.zone b → HasSpare before.drive.geometry.block before.tables.given (append_log (drive_logs before.drive) host.zone b)
+spare-beside : (before : Mounted) (clean : Option CleanView) (host : Filling) (b : Batch) → AgreesWithClean before clean → before.tables.roles.host ≡ Some host → CanPlace before host.zone b → HasSpare before.drive.geometry.block before.tables.given (append_log (drive_logs before.drive) host.zone b)
 spare-beside before None host b is host-is can = empty-spare_after before.drive before.tables host.zone b is.0 is.1.0 can.filling
 spare-beside before (Some c) host b is host-is can =
     let f = is.1.destination in
@@ -98,7 +99,7 @@ spare-beside before (Some c) host b is host-is can =
     moves_have_spare before.drive.geometry.block before.tables.given c.victim f.zone (append_log logs host.zone b) (sealed-apart before.tables.roles c.victim f.zone is.1.victim filling)
     (omega (arith, below, length-set logs host.zone (log_at logs host.zone ++ b ∷ []))) moves
 
-pub host_stops : (before after : Mounted) (clean : Option CleanView) (host : Filling) (b : Batch) → IsCleaned before clean → before.tables.roles.host ≡ Some host → CanPlace before host.zone b → StopsInside before after host.zone b → IsMountable after.drive after.tables.given
+pub host_stops : (before after : Mounted) (clean : Option CleanView) (host : Filling) (b : Batch) → AgreesWithClean before clean → before.tables.roles.host ≡ Some host → CanPlace before host.zone b → StopsInside before after host.zone b → IsMountable after.drive after.tables.given
 host_stops before after clean host b is host-is can stops =
     let spare : HasSpare before.drive.geometry.block before.tables.given (drive_logs after.drive) = elim stops.left [
       | inl same ↦ rw same.logs_are (cleans-spare before clean is)
@@ -108,19 +109,19 @@ host_stops before after clean host b is host-is can stops =
 
 -- ---- what it leaves, by its answer
 
-pub kept_turns : (before after : Mounted) (clean : Option CleanView) (most : ℕ) → IsCleaned before clean → KeepsArray before after → turns_left most after.tables clean ≤ turns_left most before.tables clean
+pub kept_turns : (before after : Mounted) (clean : Option CleanView) (most : ℕ) → AgreesWithClean before clean → KeepsArray before after → turns_left most after.tables clean ≤ turns_left most before.tables clean
 kept_turns before after None most is kept = omega arith
 kept_turns before after (Some c) most is kept = omega (arith, turns_kept before after c most is.0 kept is.1)
 
 -- the blocks that the batch names are those of its entries
-pub host-leaves : (before after : Mounted) (clean : Option CleanView) (host : Filling) (b : Batch) → IsCleaned before clean → before.tables.roles.host ≡ Some host → CanPlace before host.zone b → Places before after host.zone b
+pub host-leaves : (before after : Mounted) (clean : Option CleanView) (host : Filling) (b : Batch) → AgreesWithClean before clean → before.tables.roles.host ≡ Some host → CanPlace before host.zone b → Places before after host.zone b
     → HostLeaves before clean host.zone b (Ok tt) after (option_map (forgotten b.heading.entries) clean)
 host-leaves before after clean host b is host-is can done = (done, refl, record { cleaned = host_cleaned before after clean host b is host-is can done; turns = host_turns before after clean host b is host-is can done })
 
-pub host-halts : (before after : Mounted) (clean : Option CleanView) (host : Filling) (b : Batch) (fault : Halt) → IsCleaned before clean → before.tables.roles.host ≡ Some host → CanPlace before host.zone b → AppendLeaves before after host.zone b (Err fault) → HostLeaves before clean host.zone b (Err fault) after clean
+pub host-halts : (before after : Mounted) (clean : Option CleanView) (host : Filling) (b : Batch) (fault : Halt) → AgreesWithClean before clean → before.tables.roles.host ≡ Some host → CanPlace before host.zone b → AppendLeaves before after host.zone b (Err fault) → HostLeaves before clean host.zone b (Err fault) after clean
 host-halts before after clean host b halt.Memory is host-is can leaves =
     let kept = memory-keeps before after host.zone b is.0 leaves in
-    (kept, refl, record { cleaned = cleaned_kept before after clean is kept; turns = kept_turns before after clean (batch_most before.drive.geometry) is kept })
+    (kept, refl, record { cleaned = cleaned_kept before after clean is kept; turns = kept_turns before after clean (batch_most before.drive.geometry) is kept }, memory-closes before after host.zone b leaves)
 host-halts before after clean host b halt.Stopped is host-is can leaves = (leaves, refl, host_stops before after clean host b is host-is can leaves)
 
 -- one Close at most comes before it

@@ -4,9 +4,9 @@ use Rattle.std.specs.Int.{div_ceil}
 use Rattle.std.proofs.lemmas.Bool.{cases_lt}
 use Rattle.zone_choice.specs.Reserve.{fill}
 use Rattle.zone_choice.proofs.ReserveLaws.{div_ceil-add, div_ceil-last, div_ceil-mono, div_ceil-none, div_ceil-positive}
-use Rattle.zone_cleaner.specs.Clean.{HasRoomFor, unwritten}
+use Rattle.zone_cleaner.specs.Clean.{HasRoomFor, moves_due}
 
-unwritten-some : (written : ℕ) → 0 < written → unwritten written ≡ 0
+unwritten-some : (written : ℕ) → 0 < written → moves_due written ≡ 0
 unwritten-some zero some = absurd (omega arith)
 unwritten-some (suc written) some = refl
 
@@ -27,19 +27,19 @@ move-counts k g u d m used c pos few least whole some room = elim (cases_lt 0 u)
 
 -- What is left after a Move of g records, d of them data, where u were not taken yet: fewer Moves, and room for these.
 pub record AfterMove (c k written moved u g : ℕ) : Type 0 where
-  pub fewer : max (unwritten moved) (div_ceil u k) < max (unwritten written) (div_ceil (u + g) k)
+  pub fewer : max (moves_due moved) (div_ceil u k) < max (moves_due written) (div_ceil (u + g) k)
   pub room : HasRoomFor c k moved u
 
 pub after-move : (c k written moved u g d : ℕ) → 0 < k → g ≤ k → d ≤ g → (0 < u → g ≡ k) → (0 < written → 0 < g) → moved ≡ written + (1 + d) → HasRoomFor c k written (u + g) → AfterMove c k written moved u g
 after-move c k written moved u g d pos few least whole some is room =
-    let none : unwritten moved ≡ 0 = unwritten-some moved (omega (arith, is)) in
-    let counts = move-counts k g u d (unwritten written) written c pos few least whole first room in
+    let none : moves_due moved ≡ 0 = unwritten-some moved (omega (arith, is)) in
+    let counts = move-counts k g u d (moves_due written) written c pos few least whole first room in
     record { fewer = omega (arith, none, counts.0); room = omega (arith, none, is, counts.1) }
   where
-    first : unwritten written ≡ 0 → 0 < g
+    first : moves_due written ≡ 0 → 0 < g
     first = by written refl
       where
-        by : (w : ℕ) → written ≡ w → unwritten w ≡ 0 → 0 < g
+        by : (w : ℕ) → written ≡ w → moves_due w ≡ 0 → 0 < g
         by zero e none = absurd (omega arith)
         by (suc w) e none = some (omega (arith, e))
 
@@ -52,18 +52,18 @@ pub start-room : (c k r : ℕ) → fill k r + 2 ≤ c → HasRoomFor c k 0 r
 start-room c k r fits = omega (arith, fits)
 
 -- of a clean that runs fewer turns are left than a zone has blocks
-unwritten-few : (written : ℕ) → unwritten written ≤ 1
+unwritten-few : (written : ℕ) → moves_due written ≤ 1
 unwritten-few zero = omega arith
 unwritten-few (suc written) = omega arith
 
-pub few-turns : (c k used u r : ℕ) → 0 < k → u ≤ r → HasRoomFor c k used r → u + max (unwritten used) (div_ceil r k) + 1 + 1 ≤ c
-few-turns c k used u r pos le room = elim (cases_lt 0 r) as (λ _. u + max (unwritten used) (div_ceil r k) + 1 + 1 ≤ c) [
+pub few-turns : (c k used u r : ℕ) → 0 < k → u ≤ r → HasRoomFor c k used r → u + max (moves_due used) (div_ceil r k) + 1 + 1 ≤ c
+few-turns c k used u r pos le room = elim (cases_lt 0 r) as (λ _. u + max (moves_due used) (div_ceil r k) + 1 + 1 ≤ c) [
   | inl some ↦ omega (arith, le, room, unwritten-few used, div_ceil-positive r k pos some)
   | inr none ↦ omega (arith, le, none, room)
 ]
 
-pub start-turns : (c k r : ℕ) → 0 < k → fill k r + 2 ≤ c → r + max (unwritten 0) (div_ceil r k) + 1 + 1 ≤ c
-start-turns c k r pos fits = elim (cases_lt 0 r) as (λ _. r + max (unwritten 0) (div_ceil r k) + 1 + 1 ≤ c) [
+pub start-turns : (c k r : ℕ) → 0 < k → fill k r + 2 ≤ c → r + max (moves_due 0) (div_ceil r k) + 1 + 1 ≤ c
+start-turns c k r pos fits = elim (cases_lt 0 r) as (λ _. r + max (moves_due 0) (div_ceil r k) + 1 + 1 ≤ c) [
   | inl some ↦ omega (arith, fits, div_ceil-positive r k pos some)
   | inr none ↦ omega (arith, fits)
 ]

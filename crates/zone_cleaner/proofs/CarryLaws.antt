@@ -22,7 +22,7 @@ use Rattle.zone_choice.proofs.AgreementLaws.{extended-same, length-spelled, size
 use Rattle.zone_choice.proofs.BuilderLaws.{blocks_named, data_count-few}
 use Rattle.zone_choice.proofs.ReadLaws.{HoldsPlace, holds_place}
 use Rattle.zone_choice.proofs.ReserveLaws.{positive-most}
-use Rattle.zone_cleaner.specs.Clean.{CleanView, HasRoomFor, IsClean, moved_to, untaken}
+use Rattle.zone_cleaner.specs.Clean.{CleanView, HasRoomFor, IsClean, destination_written, untaken}
 use Rattle.zone_cleaner.specs.LiveRecords.{LiveRecord, entries_of, entry_of, move_of, records_in, without_all}
 use Rattle.zone_cleaner.proofs.BudgetLaws.{AfterMove, after-move}
 use Rattle.zone_cleaner.proofs.CleanLaws.{live-parts}
@@ -108,7 +108,7 @@ fits-move disk c agrees is due =
     let g = disk.drive.geometry in
     let k = batch_most g in
     let d = data_count (entries_of c.gathered) in
-    let moved : moved_to disk.tables.roles.second ≡ is.destination.written = ap moved_to is.second in
+    let moved : destination_written disk.tables.roles.second ≡ is.destination.written = ap destination_written is.second in
     let room : HasRoomFor g.capacity k is.destination.written (untaken disk.tables c + length c.gathered) = rw (← live-parts disk c is) is.room in
     let after = after-move g.capacity k is.destination.written (is.destination.written + (1 + d)) (untaken disk.tables c) (length c.gathered) d (positive-most g agrees.geometry) is.gathers.few (data-entries c.gathered) due.whole (λ some. due.some (omega (arith, moved, some))) refl room in
     record { room = omega (arith, after.room); after = after }

@@ -15,7 +15,7 @@ use Rattle.zone_choice.specs.declared.roles.Second.TheVariants.{Destination, Nex
 use Rattle.zone_choice.specs.Roles.{closed, second_with}
 use Rattle.zone_choice.proofs.CommandLaws.{filling-in_range}
 use Rattle.zone_choice.specs.Tables.{size_of}
-use Rattle.zone_cleaner.specs.Clean.{CleanView, IsClean, moved_to, turns_left, untaken}
+use Rattle.zone_cleaner.specs.Clean.{CleanView, IsClean, destination_written, turns_left, untaken}
 use Rattle.zone_cleaner.specs.LiveRecords.{LiveRecord, content_of}
 use Rattle.zone_choice.specs.declared.roles.Filling.{Filling}
 use Rattle.zone_choice.specs.declared.roles.Second.{Second}
@@ -44,7 +44,7 @@ kept-destination : (second : Option Second) (f : Filling) → option_map (second
 unfolding destination_zone
 kept-destination None f e = absurd (cc)
 kept-destination (Some (Next g)) f e = absurd (cc)
-kept-destination (Some (Destination g)) f e = record { filling = g; is = refl; zone = ap destination_zone e; written = ap moved_to e }
+kept-destination (Some (Destination g)) f e = record { filling = g; is = refl; zone = ap destination_zone e; written = ap destination_written e }
 
 pub clean_kept : (before after : Mounted) (c : CleanView) → Agrees before → KeepsArray before after → IsClean before c → IsClean after c
 clean_kept before after c agrees kept is =
@@ -68,7 +68,7 @@ pub turns_kept : (before after : Mounted) (c : CleanView) (most : ℕ) → Agree
 turns_kept before after c most agrees kept is =
     let zones = same-zones before after agrees kept in
     let same = kept-destination after.tables.roles.second is.destination (kept.second ∙ ap (option_map (second_with closed)) is.second) in
-    let moved : moved_to after.tables.roles.second ≡ moved_to before.tables.roles.second = ap moved_to same.is ∙ same.written ∙ sym (ap moved_to is.second) in
+    let moved : destination_written after.tables.roles.second ≡ destination_written before.tables.roles.second = ap destination_written same.is ∙ same.written ∙ sym (ap destination_written is.second) in
     rw (zones, kept.places, moved) refl
 
 -- ---- a stop

@@ -45,6 +45,7 @@ use Rattle.zone_cleaner.proofs.ResetLaws.{reset_gives}
 use Rattle.zone_cleaner.proofs.SealedLaws.{sealed-apart, sealed-holds, sealed-in_range, second-filling, zone-logs}
 use Rattle.zone_cleaner.proofs.StepLaws.{MoveDue, ResetDue, move-due}
 use Rattle.zone_cleaner.proofs.BuildLaws.{MoveBuilt, move-can, move_built}
+use Rattle.zone_cleaner.proofs.CloseLaws.{memory-closes, stops-close}
 use Rattle.zone_cleaner.proofs.FailLaws.{stops_kept}
 use Rattle.zone_cleaner.proofs.MovedLaws.{move_gives}
 use Rattle.batch_log.specs.Header.{header_block}
@@ -55,7 +56,7 @@ use Rattle.logical_map.specs.Places.{ArePlacedReady}
 pub gathered_leaves : (before after : Mounted) (c new : CleanView) (block : ℕ) (place : Place) (content : Option (List ℕ)) (result : Result (Unit {0}) CleanFault) → KeepsArray before after → after.tables ≡ before.tables → content ≡ content_of (mounted_array before) block place
     → OnOk result (new ≡ with_record c block content) → IfErr result (λ fault. (fault ≡ faults.OutOfMemory) × (new ≡ c)) → StepLeaves (Gather block place) before c result after (Some new)
 gathered_leaves before after c new block place content (Ok done) kept tables same ok err = (kept, tables, ap (λ (v : CleanView). Some v) (ok ∙ ap (with_record c block) same))
-gathered_leaves before after c new block place content (Err fault) kept tables same ok err = (rw err.0 kept, ap (λ (v : CleanView). Some v) err.1)
+gathered_leaves before after c new block place content (Err fault) kept tables same ok err = (rw err.0 (kept, inl tables), ap (λ (v : CleanView). Some v) err.1)
 
 -- ---- a Move stops
 
@@ -76,9 +77,7 @@ carry_stops before after c agrees is stops =
       moves = only;
       mountable = rw kept.given (stops.mountable spare);
       array = ap (spelled after.drive) kept.given ∙ array;
-      places = ap (λ m. m.places) kept.map;
-      given = kept.given;
-      next = kept.next;
+      tables = stops-close before after is.destination.zone (move_of (size_of before.tables) before.tables.next c.victim c.gathered) stops;
       geometry = stops.geometry;
       refused = stops.refused;
       appended = stops.appended;
@@ -133,7 +132,9 @@ carry_stops before after c agrees is stops =
 
 -- a Move that was not appended
 pub carry_fails : (before after : Mounted) (c : CleanView) (fault : Halt) → Agrees before → (is : IsClean before c) → AppendLeaves before after is.destination.zone (move_of (size_of before.tables) before.tables.next c.victim c.gathered) (Err fault) → StepFails Move (clean_fault fault) before after
-carry_fails before after c halt.Memory agrees is leaves = memory-keeps before after is.destination.zone (move_of (size_of before.tables) before.tables.next c.victim c.gathered) agrees leaves
+carry_fails before after c halt.Memory agrees is leaves =
+    let b = move_of (size_of before.tables) before.tables.next c.victim c.gathered in
+    (memory-keeps before after is.destination.zone b agrees leaves, memory-closes before after is.destination.zone b leaves)
 carry_fails before after c halt.Stopped agrees is leaves = carry_stops before after c agrees is leaves
 
 -- ---- the Reset
@@ -160,14 +161,14 @@ pub record ResetFails (old new : DriveState) (tables : TablesView) (fault : Port
 pub reset_fails : (old new : DriveState) (tables : TablesView) (c : CleanView) (start : ℕ) (fault : PortFault) → Agrees (mounted old tables) → IsClean (mounted old tables) c → ResetDue (mounted old tables) c → start ≡ c.victim * old.geometry.size
     → ResetGives {V = Unit {0}} old start (Err fault) new → ResetKeeps {V = Unit {0}} old start (Err fault) new → ResetLeaves {V = Unit {0}} old start (Err fault) new → Obeys {V = Unit {0}} old (Err fault) new → (CanReset old start → IsNotRefused {V = Unit {0}} (Err fault)) → ResetFails old new tables fault
 reset_fails old new tables c start (port.Refused status) agrees is due start-is gives kept leaves obeys passed = absurd (passed (can_reset old tables c start agrees is start-is))
-reset_fails old new tables c start port.Memory agrees is due start-is gives kept leaves obeys passed = record { halt = tt; fails = keeps-halt old new tables gives.1.1.1 agrees }
+reset_fails old new tables c start port.Memory agrees is due start-is gives kept leaves obeys passed = record { halt = tt; fails = (keeps-halt old new tables gives.1.1.1 agrees, inl refl) }
 reset_fails old new tables c start port.Stopped agrees is due start-is gives kept leaves obeys passed = record { halt = tt; fails = by kept }
   where
     opens : OpensNone old.zones new.zones
     opens = reset-opens {V = Unit {0}} old new start (Err port.Stopped) leaves
 
     by : SameContents old new ⊎ ResetContents old new start → StopsClean (mounted old tables) (mounted new tables)
-    by (inl same) = stops_kept (mounted old tables) (mounted new tables) c agrees is (keeps-same old new tables agrees same opens obeys.lawful (obeys.counts refl).refused (obeys.counts refl).appended) (obeys.stops refl)
+    by (inl same) = stops_kept (mounted old tables) (mounted new tables) c agrees is (keeps-same old new tables agrees same opens obeys.lawful (obeys.counts refl).refused (obeys.counts refl).appended) refl (obeys.stops refl)
     by (inr done) =
         let index = (zone-start c.victim old.geometry.size agrees.geometry.size.0).0 in
         let after = reset_gives old new tables c agrees is due obeys.geometry obeys.lawful (rw (start-is, index) at done.contents) opens in
@@ -176,9 +177,7 @@ reset_fails old new tables c start port.Stopped agrees is due start-is gives kep
           moves = only-without (drive_logs old) (drive_logs new) c.victim (omega (arith, sealed-in_range (mounted old tables) c.victim agrees is.victim, zone-logs old)) after.logs;
           mountable = after.mountable;
           array = after.array;
-          places = refl;
-          given = refl;
-          next = refl;
+          tables = inl refl;
           geometry = obeys.geometry;
           refused = (obeys.counts refl).refused;
           appended = (obeys.counts refl).appended;

@@ -1,5 +1,5 @@
 -- A step that is not done leaves the clean as it was.
-use Rattle.std.proofs.Common.{◌≡◌, ℕ, ◌+◌, ◌<◌, ◌≤◌, ◌^◌, true, List, [], ◌∷◌, arith}
+use Rattle.std.proofs.Common.{◌≡◌, ℕ, ◌+◌, ◌<◌, ◌≤◌, ◌^◌, true, List, [], ◌∷◌, inl, arith}
 use Rattle.std.specs.List.{AllByRecursion}
 use Rattle.logical_map.specs.declared.place.Place.{Place}
 use Rattle.zone_choice.specs.Agreement.{Agrees, Mounted, drive_logs}
@@ -19,25 +19,23 @@ use Rattle.zone_cleaner.proofs.CleanLaws.{clean_kept, clean_spare, gather-next}
 use Rattle.zone_cleaner.proofs.RecordLaws.{AreBetween}
 use Rattle.zone_cleaner.proofs.StepLaws.{gather-due}
 
-pub stops_kept : (before after : Mounted) (c : CleanView) → Agrees before → IsClean before c → KeepsArray before after → after.drive.stopped ≡ true → StopsClean before after
-stops_kept before after c agrees is kept stopped = record {
+pub stops_kept : (before after : Mounted) (c : CleanView) → Agrees before → IsClean before c → KeepsArray before after → after.tables ≡ before.tables → after.drive.stopped ≡ true → StopsClean before after
+stops_kept before after c agrees is kept same stopped = record {
   stopped = stopped;
   moves = only-same (drive_logs before.drive) (drive_logs after.drive) kept.logs;
   mountable = agrees_mountable after.drive after.tables kept.agrees (clean_spare after c kept.agrees (clean_kept before after c agrees kept is));
   array = kept.array;
-  places = kept.places;
-  given = kept.given;
-  next = kept.next;
+  tables = inl same;
   geometry = kept.geometry;
   refused = kept.refused;
   appended = kept.appended;
 }
 
 -- a record that was not read
-pub read_fails : (before after : Mounted) (c : CleanView) (block : ℕ) (place : Place) (fault : CleanFault) → Agrees before → IsClean before c → KeepsArray before after → IsReadFault after.drive fault → StepFails (Gather block place) fault before after
-read_fails before after c block place faults.OutOfMemory agrees is kept cause = kept
-read_fails before after c block place faults.Stopped agrees is kept cause = stops_kept before after c agrees is kept cause
-read_fails before after c block place faults.Spent agrees is kept cause = absurd cause
+pub read_fails : (before after : Mounted) (c : CleanView) (block : ℕ) (place : Place) (fault : CleanFault) → Agrees before → IsClean before c → KeepsArray before after → after.tables ≡ before.tables → IsReadFault after.drive fault → StepFails (Gather block place) fault before after
+read_fails before after c block place faults.OutOfMemory agrees is kept same cause = (kept, inl same)
+read_fails before after c block place faults.Stopped agrees is kept same cause = stops_kept before after c agrees is kept same cause
+read_fails before after c block place faults.Spent agrees is kept same cause = absurd cause
 
 -- what is known of the next record
 pub record NextRecord (disk : Mounted) (c : CleanView) (block : ℕ) : Type 0 where

@@ -28,7 +28,7 @@ use Rattle.zone_choice.proofs.AgreementLaws.{length-extended, length-spelled, si
 use Rattle.zone_choice.proofs.AllLaws.{all-weaker}
 use Rattle.zone_choice.proofs.CommandLaws.{filling-in_range}
 use Rattle.zone_choice.proofs.ReserveLaws.{div_ceil-mono, positive-most}
-use Rattle.zone_cleaner.specs.Clean.{CleanView, IsClean, forgotten, moved_to, turns_left, unwritten, untaken}
+use Rattle.zone_cleaner.specs.Clean.{CleanView, IsClean, forgotten, destination_written, turns_left, moves_due, untaken}
 use Rattle.zone_cleaner.specs.LiveRecords.{LiveRecord, records_in, without_all, without_block}
 use Rattle.zone_cleaner.proofs.BudgetLaws.{fewer-room}
 use Rattle.zone_cleaner.proofs.CleanLaws.{KeptDestination}
@@ -125,7 +125,7 @@ pub record HostGives (before after : Mounted) (c new : CleanView) : Type 0 where
   pub clean : IsClean after new
   pub turns : turns_left (batch_most before.drive.geometry) after.tables (Some new) ≤ turns_left (batch_most before.drive.geometry) before.tables (Some c)
 
-turns-le : (k u u' a a' l l' : ℕ) → 0 < k → u' ≤ u → l' ≤ l → a' ≡ a → u' + max (unwritten a') (div_ceil l' k) + 1 ≤ u + max (unwritten a) (div_ceil l k) + 1
+turns-le : (k u u' a a' l l' : ℕ) → 0 < k → u' ≤ u → l' ≤ l → a' ≡ a → u' + max (moves_due a') (div_ceil l' k) + 1 ≤ u + max (moves_due a) (div_ceil l k) + 1
 turns-le k u u' a a' l l' pos left fewer same = rw same (omega (arith, left, div_ceil-mono l' l k pos fewer))
 
 -- what the batch does to the places, as far as the clean looks
@@ -228,5 +228,5 @@ host_gives before after c zone b is can ne done =
         moves = rw (done.logs, done.geometry, done.given, kept.zone) (moves-beside g.block (before.tables.next + 1) before.tables.given zone c.victim f.zone (size_with before.tables b) logs b lt apart ne
             (sound-weaker before.tables.next (before.tables.next + 1) before.tables.given logs (omega arith) can.agrees.sound) (next-batch before zone b can) is.moves);
       };
-      turns = turns-le k (untaken before.tables c) (untaken after.tables (forgotten b.heading.entries c)) (moved_to before.tables.roles.second) (moved_to after.tables.roles.second) (live before.tables.map c.victim) (live after.tables.map c.victim) pos left_now live_now (ap moved_to second ∙ kept.written ∙ sym (ap moved_to is.second));
+      turns = turns-le k (untaken before.tables c) (untaken after.tables (forgotten b.heading.entries c)) (destination_written before.tables.roles.second) (destination_written after.tables.roles.second) (live before.tables.map c.victim) (live after.tables.map c.victim) pos left_now live_now (ap destination_written second ∙ kept.written ∙ sym (ap destination_written is.second));
     }

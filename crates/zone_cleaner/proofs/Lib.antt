@@ -13,6 +13,7 @@ pub mod MovedLaws
 pub mod ResetLaws
 pub mod EntryLaws
 pub mod FetchLaws
+pub mod CloseLaws
 pub mod FailLaws
 pub mod BuildLaws
 pub mod EndLaws

@@ -16,7 +16,7 @@ use Rattle.zone_choice.specs.Tables.{size_of}
 use Rattle.zone_choice.specs.ZoneLogs.{spelled_array}
 use Rattle.zone_choice.proofs.AgreementLaws.{size-encoded}
 use Rattle.zone_choice.proofs.CommandLaws.{filling-in_range}
-use Rattle.zone_cleaner.specs.Clean.{CleanView, IsClean, moved_to, turns_left, unwritten, untaken}
+use Rattle.zone_cleaner.specs.Clean.{CleanView, IsClean, destination_written, turns_left, moves_due, untaken}
 use Rattle.zone_cleaner.specs.LiveRecords.{entries_of, move_of}
 use Rattle.zone_cleaner.specs.Turns.{MovesRecords, after_move}
 use Rattle.zone_cleaner.proofs.CarryLaws.{fits-move, grown-self, moved_places, told_same}
@@ -38,8 +38,8 @@ unfolding spelled_array
 encoded disk = refl
 
 -- fewer Moves are left, and as many records
-turns-less : (k u u' w w' a a' l l' g : ℕ) → u' ≡ u → l' ≡ u → l ≡ u + g → a ≡ w → a' ≡ w' → max (unwritten w') (div_ceil u k) < max (unwritten w) (div_ceil (u + g) k)
-    → u' + max (unwritten a') (div_ceil l' k) + 1 < u + max (unwritten a) (div_ceil l k) + 1
+turns-less : (k u u' w w' a a' l l' g : ℕ) → u' ≡ u → l' ≡ u → l ≡ u + g → a ≡ w → a' ≡ w' → max (moves_due w') (div_ceil u k) < max (moves_due w) (div_ceil (u + g) k)
+    → u' + max (moves_due a') (div_ceil l' k) + 1 < u + max (moves_due a) (div_ceil l k) + 1
 turns-less k u u' w w' a a' l l' g left now parts was is fewer = rw (left, now, parts, was, is) (omega (arith, fewer))
 
 pub move_gives : (before after : Mounted) (c : CleanView) → Agrees before → (is : IsClean before c) → MoveDue before (batch_most before.drive.geometry) c
@@ -82,5 +82,5 @@ move_gives before after c agrees is due placed =
           same = after_array ∙ same ∙ sym (encoded before);
         }) is.moves);
       };
-      fewer = turns-less (batch_most g) (untaken before.tables c) (untaken after.tables (after_move c)) f.written (f.written + (1 + data_count (entries_of c.gathered))) (moved_to before.tables.roles.second) (moved_to after.tables.roles.second) _ _ (length c.gathered) left now (live-parts before c is) (ap moved_to is.second) (ap moved_to second ∙ omega (arith, count)) fits.after.fewer;
+      fewer = turns-less (batch_most g) (untaken before.tables c) (untaken after.tables (after_move c)) f.written (f.written + (1 + data_count (entries_of c.gathered))) (destination_written before.tables.roles.second) (destination_written after.tables.roles.second) _ _ (length c.gathered) left now (live-parts before c is) (ap destination_written is.second) (ap destination_written second ∙ omega (arith, count)) fits.after.fewer;
     }

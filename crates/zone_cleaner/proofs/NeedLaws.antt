@@ -15,9 +15,9 @@ use Rattle.zone_choice.specs.Victim.{IsInUse}
 use Rattle.zone_choice.proofs.MarkLaws.{sealed-parts}
 use Rattle.zone_choice.proofs.ReserveLaws.{positive-most}
 use Rattle.zone_choice.proofs.VictimLaws.{has_sealed, least_can_move}
-use Rattle.zone_cleaner.specs.Clean.{CleanView, IsAlone, moved_to, turns_left, unwritten, untaken}
+use Rattle.zone_cleaner.specs.Clean.{CleanView, HasNoDestination, destination_written, turns_left, moves_due, untaken}
 use Rattle.zone_cleaner.specs.declared.fault.CleanFault.{CleanFault}
-use Rattle.zone_cleaner.specs.Start.{IsCleaned, IsDue, KeepsByCleaning, LeavesRoom, StartLeaves, TurnLeaves}
+use Rattle.zone_cleaner.specs.Start.{AgreesWithClean, IsDue, KeepsByCleaning, LeavesNextZone, StartLeaves, TurnLeaves}
 use Rattle.zone_cleaner.proofs.BudgetLaws.{few-turns}
 use Rattle.zone_cleaner.proofs.CleanLaws.{live-parts}
 use Rattle.zone_cleaner.proofs.RoomLaws.{room-done}
@@ -83,12 +83,12 @@ least-sealed tables zone is =
 
 -- ---- a clean is due
 
-no-second : (capacity : ℕ) (second : Option Second) → IsAlone capacity second → next_of second ≡ None → second ≡ None
+no-second : (capacity : ℕ) (second : Option Second) → HasNoDestination capacity second → next_of second ≡ None → second ≡ None
 no-second capacity None alone none = refl
 no-second capacity (Some (Next filling)) alone none = absurd (cc)
 no-second capacity (Some (Destination filling)) alone none = absurd alone
 
-pub is-in_use : (disk : Mounted) → IsCleaned disk None → disk.tables.roles.host ≡ None → next_of disk.tables.roles.second ≡ None → empty_count disk.tables.roles < 2 → IsInUse disk
+pub is-in_use : (disk : Mounted) → AgreesWithClean disk None → disk.tables.roles.host ≡ None → next_of disk.tables.roles.second ≡ None → empty_count disk.tables.roles < 2 → IsInUse disk
 is-in_use disk is host next few = record { agrees = is.0; host = host; second = no-second disk.drive.geometry.capacity disk.tables.roles.second is.1.1 next; empty = omega (arith, few, is.1.0) }
 
 is-due : (disk : Mounted) → IsInUse disk → (victim : ℕ) × IsDue disk.drive.geometry disk.tables victim
@@ -105,27 +105,27 @@ must-start disk new None in_use leaves = let due = is-due disk in_use in absurd 
 -- ---- how many turns are left of it
 
 -- fewer than a zone has blocks
-pub turns-few : (disk : Mounted) (c : CleanView) → IsCleaned disk (Some c) → turns_left (batch_most disk.drive.geometry) disk.tables (Some c) + 1 ≤ disk.drive.geometry.capacity
+pub turns-few : (disk : Mounted) (c : CleanView) → AgreesWithClean disk (Some c) → turns_left (batch_most disk.drive.geometry) disk.tables (Some c) + 1 ≤ disk.drive.geometry.capacity
 turns-few disk c is =
     let most = batch_most disk.drive.geometry in
-    let moved : unwritten (moved_to disk.tables.roles.second) ≡ unwritten is.1.destination.written = ap unwritten (ap moved_to is.1.second) in
+    let moved : moves_due (destination_written disk.tables.roles.second) ≡ moves_due is.1.destination.written = ap moves_due (ap destination_written is.1.second) in
     omega (arith, moved, few-turns disk.drive.geometry.capacity most is.1.destination.written (untaken disk.tables c) (live disk.tables.map c.victim) (positive-most disk.drive.geometry is.0.geometry) (omega (arith, live-parts disk c is.1)) is.1.room)
 
 -- and no more where none runs
-pub left-few : (disk : Mounted) (clean : Option CleanView) → IsCleaned disk clean → turns_left (batch_most disk.drive.geometry) disk.tables clean + 1 ≤ disk.drive.geometry.capacity
+pub left-few : (disk : Mounted) (clean : Option CleanView) → AgreesWithClean disk clean → turns_left (batch_most disk.drive.geometry) disk.tables clean + 1 ≤ disk.drive.geometry.capacity
 left-few disk None is = omega (arith, is.0.geometry.capacity)
 left-few disk (Some c) is = turns-few disk c is
 
 -- ---- a clean that has to begin
 
 pub record Begins (before after : Mounted) (new : Option CleanView) : Type 0 where
-  pub cleaned : IsCleaned after new
+  pub cleaned : AgreesWithClean after new
   pub runs : is_some new ≡ true
   pub host : after.tables.roles.host ≡ None
   pub turns : turns_left (batch_most before.drive.geometry) after.tables new + 1 ≤ before.drive.geometry.capacity
   pub keeps : KeepsByCleaning before after
 
-pub begins : (geometry : Geometry) (drive : DriveState) (old tables : TablesView) (clean new : Option CleanView) → geometry ≡ drive.geometry → is_some clean ≡ false → IsCleaned (mounted drive old) clean → old.roles.host ≡ None → next_of old.roles.second ≡ None → empty_count old.roles < 2
+pub begins : (geometry : Geometry) (drive : DriveState) (old tables : TablesView) (clean new : Option CleanView) → geometry ≡ drive.geometry → is_some clean ≡ false → AgreesWithClean (mounted drive old) clean → old.roles.host ≡ None → next_of old.roles.second ≡ None → empty_count old.roles < 2
     → StartLeaves geometry old tables new → Begins (mounted drive old) (mounted drive tables) new
 begins geometry drive old tables (Some c) new same idle is host next few leaves = absurd (cc)
 begins geometry drive old tables None new same idle is host next few leaves =
@@ -142,6 +142,6 @@ begins geometry drive old tables None new same idle is host next few leaves =
       keeps = gives.keeps;
     }
 
-pub on-room : (result : Result (Unit {0}) CleanFault) (before after : Mounted) (old : Option CleanView) → OnOk result (LeavesRoom before after old None) → is_some old ≡ true → before.tables.roles.host ≡ None → OnOk result ((after.tables.roles.host ≡ None) × (is_some (next_of after.tables.roles.second) ≡ true))
+pub on-room : (result : Result (Unit {0}) CleanFault) (before after : Mounted) (old : Option CleanView) → OnOk result (LeavesNextZone before after old None) → is_some old ≡ true → before.tables.roles.host ≡ None → OnOk result ((after.tables.roles.host ≡ None) × (is_some (next_of after.tables.roles.second) ≡ true))
 on-room (Ok done) before after old room runs host = (room.host host, room.next runs refl)
 on-room (Err fault) before after old room runs host = tt

@@ -12,8 +12,8 @@ use Rattle.zone_choice.specs.Roles.{closed, next_of, promoted, second_with, with
 use Rattle.zone_choice.specs.Tables.{TablesView}
 use Rattle.zone_choice.proofs.AgreementLaws.{tables_with}
 use Rattle.zone_choice.proofs.RolesLaws.{roles_with}
-use Rattle.zone_cleaner.specs.Clean.{CleanView, IsAlone}
-use Rattle.zone_cleaner.specs.Start.{IsCleaned, KeepsByCleaning, trims}
+use Rattle.zone_cleaner.specs.Clean.{CleanView, HasNoDestination}
+use Rattle.zone_cleaner.specs.Start.{AgreesWithClean, KeepsByCleaning, trims}
 use Rattle.zone_cleaner.proofs.CleanLaws.{clean_kept}
 use Rattle.zone_cleaner.proofs.OnlyLaws.{only-same}
 use Rattle.zone_cleaner.proofs.TurnLaws.{cleans_mountable}
@@ -25,7 +25,7 @@ held : Option Second → ℕ
 held (Some (Next filling)) = filling.written
 held second = 0
 
-closed-alone : (capacity : ℕ) (after before : Option Second) → option_map (second_with closed) after ≡ option_map (second_with closed) before → IsAlone capacity before → IsAlone capacity after
+closed-alone : (capacity : ℕ) (after before : Option Second) → option_map (second_with closed) after ≡ option_map (second_with closed) before → HasNoDestination capacity before → HasNoDestination capacity after
 unfolding held
 closed-alone capacity None before same alone = tt
 closed-alone capacity (Some (Next g)) None same alone = absurd (cc)
@@ -35,11 +35,11 @@ closed-alone capacity (Some (Destination g)) None same alone = absurd (cc)
 closed-alone capacity (Some (Destination g)) (Some (Next f)) same alone = absurd (cc)
 closed-alone capacity (Some (Destination g)) (Some (Destination f)) same alone = absurd alone
 
-pub cleaned_kept : (before after : Mounted) (clean : Option CleanView) → IsCleaned before clean → KeepsArray before after → IsCleaned after clean
+pub cleaned_kept : (before after : Mounted) (clean : Option CleanView) → AgreesWithClean before clean → KeepsArray before after → AgreesWithClean after clean
 cleaned_kept before after None is kept = (kept.agrees, (kept.spare is.1.0, rw kept.geometry (closed-alone before.drive.geometry.capacity after.tables.roles.second before.tables.roles.second kept.second is.1.1)))
 cleaned_kept before after (Some c) is kept = (kept.agrees, clean_kept before after c is.0 kept is.1)
 
-pub cleaning_kept : (before after : Mounted) (clean : Option CleanView) → IsCleaned before clean → KeepsArray before after → KeepsByCleaning before after
+pub cleaning_kept : (before after : Mounted) (clean : Option CleanView) → AgreesWithClean before clean → KeepsArray before after → KeepsByCleaning before after
 cleaning_kept before after clean is kept = record {
   mountable = cleans_mountable after clean (cleaned_kept before after clean is kept);
   array = kept.array;
@@ -84,18 +84,18 @@ next-parts (Some (Destination g)) f e = absurd (cc)
 
 -- it has two free blocks, and the array is the same
 pub record PromoteGives (drive : DriveState) (old new : TablesView) (f : Filling) : Type 0 where
-  pub cleaned : IsCleaned (mounted drive new) None
+  pub cleaned : AgreesWithClean (mounted drive new) None
   pub keeps : KeepsByCleaning (mounted drive old) (mounted drive new)
   pub host : new.roles.host ≡ Some f
   pub room : f.written + 2 ≤ drive.geometry.capacity
 
-pub promote_gives : (drive : DriveState) (old new : TablesView) (f : Filling) → IsCleaned (mounted drive old) None → old.roles.host ≡ None → next_of old.roles.second ≡ Some f → new ≡ record old { roles = promoted old.roles } → PromoteGives drive old new f
+pub promote_gives : (drive : DriveState) (old new : TablesView) (f : Filling) → AgreesWithClean (mounted drive old) None → old.roles.host ≡ None → next_of old.roles.second ≡ Some f → new ≡ record old { roles = promoted old.roles } → PromoteGives drive old new f
 promote_gives drive old new f is none next new-is =
     let second = next-parts old.roles.second f next in
     let plain : Agrees (mounted drive (tables_with old.map (roles_with old.roles.empty None (Some (Next f))) old.next old.given)) =
     subst (λ (s : Option Second). Agrees (mounted drive (tables_with old.map (roles_with old.roles.empty None s) old.next old.given))) second (subst (λ (h : Option Filling). Agrees (mounted drive (tables_with old.map (roles_with old.roles.empty h old.roles.second) old.next old.given))) none is.0) in
     let same : new ≡ tables_with old.map (roles_with old.roles.empty (Some f) None) old.next old.given = new-is ∙ ap (λ (o : Option Filling). tables_with old.map (with_next old.roles o) old.next old.given) next in
-    let cleaned : IsCleaned (mounted drive (tables_with old.map (roles_with old.roles.empty (Some f) None) old.next old.given)) None = (agrees-promoted drive old.map old.roles.empty f old.next old.given plain, (is.1.0, tt)) in
+    let cleaned : AgreesWithClean (mounted drive (tables_with old.map (roles_with old.roles.empty (Some f) None) old.next old.given)) None = (agrees-promoted drive old.map old.roles.empty f old.next old.given plain, (is.1.0, tt)) in
     rw same (record {
       cleaned = cleaned;
       keeps = record { mountable = cleans_mountable (mounted drive (tables_with old.map (roles_with old.roles.empty (Some f) None) old.next old.given)) None cleaned; array = refl; moves = only-same (drive_logs drive) (drive_logs drive) refl; size = refl; trimmed = refl; given = refl; geometry = refl; refused = refl; next = refl; appended = omega arith };

@@ -30,7 +30,7 @@ use Rattle.zone_choice.proofs.MountLaws.{emptied-log, spare_resets}
 use Rattle.zone_choice.proofs.OpenLaws.{OpensNone, tells-kept}
 use Rattle.zone_choice.proofs.RolesLaws.{second_list}
 use Rattle.zone_choice.proofs.SizeLaws.{empty_spare}
-use Rattle.zone_cleaner.specs.Clean.{CleanView, Follows, IsClean, moved_to}
+use Rattle.zone_cleaner.specs.Clean.{CleanView, Follows, IsClean, destination_written}
 use Rattle.zone_choice.specs.Roles.{clean_ended, ended, is_sealed_at}
 use Rattle.zone_cleaner.proofs.CleanLaws.{clean_spare, live-parts}
 use Rattle.zone_cleaner.proofs.DeadLaws.{greatest-without, told-without}
@@ -118,7 +118,7 @@ nothing_lost disk c agrees is due =
     let below' : c.victim < length logs = omega (arith, sealed-in_range disk c.victim agrees is.victim, zone-logs disk.drive) in
     let none : live disk.tables.map c.victim ≡ 0 = omega (arith, live-parts disk c is, due.taken, due.none) in
     let filled = of-second (HoldsFilling g.capacity (contents disk.drive.zones) logs) disk.tables.roles (Destination f) is.second agrees.roles.fillings_are in
-    let some = log-some (log_at logs f.zone) (omega (arith, filled.batches, due.moved, ap moved_to is.second)) in
+    let some = log-some (log_at logs f.zone) (omega (arith, filled.batches, due.moved, ap destination_written is.second)) in
     let follows : Follows (log_at logs c.victim) (some.0 ∷ some.1) = rw some.2 at is.moves.follows in
     let covers : larger (log_greatest (log_at logs c.victim)) (log_greatest (log_at logs f.zone)) ≡ log_greatest (log_at logs f.zone) = rw some.2 follows.1 in
     let size = greatest-without logs c.victim f.zone below' below apart covers in

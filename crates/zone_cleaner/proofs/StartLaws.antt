@@ -24,7 +24,7 @@ use Rattle.zone_choice.proofs.OpenLaws.{emptied-shut}
 use Rattle.zone_choice.proofs.ReserveLaws.{positive-most}
 use Rattle.zone_choice.proofs.RolesLaws.{roles_with, second_list}
 use Rattle.zone_cleaner.specs.Clean.{started, turns_left}
-use Rattle.zone_cleaner.specs.Start.{IsCleaned, IsDue, NoneIsDue}
+use Rattle.zone_cleaner.specs.Start.{AgreesWithClean, IsDue, NoneIsDue}
 use Rattle.zone_cleaner.proofs.BudgetLaws.{start-room, start-turns}
 
 -- ---- an empty zone becomes the destination
@@ -71,7 +71,7 @@ roles-destination capacity zones logs empties host zone agree lowest no_log =
 -- ---- the clean after it
 
 pub record StartGives (disk : Mounted) (tables : TablesView) (victim : ℕ) : Type 0 where
-  pub cleaned : IsCleaned (mounted disk.drive tables) (Some (started victim))
+  pub cleaned : AgreesWithClean (mounted disk.drive tables) (Some (started victim))
   pub turns : turns_left (batch_most disk.drive.geometry) tables (Some (started victim)) + 1 ≤ disk.drive.geometry.capacity
 
 with-alone : (drive : DriveState) (tables : TablesView) → tables.roles.second ≡ None → Agrees (mounted drive tables) → Agrees (mounted drive (record tables { roles = roles_with tables.roles.empty tables.roles.host None }))

@@ -7,7 +7,7 @@ use Rattle.logical_map.specs.declared.place.Place.TheVariants as places
 use Rattle.zone_choice.specs.Agreement.{Mounted}
 use Rattle.zone_cleaner.specs.declared.step.Step.{Step}
 use Rattle.zone_cleaner.specs.declared.step.Step.TheVariants.{Gather, Move, Reset}
-use Rattle.zone_cleaner.specs.Clean.{CleanView, moved_to, untaken}
+use Rattle.zone_cleaner.specs.Clean.{CleanView, destination_written, untaken}
 use Rattle.zone_cleaner.specs.LiveRecords.{LiveRecord}
 use Rattle.zone_cleaner.specs.Turns.{last_step, next_step, step_of}
 use Rattle.zone_cleaner.proofs.CleanLaws.{untaken_none}
@@ -36,11 +36,11 @@ unfolding number spot
 gather-due disk most c block place e = by (ltb (length c.gathered) most) refl (first_record disk.tables.map c.victim c.cursor) refl e
   where
     last : Step
-    last = last_step (moved_to disk.tables.roles.second) c.gathered
+    last = last_step (destination_written disk.tables.roles.second) c.gathered
 
     by : (b : Bool) → ltb (length c.gathered) most ≡ b → (o : Option (ℕ × Place)) → first_record disk.tables.map c.victim c.cursor ≡ o → cond b (step_of o last) Move ≡ Gather block place → GatherDue disk most c block place
     by false is o o-is e = let bad : Move ≡ Gather block place = e in absurd (cc)
-    by true is None o-is e = absurd (last-not_gather (moved_to disk.tables.roles.second) c.gathered block place e)
+    by true is None o-is e = absurd (last-not_gather (destination_written disk.tables.roles.second) c.gathered block place e)
     by true is (Some found) o-is e =
         let pair : ℕ × Place = (block, place) in
         let one : found.0 ≡ block = ap number e in
@@ -53,7 +53,7 @@ gather-due disk most c block place e = by (ltb (length c.gathered) most) refl (f
 -- a Move is due where no more records fit, or none is left; and one in any case
 pub record MoveDue (disk : Mounted) (most : ℕ) (c : CleanView) : Type 0 where
   pub whole : 0 < untaken disk.tables c → length c.gathered ≡ most
-  pub some : 0 < moved_to disk.tables.roles.second → 0 < length c.gathered
+  pub some : 0 < destination_written disk.tables.roles.second → 0 < length c.gathered
 
 last-some : (written : ℕ) (rs : List LiveRecord) → last_step written rs ≡ Move → 0 < written → 0 < length rs
 last-some zero rs e some = absurd (omega arith)
@@ -64,7 +64,7 @@ pub move-due : (disk : Mounted) (most : ℕ) (c : CleanView) → next_step most 
 move-due disk most c e one few = by (ltb (length c.gathered) most) refl (first_record disk.tables.map c.victim c.cursor) refl e
   where
     last : Step
-    last = last_step (moved_to disk.tables.roles.second) c.gathered
+    last = last_step (destination_written disk.tables.roles.second) c.gathered
 
     by : (b : Bool) → ltb (length c.gathered) most ≡ b → (o : Option (ℕ × Place)) → first_record disk.tables.map c.victim c.cursor ≡ o → cond b (step_of o last) Move ≡ Move → MoveDue disk most c
     by false is o o-is e =
@@ -72,14 +72,14 @@ move-due disk most c e one few = by (ltb (length c.gathered) most) refl (first_r
         record { whole = λ left. omega (arith, full, few); some = λ moved. omega (arith, full, one) }
     by true is None o-is e =
         let none = untaken_none disk c o-is in
-        record { whole = λ left. absurd (omega (arith, left, none)); some = last-some (moved_to disk.tables.roles.second) c.gathered e }
+        record { whole = λ left. absurd (omega (arith, left, none)); some = last-some (destination_written disk.tables.roles.second) c.gathered e }
     by true is (Some found) o-is e = let bad : Gather found.0 found.1 ≡ Move = e in absurd (cc)
 
 -- the Reset is due where all records are moved, and a Move was written
 pub record ResetDue (disk : Mounted) (c : CleanView) : Type 0 where
   pub taken : untaken disk.tables c ≡ 0
   pub none : length c.gathered ≡ 0
-  pub moved : 0 < moved_to disk.tables.roles.second
+  pub moved : 0 < destination_written disk.tables.roles.second
 
 last-reset : (written : ℕ) (rs : List LiveRecord) → last_step written rs ≡ Reset → (length rs ≡ 0) × (0 < written)
 last-reset zero rs e = let bad : Move ≡ Reset = e in absurd (cc)
@@ -90,9 +90,9 @@ pub reset-due : (disk : Mounted) (most : ℕ) (c : CleanView) → next_step most
 reset-due disk most c e = by (ltb (length c.gathered) most) refl (first_record disk.tables.map c.victim c.cursor) refl e
   where
     last : Step
-    last = last_step (moved_to disk.tables.roles.second) c.gathered
+    last = last_step (destination_written disk.tables.roles.second) c.gathered
 
     by : (b : Bool) → ltb (length c.gathered) most ≡ b → (o : Option (ℕ × Place)) → first_record disk.tables.map c.victim c.cursor ≡ o → cond b (step_of o last) Move ≡ Reset → ResetDue disk c
     by false is o o-is e = let bad : Move ≡ Reset = e in absurd (cc)
-    by true is None o-is e = let parts = last-reset (moved_to disk.tables.roles.second) c.gathered e in record { taken = untaken_none disk c o-is; none = parts.0; moved = parts.1 }
+    by true is None o-is e = let parts = last-reset (destination_written disk.tables.roles.second) c.gathered e in record { taken = untaken_none disk c o-is; none = parts.0; moved = parts.1 }
     by true is (Some found) o-is e = let bad : Gather found.0 found.1 ≡ Reset = e in absurd (cc)

@@ -2,7 +2,7 @@
 use Rattle.std.proofs.Common.{◌≡◌, ℕ, ◌+◌, ◌<◌, ◌≤◌, Bool, true, false, cond, map, length, set, get_or, Option, Some, None, Result, Ok, Err, refl, sym, ap, ◌∙◌, arith}
 use Rattle.std.specs.List.{count_by}
 use Rattle.std.specs.Option.{option_map}
-use Rattle.std.specs.Prelude.{IfErr, OnOk}
+use Rattle.std.specs.Prelude.{IfErr, OnErr, OnOk}
 use Rattle.std.proofs.lemmas.List.Sums.{get_or-le-sum_by, sum_by-set}
 use Rattle.drive_port.specs.Drive.{DriveState}
 use Rattle.zone_choice.specs.declared.roles.Filling.{Filling}
@@ -22,11 +22,12 @@ use Rattle.zone_cleaner.specs.declared.fault.CleanFault.{CleanFault}
 use Rattle.zone_cleaner.specs.declared.fault.CleanFault.TheVariants as faults
 use Rattle.zone_cleaner.specs.declared.step.Step.{Step}
 use Rattle.zone_cleaner.specs.declared.step.Step.TheVariants.{Gather, Move, Reset}
-use Rattle.zone_cleaner.specs.Clean.{CleanView, IsAlone, turns_left}
+use Rattle.zone_cleaner.specs.Clean.{CleanView, HasNoDestination, turns_left}
 use Rattle.zone_cleaner.specs.LiveRecords.{content_of, move_of}
-use Rattle.zone_cleaner.specs.Start.{GoesOn, IsCleaned, IsCleaningCause, KeepsByCleaning, StartLeaves, TurnLeaves, TurnsFewer, trims}
+use Rattle.zone_cleaner.specs.Start.{GoesOn, AgreesWithClean, IsCleaningCause, KeepsByCleaning, StartLeaves, TurnLeaves, TurnsFewer, trims}
 use Rattle.zone_cleaner.specs.Turns.{StepDone, StepFails, StepLeaves, next_step, with_record}
 use Rattle.zone_cleaner.proofs.CleanLaws.{clean_kept, clean_spare, gather_gives, turns_kept}
+use Rattle.zone_cleaner.proofs.CloseLaws.{close-keeps, close-turns}
 use Rattle.zone_cleaner.proofs.EndLaws.{destination-is}
 use Rattle.zone_cleaner.proofs.KindLaws.{move-trims}
 use Rattle.zone_cleaner.proofs.MovedLaws.{move_gives}
@@ -38,21 +39,21 @@ use Rattle.zone_cleaner.proofs.StepLaws.{gather-due, move-due}
 
 -- ---- a drive that is cleaned can be mounted
 
-pub cleans-spare : (disk : Mounted) (clean : Option CleanView) → IsCleaned disk clean → HasSpare disk.drive.geometry.block disk.tables.given (drive_logs disk.drive)
+pub cleans-spare : (disk : Mounted) (clean : Option CleanView) → AgreesWithClean disk clean → HasSpare disk.drive.geometry.block disk.tables.given (drive_logs disk.drive)
 cleans-spare disk None is = empty-spare disk.drive disk.tables is.0 is.1.0
 cleans-spare disk (Some c) is = clean_spare disk c is.0 is.1
 
-pub cleans_mountable : (disk : Mounted) (clean : Option CleanView) → IsCleaned disk clean → IsMountable disk.drive disk.tables.given
+pub cleans_mountable : (disk : Mounted) (clean : Option CleanView) → AgreesWithClean disk clean → IsMountable disk.drive disk.tables.given
 cleans_mountable disk clean is = agrees_mountable disk.drive disk.tables is.0 (cleans-spare disk clean is)
 
 -- ---- one step
 
 -- the clean goes on, with fewer turns left
 pub record GoesForward (most : ℕ) (before : Mounted) (c : CleanView) (after : Mounted) (new : Option CleanView) : Type 0 where
-  pub cleaned : IsCleaned after new
+  pub cleaned : AgreesWithClean after new
   pub fewer : turns_left most after.tables new < turns_left most before.tables (Some c)
 
-ended-alone : (capacity : ℕ) (second : Option Second) (f : Filling) → second ≡ Some (Destination f) → f.written + 2 ≤ capacity → IsAlone capacity (option_map ended second)
+ended-alone : (capacity : ℕ) (second : Option Second) (f : Filling) → second ≡ Some (Destination f) → f.written + 2 ≤ capacity → HasNoDestination capacity (option_map ended second)
 ended-alone capacity second f e room = rw e room
 
 empty-more : (roles : RolesView) (victim : ℕ) → victim < length roles.empty → 1 ≤ empty_count (clean_ended roles victim)
@@ -66,7 +67,7 @@ empty-more roles victim lt =
         let one : cond {A = ℕ} (get_or roles.empty victim false) 1 0 ≡ 1 = rw e refl in
         omega (arith, more, one, get_or-le-sum_by (λ (x : Bool). cond {A = ℕ} x 1 0) roles.empty victim false lt)
 
-pub step_forward : (before after : Mounted) (c : CleanView) (new : Option CleanView) (step : Step) → IsCleaned before (Some c) → next_step (batch_most before.drive.geometry) before.tables c ≡ step → StepDone step before c after new → GoesForward (batch_most before.drive.geometry) before c after new
+pub step_forward : (before after : Mounted) (c : CleanView) (new : Option CleanView) (step : Step) → AgreesWithClean before (Some c) → next_step (batch_most before.drive.geometry) before.tables c ≡ step → StepDone step before c after new → GoesForward (batch_most before.drive.geometry) before c after new
 step_forward before after c new (Gather block place) is due done =
     let most = batch_most before.drive.geometry in
     let g = gather-due before most c block place due in
@@ -88,7 +89,7 @@ step_forward before after c new Reset is due done =
     })
 
 -- what a step keeps that is done
-step-keeps : (before after : Mounted) (c : CleanView) (new : Option CleanView) (step : Step) → IsCleaned before (Some c) → IsCleaned after new → StepDone step before c after new → KeepsByCleaning before after
+step-keeps : (before after : Mounted) (c : CleanView) (new : Option CleanView) (step : Step) → AgreesWithClean before (Some c) → AgreesWithClean after new → StepDone step before c after new → KeepsByCleaning before after
 step-keeps before after c new (Gather block place) is cleaned done = record {
   mountable = cleans_mountable after new cleaned;
   array = done.0.array;
@@ -128,9 +129,9 @@ step-keeps before after c new Reset is cleaned done = record {
 
 -- ---- a step that is not done
 
-keeps-kept : (before after : Mounted) (c : CleanView) → IsCleaned before (Some c) → KeepsArray before after → IsCleaned after (Some c) × KeepsByCleaning before after
+keeps-kept : (before after : Mounted) (c : CleanView) → AgreesWithClean before (Some c) → KeepsArray before after → AgreesWithClean after (Some c) × KeepsByCleaning before after
 keeps-kept before after c is kept =
-    let cleaned : IsCleaned after (Some c) = (kept.agrees, clean_kept before after c is.0 kept is.1) in (
+    let cleaned : AgreesWithClean after (Some c) = (kept.agrees, clean_kept before after c is.0 kept is.1) in (
       cleaned,
       record {
         mountable = cleans_mountable after (Some c) cleaned;
@@ -158,50 +159,64 @@ spent-move before after (Gather block place) fails = absurd fails
 spent-move before after Move fails = fails
 spent-move before after Reset fails = absurd fails
 
-fails_give : (before after : Mounted) (c : CleanView) (new : Option CleanView) (step : Step) (fault : CleanFault) → IsCleaned before (Some c) → StepFails step fault before after → new ≡ Some c → TurnGives before (Some c) (Err fault) after new
-fails_give before after c new step faults.OutOfMemory is fails same = let kept = keeps-kept before after c is fails in rw same (record { goes_on = kept.0; keeps = kept.1; cause = tt })
-fails_give before after c new step faults.Stopped is fails same = record {
-  goes_on = tt;
-  keeps = record {
-    mountable = fails.mountable;
-    array = fails.array;
-    moves = fails.moves;
-    size = ap length fails.places;
-    trimmed = ap (map trims) fails.places;
-    given = fails.given;
-    geometry = fails.geometry;
-    refused = fails.refused;
-    next = omega (arith, fails.next, fails.appended);
-    appended = omega (arith, fails.appended);
-  };
-  cause = fails.stopped;
-}
+fails_give : (before after : Mounted) (c : CleanView) (new : Option CleanView) (step : Step) (fault : CleanFault) → AgreesWithClean before (Some c) → StepFails step fault before after → new ≡ Some c → TurnGives before (Some c) (Err fault) after new
+fails_give before after c new step faults.OutOfMemory is fails same = let kept = keeps-kept before after c is fails.0 in rw same (record { goes_on = kept.0; keeps = kept.1; cause = tt })
+fails_give before after c new step faults.Stopped is fails same =
+    let but = close-keeps before after.tables fails.tables in
+    record {
+      goes_on = tt;
+      keeps = record {
+        mountable = fails.mountable;
+        array = fails.array;
+        moves = fails.moves;
+        size = ap (λ m. length m.places) but.map;
+        trimmed = ap (λ m. map trims m.places) but.map;
+        given = but.given;
+        geometry = fails.geometry;
+        refused = fails.refused;
+        next = omega (arith, but.next, fails.appended);
+        appended = omega (arith, fails.appended);
+      };
+      cause = fails.stopped;
+    }
 fails_give before after c new step faults.Spent is fails same = let spent = spent-move before after step fails in rw (same, spent.0) (record {
   goes_on = is;
   keeps = record { mountable = cleans_mountable before (Some c) is; array = refl; moves = only-same (drive_logs before.drive) (drive_logs before.drive) refl; size = refl; trimmed = refl; given = refl; geometry = refl; refused = refl; next = refl; appended = omega arith };
   cause = spent.1;
 })
 
-step_gives : (before after : Mounted) (c : CleanView) (new : Option CleanView) (result : Result (Unit {0}) CleanFault) → IsCleaned before (Some c) → StepLeaves (next_step (batch_most before.drive.geometry) before.tables c) before c result after new → TurnGives before (Some c) result after new
+step_gives : (before after : Mounted) (c : CleanView) (new : Option CleanView) (result : Result (Unit {0}) CleanFault) → AgreesWithClean before (Some c) → StepLeaves (next_step (batch_most before.drive.geometry) before.tables c) before c result after new → TurnGives before (Some c) result after new
 step_gives before after c new (Ok done) is leaves =
     let forward = step_forward before after c new (next_step (batch_most before.drive.geometry) before.tables c) is refl leaves in
     record { goes_on = forward.cleaned; keeps = step-keeps before after c new (next_step (batch_most before.drive.geometry) before.tables c) is forward.cleaned leaves; cause = tt }
 step_gives before after c new (Err fault) is leaves = fails_give before after c new (next_step (batch_most before.drive.geometry) before.tables c) fault is leaves.0 leaves.1
 
+-- ---- a turn that is not done adds none
+
+fails-turns : (before after : Mounted) (c : CleanView) (most : ℕ) (step : Step) (fault : CleanFault) → StepFails step fault before after → turns_left most after.tables (Some c) ≡ turns_left most before.tables (Some c)
+fails-turns before after c most step faults.OutOfMemory fails = close-turns before after.tables most (Some c) fails.1
+fails-turns before after c most step faults.Stopped fails = close-turns before after.tables most (Some c) fails.tables
+fails-turns before after c most step faults.Spent fails = rw (spent-move before after step fails).0 refl
+
+pub refused-turns : (before after : Mounted) (old new : Option CleanView) (most : ℕ) (result : Result (Unit {0}) CleanFault) → TurnLeaves before old result after new → OnErr result (turns_left most after.tables new ≡ turns_left most before.tables old)
+refused-turns before after old new most (Ok done) leaves = tt
+refused-turns before after None new most (Err fault) leaves = absurd leaves
+refused-turns before after (Some c) new most (Err fault) leaves = rw leaves.1 (fails-turns before after c most (next_step (batch_most before.drive.geometry) before.tables c) fault leaves.0)
+
 -- ---- a turn
 
-start-leaves : (drive : DriveState) (old new : TablesView) (clean : Option CleanView) → IsCleaned (mounted drive old) None → StartLeaves drive.geometry old new clean → IsCleaned (mounted drive new) clean × (new.given ≡ old.given) × (size_of new ≡ size_of old) × (new.next ≡ old.next) × (map trims new.map.places ≡ map trims old.map.places)
+start-leaves : (drive : DriveState) (old new : TablesView) (clean : Option CleanView) → AgreesWithClean (mounted drive old) None → StartLeaves drive.geometry old new clean → AgreesWithClean (mounted drive new) clean × (new.given ≡ old.given) × (size_of new ≡ size_of old) × (new.next ≡ old.next) × (map trims new.map.places ≡ map trims old.map.places)
 start-leaves drive old new None is leaves = rw leaves.1 (is, refl, refl, refl, refl)
 start-leaves drive old new (Some c) is starts =
     let gives = start_gives drive old new starts.victim starts.destination is.0 starts.due starts.lowest starts.tables in
     (rw starts.clean_is gives.cleaned, rw starts.tables refl, rw starts.tables refl, rw starts.tables refl, rw starts.tables refl)
 
-pub turn_gives : (before after : Mounted) (old new : Option CleanView) (result : Result (Unit {0}) CleanFault) → IsCleaned before old → TurnLeaves before old result after new → TurnGives before old result after new
+pub turn_gives : (before after : Mounted) (old new : Option CleanView) (result : Result (Unit {0}) CleanFault) → AgreesWithClean before old → TurnLeaves before old result after new → TurnGives before old result after new
 turn_gives before after (Some c) new result is leaves = step_gives before after c new result is leaves
 turn_gives before after None new (Err fault) is leaves = absurd leaves
 turn_gives before after None new (Ok done) is leaves =
     let started = start-leaves before.drive before.tables after.tables new is leaves.1 in
-    let cleaned : IsCleaned after new = rw leaves.0 started.0 in
+    let cleaned : AgreesWithClean after new = rw leaves.0 started.0 in
     record {
       goes_on = cleaned;
       keeps = record {
@@ -219,7 +234,7 @@ turn_gives before after None new (Ok done) is leaves =
       cause = tt;
     }
 
-pub turns_fewer : (before after : Mounted) (old new : Option CleanView) → IsCleaned before old → TurnLeaves before old (Ok tt) after new → TurnsFewer before after old new
+pub turns_fewer : (before after : Mounted) (old new : Option CleanView) → AgreesWithClean before old → TurnLeaves before old (Ok tt) after new → TurnsFewer before after old new
 turns_fewer before after (Some c) new is leaves = record {
   fewer = λ some. (step_forward before after c new (next_step (batch_most before.drive.geometry) before.tables c) is refl leaves).fewer;
   bound = λ none. absurd (let bad : true ≡ false = none in cc);
@@ -231,7 +246,7 @@ turns_fewer before after None new is leaves = record { fewer = λ some. absurd (
     by (Some c) starts = rw starts.clean_is (start_gives before.drive before.tables after.tables starts.victim starts.destination is.0 starts.due starts.lowest starts.tables).turns
 
 -- the same before any turn
-pub keeps-none : (disk : Mounted) (clean : Option CleanView) → IsCleaned disk clean → KeepsByCleaning disk disk
+pub keeps-none : (disk : Mounted) (clean : Option CleanView) → AgreesWithClean disk clean → KeepsByCleaning disk disk
 keeps-none disk clean is = record { mountable = cleans_mountable disk clean is; array = refl; moves = only-same (drive_logs disk.drive) (drive_logs disk.drive) refl; size = refl; trimmed = refl; given = refl; geometry = refl; refused = refl; next = refl; appended = omega arith }
 
 pub keeps-more : (a b c : Mounted) → KeepsByCleaning a b → KeepsByCleaning b c → KeepsByCleaning a c
@@ -248,6 +263,6 @@ keeps-more a b c p q = record {
   appended = omega (arith, p.appended, q.appended);
 }
 
-pub on-done : (before after : Mounted) (old new : Option CleanView) (result : Result (Unit {0}) CleanFault) → IsCleaned before old → TurnLeaves before old result after new → OnOk result (TurnsFewer before after old new)
+pub on-done : (before after : Mounted) (old new : Option CleanView) (result : Result (Unit {0}) CleanFault) → AgreesWithClean before old → TurnLeaves before old result after new → OnOk result (TurnsFewer before after old new)
 on-done before after old new (Ok done) is leaves = turns_fewer before after old new is leaves
 on-done before after old new (Err fault) is leaves = tt

@@ -27,14 +27,14 @@ pub record CleanView : Type 0 where
 -- ---- what is left to do
 
 -- how many blocks are written to the destination
-abbrev pub moved_to : Option Second → ℕ
-moved_to (Some (Destination filling)) = filling.written
-moved_to second = 0
+abbrev pub destination_written : Option Second → ℕ
+destination_written (Some (Destination filling)) = filling.written
+destination_written second = 0
 
 -- one Move is written in any case
-abbrev pub unwritten : ℕ → ℕ
-unwritten zero = 1
-unwritten (suc written) = 0
+abbrev pub moves_due : ℕ → ℕ
+moves_due zero = 1
+moves_due (suc written) = 0
 
 -- how many live records of the victim were not taken yet
 abbrev pub untaken : TablesView → CleanView → ℕ
@@ -42,7 +42,7 @@ untaken tables clean = count_by (lies_in tables.map.zone_size clean.victim) (dro
 
 -- how many Moves are left, of that many records at most
 abbrev pub moves_left : ℕ → TablesView → CleanView → ℕ
-moves_left most tables clean = max (unwritten (moved_to tables.roles.second)) (div_ceil (live tables.map clean.victim) most)
+moves_left most tables clean = max (moves_due (destination_written tables.roles.second)) (div_ceil (live tables.map clean.victim) most)
 
 -- how many turns are left: one for each record to take and for each Move, and the last
 abbrev pub turns_left : ℕ → TablesView → Option CleanView → ℕ
@@ -70,7 +70,7 @@ pub record AreMoves (block_bytes n : ℕ) (logs : List (List Batch)) (victim des
 
 -- with all records that are left, and a header for each Move, two blocks of the destination stay free
 abbrev pub HasRoomFor : ℕ → ℕ → ℕ → ℕ → Type 0
-HasRoomFor capacity most written records = written + max (unwritten written) (records + div_ceil records most) + 2 ≤ capacity
+HasRoomFor capacity most written records = written + max (moves_due written) (records + div_ceil records most) + 2 ≤ capacity
 
 -- a clean runs: its victim is sealed, and the second zone is its destination
 pub record IsClean (disk : Mounted) (clean : CleanView) : Type 0 where
@@ -82,14 +82,14 @@ pub record IsClean (disk : Mounted) (clean : CleanView) : Type 0 where
   pub moves : AreMoves disk.drive.geometry.block disk.tables.given (drive_logs disk.drive) clean.victim destination.zone
 
 -- there is no destination, and the next zone, if there is one, has two free blocks
-abbrev pub IsAlone : ℕ → Option Second → Type 0
-IsAlone capacity None = Unit {0}
-IsAlone capacity (Some (Next filling)) = filling.written + 2 ≤ capacity
-IsAlone capacity (Some (Destination filling)) = ⊥
+abbrev pub HasNoDestination : ℕ → Option Second → Type 0
+HasNoDestination capacity None = Unit {0}
+HasNoDestination capacity (Some (Next filling)) = filling.written + 2 ≤ capacity
+HasNoDestination capacity (Some (Destination filling)) = ⊥
 
 -- a clean runs; or none does, a zone is kept empty, and there is no destination
 abbrev pub Cleans : Mounted → Option CleanView → Type 0
-Cleans disk None = (1 ≤ empty_count disk.tables.roles) × IsAlone disk.drive.geometry.capacity disk.tables.roles.second
+Cleans disk None = (1 ≤ empty_count disk.tables.roles) × HasNoDestination disk.drive.geometry.capacity disk.tables.roles.second
 Cleans disk (Some clean) = IsClean disk clean
 
 -- a clean that was just started

@@ -76,13 +76,13 @@ CleanLeaves before None result after new = (middle : Mounted) × (clean : Option
 CleanLeaves before (Some clean) result after new = EndLeaves before (Some clean) result after new
 
 -- tables and drive agree with each other, and with the clean that runs, if one does
-abbrev pub IsCleaned : Mounted → Option CleanView → Type 0
-IsCleaned disk clean = Agrees disk × Cleans disk clean
+abbrev pub AgreesWithClean : Mounted → Option CleanView → Type 0
+AgreesWithClean disk clean = Agrees disk × Cleans disk clean
 
 -- it does so after a turn, unless the drive has stopped
 abbrev pub GoesOn : Result (Unit {0}) CleanFault → Mounted → Option CleanView → Type 0
 GoesOn (Err faults.Stopped) disk clean = Unit {0}
-GoesOn result disk clean = IsCleaned disk clean
+GoesOn result disk clean = AgreesWithClean disk clean
 
 -- why a turn was not done: the drive has stopped, or no sequence is left for a Move; of memory nothing can be said
 abbrev pub IsCleaningCause : DriveState → ℕ → CleanFault → Type 0
@@ -115,6 +115,6 @@ pub record TurnsFewer (before after : Mounted) (old new : Option CleanView) : Ty
   pub bound : is_some old ≡ false → turns_left (batch_most before.drive.geometry) after.tables new + 1 ≤ before.drive.geometry.capacity
 
 -- What turns that are done leave of the zones being filled: where there was no host zone there is none; and a clean that ran and has ended leaves the next zone.
-pub record LeavesRoom (before after : Mounted) (old new : Option CleanView) : Type 0 where
+pub record LeavesNextZone (before after : Mounted) (old new : Option CleanView) : Type 0 where
   pub host : before.tables.roles.host ≡ None → after.tables.roles.host ≡ None
   pub next : is_some old ≡ true → new ≡ None → is_some (next_of after.tables.roles.second) ≡ true

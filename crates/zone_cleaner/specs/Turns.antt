@@ -1,6 +1,6 @@
 -- What each turn of a clean does.
 use Rattle.std.specs.List.{AllByRecursion}
-use Rattle.std.specs.Prelude.{◌≡◌, ◌⊎◌, ℕ, suc, ◌+◌, ◌≤◌, nat_lt, if◌then◌else◌, true, List, [], ◌∷◌, ◌++◌, length, Option, Some, None, Result, Ok, Err}
+use Rattle.std.specs.Prelude.{◌≡◌, ◌⊎◌, ℕ, suc, ◌+◌, ◌<◌, ◌≤◌, nat_lt, if◌then◌else◌, true, List, [], ◌∷◌, ◌++◌, length, Option, Some, None, Result, Ok, Err}
 use Rattle.drive_port.specs.Drive.{DriveState}
 use Rattle.drive_port.specs.declared.device.Halt.{Halt}
 use Rattle.drive_port.specs.declared.device.Halt.TheVariants as halt
@@ -11,7 +11,7 @@ use Rattle.logical_map.specs.declared.place.Place.{Place}
 use Rattle.zone_choice.specs.declared.roles.Filling.{Filling}
 use Rattle.zone_choice.specs.declared.roles.Second.TheVariants.{Destination}
 use Rattle.zone_choice.specs.Agreement.{Agrees, Mounted, drive_logs, mounted_array}
-use Rattle.zone_choice.specs.Changes.{KeepsArray, Places, sequence_end}
+use Rattle.zone_choice.specs.Changes.{KeepsArray, Places, sequence_end, tables_closed}
 use Rattle.zone_choice.specs.Mountable.{IsMountable}
 use Rattle.zone_choice.specs.Records.{without}
 use Rattle.zone_choice.specs.Tables.{TablesView, size_of}
@@ -20,7 +20,7 @@ use Rattle.zone_cleaner.specs.declared.step.Step.{Step}
 use Rattle.zone_cleaner.specs.declared.step.Step.TheVariants.{Gather, Move, Reset}
 use Rattle.zone_cleaner.specs.declared.fault.CleanFault.{CleanFault}
 use Rattle.zone_cleaner.specs.declared.fault.CleanFault.TheVariants as faults
-use Rattle.zone_cleaner.specs.Clean.{CleanView, moved_to}
+use Rattle.zone_cleaner.specs.Clean.{CleanView, destination_written}
 use Rattle.zone_cleaner.specs.LiveRecords.{LiveRecord, content_of, move_of}
 use Rattle.zone_choice.specs.Roles.{clean_ended}
 
@@ -38,7 +38,7 @@ step_of (Some found) last = Gather found.0 found.1
 -- A Move takes as many records as fit; before it they are gathered, in ascending order of their blocks.
 abbrev pub next_step : ℕ → TablesView → CleanView → Step
 next_step most tables clean =
-    if nat_lt (length clean.gathered) most then step_of (first_record tables.map clean.victim clean.cursor) (last_step (moved_to tables.roles.second) clean.gathered) else Move
+    if nat_lt (length clean.gathered) most then step_of (first_record tables.map clean.victim clean.cursor) (last_step (destination_written tables.roles.second) clean.gathered) else Move
 
 -- ---- what a step that is done leaves
 
@@ -84,22 +84,24 @@ OnlyMoves old new = (zone : ℕ) → (moves : List Batch) × AllByRecursion IsMo
 
 -- ---- a step that is not done
 
+-- the tables are the same but that, at an open limit of 1, they may say that the zone beside one was closed
+abbrev pub MayClose : Mounted → TablesView → Type 0
+MayClose before after = (after ≡ before.tables) ⊎ ((before.drive.geometry.open < 2) × ((zone : ℕ) × (after ≡ tables_closed before.tables zone)))
+
 -- The drive stopped inside the step: it can be mounted, and its array is the same.
 pub record StopsClean (before after : Mounted) : Type 0 where
   pub stopped : after.drive.stopped ≡ true
   pub moves : OnlyMoves (drive_logs before.drive) (drive_logs after.drive)
   pub mountable : IsMountable after.drive after.tables.given
   pub array : mounted_array after ≡ mounted_array before
-  pub places : after.tables.map.places ≡ before.tables.map.places
-  pub given : after.tables.given ≡ before.tables.given
-  pub next : after.tables.next ≡ before.tables.next
+  pub tables : MayClose before after.tables
   pub geometry : after.drive.geometry ≡ before.drive.geometry
   pub refused : after.drive.refused ≡ before.drive.refused
   pub appended : after.drive.appended ≡ before.drive.appended
 
 -- What a step leaves that was not done, by its fault. Out of memory, the array is the same. A Move alone needs a sequence; where none is left for it, nothing was sent.
 abbrev pub StepFails : Step → CleanFault → Mounted → Mounted → Type 0
-StepFails step faults.OutOfMemory before after = KeepsArray before after
+StepFails step faults.OutOfMemory before after = KeepsArray before after × MayClose before after.tables
 StepFails step faults.Stopped before after = StopsClean before after
 StepFails Move faults.Spent before after = (after ≡ before) × (sequence_end before.drive.geometry ≤ before.tables.next)
 StepFails step faults.Spent before after = ⊥

@@ -9,7 +9,7 @@ ghost use Rattle.zone_choice.specs.Agreement.{Agrees, mounted, spelled};
 ghost use Rattle.zone_choice.specs.Changes.{KeepsArray};
 ghost use Rattle.zone_choice.specs.Reserve.{batch_most};
 ghost use Rattle.zone_choice.specs.Tables.{size_of};
-ghost use Rattle.zone_cleaner.specs.Clean.{IsClean, forgotten, moved_to, started};
+ghost use Rattle.zone_cleaner.specs.Clean.{IsClean, forgotten, destination_written, started};
 ghost use Rattle.zone_cleaner.specs.LiveRecords.{LiveRecord, content_of, data_of, move_of};
 ghost use Rattle.zone_cleaner.specs.Turns.{EmptiesVictim, IsReadFault, StepFails, StepLeaves, clean_fault, last_step, next_step, with_record};
 
@@ -51,9 +51,9 @@ fn fault_of(halt: Halt) -> CleanFault
     }
 }
 
-/// What a Move says of a block that lies at a place: its data, or none for a trim.
+/// What a Move says of a block that lies at a place: its data, in this buffer, or none for a trim.
 fn fetch<D: Device>(
-    alloc: Global,
+    mut bytes: Vec<u8>,
     tables: &Tables,
     device: &mut D,
     block: u32,
@@ -71,7 +71,6 @@ fn fetch<D: Device>(
     let Place::At(address) = place else {
         return Ok(None);
     };
-    let mut bytes = Vec::new(alloc);
     if let Err(fault) = read(device, address, 1, &mut bytes) {
         return Err(fault_of(halt_of(fault)));
     }
@@ -113,10 +112,18 @@ impl Clean {
         ensures leaves { StepLeaves (Step.Gather block place) (mounted (D.drive device.old) tables.now) self.old result (mounted (D.drive device.new) tables.now) (Some self.new) }
         ensures completed { (D.drive device.new).completed ≤ (D.drive device.old).completed + 1 }
     {
-        match fetch(alloc, tables, device, block, place) {
+        let buffer = self.buffer(alloc);
+        match fetch(buffer, tables, device, block, place) {
             Ok(content) => self.push(block, content),
             Err(fault) => Err(fault),
         }
+    }
+
+    /// A buffer for the data of a record.
+    fn buffer(&mut self, alloc: Global) -> Vec<u8>
+        ensures { self.new ≡ self.old }
+    {
+        self.gathered.buffer(alloc)
     }
 
     /// Adds a record to those that are gathered.
@@ -226,7 +233,7 @@ impl Clean {
 
 /// What a clean does next whose records are all taken, by the second zone and the number of gathered records.
 fn last_step(second: Option<Second>, gathered: usize) -> Step
-    ensures { (rs : List LiveRecord) → length rs ≡ gathered → result ≡ last_step (moved_to second) rs }
+    ensures { (rs : List LiveRecord) → length rs ≡ gathered → result ≡ last_step (destination_written second) rs }
 {
     if gathered > 0 {
         return Step::Move;

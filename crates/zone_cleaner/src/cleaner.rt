@@ -1,4 +1,4 @@
-ghost use Rattle.std.specs.Prelude.{◌≡◌, ◌≢◌, ◌≤◌, ◌<◌, ◌+◌, ◌*◌, ◌^◌, true, Err, IfErr, IfOk, OnOk, None, Some, is_some, length};
+ghost use Rattle.std.specs.Prelude.{◌≡◌, ◌≢◌, ◌≤◌, ◌<◌, ◌+◌, ◌*◌, ◌^◌, true, Err, IfErr, IfOk, OnErr, OnOk, None, Some, is_some, length};
 ghost use Rattle.std.specs.List.{AllByRecursion};
 ghost use Rattle.std.specs.Option.{option_map};
 ghost use Rattle.zone_choice.specs.Agreement.{mounted};
@@ -8,7 +8,7 @@ ghost use Rattle.zone_choice.specs.Reserve.{batch_most};
 ghost use Rattle.zone_choice.specs.Roles.{empty_count, next_of};
 ghost use Rattle.zone_cleaner.specs.Clean.{forgotten, turns_left};
 ghost use Rattle.zone_cleaner.specs.Host.{HostLeaves};
-ghost use Rattle.zone_cleaner.specs.Start.{CleanLeaves, EndLeaves, FindsDue, GoesOn, IsCleaned, IsCleaningCause, KeepsByCleaning, LeavesRoom, StartLeaves, TurnLeaves, TurnsFewer};
+ghost use Rattle.zone_cleaner.specs.Start.{CleanLeaves, EndLeaves, FindsDue, GoesOn, AgreesWithClean, IsCleaningCause, KeepsByCleaning, LeavesNextZone, StartLeaves, TurnLeaves, TurnsFewer};
 ghost use Rattle.zone_states.specs.Geometry.{IsInRange};
 
 use crate::clean::Clean;
@@ -99,7 +99,7 @@ impl Cleaner {
         host: Filling,
         batch: &BatchBuilder,
     ) -> Result<(), Halt>
-        requires cleaned { IsCleaned (mounted (D.drive device.old) tables.old) self.old }
+        requires cleaned { AgreesWithClean (mounted (D.drive device.old) tables.old) self.old }
         requires host { tables.old.roles.host ≡ Some host }
         requires built { IsBuilt (D.drive device.old).geometry.block batch.now }
         requires can { CanPlace (mounted (D.drive device.old) tables.old) host.zone (built (D.drive device.old).geometry.block batch.now) }
@@ -133,7 +133,7 @@ impl Cleaner {
 
     /// What a turn does.
     fn step<D: Device>(&mut self, tables: &mut Tables, device: &mut D) -> Result<(), CleanFault>
-        requires cleaned { IsCleaned (mounted (D.drive device.old) tables.old) self.old }
+        requires cleaned { AgreesWithClean (mounted (D.drive device.old) tables.old) self.old }
         ensures leaves { TurnLeaves (mounted (D.drive device.old) tables.old) self.old result (mounted (D.drive device.new) tables.new) self.new }
         ensures completed { (D.drive device.new).completed ≤ (D.drive device.old).completed + 2 }
     {
@@ -158,13 +158,14 @@ impl Cleaner {
     /// After `OutOfMemory` and `Spent` the clean is as it was before the turn, and goes on at the next. At most two
     /// commands are completed.
     pub fn turn<D: Device>(&mut self, tables: &mut Tables, device: &mut D) -> Result<(), CleanFault>
-        requires cleaned { IsCleaned (mounted (D.drive device.old) tables.old) self.old }
+        requires cleaned { AgreesWithClean (mounted (D.drive device.old) tables.old) self.old }
         ensures leaves { TurnLeaves (mounted (D.drive device.old) tables.old) self.old result (mounted (D.drive device.new) tables.new) self.new }
         ensures goes_on { GoesOn result (mounted (D.drive device.new) tables.new) self.new }
         ensures cause { IfErr result (IsCleaningCause (D.drive device.new) tables.new.next) }
         ensures keeps { KeepsByCleaning (mounted (D.drive device.old) tables.old) (mounted (D.drive device.new) tables.new) }
         ensures turns { OnOk result (TurnsFewer (mounted (D.drive device.old) tables.old) (mounted (D.drive device.new) tables.new) self.old self.new) }
-        ensures room { OnOk result (LeavesRoom (mounted (D.drive device.old) tables.old) (mounted (D.drive device.new) tables.new) self.old self.new) }
+        ensures refused { OnErr result (turns_left (batch_most (D.drive device.old).geometry) tables.new self.new ≡ turns_left (batch_most (D.drive device.old).geometry) tables.old self.old) }
+        ensures room { OnOk result (LeavesNextZone (mounted (D.drive device.old) tables.old) (mounted (D.drive device.new) tables.new) self.old self.new) }
         ensures completed { (D.drive device.new).completed ≤ (D.drive device.old).completed + 2 }
     {
         self.step(tables, device)
@@ -177,10 +178,10 @@ impl Cleaner {
         tables: &mut Tables,
         device: &mut D,
     ) -> Result<(), CleanFault>
-        requires cleaned { IsCleaned (mounted (D.drive device.old) tables.old) self.old }
+        requires cleaned { AgreesWithClean (mounted (D.drive device.old) tables.old) self.old }
         ensures leaves { EndLeaves (mounted (D.drive device.old) tables.old) self.old result (mounted (D.drive device.new) tables.new) self.new }
         ensures ended { OnOk result (self.new ≡ None) }
-        ensures room { OnOk result (LeavesRoom (mounted (D.drive device.old) tables.old) (mounted (D.drive device.new) tables.new) self.old None) }
+        ensures room { OnOk result (LeavesNextZone (mounted (D.drive device.old) tables.old) (mounted (D.drive device.new) tables.new) self.old None) }
         ensures goes_on { GoesOn result (mounted (D.drive device.new) tables.new) self.new }
         ensures cause { IfErr result (IsCleaningCause (D.drive device.new) tables.new.next) }
         ensures keeps { KeepsByCleaning (mounted (D.drive device.old) tables.old) (mounted (D.drive device.new) tables.new) }
@@ -202,7 +203,7 @@ impl Cleaner {
         tables: &mut Tables,
         device: &mut D,
     ) -> Result<(), CleanFault>
-        requires cleaned { IsCleaned (mounted (D.drive device.old) tables.old) self.old }
+        requires cleaned { AgreesWithClean (mounted (D.drive device.old) tables.old) self.old }
         requires host { tables.old.roles.host ≡ None }
         requires next { next_of tables.old.roles.second ≡ None }
         requires few { empty_count tables.old.roles < 2 }

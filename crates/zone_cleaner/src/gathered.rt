@@ -15,6 +15,8 @@ use zone_choice::BatchBuilder;
 #[derive(Drop)]
 pub struct Gathered {
     records: IndexMap<u32, Option<Vec<u8>>>,
+    /// Buffers of records that were taken out, for the data of the next ones.
+    buffers: Vec<Vec<u8>>,
 }
 
 impl Model for Gathered {
@@ -34,6 +36,17 @@ impl Gathered {
     {
         Gathered {
             records: IndexMap::new(alloc),
+            buffers: Vec::new(alloc),
+        }
+    }
+
+    /// A buffer for the data of a record: one that was used before, or a new one.
+    pub fn buffer(&mut self, alloc: Global) -> Vec<u8>
+        ensures { self.new ≡ self.old }
+    {
+        match self.buffers.pop() {
+            Some(buffer) => buffer,
+            None => Vec::new(alloc),
         }
     }
 
@@ -71,11 +84,13 @@ impl Gathered {
         }
     }
 
-    /// Takes all records out.
+    /// Takes all records out, and keeps their buffers.
     pub fn clear(&mut self)
         ensures { self.new ≡ [] }
     {
-        self.records.clear();
+        while let Some((_, content)) = self.records.pop() {
+            keep(&mut self.buffers, content);
+        }
     }
 
     /// Names the blocks of the records in a batch.
@@ -98,6 +113,13 @@ impl Gathered {
             copy_record(batch, content)?;
         }
         Ok(())
+    }
+}
+
+/// Keeps the buffer of a record that was taken out. Where there is no memory to keep it, it is freed.
+fn keep(buffers: &mut Vec<Vec<u8>>, content: Option<Vec<u8>>) {
+    if let Some(buffer) = content {
+        let _ = buffers.push(buffer);
     }
 }
 

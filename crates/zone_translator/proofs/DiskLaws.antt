@@ -19,7 +19,6 @@ use Rattle.zone_translator.specs.declared.fault.DiskFault.{DiskFault}
 use Rattle.zone_translator.specs.declared.fault.DiskFault.TheVariants.{OutOfRange, OutOfMemory, Stopped, Spent, Smaller, Reserve}
 use Rattle.zone_translator.specs.declared.status.DiskStatus.{DiskStatus}
 use Rattle.zone_translator.specs.declared.status.DiskStatus.TheVariants as statuses
-use Rattle.zone_translator.specs.Batches.{LogsAreCut}
 use Rattle.zone_translator.specs.Calls.{Holds, status_of}
 use Rattle.zone_translator.specs.Changes.{AgreesWith, GrowLeaves, Keeps, Names, NoMoreTurns, StopKeeps, WriteLeaves, cleaning_fault}
 use Rattle.zone_translator.specs.Flat.{IsAfterFront, IsFront, grow}
@@ -48,6 +47,7 @@ keeps-disk old new tables tables' clean clean' was is keeps = record {
   mountable = keeps.mountable;
   refused = keeps.refused;
   next = keeps.next;
+  appended = keeps.appended;
 }
 
 pub cleaned-disk : (old new : DriveState) (tables tables' : TablesView) (clean clean' : Option CleanView) (was is : DiskStatus) → KeepsByCleaning (mounted old tables) (mounted new tables') → KeepsDisk (view_of old tables clean was) (view_of new tables' clean' is)
@@ -57,6 +57,7 @@ cleaned-disk old new tables tables' clean clean' was is keeps = record {
   mountable = keeps.mountable;
   refused = keeps.refused;
   next = keeps.next;
+  appended = keeps.appended;
 }
 
 -- what a disk keeps where only commands went that change nothing
@@ -70,6 +71,10 @@ turns-same old new tables clean was is same = ap (λ (g : Geometry). turns_left 
 pub turns-on : (old new : DriveState) (tables tables' : TablesView) (clean clean' : Option CleanView) (was is : DiskStatus) → new.geometry ≡ old.geometry → NoMoreTurns (mounted old tables) clean (mounted new tables') clean' → disk_turns (view_of new tables' clean' is) ≤ disk_turns (view_of old tables clean was)
 turns-on old new tables tables' clean clean' was is same turns = subst (λ (g : Geometry). turns_left (batch_most g) tables' clean' ≤ turns_left (batch_most old.geometry) tables clean) (sym same) turns
 
+pub turns-back : (old new : DriveState) (tables tables' : TablesView) (clean clean' : Option CleanView) (was is : DiskStatus) → new.geometry ≡ old.geometry → turns_left (batch_most old.geometry) tables' clean' ≡ turns_left (batch_most old.geometry) tables clean
+    → disk_turns (view_of new tables' clean' is) ≡ disk_turns (view_of old tables clean was)
+turns-back old new tables tables' clean clean' was is same turns = subst (λ (g : Geometry). turns_left (batch_most g) tables' clean' ≡ turns_left (batch_most old.geometry) tables clean) (sym same) turns
+
 pub kept-join : (a b c : DiskView) → KeepsDisk a b → KeepsDisk b c → KeepsDisk a c
 kept-join a b c p q = record {
   given = q.given ∙ p.given;
@@ -77,10 +82,11 @@ kept-join a b c p q = record {
   mountable = q.mountable;
   refused = q.refused ∙ p.refused;
   next = omega (arith, p.next, q.next);
+  appended = omega (arith, p.appended, q.appended);
 }
 
 pub kept-refl : (a : DiskView) → IsMountable a.drive (given_size a) → KeepsDisk a a
-kept-refl a mountable = record { given = refl; geometry = refl; mountable = mountable; refused = refl; next = refl }
+kept-refl a mountable = record { given = refl; geometry = refl; mountable = mountable; refused = refl; next = refl; appended = omega arith }
 
 -- ---- the parts of a disk
 
@@ -200,8 +206,3 @@ places-on drive tables clean status serves = serves.0.places
 pub names-on : (old new : DriveState) (tables tables' : TablesView) (clean clean' : Option CleanView) (trim : Bool) (first count : ℕ) (was is : DiskStatus) → AgreesWith old tables clean → AgreesWith new tables' clean' → Names trim tables.map.places first count tables'.map.places
     → Names trim (places_of (view_of old tables clean was)) first count (places_of (view_of new tables' clean' is))
 names-on old new tables tables' clean clean' trim first count was is serves after names = rw (places-on old tables clean was serves, places-on new tables' clean' is after) at names
-
--- ---- how the writes before were cut is not asked
-
-pub cut-before : (drive : DriveState) (tables : TablesView) (clean : Option CleanView) (status : DiskStatus) (last : ℕ) → Holds drive tables clean status → status ≡ statuses.Serving → LogsAreCut drive.geometry tables.next last (drive_logs drive)
-cut-before drive tables clean status last holds is = cut-old drive.geometry tables.next last tables.given (drive_logs drive) (holds-agrees drive tables clean status is holds).0.sound

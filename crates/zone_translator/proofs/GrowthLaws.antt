@@ -17,7 +17,7 @@ use Rattle.zone_choice.proofs.AloneLaws.{stops-tables}
 use Rattle.zone_choice.proofs.ChangeLaws.{large-block}
 use Rattle.zone_cleaner.specs.Clean.{CleanView}
 use Rattle.zone_cleaner.specs.Host.{HostLeaves}
-use Rattle.zone_cleaner.specs.Start.{IsCleaned, KeepsByCleaning}
+use Rattle.zone_cleaner.specs.Start.{AgreesWithClean, KeepsByCleaning}
 use Rattle.zone_translator.specs.Batches.{IsRoom, host_heading}
 use Rattle.zone_translator.specs.declared.fault.DiskFault.{DiskFault}
 use Rattle.zone_translator.specs.declared.fault.DiskFault.TheVariants.{OutOfRange, OutOfMemory, Stopped, Spent, Smaller, Reserve}
@@ -58,7 +58,7 @@ grow-next a b host size builder g g-is kept agrees room grows reserve heading by
 grown-array : (a b : Mounted) (size : ℕ) → KeepsByCleaning a b → extended (zero_block b.drive.geometry.block) size (mounted_array b) ≡ extended (zero_block a.drive.geometry.block) size (mounted_array a)
 grown-array a b size kept = ap (λ (g : Geometry). extended (zero_block g.block) size (mounted_array b)) kept.geometry ∙ ap (extended (zero_block a.drive.geometry.block) size) kept.array
 
-pub growth-writes : (a b c : Mounted) (old new : Option CleanView) (host : Filling) (size : ℕ) (builder : BuilderView) → KeepsByCleaning a b → IsCleaned b old → IsGrowthBatch b host size builder
+pub growth-writes : (a b c : Mounted) (old new : Option CleanView) (host : Filling) (size : ℕ) (builder : BuilderView) → KeepsByCleaning a b → AgreesWithClean b old → IsGrowthBatch b host size builder
     → HostLeaves b old host.zone (built b.drive.geometry.block builder) (Ok tt) c new → Grows a c new size
 growth-writes a b c old new host size builder kept is next leaves =
     let placed = leaves.0 in
@@ -73,7 +73,7 @@ growth-writes a b c old new host size builder kept is next leaves =
       appended = omega (arith, kept.appended, placed.appended);
     }
 
-pub growth-halts : (a b c : Mounted) (old new : Option CleanView) (host : Filling) (size : ℕ) (builder : BuilderView) (fault : Halt) → KeepsByCleaning a b → IsCleaned b old → IsGrowthBatch b host size builder
+pub growth-halts : (a b c : Mounted) (old new : Option CleanView) (host : Filling) (size : ℕ) (builder : BuilderView) (fault : Halt) → KeepsByCleaning a b → AgreesWithClean b old → IsGrowthBatch b host size builder
     → HostLeaves b old host.zone (built b.drive.geometry.block builder) (Err fault) c new → GrowLeaves a c new size (Err (disk_fault fault)) × IsCause c.drive c.tables.next (disk_fault fault)
 growth-halts a b c old new host size builder halt.Memory kept is next leaves = (memory-left a b c old new host.zone (built b.drive.geometry.block builder) kept is leaves, tt)
 growth-halts a b c old new host size builder halt.Stopped kept is next leaves =
@@ -96,5 +96,5 @@ growth-without a b clean size Reserve leaves cause = leaves
 pub growth-no_room : (a b : Mounted) (clean : Option CleanView) (size : ℕ) (fault : DiskFault) (result : Result (Unit {0}) DiskFault) → result ≡ Err fault → RoomLeaves {V = Filling} a b clean (Err fault) → IsCause b.drive b.tables.next fault → GrowLeaves a b clean size result
 growth-no_room a b clean size fault result is leaves cause = rw is (growth-without a b clean size fault leaves cause)
 
-pub growth-no_memory : (a b : Mounted) (clean : Option CleanView) (size : ℕ) (result : Result (Unit {0}) DiskFault) → result ≡ Err OutOfMemory → KeepsByCleaning a b × IsCleaned b clean → GrowLeaves a b clean size result
+pub growth-no_memory : (a b : Mounted) (clean : Option CleanView) (size : ℕ) (result : Result (Unit {0}) DiskFault) → result ≡ Err OutOfMemory → KeepsByCleaning a b × AgreesWithClean b clean → GrowLeaves a b clean size result
 growth-no_memory a b clean size result is kept = rw is kept

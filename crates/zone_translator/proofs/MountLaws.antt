@@ -14,7 +14,7 @@ use Rattle.zone_choice.specs.Agreement.{spelled}
 use Rattle.zone_choice.proofs.AgreementLaws.{agrees_same, spelled_same}
 use Rattle.zone_choice.proofs.FreshLaws.{IsFreshTables, fresh_agrees, fresh_spare, fresh_spelled}
 use Rattle.zone_choice.proofs.OpenLaws.{closing-opens}
-use Rattle.zone_cleaner.specs.Clean.{IsAlone}
+use Rattle.zone_cleaner.specs.Clean.{HasNoDestination}
 use Rattle.zone_translator.specs.Mount.{IsFresh, IsFreshDisk, MountRefuses}
 use Rattle.zone_translator.specs.declared.mount.MountFault.TheVariants.{NotFresh}
 
@@ -32,7 +32,7 @@ fresh-disk old new geometry blocks number tables same range fits all all_empty w
     let here = rw same at range in
     let agrees = fresh_agrees old tables blocks here (rw same at fits) was fresh made in
     let second : tables.roles.second ≡ None = ap (λ (r : RolesView). r.second) tables-are.roles in
-    let alone : IsAlone new.geometry.capacity tables.roles.second = rw second tt in
+    let alone : HasNoDestination new.geometry.capacity tables.roles.second = rw second tt in
     record {
       agrees = (agrees_same old new tables contents_are (closing-opens old.zones new.zones closing) lawful agrees, (fresh_spare old.geometry tables blocks here made, alone));
       size = size;

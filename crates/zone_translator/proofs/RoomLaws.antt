@@ -25,7 +25,7 @@ use Rattle.zone_choice.proofs.RolesLaws.{roles_with, second_list}
 use Rattle.zone_cleaner.specs.declared.fault.CleanFault.{CleanFault}
 use Rattle.zone_cleaner.specs.declared.fault.CleanFault.TheVariants as faults
 use Rattle.zone_cleaner.specs.Clean.{CleanView, turns_left}
-use Rattle.zone_cleaner.specs.Start.{GoesOn, IsCleaned, IsCleaningCause, KeepsByCleaning, trims}
+use Rattle.zone_cleaner.specs.Start.{GoesOn, AgreesWithClean, IsCleaningCause, KeepsByCleaning, trims}
 use Rattle.zone_choice.specs.Reserve.{batch_most}
 use Rattle.zone_cleaner.proofs.BesideLaws.{kept_turns}
 use Rattle.zone_cleaner.proofs.NextLaws.{cleaned_kept, cleaning_kept, promote_gives}
@@ -46,7 +46,7 @@ serves_mountable drive tables clean serves = cleans_mountable (mounted drive tab
 -- ---- parts of a call that write nothing for the host
 
 -- the array is kept, and the disk serves
-pub keeps-serving : (a b : Mounted) (clean : Option CleanView) → IsCleaned a clean → KeepsArray a b → KeepsByCleaning a b × IsCleaned b clean
+pub keeps-serving : (a b : Mounted) (clean : Option CleanView) → AgreesWithClean a clean → KeepsArray a b → KeepsByCleaning a b × AgreesWithClean b clean
 keeps-serving a b clean is kept = (cleaning_kept a b clean is kept, cleaned_kept a b clean is kept)
 
 pub room-join : {V : Type 0} (a b c : Mounted) (clean : Option CleanView) (result : Result V DiskFault) → KeepsByCleaning a b → RoomLeaves b c clean result → RoomLeaves a c clean result
@@ -77,7 +77,7 @@ room-keeps V a b clean Smaller leaves = leaves.0
 room-keeps V a b clean Reserve leaves = leaves.0
 
 -- the drive stopped, while some tables agreed with it
-retire-stops : (a b : Mounted) (clean : Option CleanView) → IsCleaned a clean → RetireLeaves a b (Err Stopped) → KeepsByCleaning a b
+retire-stops : (a b : Mounted) (clean : Option CleanView) → AgreesWithClean a clean → RetireLeaves a b (Err Stopped) → KeepsByCleaning a b
 retire-stops a b clean is leaves =
     let kept = leaves.1.1 in
     let done = cleaning_kept a (mounted b.drive leaves.1.0) clean is kept in
@@ -96,7 +96,7 @@ retire-stops a b clean is leaves =
     }
 
 -- the host zone was sealed, or the drive stopped
-pub retire_room : (V : Type 0) (a b : Mounted) (clean : Option CleanView) (fault : DiskFault) → IsCleaned a clean → RetireLeaves a b (Err fault) → RoomLeaves {V = V} a b clean (Err fault)
+pub retire_room : (V : Type 0) (a b : Mounted) (clean : Option CleanView) (fault : DiskFault) → AgreesWithClean a clean → RetireLeaves a b (Err fault) → RoomLeaves {V = V} a b clean (Err fault)
 retire_room V a b clean OutOfRange is leaves = keeps-serving a b clean is leaves
 retire_room V a b clean OutOfMemory is leaves = keeps-serving a b clean is leaves
 retire_room V a b clean Stopped is leaves = retire-stops a b clean is leaves
@@ -108,7 +108,7 @@ retire_room V a b clean Reserve is leaves = keeps-serving a b clean is leaves
 pub room-stops : (a b : Mounted) → KeepsByCleaning a b → b.drive.stopped ≡ true → StopKeeps a b
 room-stops a b kept stopped = record {
   stopped = stopped;
-  keeps = record { mountable = kept.mountable; given = kept.given; geometry = kept.geometry; refused = kept.refused; next = kept.next };
+  keeps = record { mountable = kept.mountable; given = kept.given; geometry = kept.geometry; refused = kept.refused; next = kept.next; appended = kept.appended };
   size = kept.size;
 }
 
@@ -254,13 +254,13 @@ pub record TakeGives (drive : DriveState) (old new : TablesView) (clean : Option
   pub turns : NoMoreTurns (mounted drive old) clean (mounted drive new) clean
 
 -- a next zone is known only where no clean runs
-take-next : (drive : DriveState) (old new : TablesView) (clean : Option CleanView) (host : Filling) → IsCleaned (mounted drive old) clean → old.roles.host ≡ None → next_of old.roles.second ≡ Some host → new ≡ record old { roles = promoted old.roles } → TakeGives drive old new clean host
+take-next : (drive : DriveState) (old new : TablesView) (clean : Option CleanView) (host : Filling) → AgreesWithClean (mounted drive old) clean → old.roles.host ≡ None → next_of old.roles.second ≡ Some host → new ≡ record old { roles = promoted old.roles } → TakeGives drive old new clean host
 take-next drive old new None host is none next new-is =
     let gives = promote_gives drive old new host is none next new-is in
     record { leaves = (gives.keeps, gives.cleaned); host_is = gives.host; free = gives.room; turns = omega arith }
 take-next drive old new (Some c) host is none next new-is = let bad : next_of (Some (Destination is.1.destination)) ≡ Some host = rw is.1.second at next in absurd (cc)
 
-pub take_gives : (drive : DriveState) (old new : TablesView) (clean : Option CleanView) (host : Filling) → IsCleaned (mounted drive old) clean → old.roles.host ≡ None → TakesHost old host new → TakeGives drive old new clean host
+pub take_gives : (drive : DriveState) (old new : TablesView) (clean : Option CleanView) (host : Filling) → AgreesWithClean (mounted drive old) clean → old.roles.host ≡ None → TakesHost old host new → TakeGives drive old new clean host
 take_gives drive old new clean host is none (inl next) = take-next drive old new clean host is none next.0 next.1
 take_gives drive old new clean host is none (inr (no_next, two, lowest, host-is, new-is)) = record {
   leaves = keeps-serving (mounted drive old) (mounted drive new) clean is (keeps-take drive old new host.zone is.0 none lowest two new-is);
@@ -279,7 +279,7 @@ turns-join a b c x y z same p q =
     let there : turns_left (batch_most a.drive.geometry) c.tables z ≤ turns_left (batch_most a.drive.geometry) b.tables y = subst (λ (g : Geometry). turns_left (batch_most g) c.tables z ≤ turns_left (batch_most g) b.tables y) same q in
     omega (arith, p, there)
 
-pub turns-kept : (a b : Mounted) (clean : Option CleanView) → IsCleaned a clean → KeepsArray a b → NoMoreTurns a clean b clean
+pub turns-kept : (a b : Mounted) (clean : Option CleanView) → AgreesWithClean a clean → KeepsArray a b → NoMoreTurns a clean b clean
 turns-kept a b clean is kept = kept_turns a b clean (batch_most a.drive.geometry) is kept
 
 pub ok-turns : {P Q : Type 0} {V : Type 0} (result : Result V DiskFault) → (P → Q) → OnOk result P → OnOk result Q

@@ -25,7 +25,7 @@ use Rattle.zone_choice.specs.Records.{append_log}
 use Rattle.zone_choice.specs.Sizes.{encoded_size, extended, greatest, larger, size_or}
 use Rattle.zone_choice.specs.ZoneLogs.{log_at, zone_log}
 use Rattle.zone_choice.specs.Mountable.{IsMountable}
-use Rattle.zone_choice.specs.Tables.{AreReserved, MakesRoom, TablesView, size_of}
+use Rattle.zone_choice.specs.Tables.{AreReserved, SameButReady, TablesView, size_of}
 use Rattle.zone_choice.proofs.AgreementLaws.{extended-same, length-spelled, size-encoded}
 use Rattle.zone_choice.proofs.AloneLaws.{stops-tables}
 use Rattle.zone_choice.proofs.BuilderLaws.{data_count-few}
@@ -35,7 +35,7 @@ use Rattle.zone_choice.proofs.CommandLaws.{filling-in_range}
 use Rattle.zone_choice.proofs.SizeLaws.{greatest-append_log}
 use Rattle.zone_cleaner.specs.Clean.{CleanView}
 use Rattle.zone_cleaner.specs.Host.{HostLeaves}
-use Rattle.zone_cleaner.specs.Start.{IsCleaned, KeepsByCleaning, trims}
+use Rattle.zone_cleaner.specs.Start.{AgreesWithClean, KeepsByCleaning, trims}
 use Rattle.zone_cleaner.proofs.NextLaws.{cleaning_kept}
 use Rattle.zone_cleaner.proofs.TurnLaws.{cleans_mountable, keeps-more}
 use Rattle.zone_translator.specs.declared.write.Content.{Content}
@@ -158,13 +158,13 @@ next-batch old tables host first left count content builder agrees room some in_
 -- ---- after a zone and memory were found for it
 
 -- what holds after room was found, and then memory for the batch
-pub kept-room : (a b : Mounted) (w : TablesView) (clean : Option CleanView) → KeepsByCleaning a b → IsCleaned b clean → MakesRoom b.tables w → KeepsByCleaning a (mounted b.drive w) × IsCleaned (mounted b.drive w) clean
+pub kept-room : (a b : Mounted) (w : TablesView) (clean : Option CleanView) → KeepsByCleaning a b → AgreesWithClean b clean → SameButReady b.tables w → KeepsByCleaning a (mounted b.drive w) × AgreesWithClean (mounted b.drive w) clean
 kept-room a b w clean kept is room =
     let more = keeps-serving b (mounted b.drive w) clean is (keeps-room b.drive b.tables w room is.0) in
     (keeps-more a b (mounted b.drive w) kept more.0, more.1)
 
 -- the tables have more room, and the zone that was found is the same
-pub same-room : (b : DriveState) (u w : TablesView) (host : Filling) → MakesRoom u w → IsRoom b u host → IsRoom b w host
+pub same-room : (b : DriveState) (u w : TablesView) (host : Filling) → SameButReady u w → IsRoom b u host → IsRoom b w host
 same-room b u w host more is = record {
   host_is = ap (λ (r : RolesView). r.host) more.roles ∙ is.host_is;
   free = is.free;
@@ -173,7 +173,7 @@ same-room b u w host more is = record {
 
 -- so the batch that is built then is the next one
 pub build-next : (drive : DriveState) (old new : TablesView) (host : Filling) (first left count : ℕ) (content : Content) (started builder : BuilderView) (g : Geometry) (trim : Bool) → g ≡ drive.geometry → trim ≡ is_trim content → Agrees (mounted drive old) → IsRoom drive old host → 1 ≤ left → first + left ≤ size_of old
-    → IsWhole drive.geometry.block left content → count ≡ batch_count g host left trim → MakesRoom old new → AreReserved new.map first count → started.heading ≡ host_heading (size_of old) old.next trim first count
+    → IsWhole drive.geometry.block left content → count ≡ batch_count g host left trim → SameButReady old new → AreReserved new.map first count → started.heading ≡ host_heading (size_of old) old.next trim first count
     → started.bytes ≡ header_block g.block (host_heading (size_of old) old.next trim first count) → builder.heading ≡ started.heading → builder.bytes ≡ started.bytes ++ bytes_of (count * g.block) content
     → IsNextBatch (mounted drive new) host (is_trim content) first count (blocks_of drive.geometry.block left content) builder
 build-next drive old new host first left count content started builder g trim g-is trim-is agrees room some in_range whole count-is more reserved heading bytes kept added =
@@ -208,16 +208,17 @@ names-kept : (trim : Bool) (old mid new : List Place) (first count : ℕ) → ma
 names-kept trim old mid new first count same names = record { named = names.named; others = λ block out. names.others block out ∙ trims-at old mid block same }
 
 -- what a batch of the host keeps
-pub keeps-placed : (a b c : Mounted) (clean : Option CleanView) (zone : ℕ) (batch : Batch) → KeepsByCleaning a b → Places b c zone batch → IsCleaned c clean → Keeps a c
+pub keeps-placed : (a b c : Mounted) (clean : Option CleanView) (zone : ℕ) (batch : Batch) → KeepsByCleaning a b → Places b c zone batch → AgreesWithClean c clean → Keeps a c
 keeps-placed a b c clean zone batch kept placed is = record {
   mountable = cleans_mountable c clean is;
   given = placed.given ∙ kept.given;
   geometry = placed.geometry ∙ kept.geometry;
   refused = placed.refused ∙ kept.refused;
   next = omega (arith, kept.next, placed.next, placed.appended);
+  appended = omega (arith, kept.appended, placed.appended);
 }
 
-pub writes : (a b c : Mounted) (old new : Option CleanView) (host : Filling) (trim : Bool) (first count : ℕ) (blocks : List (List ℕ)) (builder : BuilderView) → KeepsByCleaning a b → IsCleaned b old
+pub writes : (a b c : Mounted) (old new : Option CleanView) (host : Filling) (trim : Bool) (first count : ℕ) (blocks : List (List ℕ)) (builder : BuilderView) → KeepsByCleaning a b → AgreesWithClean b old
     → IsNextBatch b host trim first count blocks builder → first + count ≤ size_of a.tables → HostLeaves b old host.zone (built b.drive.geometry.block builder) (Ok tt) c new → WritesBlocks trim a c new first (take count blocks)
 writes a b c old new host trim first count blocks builder kept is next within leaves =
     let placed = leaves.0 in
@@ -250,6 +251,7 @@ append_stops a b c zone batch kept stops mountable =
         geometry = stops.geometry ∙ kept.geometry;
         refused = stops.refused ∙ kept.refused;
         next = omega (arith, kept.next, same.next, stops.appended);
+        appended = omega (arith, kept.appended, stops.appended);
       };
       size = ap (λ (m : MapView). length m.places) same.map ∙ kept.size;
     }
@@ -276,11 +278,11 @@ write_stops a b c host trim first count blocks builder kept next stops mountable
 -- ---- refusals
 
 -- an Append for which memory lacked
-pub memory-left : (a b c : Mounted) (old new : Option CleanView) (zone : ℕ) (batch : Batch) → KeepsByCleaning a b → IsCleaned b old → HostLeaves b old zone batch (Err halt.Memory) c new → KeepsByCleaning a c × IsCleaned c new
+pub memory-left : (a b c : Mounted) (old new : Option CleanView) (zone : ℕ) (batch : Batch) → KeepsByCleaning a b → AgreesWithClean b old → HostLeaves b old zone batch (Err halt.Memory) c new → KeepsByCleaning a c × AgreesWithClean c new
 memory-left a b c old new zone batch kept is leaves = (keeps-more a b c kept (cleaning_kept b c old is leaves.0), leaves.2.cleaned)
 
 -- what an Append that did not succeed leaves of a write
-pub write_halts : (a b c : Mounted) (old new : Option CleanView) (host : Filling) (trim : Bool) (first count : ℕ) (blocks : List (List ℕ)) (builder : BuilderView) (fault : Halt) → KeepsByCleaning a b → IsCleaned b old
+pub write_halts : (a b c : Mounted) (old new : Option CleanView) (host : Filling) (trim : Bool) (first count : ℕ) (blocks : List (List ℕ)) (builder : BuilderView) (fault : Halt) → KeepsByCleaning a b → AgreesWithClean b old
     → IsNextBatch b host trim first count blocks builder → HostLeaves b old host.zone (built b.drive.geometry.block builder) (Err fault) c new
     → WriteLeaves trim a c new first blocks (Err (disk_fault fault)) × IsCause c.drive c.tables.next (disk_fault fault)
 write_halts a b c old new host trim first count blocks builder halt.Memory kept is next leaves = (memory-left a b c old new host.zone (built b.drive.geometry.block builder) kept is leaves, tt)
@@ -298,12 +300,12 @@ write_without trim a b clean first blocks Reserve leaves cause = leaves
 pub write_no_room : (trim : Bool) (a b : Mounted) (clean : Option CleanView) (first : ℕ) (blocks : List (List ℕ)) (fault : DiskFault) (result : Result ℕ DiskFault) → result ≡ Err fault → RoomLeaves {V = Filling} a b clean (Err fault) → IsCause b.drive b.tables.next fault → WriteLeaves trim a b clean first blocks result
 write_no_room trim a b clean first blocks fault result is leaves cause = rw is (write_without trim a b clean first blocks fault leaves cause)
 
-pub write_no_memory : (trim : Bool) (a b : Mounted) (clean : Option CleanView) (first : ℕ) (blocks : List (List ℕ)) (result : Result ℕ DiskFault) → result ≡ Err OutOfMemory → KeepsByCleaning a b × IsCleaned b clean → WriteLeaves trim a b clean first blocks result
+pub write_no_memory : (trim : Bool) (a b : Mounted) (clean : Option CleanView) (first : ℕ) (blocks : List (List ℕ)) (result : Result ℕ DiskFault) → result ≡ Err OutOfMemory → KeepsByCleaning a b × AgreesWithClean b clean → WriteLeaves trim a b clean first blocks result
 write_no_memory trim a b clean first blocks result is kept = rw is kept
 
 -- ---- what is written, of what was handed over
 
-pub took-blocks : (a b c : Mounted) (old new : Option CleanView) (host : Filling) (first left count : ℕ) (content : Content) (builder : BuilderView) → KeepsByCleaning a b → IsCleaned b old → first + left ≤ size_of a.tables
+pub took-blocks : (a b c : Mounted) (old new : Option CleanView) (host : Filling) (first left count : ℕ) (content : Content) (builder : BuilderView) → KeepsByCleaning a b → AgreesWithClean b old → first + left ≤ size_of a.tables
     → IsNextBatch b host (is_trim content) first count (blocks_of b.drive.geometry.block left content) builder → HostLeaves b old host.zone (built b.drive.geometry.block builder) (Ok tt) c new
     → WritesBlocks (is_trim content) a c new first (take count (blocks_of a.drive.geometry.block left content))
 took-blocks a b c old new host first left count content builder kept is in_range next leaves =
@@ -311,7 +313,7 @@ took-blocks a b c old new host first left count content builder kept is in_range
     let done = writes a b c old new host (is_trim content) first count (blocks_of b.drive.geometry.block left content) builder kept is next (omega (arith, few, in_range)) leaves in
     subst (λ (g : Geometry). WritesBlocks (is_trim content) a c new first (take count (blocks_of g.block left content))) kept.geometry done
 
-pub lost-blocks : (a b c : Mounted) (old new : Option CleanView) (host : Filling) (first left count : ℕ) (content : Content) (builder : BuilderView) (fault : Halt) → KeepsByCleaning a b → IsCleaned b old
+pub lost-blocks : (a b c : Mounted) (old new : Option CleanView) (host : Filling) (first left count : ℕ) (content : Content) (builder : BuilderView) (fault : Halt) → KeepsByCleaning a b → AgreesWithClean b old
     → IsNextBatch b host (is_trim content) first count (blocks_of b.drive.geometry.block left content) builder → HostLeaves b old host.zone (built b.drive.geometry.block builder) (Err fault) c new
     → WriteLeaves (is_trim content) a c new first (blocks_of a.drive.geometry.block left content) (Err (disk_fault fault)) × IsCause c.drive c.tables.next (disk_fault fault)
 lost-blocks a b c old new host first left count content builder fault kept is next leaves =
@@ -321,7 +323,7 @@ lost-blocks a b c old new host first left count content builder fault kept is ne
 -- ---- how it is cut
 
 -- a batch that may have been appended is cut as it should be
-pub cut-appended : (a b : Mounted) (c : DriveState) (w : TablesView) (g : Geometry) (start : ℕ) (host : Filling) (first left count : ℕ) (content : Content) (builder : BuilderView) → KeepsByCleaning a b → Agrees b → b.drive.geometry ≡ a.drive.geometry → IsRoom b.drive b.tables host → 1 ≤ left
+pub cut-appended : (a b : Mounted) (c : DriveState) (w : TablesView) (g : Geometry) (start : List (List Batch)) (host : Filling) (first left count : ℕ) (content : Content) (builder : BuilderView) → KeepsByCleaning a b → Agrees b → b.drive.geometry ≡ a.drive.geometry → IsRoom b.drive b.tables host → 1 ≤ left
     → g ≡ b.drive.geometry → count ≡ batch_count b.drive.geometry host left (is_trim content) → builder.heading.entries ≡ entries_from (is_trim content) first count
     → (drive_logs c ≡ drive_logs b.drive) ⊎ (drive_logs c ≡ append_log (drive_logs b.drive) host.zone (built g.block builder)) → LogsAreCut a.drive.geometry start (first + left - 1) (drive_logs a.drive) → LogsAreCut a.drive.geometry start (first + left - 1) (drive_logs c)
 cut-appended a b c w g start host first left count content builder kept agrees same room some g-is count-is entries logs cut =

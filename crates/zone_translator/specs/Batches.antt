@@ -1,5 +1,5 @@
 -- The batches that a disk writes: of blocks that follow one another.
-use Rattle.std.specs.List.{list_any}
+use Rattle.std.specs.List.{Contains, list_any}
 use Rattle.std.specs.Prelude.{◌≡◌, ◌⊎◌, ◌==◌, ℕ, ◌+◌, ◌-◌, ◌*◌, ◌<◌, ◌≤◌, min, if◌then◌else◌, Bool, true, false, List, [], ◌∷◌, length, replicate, take, drop, Some}
 use Rattle.zone_states.specs.declared.geometry.Geometry.{Geometry}
 use Rattle.zone_states.specs.Zone.{cut_blocks}
@@ -93,16 +93,20 @@ pub record IsNextBatch (disk : Mounted) (host : Filling) (trim : Bool) (first co
 abbrev pub names : ℕ → List Entry → Bool
 names block entries = list_any (λ e. e.block == block) entries
 
--- How a batch is cut that begins at this offset of its zone, of a write whose last block this is: it has as many entries as a batch can have, or names the last block, or ends its zone. Nothing is asked of Moves, nor of batches with a sequence below `start`, which were there before the write.
-abbrev pub IsCut : Geometry → ℕ → ℕ → ℕ → Batch → Type 0
-IsCut geometry start last offset batch =
-    (batch.heading.sequence < start) ⊎ IsMove batch ⊎ (length batch.heading.entries ≡ batch_most geometry) ⊎ (names last batch.heading.entries ≡ true) ⊎ (offset + batch_size batch ≡ geometry.capacity)
+-- a batch stands in one of these logs
+abbrev pub Stands : List (List Batch) → Batch → Type 0
+Stands logs batch = (zone : ℕ) × Contains (log_at logs zone) batch
+
+-- How a batch is cut that begins at this offset of its zone, of a write whose last block this is: it has as many entries as a batch can have, or names the last block, or ends its zone. Nothing is asked of Moves, nor of the batches that stood on the drive before the write.
+abbrev pub IsCut : Geometry → List (List Batch) → ℕ → ℕ → Batch → Type 0
+IsCut geometry old last offset batch =
+    Stands old batch ⊎ IsMove batch ⊎ (length batch.heading.entries ≡ batch_most geometry) ⊎ (names last batch.heading.entries ≡ true) ⊎ (offset + batch_size batch ≡ geometry.capacity)
 
 -- each batch of a log whose first batch begins at this offset
-abbrev pub AreCut : Geometry → ℕ → ℕ → ℕ → List Batch → Type 0
-AreCut geometry start last offset [] = Unit {0}
-AreCut geometry start last offset (batch ∷ log) = IsCut geometry start last offset batch × AreCut geometry start last (offset + batch_size batch) log
+abbrev pub AreCut : Geometry → List (List Batch) → ℕ → ℕ → List Batch → Type 0
+AreCut geometry old last offset [] = Unit {0}
+AreCut geometry old last offset (batch ∷ log) = IsCut geometry old last offset batch × AreCut geometry old last (offset + batch_size batch) log
 
--- each batch of all logs
-abbrev pub LogsAreCut : Geometry → ℕ → ℕ → List (List Batch) → Type 0
-LogsAreCut geometry start last logs = (zone : ℕ) → AreCut geometry start last 0 (log_at logs zone)
+-- each batch of all logs, after a write whose last block this is, where the logs were `old` before it
+abbrev pub LogsAreCut : Geometry → List (List Batch) → ℕ → List (List Batch) → Type 0
+LogsAreCut geometry old last logs = (zone : ℕ) → AreCut geometry old last 0 (log_at logs zone)

@@ -18,14 +18,14 @@ use Rattle.zone_choice.specs.Tables.{TablesView, size_of}
 use Rattle.zone_cleaner.specs.declared.fault.CleanFault.{CleanFault}
 use Rattle.zone_cleaner.specs.declared.fault.CleanFault.TheVariants as faults
 use Rattle.zone_cleaner.specs.Clean.{CleanView, turns_left}
-use Rattle.zone_cleaner.specs.Start.{IsCleaned, KeepsByCleaning, trims}
+use Rattle.zone_cleaner.specs.Start.{AgreesWithClean, KeepsByCleaning, trims}
 use Rattle.zone_translator.specs.Flat.{IsFront, replaced}
 use Rattle.zone_translator.specs.declared.fault.DiskFault.{DiskFault}
 use Rattle.zone_translator.specs.declared.fault.DiskFault.TheVariants.{OutOfRange, OutOfMemory, Stopped, Spent, Smaller, Reserve}
 
 -- What holds while a disk serves: its tables agree with its drive, and a clean runs, or none does and a zone is kept empty.
 abbrev pub AgreesWith : DriveState → TablesView → Option CleanView → Type 0
-AgreesWith drive tables clean = IsCleaned (mounted drive tables) clean
+AgreesWith drive tables clean = AgreesWithClean (mounted drive tables) clean
 
 -- why a refusal came: the drive has stopped, or no sequence is left that a batch may have; of memory nothing can be said
 abbrev pub IsCause : DriveState → ℕ → DiskFault → Type 0
@@ -81,10 +81,11 @@ pub record Keeps (before after : Mounted) : Type 0 where
   pub geometry : after.drive.geometry ≡ before.drive.geometry
   pub refused : after.drive.refused ≡ before.drive.refused
   pub next : after.tables.next + before.drive.appended ≡ before.tables.next + after.drive.appended
+  pub appended : before.drive.appended ≤ after.drive.appended
 
 -- These blocks were written into the array, as data or by trims, and a header says the disk's size.
 pub record WritesBlocks (trim : Bool) (before after : Mounted) (clean : Option CleanView) (first : ℕ) (blocks : List (List ℕ)) : Type 0 where
-  pub serves : IsCleaned after clean
+  pub serves : AgreesWithClean after clean
   pub keeps : Keeps before after
   pub size : size_of after.tables ≡ size_of before.tables
   pub array : mounted_array after ≡ replaced (mounted_array before) first blocks
@@ -93,7 +94,7 @@ pub record WritesBlocks (trim : Bool) (before after : Mounted) (clean : Option C
 
 -- the disk has that many blocks, a batch was appended whose header says so, and the blocks that are new are zeros
 pub record Grows (before after : Mounted) (clean : Option CleanView) (size : ℕ) : Type 0 where
-  pub serves : IsCleaned after clean
+  pub serves : AgreesWithClean after clean
   pub keeps : Keeps before after
   pub size_is : size_of after.tables ≡ size
   pub array : mounted_array after ≡ extended (zero_block before.drive.geometry.block) size (mounted_array before)
@@ -114,17 +115,17 @@ RetireLeaves before after result = KeepsArray before after
 -- what a part of a call leaves that writes nothing for the host: the array is the same, and the disk goes on unless its drive stopped
 abbrev pub RoomLeaves : {V : Type 0} → Mounted → Mounted → Option CleanView → Result V DiskFault → Type 0
 RoomLeaves before after clean (Err Stopped) = KeepsByCleaning before after
-RoomLeaves before after clean result = KeepsByCleaning before after × IsCleaned after clean
+RoomLeaves before after clean result = KeepsByCleaning before after × AgreesWithClean after clean
 
 -- what the next batch of a write of these blocks leaves: as many of them as it took are written; where the drive stopped, a front of them may be
 abbrev pub WriteLeaves : Bool → Mounted → Mounted → Option CleanView → ℕ → List (List ℕ) → Result ℕ DiskFault → Type 0
 WriteLeaves trim before after clean first blocks (Ok count) = WritesBlocks trim before after clean first (take count blocks)
 WriteLeaves trim before after clean first blocks (Err Stopped) = StopKeeps before after × IsFront (mounted_array before) first blocks (mounted_array after)
-WriteLeaves trim before after clean first blocks (Err fault) = KeepsByCleaning before after × IsCleaned after clean
+WriteLeaves trim before after clean first blocks (Err fault) = KeepsByCleaning before after × AgreesWithClean after clean
 
 -- what a growth to a size leaves: the disk has it; where the drive stopped, the array may have grown
 abbrev pub GrowLeaves : Mounted → Mounted → Option CleanView → ℕ → Result (Unit {0}) DiskFault → Type 0
 GrowLeaves before after clean size (Ok done) = Grows before after clean size
 GrowLeaves before after clean size (Err Stopped) =
     StopKeeps before after × ((mounted_array after ≡ mounted_array before) ⊎ (mounted_array after ≡ extended (zero_block before.drive.geometry.block) size (mounted_array before)))
-GrowLeaves before after clean size (Err fault) = KeepsByCleaning before after × IsCleaned after clean
+GrowLeaves before after clean size (Err fault) = KeepsByCleaning before after × AgreesWithClean after clean

@@ -67,6 +67,7 @@ pub record KeepsDisk (old new : DiskView) : Type 0 where
   pub mountable : IsMountable new.drive (given_size new)
   pub refused : new.drive.refused ≡ old.drive.refused
   pub next : next_sequence new + old.drive.appended ≡ next_sequence old + new.drive.appended
+  pub appended : old.drive.appended ≤ new.drive.appended
 
 -- why a call was refused; of a range and of a size the call itself tells
 abbrev pub DiskCause : DiskView → DiskFault → Type 0

@@ -1,4 +1,4 @@
-ghost use Rattle.std.specs.Prelude.{◌≡◌, ℕ, ◌-◌, ◌+◌, ◌<◌, ◌≤◌, ◌++◌, ◌^◌, ◌*◌, [], IfErr, IfOk, OnOk, OnErr, Some, count_by, is_some, false, true, length, replicate, slice_index_or, take};
+ghost use Rattle.std.specs.Prelude.{◌≡◌, ℕ, List, ◌-◌, ◌+◌, ◌<◌, ◌≤◌, ◌++◌, ◌^◌, ◌*◌, [], IfErr, IfOk, OnOk, OnErr, Some, count_by, is_some, false, true, length, replicate, slice_index_or, take};
 ghost use Rattle.drive_port.specs.Calls.{block_count, data_blocks};
 ghost use Rattle.logical_map.specs.Live.{lies_in};
 ghost use Rattle.logical_map.specs.declared.place.Place.TheVariants as places;
@@ -13,7 +13,7 @@ ghost use Rattle.zone_translator.specs.Batches.{LogsAreCut, IsBatchCount, IsWhol
 ghost use Rattle.zone_translator.specs.Changes.{AreNamed, IsCause, Names, batch_commands};
 ghost use Rattle.zone_translator.specs.Flat.{FlatCall, IsFront, fill, grow, idle, known_growth, known_range, read, replaced, report, trim, with_nothing, write};
 ghost use Rattle.zone_translator.specs.declared.status.DiskStatus.TheVariants.{Serving};
-ghost use Rattle.batch_log.specs.Log.{zero_block};
+ghost use Rattle.batch_log.specs.Log.{Batch, zero_block};
 ghost use Rattle.zone_translator.specs.Mount.{IsFresh, KeepsDrive, MountRefuses};
 ghost use Rattle.zone_translator.specs.Read.{IsReadFault};
 ghost use Rattle.zone_translator.specs.View.{Completes, DiskCause, DiskView, KeepsDisk, array_of, disk_size, flat_of, disk_turns, given_size, logs_of, most_batches, next_sequence, places_of, size_on};
@@ -165,7 +165,7 @@ impl<D: Device + Drop> Disk<D> {
         ensures status { IfErr result (λ fault. self.new.status ≡ status_of fault) }
         ensures err { OnErr result (IsFront (array_of self.old) first (blocks_of self.old.drive.geometry.block left content.entry) (array_of self.new)) }
         ensures cause { IfErr result (λ fault. IsCause self.new.drive (next_sequence self.new) fault) }
-        ensures cut { (start : ℕ) → LogsAreCut self.old.drive.geometry start (first + left - 1) (logs_of self.old) → LogsAreCut self.old.drive.geometry start (first + left - 1) (logs_of self.new) }
+        ensures cut { (before : List (List Batch)) → LogsAreCut self.old.drive.geometry before (first + left - 1) (logs_of self.old) → LogsAreCut self.old.drive.geometry before (first + left - 1) (logs_of self.new) }
         ensures turns { OnOk result (disk_turns self.new ≤ disk_turns self.old) }
         ensures completed { Completes self.old (batch_commands self.old.drive.geometry) self.new }
     {
@@ -197,7 +197,7 @@ impl<D: Device + Drop> Disk<D> {
         ensures says { OnOk result (1 ≤ blocks → size_on self.new ≡ Some (disk_size self.new)) }
         ensures kept { KeepsDisk self.old self.new }
         ensures cause { IfErr result (DiskCause self.new) }
-        ensures cut { self.old.status ≡ Serving → LogsAreCut self.old.drive.geometry (next_sequence self.old) (first + blocks - 1) (logs_of self.new) }
+        ensures cut { LogsAreCut self.old.drive.geometry (logs_of self.old) (first + blocks - 1) (logs_of self.new) }
         ensures turns { OnOk result (disk_turns self.new ≤ disk_turns self.old) }
         ensures completed { Completes self.old (most_batches (is_trim content.entry) self.old blocks * batch_commands self.old.drive.geometry) self.new }
     {
@@ -300,7 +300,7 @@ impl<D: Device + Drop> Disk<D> {
         ensures untouched { is_known (flat_of self.old) (fill self.old.drive.geometry.block first blocks byte) ≡ true → self.new ≡ self.old }
         ensures kept { KeepsDisk self.old self.new }
         ensures cause { IfErr result (DiskCause self.new) }
-        ensures cut { self.old.status ≡ Serving → LogsAreCut self.old.drive.geometry (next_sequence self.old) (first + blocks - 1) (logs_of self.new) }
+        ensures cut { LogsAreCut self.old.drive.geometry (logs_of self.old) (first + blocks - 1) (logs_of self.new) }
         ensures turns { OnOk result (disk_turns self.new ≤ disk_turns self.old) }
         ensures completed { Completes self.old (blocks * batch_commands self.old.drive.geometry) self.new }
     {
@@ -318,7 +318,7 @@ impl<D: Device + Drop> Disk<D> {
         ensures untouched { is_known (flat_of self.old) (write first (data_blocks self.old.drive.geometry bytes.now)) ≡ true → self.new ≡ self.old }
         ensures kept { KeepsDisk self.old self.new }
         ensures cause { IfErr result (DiskCause self.new) }
-        ensures cut { self.old.status ≡ Serving → LogsAreCut self.old.drive.geometry (next_sequence self.old) (first + block_count self.old.drive.geometry bytes.now - 1) (logs_of self.new) }
+        ensures cut { LogsAreCut self.old.drive.geometry (logs_of self.old) (first + block_count self.old.drive.geometry bytes.now - 1) (logs_of self.new) }
         ensures turns { OnOk result (disk_turns self.new ≤ disk_turns self.old) }
         ensures completed { Completes self.old (block_count self.old.drive.geometry bytes.now * batch_commands self.old.drive.geometry) self.new }
     {
@@ -337,7 +337,7 @@ impl<D: Device + Drop> Disk<D> {
         ensures says { OnOk result (1 ≤ blocks → size_on self.new ≡ Some (disk_size self.new)) }
         ensures kept { KeepsDisk self.old self.new }
         ensures cause { IfErr result (DiskCause self.new) }
-        ensures cut { self.old.status ≡ Serving → LogsAreCut self.old.drive.geometry (next_sequence self.old) (first + blocks - 1) (logs_of self.new) }
+        ensures cut { LogsAreCut self.old.drive.geometry (logs_of self.old) (first + blocks - 1) (logs_of self.new) }
         ensures turns { OnOk result (disk_turns self.new ≤ disk_turns self.old) }
         ensures completed { Completes self.old (most_batches true self.old blocks * batch_commands self.old.drive.geometry) self.new }
     {
@@ -404,6 +404,7 @@ impl<D: Device + Drop> Disk<D> {
         ensures untouched { is_known (flat_of self.old) idle ≡ true → self.new ≡ self.old }
         ensures turn { self.old.status ≡ Serving → IsTurn self.old result self.new }
         ensures turns { self.old.status ≡ Serving → OnOk result (TurnsFewer (mounted self.old.drive self.old.tables) (mounted self.new.drive self.new.tables) self.old.clean self.new.clean) }
+        ensures refused { OnErr result (disk_turns self.new ≡ disk_turns self.old) }
         ensures kept { KeepsDisk self.old self.new }
         ensures cause { IfErr result (DiskCause self.new) }
         ensures completed { Completes self.old 2 self.new }

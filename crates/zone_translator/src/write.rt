@@ -1,9 +1,10 @@
-ghost use Rattle.std.specs.Prelude.{◌≡◌, ℕ, ◌-◌, ◌⊎◌, ◌++◌, ◌+◌, ◌≤◌, ◌<◌, ◌^◌, ◌*◌, IfOk, IfErr, OnOk, [], length};
+ghost use Rattle.std.specs.Prelude.{◌≡◌, ℕ, List, ◌-◌, ◌⊎◌, ◌++◌, ◌+◌, ◌≤◌, ◌<◌, ◌^◌, ◌*◌, IfOk, IfErr, OnOk, [], length};
+ghost use Rattle.batch_log.specs.Log.{Batch};
 ghost use Rattle.batch_log.specs.Header.{IsSize, entry_room, header_block};
 ghost use Rattle.zone_choice.specs.Agreement.{Agrees, drive_logs, mounted};
 ghost use Rattle.zone_choice.specs.Builder.{entries_from};
 ghost use Rattle.zone_choice.specs.Reserve.{FitsReserve};
-ghost use Rattle.zone_choice.specs.Tables.{MakesRoom, size_of};
+ghost use Rattle.zone_choice.specs.Tables.{SameButReady, size_of};
 ghost use Rattle.zone_states.specs.Geometry.{IsInRange};
 ghost use Rattle.zone_translator.specs.Batches.{LogsAreCut, IsAfter, IsBatchCount, IsNextBatch, IsRoom, IsWhole, IsWithin, batch_count, blocks_of, bytes_of, host_heading, is_trim};
 ghost use Rattle.zone_translator.specs.Changes.{AgreesWith, GrowLeaves, IsCause, NoMoreTurns, RoomLeaves, WriteLeaves, batch_commands};
@@ -153,7 +154,7 @@ fn build_batch<D: Device>(
     requires whole { IsWhole (D.drive device.now).geometry.block left content }
     ensures ok { IfOk result (λ count. IsNextBatch (mounted (D.drive device.now) tables.new) host (is_trim content.entry) first count (blocks_of (D.drive device.now).geometry.block left content.entry) batch.new) }
     ensures count { IfOk result (λ count. count ≡ batch_count (D.drive device.now).geometry host left (is_trim content.entry)) }
-    ensures kept { MakesRoom tables.old tables.new }
+    ensures kept { SameButReady tables.old tables.new }
 {
     let geometry = device.geometry();
     let trim = content.is_trim();
@@ -181,7 +182,7 @@ pub(crate) fn next_batch<D: Device>(
     requires whole { IsWhole (D.drive device.old).geometry.block left content }
     ensures leaves { WriteLeaves (is_trim content.entry) (mounted (D.drive device.old) tables.old) (mounted (D.drive device.new) tables.new) cleaner.new first (blocks_of (D.drive device.old).geometry.block left content.entry) result }
     ensures count { IfOk result (λ count. (1 ≤ count) × (count ≤ left) × IsBatchCount (D.drive device.old).geometry (is_trim content.entry) left count) }
-    ensures cut { (start : ℕ) → LogsAreCut (D.drive device.old).geometry start (first + left - 1) (drive_logs (D.drive device.old)) → LogsAreCut (D.drive device.old).geometry start (first + left - 1) (drive_logs (D.drive device.new)) }
+    ensures cut { (before : List (List Batch)) → LogsAreCut (D.drive device.old).geometry before (first + left - 1) (drive_logs (D.drive device.old)) → LogsAreCut (D.drive device.old).geometry before (first + left - 1) (drive_logs (D.drive device.new)) }
     ensures cause { IfErr result (λ fault. IsCause (D.drive device.new) tables.new.next fault) }
     ensures turns { OnOk result (NoMoreTurns (mounted (D.drive device.old) tables.old) cleaner.old (mounted (D.drive device.new) tables.new) cleaner.new) }
     ensures completed { (D.drive device.new).completed ≤ (D.drive device.old).completed + batch_commands (D.drive device.old).geometry }

@@ -15,18 +15,9 @@
 //! and `--statistics` show and the exit status are tested.
 #![tactic(auto)]
 
-mod job;
-mod program;
-mod statistics;
-
-pub use disk_runs::{RunFault, answer_trace, run_raw, run_trace, write_fault};
-pub use job::{Job, job_of};
-pub use program::run_job;
-
-#[cfg(test)]
-mod tests;
-
 use clap::error::ErrorKind;
+pub use disk_jobs::{Job, job_of, run_job};
+pub use disk_runs::{RunFault, answer_trace, run_raw, run_trace, write_fault};
 use std::alloc::Global;
 use std::env::Env;
 use std::io;

@@ -10,4 +10,4 @@ returns c =
     let lists = c.args.lists.now.items in
     let below : c.in-Some.was < length lists = omega (arith, c.if-was-len.false, c.len.ensures, c.args.lists.now.ok.0) in
     let here = get_or_read lists c.in-Some.was c.index_mut.result.now below c.index_mut.ensures.value missing in
-    shorter-at (page_of c.args.pages.now) c.args.zone_size c.in-Some.was lists c.tidy.new.self below (c.tidy.ensures.whole ∙ ap (λ (l : ListView). l.whole) here) (rw here at c.tidy.ensures.kept)
+    shorter-at (page_of c.args.pages.now.items) c.args.zone_size c.in-Some.was lists c.tidy.new.self below (c.tidy.ensures.whole ∙ ap (λ (l : ListView). l.whole) here) (rw here at c.tidy.ensures.kept)

@@ -3,4 +3,4 @@ use Rattle.logical_map.specs.Pages.{page_of}
 use Rattle.logical_map.proofs.map.first_listed.Given as goal
 
 abbrev pub invariant-loop-position : goal.invariant-loop-position
-invariant-loop-position l = NoneLies (page_of l.pages) l.zone_size l.zone l.blocks l.first l.position
+invariant-loop-position l = NoneLies (page_of l.pages.items) l.zone_size l.zone l.blocks l.first l.position

@@ -10,5 +10,5 @@ use Rattle.logical_map.proofs.lists.ZoneList.tidy.Goals as goal
 
 pub returns-clause-kept : goal.returns-clause-kept
 returns-clause-kept c =
-    let kept = filter_same _ (λ block. lies_in c.args.zone_size c.args.zone (place_in (page_of c.args.pages.now) block)) _ (λ x b f' k. search rules) _ _ c.retain.ensures.filtered in
+    let kept = filter_same _ (λ block. lies_in c.args.zone_size c.args.zone (place_in (page_of c.args.pages.now.items) block)) _ (λ x b f' k. search rules) _ _ c.retain.ensures.filtered in
     rw (← c.self.view_is, c.shrink_to_fit.ensures.items, dedup_is _ _ _ c.dedup.ensures.filtered) (λ block lies had. Contains-dedup_nat _ block (Contains-permutation _ _ block c.sort_unstable.ensures.permutation (rw kept (Contains-filter _ _ block lies had))))

@@ -7,17 +7,17 @@ use Rattle.logical_map.proofs.map.Map.first_in.Goals as goal
 
 pub returns-then-live-eq0-clause-first : goal.returns-then-live-eq0-clause-first
 returns-then-live-eq0-clause-first c =
-    let page = page_of c.self.inside.pages in
+    let page = page_of c.self.inside.pages.items in
     let none = sym c.if-live-eq0.true ∙ (rw (← c.self.view_is) at (c.live.ensures c.requires)) in
     rw (← c.self.view_is) (sym (none-is page c.self.inside.count c.self.inside.zone_size c.args.zone c.args.from c.self.invariant.0.past (λ k above below. none-lies page c.self.inside.count c.self.inside.zone_size c.args.zone c.self.invariant.0.past none k)))
 
 pub returns-then-not-is_whole-clause-first : goal.returns-then-not-is_whole-clause-first
 returns-then-not-is_whole-clause-first c =
-    rw (← c.self.view_is) (walked (page_of c.self.inside.pages) c.self.inside.count c.self.inside.zone_size c.args.zone c.args.from c.first_placed.result c.self.invariant.0.past c.first_placed.ensures)
+    rw (← c.self.view_is) (walked (page_of c.self.inside.pages.items) c.self.inside.count c.self.inside.zone_size c.args.zone c.args.from c.first_placed.result c.self.invariant.0.past c.first_placed.ensures)
 
 pub invariant_of-self : goal.invariant_of-self
 invariant_of-self c =
-    let page = page_of c.self.inside.pages in
+    let page = page_of c.self.inside.pages.items in
     let lists = c.self.inside.lists.items in
     let whole = sym (rw c.deref.ensures.value at c.if-not-is_whole.ensures) in
     let below = whole-there lists c.args.zone whole in
@@ -26,7 +26,7 @@ invariant_of-self c =
 
 pub returns-in_err-position-clause-first : goal.returns-in_err-position-clause-first
 returns-in_err-position-clause-first c =
-    let page = page_of c.self.inside.pages in
+    let page = page_of c.self.inside.pages.items in
     let lists = c.self.inside.lists.items in
     let whole = sym (rw c.deref.ensures.value at c.if-not-is_whole.ensures) in
     let below = whole-there lists c.args.zone whole in
@@ -39,7 +39,7 @@ returns-in_err-position-clause-first c =
 
 pub invariant_of-self-2 : goal.invariant_of-self-2
 invariant_of-self-2 c =
-    let page = page_of c.self.inside.pages in
+    let page = page_of c.self.inside.pages.items in
     let lists = c.self.inside.lists.items in
     let whole = sym (rw c.deref.ensures.value at c.if-not-is_whole.ensures) in
     let below = whole-there lists c.args.zone whole in
@@ -48,7 +48,7 @@ invariant_of-self-2 c =
 
 pub returns-clause-first : goal.returns-clause-first
 returns-clause-first c =
-    let page = page_of c.self.inside.pages in
+    let page = page_of c.self.inside.pages.items in
     let lists = c.self.inside.lists.items in
     let whole = sym (rw c.deref.ensures.value at c.if-not-is_whole.ensures) in
     let below = whole-there lists c.args.zone whole in

@@ -4,4 +4,4 @@ use Rattle.logical_map.proofs.Showing.{length-shown}
 use Rattle.logical_map.proofs.map.Map.len.Goals as goal
 
 pub returns : goal.returns
-returns c = rw (← c.self.view_is) (sym (length-shown (page_of c.self.inside.pages) c.self.inside.count))
+returns c = rw (← c.self.view_is) (sym (length-shown (page_of c.self.inside.pages.items) c.self.inside.count))

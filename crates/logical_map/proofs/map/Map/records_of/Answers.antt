@@ -9,7 +9,7 @@ use Rattle.logical_map.proofs.map.Map.records_of.Goals as goal
 
 pub returns-clause-first : goal.returns-clause-first
 returns-clause-first c =
-    let page = page_of c.self.inside.pages in
+    let page = page_of c.self.inside.pages.items in
     let block = c.in_ok-block.block in
     let same = ap (λ (m : MapView). get_or m.places block places.None) (c.self.view_is ∙ c.in_ok-block.ensures.kept) in
     let place = c.place_at.ensures ∙ sym (all-at page c.self.inside.count block c.self.invariant.0.past) ∙ same in

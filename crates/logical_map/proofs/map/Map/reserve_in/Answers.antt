@@ -9,7 +9,7 @@ use Rattle.logical_map.proofs.map.Map.reserve_in.Goals as goal
 
 pub invariant_of-self-2 : goal.invariant_of-self-2
 invariant_of-self-2 c =
-    let page = page_of c.self.inside.pages in
+    let page = page_of c.self.inside.pages.items in
     let lists = c.make_lists.new.lists.items in
     let below : c.args.zone < length lists = omega (arith, c.in_ok-make_lists.ensures.ok) in
     let here = get_or_read lists c.args.zone c.index_mut.result.now below c.index_mut.ensures.value missing in
@@ -19,10 +19,10 @@ invariant_of-self-2 c =
     (c.self.invariant.0, listed-room page c.self.inside.zone_size c.args.zone lists _ c.make_room.new.self below (λ empty. none-lies page c.self.inside.count c.self.inside.zone_size c.args.zone c.self.invariant.0.past (sym (eqb-true _ _ empty) ∙ live)) room (listed-made page c.self.inside.zone_size c.self.inside.lists.items lists c.make_lists.ensures.kept c.self.invariant.1))
 
 pub returns-then-zone-self-clause-ready : goal.returns-then-zone-self-clause-ready
-returns-then-zone-self-clause-ready c = rw (← c.self.view_is) (shown-ready (page_of c.self.inside.pages) c.self.inside.count)
+returns-then-zone-self-clause-ready c = rw (← c.self.view_is) (shown-ready (page_of c.self.inside.pages.items) c.self.inside.count)
 
 pub returns-in_err-make_lists-clause-ready : goal.returns-in_err-make_lists-clause-ready
-returns-in_err-make_lists-clause-ready c = rw (← c.self.view_is) (shown-ready (page_of c.self.inside.pages) c.self.inside.count)
+returns-in_err-make_lists-clause-ready c = rw (← c.self.view_is) (shown-ready (page_of c.self.inside.pages.items) c.self.inside.count)
 
 pub returns-clause-ready : goal.returns-clause-ready
-returns-clause-ready c = rw (← c.self.view_is) (shown-ready (page_of c.self.inside.pages) c.self.inside.count)
+returns-clause-ready c = rw (← c.self.view_is) (shown-ready (page_of c.self.inside.pages.items) c.self.inside.count)

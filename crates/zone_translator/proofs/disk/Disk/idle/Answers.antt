@@ -1,6 +1,6 @@
 use Rattle.std.proofs.Common.{refl}
 use Rattle.zone_translator.proofs.CallLaws.{idle-done}
-use Rattle.zone_translator.proofs.DiskLaws.{cleaned-disk, holds-agrees, holds-serving, refused-turn, view_of}
+use Rattle.zone_translator.proofs.DiskLaws.{cleaned-disk, holds-agrees, holds-serving, refused-turn, turns-back, view_of}
 use Rattle.zone_translator.proofs.disk.Disk.idle.Goals as goal
 
 pub invariant_of-self : goal.invariant_of-self
@@ -21,6 +21,10 @@ returns-in-Ok-clause-turn g c = rw (← c.self.view_is) (λ serving. c.in-Ok.ens
 
 pub returns-in-Ok-clause-kept : goal.returns-in-Ok-clause-kept
 returns-in-Ok-clause-kept g c = rw (← c.self.view_is) (cleaned-disk (g.D.Device.drive c.self.inside.device) (g.D.Device.drive c.turn.new.device) c.self.inside.tables c.turn.new.tables c.self.inside.cleaner c.turn.new.self c.self.inside.status c.self.inside.status c.in-Ok.ensures.keeps)
+
+pub returns-in-Err-clause-refused : goal.returns-in-Err-clause-refused
+returns-in-Err-clause-refused g c =
+    rw (← c.self.view_is) (turns-back (g.D.Device.drive c.self.inside.device) (g.D.Device.drive c.turn.new.device) c.self.inside.tables c.turn.new.tables c.self.inside.cleaner c.turn.new.self c.self.inside.status c.self.inside.status c.in-Err.ensures.keeps.geometry c.in-Err.ensures.refused)
 
 pub returns-in-Err-clause-kept : goal.returns-in-Err-clause-kept
 returns-in-Err-clause-kept g c =

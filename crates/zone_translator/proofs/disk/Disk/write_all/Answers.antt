@@ -1,13 +1,12 @@
 use Rattle.std.proofs.Common.{◌≡◌, ◌∙◌, ◌-◌, ◌+◌, drop, sym, refl, ap, rules, arith}
 use Rattle.zone_states.specs.declared.geometry.Geometry.{Geometry}
-use Rattle.zone_translator.specs.declared.status.DiskStatus.TheVariants.{Serving}
-use Rattle.zone_translator.specs.Batches.{LogsAreCut, blocks_of, is_trim}
+use Rattle.zone_translator.specs.Batches.{blocks_of, is_trim}
 use Rattle.zone_translator.specs.Changes.{batch_commands}
-use Rattle.zone_translator.specs.View.{array_of, logs_of, most_batches, next_sequence}
+use Rattle.zone_translator.specs.View.{array_of, logs_of, most_batches}
 use Rattle.zone_translator.proofs.CallLaws.{batches-less, batches-some, goes-begun, named-more, spend, write-done, write-front, write-known, write-refused, write-unknown, written-more}
 use Rattle.zone_translator.proofs.ContentLaws.{length-blocks, rest-is, rest-whole}
-use Rattle.zone_translator.proofs.CutLaws.{cut-step}
-use Rattle.zone_translator.proofs.DiskLaws.{cut-before, kept-join, kept-refl}
+use Rattle.zone_translator.proofs.CutLaws.{cut-old, cut-step}
+use Rattle.zone_translator.proofs.DiskLaws.{kept-join, kept-refl}
 use Rattle.zone_translator.proofs.FlatLaws.{replaced-none}
 use Rattle.zone_translator.proofs.disk.Disk.write_all.Goals as goal
 
@@ -18,7 +17,7 @@ pub loop-done-init : goal.loop-done-init
 loop-done-init g c =
     let range = c.in_ok-is_done.ensures.in_range c.if-branch.false in
     let whole : c.args.blocks - 0 ≡ c.args.blocks = omega arith in
-    let cut : c.args.self.now.status ≡ Serving → LogsAreCut c.args.self.now.drive.geometry (next_sequence c.args.self.now) (c.args.first + c.args.blocks - 1) (logs_of c.args.self.now) = rw (← c.self.view_is) (cut-before _ c.self.inside.tables c.self.inside.cleaner c.self.inside.status (c.args.first + c.args.blocks - 1) c.self.invariant) in (
+    let disk = c.args.self.now in (
       kept-refl c.args.self.now c.is_done.ensures.mountable,
       refl,
       range.2,
@@ -27,7 +26,7 @@ loop-done-init g c =
       λ block low high. absurd (omega arith),
       λ some. absurd (omega arith),
       rw whole (omega arith),
-      cut range.2,
+      cut-old disk.drive.geometry (c.args.first + c.args.blocks - 1) (logs_of disk),
       omega arith,
     )
 
@@ -59,7 +58,7 @@ loop-done-preserved g c =
       named-more (is_trim c.args.content) _ _ c.args.first c.loop-done.done _ c.in-Ok.count _ refl refl so_far.5 (rw rest.trim at done.names),
       λ some. done.says,
       rw fewer (spend (most_batches (is_trim c.args.content) disk left) _ each _ c.write_some.new.self.drive.completed _ less (rw so_far.0.geometry at done.completed) so_far.7),
-      cut-step disk.drive.geometry c.loop-done.self.drive.geometry (next_sequence disk) (c.args.first + c.args.blocks - 1) _ (logs_of c.loop-done.self) (logs_of c.write_some.new.self) so_far.0.geometry (omega (arith, so_far.3)) (c.write_some.ensures.cut (next_sequence disk)) so_far.8,
+      cut-step disk.drive.geometry c.loop-done.self.drive.geometry (logs_of disk) (c.args.first + c.args.blocks - 1) _ (logs_of c.loop-done.self) (logs_of c.write_some.new.self) so_far.0.geometry (omega (arith, so_far.3)) (c.write_some.ensures.cut (logs_of disk)) so_far.8,
       omega (arith, so_far.9, done.turns),
     )
 
@@ -103,16 +102,16 @@ pub returns-clause-named : goal.returns-clause-named
 returns-clause-named g c = let so_far = c.loop-done.invariant in λ block low high. so_far.5 block low (omega (arith, high, c.loop-done-test.false))
 
 pub returns-in_err-is_done-clause-cut : goal.returns-in_err-is_done-clause-cut
-returns-in_err-is_done-clause-cut g c = rw (← c.self.view_is) (cut-before _ c.self.inside.tables c.self.inside.cleaner c.self.inside.status (c.args.first + c.args.blocks - 1) c.self.invariant)
+returns-in_err-is_done-clause-cut g c = cut-old c.args.self.now.drive.geometry (c.args.first + c.args.blocks - 1) (logs_of c.args.self.now)
 
 pub returns-then-branch-clause-cut : goal.returns-then-branch-clause-cut
-returns-then-branch-clause-cut g c = rw (← c.self.view_is) (cut-before _ c.self.inside.tables c.self.inside.cleaner c.self.inside.status (c.args.first + c.args.blocks - 1) c.self.invariant)
+returns-then-branch-clause-cut g c = cut-old c.args.self.now.drive.geometry (c.args.first + c.args.blocks - 1) (logs_of c.args.self.now)
 
 pub returns-in-Err-clause-cut : goal.returns-in-Err-clause-cut
 returns-in-Err-clause-cut g c =
     let so_far = c.loop-done.invariant in
-    let disk = c.args.self.now in λ serving.
-    cut-step disk.drive.geometry c.loop-done.self.drive.geometry (next_sequence disk) (c.args.first + c.args.blocks - 1) _ (logs_of c.loop-done.self) (logs_of c.write_some.new.self) so_far.0.geometry (omega (arith, so_far.3)) (c.write_some.ensures.cut (next_sequence disk)) so_far.8
+    let disk = c.args.self.now in
+    cut-step disk.drive.geometry c.loop-done.self.drive.geometry (logs_of disk) (c.args.first + c.args.blocks - 1) _ (logs_of c.loop-done.self) (logs_of c.write_some.new.self) so_far.0.geometry (omega (arith, so_far.3)) (c.write_some.ensures.cut (logs_of disk)) so_far.8
 
 pub returns-clause-cut : goal.returns-clause-cut
-returns-clause-cut g c = λ serving. c.loop-done.invariant.8
+returns-clause-cut g c = c.loop-done.invariant.8

@@ -3,7 +3,7 @@ use Rattle.zone_translator.specs.declared.status.DiskStatus.TheVariants.{Serving
 use Rattle.zone_translator.specs.Batches.{LogsAreCut, blocks_of, is_trim}
 use Rattle.zone_translator.specs.Changes.{AreNamed, batch_commands}
 use Rattle.zone_translator.specs.Flat.{replaced}
-use Rattle.zone_translator.specs.View.{KeepsDisk, array_of, disk_size, disk_turns, logs_of, most_batches, next_sequence, places_of, size_on}
+use Rattle.zone_translator.specs.View.{KeepsDisk, array_of, disk_size, disk_turns, logs_of, most_batches, places_of, size_on}
 use Rattle.zone_translator.proofs.disk.Disk.write_all.Given as goal
 
 abbrev pub invariant-loop-done : goal.invariant-loop-done
@@ -12,7 +12,7 @@ invariant-loop-done g l =
     × (array_of l.self ≡ replaced (array_of l.fn.self) l.first (take l.done (blocks_of l.fn.self.drive.geometry.block l.blocks l.content)))
     × AreNamed (is_trim l.content) (places_of l.self) l.first l.done × (1 ≤ l.done → size_on l.self ≡ Some (disk_size l.self))
     × (l.self.drive.completed + most_batches (is_trim l.content) l.fn.self (l.blocks - l.done) * batch_commands l.fn.self.drive.geometry ≤ l.fn.self.drive.completed + most_batches (is_trim l.content) l.fn.self l.blocks * batch_commands l.fn.self.drive.geometry)
-    × LogsAreCut l.fn.self.drive.geometry (next_sequence l.fn.self) (l.first + l.blocks - 1) (logs_of l.self)
+    × LogsAreCut l.fn.self.drive.geometry (logs_of l.fn.self) (l.first + l.blocks - 1) (logs_of l.self)
     × (disk_turns l.self ≤ disk_turns l.fn.self)
 
 abbrev pub decreases-loop-done : goal.decreases-loop-done

@@ -1,5 +1,8 @@
-use crate::{Job, RunFault, job_of, run_job};
+// The words of the command line, and what they ask for. The stored run of `zonedisk` shows the rest.
+
 use clap::error::ErrorKind;
+use disk_jobs::{Job, job_of, run_job};
+use disk_runs::RunFault;
 use drive_port::Geometry;
 use std::alloc::Global;
 use std::process::Abort;

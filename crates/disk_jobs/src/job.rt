@@ -53,35 +53,25 @@ fn part<'a>(alloc: Global, name: &'a str, letter: &'a str, help: &'a str) -> Arg
     number_option(alloc, name, letter, help, value_parser!(u32))
 }
 
-fn geometry_options<'a>(alloc: Global, command: Command<'a>) -> Result<Command<'a>, AllocError> {
-    command
-        .arg(part(alloc, "block", "B", "Bytes in a block: 512 or 4096"))?
-        .arg(part(alloc, "zones", "Z", "Zones: 3 to 65536"))?
-        .arg(part(
-            alloc,
-            "size",
-            "S",
-            "Blocks in a zone's addresses: C to 2^20",
-        ))?
-        .arg(part(
-            alloc,
-            "capacity",
-            "C",
-            "Blocks in a zone that take writes: 4 to S",
-        ))?
-        .arg(part(
-            alloc,
-            "transfer",
-            "T",
-            "Blocks in a transfer at most: 2 to 256",
-        ))?
-        .arg(part(
-            alloc,
-            "active",
-            "A",
-            "Zones active at once at most: 2 to 65536",
-        ))?
-        .arg(part(alloc, "open", "O", "Zones open at once at most: 1 to A"))
+/// The parts of a geometry: the name of each, the letter of its number, and what it is.
+const PARTS: [(&str, &str, &str); 7] = [
+    ("block", "B", "Bytes in a block: 512 or 4096"),
+    ("zones", "Z", "Zones: 3 to 65536"),
+    ("size", "S", "Blocks in a zone's addresses: C to 2^20"),
+    ("capacity", "C", "Blocks in a zone that take writes: 4 to S"),
+    ("transfer", "T", "Blocks in a transfer at most: 2 to 256"),
+    ("active", "A", "Zones active at once at most: 2 to 65536"),
+    ("open", "O", "Zones open at once at most: 1 to A"),
+];
+
+fn geometry_options<'a>(
+    alloc: Global,
+    mut command: Command<'a>,
+) -> Result<Command<'a>, AllocError> {
+    for (name, letter, help) in PARTS {
+        command = command.arg(part(alloc, name, letter, help))?;
+    }
+    Ok(command)
 }
 
 /// An option without a value.
@@ -163,25 +153,47 @@ fn fresh_raw_job(matches: &ArgMatches<'_>) -> Result<Job, &'static str> {
     })
 }
 
+/// Why words are refused that are options of the program.
+#[derive(Clone, Copy)]
+enum Refused {
+    NoSubcommand,
+    /// The value of this option is not in decimal digits.
+    Digits(&'static str),
+}
+
+fn asked(matches: &ArgMatches<'_>) -> Result<Job, Refused> {
+    match matches.subcommand() {
+        Some(("fresh", matches)) => fresh_job(matches).map_err(Refused::Digits),
+        Some((_, matches)) => fresh_raw_job(matches).map_err(Refused::Digits),
+        None => Err(Refused::NoSubcommand),
+    }
+}
+
+/// The text to show of a refusal.
+fn refusal(
+    alloc: Global,
+    program: &mut Command<'_>,
+    refused: Refused,
+) -> Result<Error, AllocError> {
+    match refused {
+        Refused::NoSubcommand => {
+            program.error(ErrorKind::MissingSubcommand, "a subcommand is wanted")
+        }
+        Refused::Digits(name) => {
+            let text = format!(in alloc; "the value of '--{name}' is not in decimal digits")?;
+            program.error(ErrorKind::ValueValidation, &text)
+        }
+    }
+}
+
 /// The job that the words ask for; the first word is the program's name.
 ///
 /// Words that the program doesn't take, and a request for help, are refused with the text to show.
 pub fn job_of(alloc: Global, words: &[String]) -> Result<Job, Error> {
     let mut program = program(alloc)?;
     let matches = program.try_get_matches_from_mut(words)?;
-    let job = match matches.subcommand() {
-        Some(("fresh", matches)) => fresh_job(matches),
-        Some((_, matches)) => fresh_raw_job(matches),
-        None => {
-            let text = "a subcommand is wanted";
-            return Err(program.error(ErrorKind::MissingSubcommand, text)?);
-        }
-    };
-    match job {
+    match asked(&matches) {
         Ok(job) => Ok(job),
-        Err(name) => {
-            let text = format!(in alloc; "the value of '--{name}' is not in decimal digits")?;
-            Err(program.error(ErrorKind::ValueValidation, &text)?)
-        }
+        Err(refused) => Err(refusal(alloc, &mut program, refused)?),
     }
 }
