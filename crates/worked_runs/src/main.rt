@@ -25,6 +25,7 @@ mod runs;
 mod script;
 mod show;
 mod stops;
+mod survey;
 mod words;
 mod world;
 
