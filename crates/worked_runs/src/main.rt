@@ -26,6 +26,7 @@ mod runs;
 mod script;
 mod show;
 mod stops;
+mod survey;
 mod words;
 mod world;
 

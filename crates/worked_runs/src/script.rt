@@ -13,6 +13,7 @@ use crate::questions::{
 use crate::runs::{Lines, show_run};
 use crate::show::show_answer_bytes;
 use crate::stops::{Halts, show_halts};
+use crate::survey::show_survey;
 use crate::words::{byte, bytes, meant, number, part, shape, state};
 use crate::world::World;
 use std::alloc::Global;
@@ -259,6 +260,13 @@ impl<'a> Session<'a> {
         show_array(self.alloc, &self.world, part(n)?, out)
     }
 
+    fn survey(&self, words: &[&str], out: &mut String) -> Result<(), ScriptFault> {
+        let [n] = words else {
+            return Err(ScriptFault::Words);
+        };
+        show_survey(self.alloc, &self.world, number(n)?, out)
+    }
+
     // Lines of one word that ask something of the drive, or restart it.
     fn ask(&mut self, name: &str, out: &mut String) -> Result<bool, ScriptFault> {
         match name {
@@ -284,6 +292,7 @@ impl<'a> Session<'a> {
     fn ask_of(&self, name: &str, words: &[&str], out: &mut String) -> Result<bool, ScriptFault> {
         match name {
             "array" => done(self.array(words, out)),
+            "survey" => done(self.survey(words, out)),
             "room" => done(show_room(&self.world.geometry, words, out)),
             "moves" => done(show_moves(&self.world.geometry, words, out)),
             "header" => done(self.header(words, out)),

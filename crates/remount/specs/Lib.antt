@@ -1,0 +1,4 @@
+pub mod Reported
+pub mod Heads
+pub mod Scan
+pub mod Survey
