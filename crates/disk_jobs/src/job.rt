@@ -321,7 +321,11 @@ fn asked(alloc: Global, matches: &ArgMatches<'_>) -> Result<Job, WordFault> {
 }
 
 /// The text to show of a refusal.
-fn refusal(alloc: Global, program: &mut Command<'_>, fault: WordFault) -> Result<Error, AllocError> {
+fn refusal(
+    alloc: Global,
+    program: &mut Command<'_>,
+    fault: WordFault,
+) -> Result<Error, AllocError> {
     match fault {
         WordFault::NoSubcommand => {
             program.error(ErrorKind::MissingSubcommand, "a subcommand is wanted")

@@ -123,7 +123,7 @@ met-next drive zone reported block heading old new before seen seen' (Some t) m 
     let full : is_full (content_at (contents drive.zones) zone).usage ≡ false = zone-full drive zone reported m.known ∙ met.1 in
     let tail = torn-tail drive zone reported block (drop (old.blocks + 1) (blocks_of drive zone)) heading full header few in
     let told : true ≡ (not (is_full (content_at (contents drive.zones) zone).usage) && nat_lt 0 (length (drop old.blocks (blocks_of drive zone)))) =
-      sym (ap (λ (f : Bool). not f && nat_lt 0 (length (drop old.blocks (blocks_of drive zone)))) full ∙ ap (λ (xs : List (List ℕ)). nat_lt 0 (length xs)) split ∙ lt-ltb 0 (length (block ∷ drop (old.blocks + 1) (blocks_of drive zone))) (omega arith)) in
+    sym (ap (λ (f : Bool). not f && nat_lt 0 (length (drop old.blocks (blocks_of drive zone)))) full ∙ ap (λ (xs : List (List ℕ)). nat_lt 0 (length xs)) split ∙ lt-ltb 0 (length (block ∷ drop (old.blocks + 1) (blocks_of drive zone))) (omega arith)) in
     rw (met.2, met.3, met.4) (takes-all drive.geometry (content_at (contents drive.zones) zone) before seen old true (small drive zone reported m.known) (rw split tail) told takes)
 
 pub met-fails : (drive new-drive : DriveState) (zone : ℕ) (reported : ReportedZone) (block : List ℕ) (heading : Heading) (old new : HeadsView) (seen seen' : List ℕ) (fault : MountFault) → Meets drive zone reported old block heading
@@ -223,8 +223,8 @@ end-ok old new zone offset reported heads before seen kept known at full tail ta
     let same = kept-contents old new kept in
     let blocks = kept-blocks old new zone kept in
     let there : IsTail old.geometry.block (is_full (content_at (contents old.zones) zone).usage) (drop heads.blocks (blocks_of old zone)) =
-      subst (λ (n : ℕ). IsTail old.geometry.block (is_full (content_at (contents old.zones) zone).usage) (drop n (blocks_of old zone))) at
-      (subst (λ (bs : List (List ℕ)). IsTail old.geometry.block (is_full (content_at (contents old.zones) zone).usage) (drop offset bs)) blocks
-      (subst (λ (x : List Content). IsTail old.geometry.block (is_full (content_at x zone).usage) (drop offset (blocks_of new zone))) same
-      (subst (λ (x : Geometry). IsTail x.block (is_full (content_at (contents new.zones) zone).usage) (drop offset (blocks_of new zone))) kept.geometry tail))) in
+    subst (λ (n : ℕ). IsTail old.geometry.block (is_full (content_at (contents old.zones) zone).usage) (drop n (blocks_of old zone))) at
+    (subst (λ (bs : List (List ℕ)). IsTail old.geometry.block (is_full (content_at (contents old.zones) zone).usage) (drop offset bs)) blocks
+    (subst (λ (x : List Content). IsTail old.geometry.block (is_full (content_at x zone).usage) (drop offset (blocks_of new zone))) same
+    (subst (λ (x : Geometry). IsTail x.block (is_full (content_at (contents new.zones) zone).usage) (drop offset (blocks_of new zone))) kept.geometry tail))) in
     ended-next old zone reported heads before seen known (zone-full old zone reported known ∙ full) there takes

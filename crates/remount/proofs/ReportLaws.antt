@@ -120,14 +120,16 @@ in-front geometry capacity zones reported bytes rest front after tells long fron
           are = are-more geometry left.done z reported one left.are told;
           lawful = lawful.1;
           rest_is = after-at ∙ ap (λ (bs : List ℕ). drop 64 bs) whole ∙ rest-is (descriptor_bytes d) tail 64 long' ∙ ap (λ (n : ℕ). flat_map descriptor_bytes (matching geometry AnyState n zs)) (sym (length-append left.done (z ∷ [])));
-        } in
-        (d, record {
-          zone = z;
-          describes = record { capacity_is = tells.capacity_is; small = omega (arith, tells.capacity_is, tells.in_range.capacity, tells.in_range.size); lawful = lawful.0; number = length left.done; is = refl };
-          fits = zone-descriptor geometry (length left.done) z tells.in_range number lawful.0;
-          is = front-at ∙ ap (λ (bs : List ℕ). take 64 bs) whole ∙ front-is (descriptor_bytes d) tail 64 long';
-          more = more;
-        })
+        } in (
+          d,
+          record {
+            zone = z;
+            describes = record { capacity_is = tells.capacity_is; small = omega (arith, tells.capacity_is, tells.in_range.capacity, tells.in_range.size); lawful = lawful.0; number = length left.done; is = refl };
+            fits = zone-descriptor geometry (length left.done) z tells.in_range number lawful.0;
+            is = front-at ∙ ap (λ (bs : List ℕ). take 64 bs) whole ∙ front-is (descriptor_bytes d) tail 64 long';
+            more = more;
+          },
+        )
 
 pub none-left : (geometry : Geometry) (zones : List Zone) (reported : List ReportedZone) (rest : List ℕ) → length rest < 64 → Left geometry zones reported rest → AreReported geometry zones reported
 none-left geometry zones reported rest short left = at left.others refl

@@ -112,9 +112,9 @@ unusable-old old new reported zone reports lowest =
       in_range = omega (arith, lowest.in_range, count, length-closing old.zones reports.zones reports.before, length-map old.zones content_of);
       unusable = rw (← same, found-usage old.geometry reports.zones zone (get_or reported zone none) f) (lowest.each (get_or reported zone none) there);
       lowest = λ other lt.
-        let at = there-is reported other none (omega (arith, lt, lowest.in_range)) in
-        let g = found-at old.geometry reports.zones reported other (get_or reported other none) reports.are at in
-        rw (← same, found-usage old.geometry reports.zones other (get_or reported other none) g) (lowest.lowest other (get_or reported other none) lt at);
+          let at = there-is reported other none (omega (arith, lt, lowest.in_range)) in
+          let g = found-at old.geometry reports.zones reported other (get_or reported other none) reports.are at in
+          rw (← same, found-usage old.geometry reports.zones other (get_or reported other none) g) (lowest.lowest other (get_or reported other none) lt at);
     }
 
 -- ---- partly written zones

@@ -240,14 +240,7 @@ pub fn scan_zones<D: Device>(
     let mut block = Vec::new(alloc);
     let mut scanned = Vec::new(alloc);
     for (zone, reported) in zones.iter().enumerate() {
-        let heads = scan_zone(
-            alloc,
-            device,
-            zone as u32,
-            *reported,
-            &mut seen,
-            &mut block,
-        )?;
+        let heads = scan_zone(alloc, device, zone as u32, *reported, &mut seen, &mut block)?;
         if scanned.push(heads).is_err() {
             return Err(MountFault::OutOfMemory);
         }

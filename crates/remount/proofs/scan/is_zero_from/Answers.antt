@@ -22,9 +22,10 @@ pub returns-then-not-is_zero-clause-kept : goal.returns-then-not-is_zero-clause-
 returns-then-not-is_zero-clause-kept g c = keeps-both _ _ _ c.loop-offset.invariant.0 c.read_block.ensures.kept
 
 pub loop-offset-preserved : goal.loop-offset-preserved
-loop-offset-preserved g c =
-    (keeps-both _ _ _ c.loop-offset.invariant.0 c.read_block.ensures.kept,
-    zero-step (g.D.Device.drive c.args.device.now) _ c.args.zone c.args.from c.loop-offset.offset c.args.reported _ _ true c.requires.zone c.loop-offset.invariant.0 c.loop-offset-test.true c.in_ok-read_block.ensures.ok c.deref.ensures.value c.if-not-is_zero.ensures c.loop-offset.invariant.1)
+loop-offset-preserved g c = (
+  keeps-both _ _ _ c.loop-offset.invariant.0 c.read_block.ensures.kept,
+  zero-step (g.D.Device.drive c.args.device.now) _ c.args.zone c.args.from c.loop-offset.offset c.args.reported _ _ true c.requires.zone c.loop-offset.invariant.0 c.loop-offset-test.true c.in_ok-read_block.ensures.ok c.deref.ensures.value c.if-not-is_zero.ensures c.loop-offset.invariant.1,
+)
 
 pub returns-clause-ok : goal.returns-clause-ok
 returns-clause-ok g c = zero-end _ c.args.zone c.args.from _ c.args.reported c.requires.zone c.loop-offset-test.false c.loop-offset.invariant.1

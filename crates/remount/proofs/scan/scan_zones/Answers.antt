@@ -24,9 +24,10 @@ returns-then-is_err-clause-kept g c = keeps-both _ _ _ c.loop-zone.invariant.0 c
 
 pub loop-zone-preserved : goal.loop-zone-preserved
 loop-zone-preserved g c =
-    let pushed : c.push.new.self.items ≡ c.loop-zone.scanned.items ++ c.in_ok-heads.heads ∷ [] = rw c.if-is_err.ensures.negation at c.push.ensures.items in
-    (keeps-both _ _ _ c.loop-zone.invariant.0 c.scan_zone.ensures.kept,
-    scans-more (g.D.Device.drive c.args.device.now) (g.D.Device.drive c.loop-zone.device) c.loop-zone.scanned.items c.push.new.self.items c.in_ok-heads.heads c.loop-zone.seen.keys c.scan_zone.new.seen.keys c.loop-zone.zone c.loop-zone.invariant.0 (omega (arith, c.loop-zone-test.true, c.requires.zones.count)) pushed c.loop-zone.invariant.1 c.in_ok-heads.ensures.ok)
+    let pushed : c.push.new.self.items ≡ c.loop-zone.scanned.items ++ c.in_ok-heads.heads ∷ [] = rw c.if-is_err.ensures.negation at c.push.ensures.items in (
+      keeps-both _ _ _ c.loop-zone.invariant.0 c.scan_zone.ensures.kept,
+      scans-more (g.D.Device.drive c.args.device.now) (g.D.Device.drive c.loop-zone.device) c.loop-zone.scanned.items c.push.new.self.items c.in_ok-heads.heads c.loop-zone.seen.keys c.scan_zone.new.seen.keys c.loop-zone.zone c.loop-zone.invariant.0 (omega (arith, c.loop-zone-test.true, c.requires.zones.count)) pushed c.loop-zone.invariant.1 c.in_ok-heads.ensures.ok,
+    )
 
 pub returns-clause-ok : goal.returns-clause-ok
 returns-clause-ok g c =

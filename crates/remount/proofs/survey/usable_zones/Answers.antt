@@ -32,14 +32,19 @@ returns-then-count_partly_written-gt2-clause-err g c =
     let reserve : FitsReserve (g.D.Device.drive c.args.device.now).geometry c.args.blocks = subst (λ (x : Geometry). FitsReserve x c.args.blocks) c.geometry-geometry.ensures.value (c.if-not-fits_reserve.ensures.0 refl) in
     let usable : AreReportedUsable c.in_ok-zones.zones.items = rw (← c.deref.ensures.value) c.in_default-lowest_unusable.ensures.none in
     let count : c.count_partly_written.result ≡ count_by is_partly_reported c.in_ok-zones.zones.items = c.count_partly_written.ensures ∙ ap (count_by is_partly_reported) c.deref-2.ensures.value in
-    inr (inr (range, reserve, usable-old (g.D.Device.drive c.args.device.now) _ c.in_ok-zones.zones.items c.in_ok-zones.ensures.ok usable,
-    omega (arith, c.if-count_partly_written-gt2.true, count, partly-old (g.D.Device.drive c.args.device.now) _ c.in_ok-zones.zones.items c.in_ok-zones.ensures.ok usable)))
+    inr (inr (
+      range,
+      reserve,
+      usable-old (g.D.Device.drive c.args.device.now) _ c.in_ok-zones.zones.items c.in_ok-zones.ensures.ok usable,
+      omega (arith, c.if-count_partly_written-gt2.true, count, partly-old (g.D.Device.drive c.args.device.now) _ c.in_ok-zones.zones.items c.in_ok-zones.ensures.ok usable),
+    ))
 
 pub returns-clause-ok : goal.returns-clause-ok
 returns-clause-ok g c =
     let range : IsInRange (g.D.Device.drive c.args.device.now).geometry = subst IsInRange c.geometry-geometry.ensures.value c.in-Ok.ensures.ok in
     let reserve : FitsReserve (g.D.Device.drive c.args.device.now).geometry c.args.blocks = subst (λ (x : Geometry). FitsReserve x c.args.blocks) c.geometry-geometry.ensures.value (c.if-not-fits_reserve.ensures.0 refl) in
     let usable : AreReportedUsable c.in_ok-zones.zones.items = rw (← c.deref.ensures.value) c.in_default-lowest_unusable.ensures.none in
-    let count : c.count_partly_written.result ≡ count_by is_partly_reported c.in_ok-zones.zones.items = c.count_partly_written.ensures ∙ ap (count_by is_partly_reported) c.deref-2.ensures.value in
-    (can-scan (g.D.Device.drive c.args.device.now) _ c.args.blocks c.in_ok-zones.zones.items range reserve c.in_ok-zones.ensures.ok usable (omega (arith, c.if-count_partly_written-gt2.false, count)),
-    known-all (g.D.Device.drive c.args.device.now) _ c.in_ok-zones.zones.items range c.report_zones.ensures.kept c.in_ok-zones.ensures.ok usable)
+    let count : c.count_partly_written.result ≡ count_by is_partly_reported c.in_ok-zones.zones.items = c.count_partly_written.ensures ∙ ap (count_by is_partly_reported) c.deref-2.ensures.value in (
+      can-scan (g.D.Device.drive c.args.device.now) _ c.args.blocks c.in_ok-zones.zones.items range reserve c.in_ok-zones.ensures.ok usable (omega (arith, c.if-count_partly_written-gt2.false, count)),
+      known-all (g.D.Device.drive c.args.device.now) _ c.in_ok-zones.zones.items range c.report_zones.ensures.kept c.in_ok-zones.ensures.ok usable,
+    )
