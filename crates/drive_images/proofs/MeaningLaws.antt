@@ -190,7 +190,7 @@ unless : {T : Type 0} → Option ImageFault → Result T ImageFault → Result T
 unless None result = result
 unless (Some fault) result = Err fault
 
--- so many zones more, after those read before
+-- that many zones more, after those read before
 scan : ℕ → Geometry → List Zone → List ℕ → Result (List Zone) ImageFault
 scan zero g before bytes = unless (end_fault bytes) (Ok before)
 scan (suc more) g before bytes = unless (zone_fault g (counts_of before) bytes) (scan more g (before ++ zone_in g bytes ∷ []) (after_zone g bytes))
