@@ -2,3 +2,4 @@ pub mod Reported
 pub mod Heads
 pub mod Scan
 pub mod Survey
+pub mod Known

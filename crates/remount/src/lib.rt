@@ -18,12 +18,14 @@
 //!   command is refused.
 #![tactic(auto)]
 
+mod clearing;
 mod fault;
 mod heads;
 mod reported;
 mod scan;
 mod survey;
 
+pub use clearing::{Finding, clear_zones, examine_zone};
 pub use fault::MountFault;
 pub use heads::{Head, ZoneHeads};
 pub use reported::ReportedZone;
