@@ -7,17 +7,17 @@ use Rattle.drive_port.specs.Drive.{DriveState, IsLawful}
 use Rattle.batch_log.specs.Log.{Batch}
 use Rattle.zone_choice.specs.Agreement.{drive_logs, spelled}
 use Rattle.zone_choice.specs.Mountable.{AreSound, IsMountable}
-use Rattle.zone_choice.specs.Records.{newest, records, shown, without}
+use Rattle.zone_choice.specs.Records.{without}
+use Rattle.zone_choice.specs.Repairing.{IsMoved, NeedsItsBlock}
 use Rattle.zone_choice.specs.Reserve.{FitsReserve}
 use Rattle.zone_choice.specs.Sizes.{encoded_size}
-use Rattle.zone_choice.specs.Spare.{IsBefore, IsHalfClean, IsMoveFrom, IsPart, first_sequence}
+use Rattle.zone_choice.specs.Spare.{IsHalfClean, IsPart}
 use Rattle.zone_choice.specs.ZoneLogs.{HasLog, log_at, zone_tails}
 use Rattle.remount.specs.declared.survey.Survey.{Survey}
 use Rattle.remount.specs.declared.clearing.Finding.{Finding}
 use Rattle.remount.specs.declared.clearing.Finding.TheVariants.{HalfClean, NotMoves, NeedsBlock, NeedsSize}
 use Rattle.remount.specs.declared.reported.ReportedZone.{ReportedZone}
 use Rattle.remount.specs.Heads.{heads_of}
-
 use Rattle.remount.specs.Scan.{AreKnown, heads_in, tails_in}
 
 -- The drive is lawful, and its zones hold logs. Those of its logs that are looked at, of which each is a zone's whole log or is left out, are sound, and the reserve allows the size that they say. The headers of these are kept, and how far each zone is used, and whether it has a torn tail.
@@ -45,18 +45,6 @@ pub record KeepsMountable (n : ℕ) (old new : DriveState) : Type 0 where
   pub array : IsMountable old n → spelled new n ≡ spelled old n
 
 -- ---- what is found of a zone
-
--- all batches of a zone, which has one, are Moves from one other zone, whose first batch is older
-pub record IsMoved (logs : List (List Batch)) (zone : ℕ) : Type 0 where
-  pub victim : ℕ
-  pub apart : victim ≢ zone
-  pub moves : AllByRecursion (IsMoveFrom victim) (log_at logs zone)
-  pub older : IsBefore (first_sequence (log_at logs victim)) (first_sequence (log_at logs zone))
-
--- without the zone the array shows something else of this block
-pub record NeedsItsBlock (block_bytes n : ℕ) (logs : List (List Batch)) (zone block : ℕ) : Type 0 where
-  pub in_range : block < encoded_size n logs
-  pub differs : shown block_bytes (newest block (records 0 (without logs zone))) ≢ shown block_bytes (newest block (records 0 logs))
 
 -- Whether a zone is half clean, and if not, why: its batches are not Moves from an older zone; or a block shows something else without it; or it alone says the size.
 abbrev pub Finds : ℕ → ℕ → List (List Batch) → ℕ → Finding → Type 0

@@ -3,3 +3,4 @@ pub mod Heads
 pub mod Scan
 pub mod Survey
 pub mod Known
+pub mod Mount

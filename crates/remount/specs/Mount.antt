@@ -1,0 +1,148 @@
+-- Which drives are mounted, and why others are refused.
+use Rattle.std.specs.Prelude.{◌≡◌, ◌≢◌, ◌⊎◌, ℕ, ◌+◌, ◌<◌, ◌≤◌, ◌^◌, max, Bool, true, false, List, [], ◌∷◌, length, map, slice_get, slice_index_or, Contains, Option, Some, None, count_by}
+use Rattle.std.specs.List.{AllByRecursion}
+use Rattle.nvme_wire.specs.declared.zone_state.ZoneState.TheVariants.{Empty}
+use Rattle.zone_states.specs.declared.geometry.Geometry.{Geometry}
+use Rattle.zone_states.specs.Geometry.{IsInRange}
+use Rattle.drive_port.specs.Contents.{Content, content_at, contents}
+use Rattle.drive_port.specs.Drive.{DriveState}
+use Rattle.logical_map.specs.Live.{blocks_in}
+use Rattle.batch_log.specs.Log.{Batch}
+use Rattle.zone_choice.specs.declared.roles.Filling.{Filling}
+use Rattle.zone_choice.specs.declared.roles.Second.{Second}
+use Rattle.zone_choice.specs.declared.roles.Second.TheVariants.{Next, Destination}
+use Rattle.zone_choice.specs.Agreement.{Agrees, drive_logs, mounted, spelled}
+use Rattle.zone_choice.specs.Mountable.{AreSound, HoldDisk, IsMountable, is_partly_written}
+use Rattle.zone_choice.specs.Repair.{Fits, HasAtMost, IsTornAt, live, live_data, moves}
+use Rattle.zone_choice.specs.Reserve.{FitsReserve, batch_most}
+use Rattle.zone_choice.specs.Roles.{RolesView, empty_count, fillings}
+use Rattle.zone_choice.specs.Sizes.{encoded_size, map_of}
+use Rattle.zone_choice.specs.Spare.{HasSpare, IsClearing, IsVacant, cleared}
+use Rattle.zone_choice.specs.Tables.{TablesView}
+use Rattle.zone_choice.specs.ZoneLogs.{log_at, sequences, zone_logs, zone_tails}
+use Rattle.remount.specs.declared.fault.MountFault.{MountFault}
+use Rattle.remount.specs.declared.fault.MountFault.TheVariants.{NoSpare, Spent, TornZone, Halted, OutOfMemory}
+use Rattle.remount.specs.declared.reported.ReportedZone.{ReportedZone}
+use Rattle.remount.specs.declared.repair.Repair.{Repair}
+use Rattle.remount.specs.declared.survey.Survey.{Survey}
+use Rattle.remount.specs.Known.{AreVacantEmpty}
+use Rattle.remount.specs.Survey.{AreInside, CanScan, HoldLogs, SurveyFails, drive_size}
+
+-- ---- torn zones
+
+-- no zone is torn
+abbrev pub NoneIsTorn : List (List Batch) → List Bool → Type 0
+NoneIsTorn logs tails = (zone : ℕ) → IsTornAt logs tails zone → ⊥
+
+-- the zone is the only torn one
+pub record IsOnlyTorn (logs : List (List Batch)) (tails : List Bool) (zone : ℕ) : Type 0 where
+  pub torn : IsTornAt logs tails zone
+  pub only : (other : ℕ) → IsTornAt logs tails other → other ≡ zone
+
+-- The zone is the lowest torn one, and cannot be repaired: another one is torn, too, or its live records do not fit in a zone.
+pub record IsPastRepair (geometry : Geometry) (size : ℕ) (logs : List (List Batch)) (tails : List Bool) (zone : ℕ) : Type 0 where
+  pub torn : IsTornAt logs tails zone
+  pub lowest : (other : ℕ) → other < zone → IsTornAt logs tails other → ⊥
+  pub why : ((other : ℕ) × (zone < other) × IsTornAt logs tails other) ⊎ (geometry.capacity < moves (batch_most geometry) (live size logs zone) + live_data size logs zone)
+
+-- One zone is torn and its live records fit in a zone, but the sequences do not last for the Moves.
+pub record LacksSequences (geometry : Geometry) (size : ℕ) (logs : List (List Batch)) (tails : List Bool) : Type 0 where
+  pub zone : ℕ
+  pub torn : IsOnlyTorn logs tails zone
+  pub room : moves (batch_most geometry) (live size logs zone) + live_data size logs zone ≤ geometry.capacity
+  pub lacks : AllByRecursion (λ sequence. sequence + moves (batch_most geometry) (live size logs zone) < 2 ^ 63) (sequences logs) → ⊥
+
+-- why the zones of a cleared drive cannot be repaired
+abbrev pub CannotRepair : Geometry → ℕ → List (List Batch) → List Bool → MountFault → Type 0
+CannotRepair geometry size logs tails (TornZone zone) = IsPastRepair geometry size logs tails zone
+CannotRepair geometry size logs tails Spent = LacksSequences geometry size logs tails
+CannotRepair geometry size logs tails fault = ⊥
+
+-- tables that say where the newest records of all blocks lie, and nothing of the zones yet
+pub record IsPlaced (geometry : Geometry) (n : ℕ) (logs : List (List Batch)) (tables : TablesView) : Type 0 where
+  pub places : tables.map.places ≡ map_of geometry.size n logs
+  pub zones : tables.map.zones ≡ geometry.zones
+  pub zone_size : tables.map.zone_size ≡ geometry.size
+  pub given : tables.given ≡ n
+
+-- The one torn zone of a cleared drive can be repaired; all blocks whose newest record lies there are known, and the places of all blocks.
+pub record IsPlan (geometry : Geometry) (n : ℕ) (logs : List (List Batch)) (tails : List Bool) (repair : Repair) : Type 0 where
+  pub torn : IsOnlyTorn logs tails repair.zone
+  pub fits : Fits geometry (2 ^ 63) (encoded_size n logs) logs repair.zone
+  pub blocks : repair.blocks.items ≡ blocks_in geometry.size repair.zone 0 (map_of geometry.size n logs)
+  pub placed : IsPlaced geometry n logs repair.tables
+
+-- which repair a cleared drive needs
+abbrev pub Plans : Geometry → ℕ → List (List Batch) → List Bool → Option Repair → Type 0
+Plans geometry n logs tails None = NoneIsTorn logs tails
+Plans geometry n logs tails (Some repair) = IsPlan geometry n logs tails repair
+
+-- ---- the drive that is left
+
+-- Zones without a batch that are not Empty, all of them.
+pub record AreToEmpty (logs : List (List Batch)) (survey : Survey) (zones : List ℕ) : Type 0 where
+  pub vacant : AllByRecursion (λ zone. (zone < length logs) × IsVacant logs zone) zones
+  pub others : (zone : ℕ) (r : ReportedZone) → slice_get survey.zones.items zone ≡ Some r → IsVacant logs zone → (r.state ≡ Empty) ⊎ Contains zones zone
+
+-- no zone has a torn tail
+abbrev pub AreWhole : List Content → Type 0
+AreWhole zones = (zone : ℕ) → slice_index_or (zone_tails zones) zone false ≡ false
+
+-- some zone has no batch
+pub record HasVacant (logs : List (List Batch)) : Type 0 where
+  pub zone : ℕ
+  pub in_range : zone < length logs
+  pub vacant : IsVacant logs zone
+
+-- A drive that a disk can serve: vacant zones are Empty, and there is one; no zone has a torn tail; and zones that are partly written, two at most, have two free blocks and no batch with more entries than ours.
+pub record IsRepaired (drive : DriveState) (survey : Survey) : Type 0 where
+  pub empty : AreVacantEmpty survey.zones.items (drive_logs drive)
+  pub whole : AreWhole (contents drive.zones)
+  pub few_partial : count_by is_partly_written (contents drive.zones) ≤ 2
+  pub room : (zone : ℕ) → is_partly_written (content_at (contents drive.zones) zone) ≡ true → length (content_at (contents drive.zones) zone).blocks + 2 ≤ drive.geometry.capacity
+  pub few : (zone : ℕ) → is_partly_written (content_at (contents drive.zones) zone) ≡ true → AllByRecursion (HasAtMost (batch_most drive.geometry)) (log_at (drive_logs drive) zone)
+  pub vacant : HasVacant (drive_logs drive)
+
+-- ---- the mount
+
+-- the greatest sequence, 0 where there is none
+abbrev pub greatest_sequence : List ℕ → ℕ
+greatest_sequence [] = 0
+greatest_sequence (sequence ∷ others) = max sequence (greatest_sequence others)
+
+-- of two zones that are partly written the lower is the host zone, and the other the next one
+abbrev pub AreInOrder : Option Filling → Option Second → Type 0
+AreInOrder host None = Unit {0}
+AreInOrder (Some host) (Some (Next second)) = host.zone < second.zone
+AreInOrder host second = ⊥
+
+-- The roles after a mount: the zones that are being filled are the partly written ones.
+pub record AreMountedRoles (capacity : ℕ) (zones : List Content) (roles : RolesView) : Type 0 where
+  pub written : AllByRecursion (λ (filling : Filling). (is_partly_written (content_at zones filling.zone) ≡ true) × (filling.written + 2 ≤ capacity)) (fillings roles)
+  pub order : AreInOrder roles.host roles.second
+  pub empty : 1 ≤ empty_count roles
+
+-- A drive that can be mounted is mounted, with n logical blocks where no header says how many: the tables agree with the drive that is left, which has the same array; and the next sequence is one more than the greatest that any batch had.
+pub record Mounts (old new : DriveState) (n : ℕ) (tables : TablesView) : Type 0 where
+  pub geometry : IsInRange old.geometry
+  pub reserve : FitsReserve old.geometry n
+  pub mountable : IsMountable old n
+  pub agrees : Agrees (mounted new tables)
+  pub roles : AreMountedRoles new.geometry.capacity (contents new.zones) tables.roles
+  pub given : tables.given ≡ n
+  pub array : spelled new n ≡ spelled old n
+  pub next : tables.next ≡ 1 + max (greatest_sequence (sequences (drive_logs old))) (greatest_sequence (sequences (drive_logs new)))
+
+-- the cleared drive cannot be repaired
+abbrev pub CannotClear : DriveState → ℕ → MountFault → Type 0
+CannotClear drive n fault =
+    (resets : List ℕ) × IsClearing drive.geometry.block n (drive_logs drive) resets × CannotRepair drive.geometry (drive_size drive n) (cleared (drive_logs drive) resets) (zone_tails (contents drive.zones)) fault
+
+-- Why a drive is refused: the first fault, in the order in which a mount looks for them.
+abbrev pub MountFails : DriveState → ℕ → MountFault → Type 0
+MountFails drive n NoSpare =
+    CanScan drive n × HoldLogs drive.geometry (contents drive.zones) × FitsReserve drive.geometry (drive_size drive n) × AreInside drive n
+    × (HasSpare drive.geometry.block n (drive_logs drive) → ⊥)
+MountFails drive n (TornZone zone) = CanScan drive n × HoldDisk drive.geometry (contents drive.zones) n × CannotClear drive n (TornZone zone)
+MountFails drive n Spent = SurveyFails drive n Spent ⊎ (CanScan drive n × HoldDisk drive.geometry (contents drive.zones) n × CannotClear drive n Spent)
+MountFails drive n fault = SurveyFails drive n fault
