@@ -1,10 +1,10 @@
-ghost use Rattle.std.specs.Prelude.{◌≡◌, ℕ, true, false, List, length, map, slice_index_or, IfErr, IfOk, OnOk};
+ghost use Rattle.std.specs.Prelude.{◌≡◌, ◌≢◌, ℕ, false, List, [], length, map, slice_index_or, IfErr, IfOk, OnOk};
 ghost use Rattle.batch_log.specs.Log.{Batch};
 ghost use Rattle.drive_port.specs.Contents.{contents};
 ghost use Rattle.zone_choice.specs.Agreement.{drive_logs};
 ghost use Rattle.zone_choice.specs.Mountable.{IsMountable};
 ghost use Rattle.zone_choice.specs.Spare.{IsClearing, cleared};
-ghost use Rattle.zone_choice.specs.ZoneLogs.{zone_tails};
+ghost use Rattle.zone_choice.specs.ZoneLogs.{log_at, zone_tails};
 ghost use Rattle.remount.specs.Heads.{heads_of};
 ghost use Rattle.remount.specs.Known.{AreVacantEmpty, KeepsMountable, Knows};
 ghost use Rattle.remount.specs.Mount.{AreToEmpty, AreWhole, HasVacant, IsRepaired};
@@ -39,8 +39,7 @@ pub fn empty_zones<D: Device>(
     ensures known { OnOk result (Knows (D.drive device.new) blocks (drive_logs (D.drive device.new)) survey.new) }
     ensures logs { OnOk result (drive_logs (D.drive device.new) ≡ cleared (drive_logs (D.drive device.old)) half_clean.now) }
     ensures vacant { OnOk result (AreVacantEmpty survey.new.zones.items (drive_logs (D.drive device.new))) }
-    ensures tails { OnOk result ((zone : ℕ) → slice_index_or (zone_tails (contents (D.drive device.new).zones)) zone false ≡ true → slice_index_or (zone_tails (contents (D.drive device.old).zones)) zone false ≡ true) }
-    ensures scanned { survey.new.scanned.items ≡ survey.old.scanned.items }
+    ensures tails { OnOk result ((zone : ℕ) → log_at (drive_logs (D.drive device.new)) zone ≢ [] → slice_index_or (zone_tails (contents (D.drive device.new).zones)) zone false ≡ slice_index_or (zone_tails (contents (D.drive device.old).zones)) zone false) }
     ensures err { IfErr result (FailsBy (λ _. ⊥) (D.drive device.new)) }
     ensures kept { KeepsMountable blocks (D.drive device.old) (D.drive device.new) }
 {
