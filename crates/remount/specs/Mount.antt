@@ -17,7 +17,7 @@ use Rattle.zone_choice.specs.Repair.{Fits, HasAtMost, IsTornAt, live, live_data,
 use Rattle.zone_choice.specs.Reserve.{FitsReserve, batch_most}
 use Rattle.zone_choice.specs.Roles.{RolesView, empty_count, fillings}
 use Rattle.zone_choice.specs.Sizes.{encoded_size, map_of}
-use Rattle.zone_choice.specs.Spare.{HasSpare, IsClearing, IsVacant, cleared}
+use Rattle.zone_choice.specs.Spare.{HasSpare, IsClearing, IsVacant, NoneBelow, cleared}
 use Rattle.zone_choice.specs.Tables.{TablesView}
 use Rattle.zone_choice.specs.ZoneLogs.{log_at, sequences, zone_logs, zone_tails}
 use Rattle.remount.specs.declared.fault.MountFault.{MountFault}
@@ -25,7 +25,9 @@ use Rattle.remount.specs.declared.fault.MountFault.TheVariants.{NoSpare, Spent, 
 use Rattle.remount.specs.declared.reported.ReportedZone.{ReportedZone}
 use Rattle.remount.specs.declared.repair.Repair.{Repair}
 use Rattle.remount.specs.declared.survey.Survey.{Survey}
-use Rattle.remount.specs.Known.{AreVacantEmpty}
+use Rattle.remount.specs.declared.steps.Plan.{Plan}
+use Rattle.remount.specs.Heads.{greatest_sequence}
+use Rattle.remount.specs.Known.{AreVacantEmpty, Knows}
 use Rattle.remount.specs.Survey.{AreInside, CanScan, HoldLogs, SurveyFails, drive_size}
 
 -- ---- torn zones
@@ -105,11 +107,6 @@ pub record IsRepaired (drive : DriveState) (survey : Survey) : Type 0 where
 
 -- ---- the mount
 
--- the greatest sequence, 0 where there is none
-abbrev pub greatest_sequence : List ℕ → ℕ
-greatest_sequence [] = 0
-greatest_sequence (sequence ∷ others) = max sequence (greatest_sequence others)
-
 -- of two zones that are partly written the lower is the host zone, and the other the next one
 abbrev pub AreInOrder : Option Filling → Option Second → Type 0
 AreInOrder host None = Unit {0}
@@ -122,11 +119,15 @@ pub record AreMountedRoles (capacity : ℕ) (zones : List Content) (roles : Role
   pub order : AreInOrder roles.host roles.second
   pub empty : 1 ≤ empty_count roles
 
+-- A drive that is not refused: its geometry and n are in range, and it can be mounted.
+pub record IsToMount (drive : DriveState) (n : ℕ) : Type 0 where
+  pub geometry : IsInRange drive.geometry
+  pub reserve : FitsReserve drive.geometry n
+  pub mountable : IsMountable drive n
+
 -- A drive that can be mounted is mounted, with n logical blocks where no header says how many: the tables agree with the drive that is left, which has the same array; and the next sequence is one more than the greatest that any batch had.
 pub record Mounts (old new : DriveState) (n : ℕ) (tables : TablesView) : Type 0 where
-  pub geometry : IsInRange old.geometry
-  pub reserve : FitsReserve old.geometry n
-  pub mountable : IsMountable old n
+  pub can : IsToMount old n
   pub agrees : Agrees (mounted new tables)
   pub roles : AreMountedRoles new.geometry.capacity (contents new.zones) tables.roles
   pub given : tables.given ≡ n
@@ -146,3 +147,33 @@ MountFails drive n NoSpare =
 MountFails drive n (TornZone zone) = CanScan drive n × HoldDisk drive.geometry (contents drive.zones) n × CannotClear drive n (TornZone zone)
 MountFails drive n Spent = SurveyFails drive n Spent ⊎ (CanScan drive n × HoldDisk drive.geometry (contents drive.zones) n × CannotClear drive n Spent)
 MountFails drive n fault = SurveyFails drive n fault
+
+-- ---- on the way
+
+-- What is to be done to a drive that can be mounted: which zones are emptied, after which it is cleared; and which one is repaired. The headers of the zones of the clearing are forgotten.
+pub record IsPlanned (drive : DriveState) (n : ℕ) (survey : Survey) (plan : Plan) : Type 0 where
+  pub mountable : IsMountable drive n
+  pub vacant : AreToEmpty (drive_logs drive) survey plan.vacant.items
+  pub clearing : IsClearing drive.geometry.block n (drive_logs drive) plan.half_clean.items
+  pub known : Knows drive n (cleared (drive_logs drive) plan.half_clean.items) survey
+  pub repair : Plans drive.geometry n (cleared (drive_logs drive) plan.half_clean.items) (zone_tails (contents drive.zones)) plan.repair
+
+-- Why a drive is refused whose headers have no fault.
+abbrev pub PlanFails : DriveState → ℕ → MountFault → Type 0
+PlanFails drive n NoSpare = HasSpare drive.geometry.block n (drive_logs drive) → ⊥
+PlanFails drive n fault = HasSpare drive.geometry.block n (drive_logs drive) × CannotClear drive n fault
+
+-- The zones that are to be emptied were: the drive can be mounted, none of its zones is half clean, and each zone without a batch is Empty.
+pub record IsCleared (drive : DriveState) (n : ℕ) (survey : Survey) : Type 0 where
+  pub known : Knows drive n (drive_logs drive) survey
+  pub mountable : IsMountable drive n
+  pub none : NoneBelow drive.geometry.block n (drive_logs drive) (length drive.zones)
+  pub empty : AreVacantEmpty survey.zones.items (drive_logs drive)
+
+-- The torn zone was repaired, if there was one.
+pub record IsUntorn (drive : DriveState) (n : ℕ) (survey : Survey) : Type 0 where
+  pub known : Knows drive n (drive_logs drive) survey
+  pub mountable : IsMountable drive n
+  pub empty : AreVacantEmpty survey.zones.items (drive_logs drive)
+  pub whole : AreWhole (contents drive.zones)
+  pub spare : HasVacant (drive_logs drive)

@@ -1,0 +1,448 @@
+-- The steps of a mount, one after the other.
+use Rattle.std.proofs.Common.{◌≡◌, ◌≢◌, ◌⊎◌, inl, inr, ℕ, zero, suc, ◌+◌, ◌<◌, ◌≤◌, ◌^◌, ◌-◌, max, min, Bool, true, false, List, [], ◌∷◌, ◌++◌, length, map, get_or, Option, Some, None, refl, sym, ap, subst, ◌∙◌, arith, append-nil}
+use Rattle.std.specs.Prelude.{slice_get}
+use Rattle.std.specs.List.{AllByRecursion}
+use Rattle.std.proofs.lemmas.Bool.{cases_eq}
+use Rattle.std.proofs.lemmas.List.{append_assoc, length-map, map-append, nil_from_length}
+use Rattle.nvme_wire.specs.declared.zone_state.ZoneState.{ZoneState}
+use Rattle.nvme_wire.specs.declared.zone_state.ZoneState.TheVariants as states
+use Rattle.zone_states.specs.Geometry.{IsInRange}
+use Rattle.zone_states.specs.declared.geometry.Geometry.{Geometry}
+use Rattle.zone_states.specs.Zone.{IsLawfulZone, MayHold, Zone}
+use Rattle.drive_port.specs.Contents.{Content, content_at, content_of, contents, empty, nothing, usage_of}
+use Rattle.drive_port.specs.Drive.{DriveState, IsLawful}
+use Rattle.batch_log.specs.Log.{Batch}
+use Rattle.zone_choice.specs.Agreement.{Agrees, drive_logs, mounted, spelled}
+use Rattle.zone_choice.specs.Mountable.{AreMountable, AreSound, HoldDisk, IsMountable}
+use Rattle.zone_choice.specs.Repair.{CanRepair, IsTornAt}
+use Rattle.zone_choice.specs.Reserve.{FitsReserve}
+use Rattle.zone_choice.specs.Sizes.{encoded_size}
+use Rattle.zone_choice.specs.Spare.{HasSpare, IsClearing, IsHalfClean, IsVacant, NoneBelow, cleared}
+use Rattle.zone_choice.specs.Tables.{TablesView}
+use Rattle.zone_choice.specs.ZoneLogs.{HasLog, has_torn_tail, log_at, log_sequences, sequences, spelled_array, zone_logs, zone_tails}
+use Rattle.remount.specs.declared.fault.MountFault.{MountFault}
+use Rattle.remount.specs.declared.fault.MountFault.TheVariants as faults
+use Rattle.remount.specs.declared.repair.Repair.{Repair}
+use Rattle.remount.specs.declared.reported.ReportedZone.{ReportedZone}
+use Rattle.remount.specs.declared.steps.Plan.{Plan}
+use Rattle.remount.specs.declared.survey.Survey.{Survey}
+use Rattle.remount.specs.Heads.{HeadsView, greatest_of, greatest_sequence, heads_after, heads_of, no_heads, sequence_of, with_heading}
+use Rattle.remount.specs.Known.{AreVacantEmpty, KeepsMountable, Knows}
+use Rattle.remount.specs.Mount.{AreMountedRoles, AreToEmpty, AreWhole, CannotClear, CannotRepair, HasVacant, IsCleared, IsPlan, IsPlanned, IsRepaired, IsToMount, IsUntorn, MountFails, Mounts, NoneIsTorn, PlanFails, Plans}
+use Rattle.remount.specs.Reported.{KeepsZones}
+use Rattle.remount.specs.Scan.{AreKnown, FailsBy, ScansAll, heads_in, tails_in}
+use Rattle.remount.specs.Survey.{AreInside, CanScan, HoldLogs, SurveyFails, Surveys, drive_size}
+use Rattle.zone_choice.proofs.ClearingLaws.{clearing_keeps, one_clearing}
+use Rattle.remount.proofs.AllScanLaws.{there-is}
+use Rattle.remount.proofs.NextLaws.{fails-more}
+use Rattle.remount.proofs.ReadLaws.{keeps-both, kept-contents}
+
+-- ---- what is kept
+
+kept-logs : (old new : DriveState) → KeepsZones old new → drive_logs new ≡ drive_logs old
+kept-logs old new k = rw (k.geometry, kept-contents old new k) refl
+
+pub closing-keeps : (old new : DriveState) (n : ℕ) → KeepsZones old new → KeepsMountable n old new
+closing-keeps old new n k = record {
+  geometry = k.geometry;
+  lawful = k.lawful;
+  refused = k.refused;
+  mountable = λ is. record { lawful = k.lawful; holds = rw (k.geometry, kept-contents old new k) is.holds };
+  array = λ is. rw (k.geometry, kept-contents old new k) refl;
+}
+
+pub keeps-twice : (a b c : DriveState) (n : ℕ) → KeepsMountable n a b → KeepsMountable n b c → KeepsMountable n a c
+keeps-twice a b c n first second = record {
+  geometry = second.geometry ∙ first.geometry;
+  lawful = second.lawful;
+  refused = second.refused ∙ first.refused;
+  mountable = λ is. second.mountable (first.mountable is);
+  array = λ is. second.array (first.mountable is) ∙ first.array is;
+}
+
+-- ---- a survey
+
+pub survey-knows : (old new : DriveState) (n : ℕ) (survey : Survey) → KeepsZones old new → Surveys old new n survey → Knows new n (drive_logs new) survey
+survey-knows old new n survey k is = record {
+  all_logs = rw (k.geometry, kept-contents old new k) is.scans.logs;
+  count = length-map _ _ ∙ length-map _ _;
+  part = λ zone. inl refl;
+  sound = rw (kept-logs old new k) is.sound;
+  reserve = rw (k.geometry, kept-contents old new k) is.reserve;
+  size_is = is.size_is ∙ sym (rw (k.geometry, kept-contents old new k) refl);
+  zones = is.zones;
+  heads = is.scans.heads ∙ sym (rw (k.geometry, kept-contents old new k) refl);
+  tails = is.scans.tails ∙ sym (rw (kept-contents old new k) refl);
+}
+
+pub can-kept : (old new : DriveState) (n : ℕ) → KeepsZones old new → CanScan old n → CanScan new n
+can-kept old new n k can = record {
+  geometry = rw k.geometry can.geometry;
+  reserve = rw k.geometry can.reserve;
+  usable = rw (kept-contents old new k) can.usable;
+  few = rw (kept-contents old new k) can.few;
+}
+
+survey-fails : (drive : DriveState) (n : ℕ) (fault : MountFault) → SurveyFails drive n fault → MountFails drive n fault
+survey-fails drive n faults.Reserve is = is
+survey-fails drive n faults.Limits is = is
+survey-fails drive n (faults.ZoneUnusable zone) is = is
+survey-fails drive n (faults.Log zone offset cause) is = is
+survey-fails drive n faults.SequenceRepeated is = is
+survey-fails drive n faults.BlockOutOfRange is = is
+survey-fails drive n faults.TooManyPartial is = is
+survey-fails drive n faults.NoSpare is = absurd is
+survey-fails drive n faults.Spent is = inl is
+survey-fails drive n faults.Halted is = is
+survey-fails drive n faults.OutOfMemory is = is
+survey-fails drive n (faults.TornZone zone) is = absurd is
+
+pub survey-refused : (drive last : DriveState) (n : ℕ) (fault : MountFault) → FailsBy (SurveyFails drive n) last fault → FailsBy (MountFails drive n) last fault
+survey-refused drive last n fault fails = fails-more (SurveyFails drive n) (MountFails drive n) last fault (survey-fails drive n) fails
+
+-- ---- a cleared drive
+
+pub left-none : (block_bytes n : ℕ) (logs : List (List Batch)) (zones : List ℕ) → IsClearing block_bytes n logs zones → NoneBelow block_bytes n (cleared logs zones) (length (cleared logs zones))
+left-none block_bytes n logs [] is = is
+left-none block_bytes n logs (z ∷ zs) is = left-none block_bytes n _ zs is.1
+
+logs-count : (drive : DriveState) → length (drive_logs drive) ≡ length drive.zones
+logs-count drive = length-map _ _ ∙ length-map _ _
+
+pub vacant-left : (drive : DriveState) (n : ℕ) (survey : Survey) → IsCleared drive n survey → HasVacant (drive_logs drive)
+vacant-left drive n survey is = by is.mountable.holds.disk.spare
+  where
+    by : HasSpare drive.geometry.block n (drive_logs drive) → HasVacant (drive_logs drive)
+    by spare = elim spare.spare as (λ _. HasVacant (drive_logs drive)) [
+      | inl vacant ↦ record { zone = spare.zone; in_range = spare.in_range; vacant = vacant }
+      | inr half ↦ absurd (is.none spare.zone (omega (arith, spare.in_range, logs-count drive)) half)
+    ]
+
+no-tail : has_torn_tail (record { usage = empty; blocks = [] }) ≡ false
+unfolding has_torn_tail
+no-tail = refl
+
+empty-state : (state : ZoneState) → usage_of state ≡ empty → state ≡ states.Empty
+empty-state states.Empty e = refl
+empty-state states.ImplicitlyOpened e = absurd (cc)
+empty-state states.ExplicitlyOpened e = absurd (cc)
+empty-state states.Closed e = absurd (cc)
+empty-state states.Full e = absurd (cc)
+empty-state states.ReadOnly e = absurd (cc)
+empty-state states.Offline e = absurd (cc)
+
+held-none : (geometry : Geometry) (z : Zone) → IsLawfulZone geometry z → usage_of z.state ≡ empty → content_of z ≡ record { usage = empty; blocks = [] }
+held-none geometry z lawful is =
+    let state = empty-state z.state is in
+    let none : MayHold states.Empty geometry.capacity (length z.blocks) = rw state at lawful.written in
+    rw (state, nil_from_length z.blocks none) refl
+
+lawful-empty : (geometry : Geometry) (zones : List Zone) (zone : ℕ) → AllByRecursion (IsLawfulZone geometry) zones → zone < length zones → (content_at (contents zones) zone).usage ≡ empty → content_at (contents zones) zone ≡ record { usage = empty; blocks = [] }
+lawful-empty geometry [] zone all lt is = absurd (omega arith)
+lawful-empty geometry (z ∷ zs) zero all lt is = held-none geometry z all.0 is
+lawful-empty geometry (z ∷ zs) (suc zone) all lt is = lawful-empty geometry zs zone all.1 (omega arith) is
+
+tails-map : (zones : List Content) (zone : ℕ) → get_or (zone_tails zones) zone false ≡ true → (zone < length zones) × (has_torn_tail (content_at zones zone) ≡ true)
+tails-map [] zone e = absurd (cc)
+tails-map (c ∷ cs) zero e = (omega arith, e)
+tails-map (c ∷ cs) (suc zone) e = let rest = tails-map cs zone e in (omega (arith, rest.0), rest.1)
+
+none-or-some : (log : List Batch) → (log ≡ []) ⊎ (log ≢ [])
+none-or-some [] = inl refl
+none-or-some (b ∷ bs) = inr (λ e. absurd (cc))
+
+true-or-false : (b : Bool) → (b ≡ true) ⊎ (b ≡ false)
+true-or-false true = inl refl
+true-or-false false = inr refl
+
+-- a zone that is Empty has no torn tail
+pub empty-whole : (drive : DriveState) (n : ℕ) (survey : Survey) (zone : ℕ) → Knows drive n (drive_logs drive) survey → AreVacantEmpty survey.zones.items (drive_logs drive) → IsVacant (drive_logs drive) zone
+    → get_or (zone_tails (contents drive.zones)) zone false ≡ true → ⊥
+empty-whole drive n survey zone known empty_is vacant tail =
+    let there = tails-map (contents drive.zones) zone tail in
+    let none : ReportedZone = record { state = states.Offline; blocks = 0 } in
+    let lt : zone < length drive.zones = omega (arith, there.0, length-map drive.zones content_of) in
+    let at = there-is survey.zones.items zone none (omega (arith, lt, known.zones.count)) in
+    let r = get_or survey.zones.items zone none in
+    let is = known.zones.each zone r at in
+    let usage : (content_at (contents drive.zones) zone).usage ≡ empty = is.usage ∙ rw (empty_is zone r at vacant) refl in
+    let held = lawful-empty drive.geometry drive.zones zone known.zones.lawful.zones lt usage in
+    let bad = there.1 in
+    let good : has_torn_tail (content_at (contents drive.zones) zone) ≡ false = ap has_torn_tail held ∙ no-tail in
+    absurd (cc)
+
+pub untorn : (drive : DriveState) (n : ℕ) (survey : Survey) → IsCleared drive n survey → NoneIsTorn (drive_logs drive) (zone_tails (contents drive.zones)) → IsUntorn drive n survey
+untorn drive n survey is none = record { known = is.known; mountable = is.mountable; empty = is.empty; whole = whole; spare = vacant-left drive n survey is }
+  where
+    whole : AreWhole (contents drive.zones)
+    whole zone = elim (true-or-false (get_or (zone_tails (contents drive.zones)) zone false)) as (λ _. get_or (zone_tails (contents drive.zones)) zone false ≡ false) [
+      | inr e ↦ e
+      | inl tail ↦ (elim (none-or-some (log_at (drive_logs drive) zone)) as (λ _. get_or (zone_tails (contents drive.zones)) zone false ≡ false) [
+        | inl vacant ↦ absurd (empty-whole drive n survey zone is.known is.empty vacant tail)
+        | inr batch ↦ absurd (none zone (record { batch = batch; tail = tail }))
+      ])
+    ]
+
+pub plans-none : (geometry : Geometry) (n : ℕ) (logs : List (List Batch)) (tails : List Bool) (plan : Option Repair) → plan ≡ None → Plans geometry n logs tails plan → NoneIsTorn logs tails
+plans-none geometry n logs tails None e is = is
+plans-none geometry n logs tails (Some repair) e is = absurd (cc)
+
+pub plans-some : (geometry : Geometry) (n : ℕ) (logs : List (List Batch)) (tails : List Bool) (plan : Option Repair) (repair : Repair) → plan ≡ Some repair → Plans geometry n logs tails plan → IsPlan geometry n logs tails repair
+plans-some geometry n logs tails None repair e is = absurd (cc)
+plans-some geometry n logs tails (Some other) repair e is = let same : other ≡ repair = cc in rw (← same) is
+
+-- ---- carrying out
+
+tails-kept : (logs : List (List Batch)) (old new : List Bool) (zone : ℕ) → ((z : ℕ) → log_at logs z ≢ [] → get_or new z false ≡ get_or old z false) → IsTornAt logs new zone → IsTornAt logs old zone
+tails-kept logs old new zone same is = record { batch = is.batch; tail = sym (same zone is.batch) ∙ is.tail }
+
+tails-back : (logs : List (List Batch)) (old new : List Bool) (zone : ℕ) → ((z : ℕ) → log_at logs z ≢ [] → get_or new z false ≡ get_or old z false) → IsTornAt logs old zone → IsTornAt logs new zone
+tails-back logs old new zone same is = record { batch = is.batch; tail = same zone is.batch ∙ is.tail }
+
+plans-kept : (geometry : Geometry) (n : ℕ) (logs : List (List Batch)) (old new : List Bool) (plan : Option Repair) → ((z : ℕ) → log_at logs z ≢ [] → get_or new z false ≡ get_or old z false) → Plans geometry n logs old plan → Plans geometry n logs new plan
+plans-kept geometry n logs old new None same is = λ zone torn. is zone (tails-kept logs old new zone same torn)
+plans-kept geometry n logs old new (Some repair) same is = record {
+  torn = record { torn = tails-back logs old new repair.zone same is.torn.torn; only = λ other torn. is.torn.only other (tails-kept logs old new other same torn) };
+  fits = is.fits;
+  blocks = is.blocks;
+  placed = is.placed;
+}
+
+-- what an emptying leaves
+pub record Empties (old new : DriveState) (n : ℕ) (resets : List ℕ) (survey : Survey) : Type 0 where
+  pub known : Knows new n (drive_logs new) survey
+  pub logs : drive_logs new ≡ cleared (drive_logs old) resets
+  pub vacant : AreVacantEmpty survey.zones.items (drive_logs new)
+  pub tails : (zone : ℕ) → log_at (drive_logs new) zone ≢ [] → get_or (zone_tails (contents new.zones)) zone false ≡ get_or (zone_tails (contents old.zones)) zone false
+  pub kept : KeepsMountable n old new
+
+pub emptied-cleared : (old new : DriveState) (n : ℕ) (before survey : Survey) (plan : Plan) → IsPlanned old n before plan → Empties old new n plan.half_clean.items survey → IsCleared new n survey
+emptied-cleared old new n before survey plan planned is = record {
+  known = is.known;
+  mountable = is.kept.mountable planned.mountable;
+  none = none;
+  empty = is.vacant;
+}
+  where
+    none : NoneBelow new.geometry.block n (drive_logs new) (length new.zones)
+    none = λ zone lt half. left-none old.geometry.block n (drive_logs old) plan.half_clean.items planned.clearing zone
+        (omega (arith, lt, logs-count new, ap length is.logs)) (subst (λ (ls : List (List Batch)). IsHalfClean old.geometry.block n ls zone) is.logs (subst (λ (g : Geometry). IsHalfClean g.block n (drive_logs new) zone) is.kept.geometry half))
+
+pub emptied-plans : (old new : DriveState) (n : ℕ) (before survey : Survey) (plan : Plan) → IsPlanned old n before plan → Empties old new n plan.half_clean.items survey
+    → Plans new.geometry n (drive_logs new) (zone_tails (contents new.zones)) plan.repair
+emptied-plans old new n before survey plan planned is =
+    subst (λ (g : Geometry). Plans g n (drive_logs new) (zone_tails (contents new.zones)) plan.repair) (sym is.kept.geometry)
+    (plans-kept old.geometry n (drive_logs new) (zone_tails (contents old.zones)) (zone_tails (contents new.zones)) plan.repair is.tails
+    (subst (λ (ls : List (List Batch)). Plans old.geometry n ls (zone_tails (contents old.zones)) plan.repair) (sym is.logs) planned.repair))
+
+-- ---- planning
+
+-- what a clearing in memory leaves
+record HasSoundLogs (drive : DriveState) (n : ℕ) : Type 0 where
+  logs : AllByRecursion (HasLog drive.geometry) (contents drive.zones)
+  sound : AreSound (2 ^ 63) n (drive_logs drive)
+  reserve : FitsReserve drive.geometry (drive_size drive n)
+
+hold-disk : (drive : DriveState) (n : ℕ) → CanScan drive n → HasSoundLogs drive n → HasSpare drive.geometry.block n (drive_logs drive) → HoldDisk drive.geometry (contents drive.zones) n
+hold-disk drive n can has spare = record { usable = can.usable; few_partial = can.few; logs = has.logs; sound = has.sound; reserve = has.reserve; spare = spare }
+
+plan-repairs : (geometry : Geometry) (n : ℕ) (logs : List (List Batch)) (tails : List Bool) (plan : Option Repair) → Plans geometry n logs tails plan → CanRepair geometry (2 ^ 63) (encoded_size n logs) logs tails
+plan-repairs geometry n logs tails None none = record { one = λ a b torn other. absurd (none a torn); fits = λ a torn. absurd (none a torn) }
+plan-repairs geometry n logs tails (Some repair) is = record {
+  one = λ a b torn other. is.torn.only a torn ∙ sym (is.torn.only b other);
+  fits = λ a torn. rw (is.torn.only a torn) is.fits;
+}
+
+pub planned : (old new : DriveState) (n : ℕ) (before survey : Survey) (plan : Plan) → CanScan old n → Knows old n (drive_logs old) before → KeepsZones old new → HasSpare old.geometry.block n (drive_logs old)
+    → AreToEmpty (drive_logs old) before plan.vacant.items → survey.zones ≡ before.zones → IsClearing old.geometry.block n (drive_logs old) plan.half_clean.items
+    → Knows new n (cleared (drive_logs old) plan.half_clean.items) survey
+    → Plans old.geometry n (cleared (drive_logs old) plan.half_clean.items) (zone_tails (contents old.zones)) plan.repair
+    → IsPlanned new n survey plan
+planned old new n before survey plan can known k spare vacant zones clearing after repair = record {
+  mountable = record { lawful = k.lawful; holds = rw (k.geometry, kept-contents old new k) mountable };
+  vacant = rw (kept-logs old new k) (record { vacant = vacant.vacant; others = rw zones vacant.others });
+  clearing = rw (kept-logs old new k, k.geometry) clearing;
+  known = rw (kept-logs old new k) after;
+  repair = rw (kept-logs old new k, k.geometry, kept-contents old new k) repair;
+}
+  where
+    logs : List (List Batch)
+    logs = drive_logs old
+
+    mountable : AreMountable old.geometry (contents old.zones) n
+    mountable = record {
+      disk = hold-disk old n can (record { logs = known.all_logs; sound = known.sound; reserve = known.reserve }) spare;
+      repair = λ resets is.
+          let same = one_clearing old.geometry.block n logs resets plan.half_clean.items is clearing in
+          let size : encoded_size n (cleared logs plan.half_clean.items) ≡ encoded_size n logs = (clearing_keeps old.geometry.block (2 ^ 63) n logs plan.half_clean.items known.sound clearing).size_is in
+          rw (same, ← size) (plan-repairs old.geometry n (cleared logs plan.half_clean.items) (zone_tails (contents old.zones)) plan.repair repair);
+    }
+
+plan-fault : (drive : DriveState) (n : ℕ) (resets : List ℕ) (fault : MountFault) → AreSound (2 ^ 63) n (drive_logs drive) → HasSpare drive.geometry.block n (drive_logs drive) → IsClearing drive.geometry.block n (drive_logs drive) resets
+    → CannotRepair drive.geometry (encoded_size n (cleared (drive_logs drive) resets)) (cleared (drive_logs drive) resets) (zone_tails (contents drive.zones)) fault → PlanFails drive n fault
+plan-fault drive n resets fault sound spare clearing is = by fault (subst (λ (k : ℕ). CannotRepair drive.geometry k (cleared (drive_logs drive) resets) (zone_tails (contents drive.zones)) fault) size is)
+  where
+    size : encoded_size n (cleared (drive_logs drive) resets) ≡ encoded_size n (drive_logs drive)
+    size = (clearing_keeps drive.geometry.block (2 ^ 63) n (drive_logs drive) resets sound clearing).size_is
+
+    by : (f : MountFault) → CannotRepair drive.geometry (drive_size drive n) (cleared (drive_logs drive) resets) (zone_tails (contents drive.zones)) f → PlanFails drive n f
+    by faults.NoSpare bad = absurd bad
+    by (faults.TornZone zone) bad = (spare, (resets, clearing, bad))
+    by faults.Spent bad = (spare, (resets, clearing, bad))
+    by faults.Reserve bad = absurd bad
+    by faults.Limits bad = absurd bad
+    by (faults.ZoneUnusable zone) bad = absurd bad
+    by (faults.Log zone offset cause) bad = absurd bad
+    by faults.SequenceRepeated bad = absurd bad
+    by faults.BlockOutOfRange bad = absurd bad
+    by faults.TooManyPartial bad = absurd bad
+    by faults.Halted bad = absurd bad
+    by faults.OutOfMemory bad = absurd bad
+
+pub repair-refused : (old new : DriveState) (n : ℕ) (resets : List ℕ) (survey : Survey) (fault : MountFault) (geometry : Geometry) → geometry ≡ old.geometry → KeepsZones old new → AreSound (2 ^ 63) n (drive_logs old)
+    → HasSpare old.geometry.block n (drive_logs old) → IsClearing old.geometry.block n (drive_logs old) resets → Knows new n (cleared (drive_logs old) resets) survey
+    → ((fault ≡ faults.OutOfMemory) ⊎ ((drive : DriveState) (logs : List (List Batch)) → drive.geometry ≡ geometry → Knows drive n logs survey → CannotRepair geometry (encoded_size n logs) logs (zone_tails (contents drive.zones)) fault))
+    → FailsBy (PlanFails old n) new fault
+repair-refused old new n resets survey fault geometry e k sound spare clearing known (inl memory) = inl memory
+repair-refused old new n resets survey fault geometry e k sound spare clearing known (inr why) =
+    inr (inr (plan-fault old n resets fault sound spare clearing (rw (kept-contents old new k, e) at (why new (cleared (drive_logs old) resets) (k.geometry ∙ sym e) known))))
+
+-- ---- the mount
+
+plan-mount : (drive : DriveState) (n : ℕ) (fault : MountFault) → CanScan drive n → HoldLogs drive.geometry (contents drive.zones) → HasSoundLogs drive n → PlanFails drive n fault → MountFails drive n fault
+plan-mount drive n faults.NoSpare can logs has none = (can, logs, has.reserve, has.sound.inside, none)
+plan-mount drive n (faults.TornZone zone) can logs has fails = (can, hold-disk drive n can has fails.0, fails.1)
+plan-mount drive n faults.Spent can logs has fails = inr (can, hold-disk drive n can has fails.0, fails.1)
+plan-mount drive n faults.Reserve can logs has fails = absurd fails.1.2
+plan-mount drive n faults.Limits can logs has fails = absurd fails.1.2
+plan-mount drive n (faults.ZoneUnusable zone) can logs has fails = absurd fails.1.2
+plan-mount drive n (faults.Log zone offset cause) can logs has fails = absurd fails.1.2
+plan-mount drive n faults.SequenceRepeated can logs has fails = absurd fails.1.2
+plan-mount drive n faults.BlockOutOfRange can logs has fails = absurd fails.1.2
+plan-mount drive n faults.TooManyPartial can logs has fails = absurd fails.1.2
+plan-mount drive n faults.Halted can logs has fails = absurd fails.1.2
+plan-mount drive n faults.OutOfMemory can logs has fails = absurd fails.1.2
+
+plan-back : (old new : DriveState) (n : ℕ) (fault : MountFault) → KeepsZones old new → PlanFails new n fault → PlanFails old n fault
+plan-back old new n faults.NoSpare k none = λ spare. none (rw (kept-logs old new k, k.geometry) spare)
+plan-back old new n (faults.TornZone zone) k fails = rw (k.geometry, kept-contents old new k) at fails
+plan-back old new n faults.Spent k fails = rw (k.geometry, kept-contents old new k) at fails
+plan-back old new n faults.Reserve k fails = absurd fails.1.2
+plan-back old new n faults.Limits k fails = absurd fails.1.2
+plan-back old new n (faults.ZoneUnusable zone) k fails = absurd fails.1.2
+plan-back old new n (faults.Log zone offset cause) k fails = absurd fails.1.2
+plan-back old new n faults.SequenceRepeated k fails = absurd fails.1.2
+plan-back old new n faults.BlockOutOfRange k fails = absurd fails.1.2
+plan-back old new n faults.TooManyPartial k fails = absurd fails.1.2
+plan-back old new n faults.Halted k fails = absurd fails.1.2
+plan-back old new n faults.OutOfMemory k fails = absurd fails.1.2
+
+pub plan-refused : (old new last : DriveState) (n : ℕ) (survey : Survey) (fault : MountFault) → KeepsZones old new → Surveys old new n survey → FailsBy (PlanFails new n) last fault → FailsBy (MountFails old n) last fault
+plan-refused old new last n survey fault k is fails = fails-more (PlanFails new n) (MountFails old n) last fault back fails
+  where
+    back : (f : MountFault) → PlanFails new n f → MountFails old n f
+    back f why = plan-mount old n f is.can (record { logs = is.scans.logs; none = is.scans.none }) (record { logs = is.scans.logs; sound = is.sound; reserve = is.reserve }) (plan-back old new n f k why)
+
+-- ---- sequences
+
+heads-sequences : (view : HeadsView) (log : List Batch) → map sequence_of (heads_after view log).heads ≡ map sequence_of view.heads ++ log_sequences log
+heads-sequences view [] = sym (append-nil (map sequence_of view.heads))
+heads-sequences view (b ∷ bs) =
+    heads-sequences (with_heading view b.heading) bs
+    ∙ ap (λ (xs : List ℕ). xs ++ log_sequences bs) (map-append sequence_of view.heads _)
+    ∙ append_assoc (map sequence_of view.heads) (b.heading.sequence ∷ []) (log_sequences bs)
+
+greatest-append : (xs ys : List ℕ) → greatest_sequence (xs ++ ys) ≡ max (greatest_sequence xs) (greatest_sequence ys)
+greatest-append [] ys = omega arith
+greatest-append (x ∷ xs) ys = omega (arith, greatest-append xs ys)
+
+pub greatest-all : (logs : List (List Batch)) → greatest_of (map heads_of logs) ≡ greatest_sequence (sequences logs)
+greatest-all [] = refl
+greatest-all (log ∷ logs) =
+    omega (arith, greatest-append (log_sequences log) (sequences logs), greatest-all logs, ap greatest_sequence (heads-sequences no_heads log))
+
+greatest-below : (limit : ℕ) (xs : List ℕ) → 1 ≤ limit → AllByRecursion (λ s. s < limit) xs → greatest_sequence xs < limit
+greatest-below limit [] some all = omega (arith, some)
+greatest-below limit (x ∷ xs) some all = omega (arith, all.0, greatest-below limit xs some all.1)
+
+below-next : (next : ℕ) (xs : List ℕ) → greatest_sequence xs < next → AllByRecursion (λ s. s < next) xs
+below-next next [] lt = tt
+below-next next (x ∷ xs) lt = (omega (arith, lt), below-next next xs (omega (arith, lt)))
+
+-- ---- mounted
+
+-- what a mount has come by before it makes its tables
+pub record Repaired (old new : DriveState) (n : ℕ) (survey : Survey) : Type 0 where
+  pub can : IsToMount old n
+  pub kept : KeepsMountable n old new
+  pub known : Knows new n (drive_logs new) survey
+  pub repaired : IsRepaired new survey
+
+pub to-mount : (old middle third : DriveState) (n : ℕ) (first second : Survey) (plan : Plan) → IsLawful old → KeepsZones old middle → Surveys old middle n first → KeepsZones middle third → IsPlanned third n second plan → IsToMount old n
+to-mount old middle third n first second plan lawful k is k' planned =
+    let both = keeps-both old middle third k k' in
+    record { geometry = is.can.geometry; reserve = is.can.reserve; mountable = record { lawful = lawful; holds = rw (both.geometry, kept-contents old third both) at planned.mountable.holds } }
+
+pub repairs : (old middle third new : DriveState) (n : ℕ) (first second last : Survey) (plan : Plan) → IsLawful old → KeepsZones old middle → Surveys old middle n first → KeepsZones middle third → IsPlanned third n second plan
+    → KeepsMountable n third new → Knows new n (drive_logs new) last → IsRepaired new last → Repaired old new n last
+repairs old middle third new n first second last plan lawful k is k' planned kept known repaired =
+    let both = keeps-both old middle third k k' in
+    record {
+      can = to-mount old middle third n first second plan lawful k is k' planned;
+      kept = keeps-twice old third new n (closing-keeps old third n both) kept;
+      known = known;
+      repaired = repaired;
+    }
+
+-- the next sequence
+pub record IsNextSequence (old new : DriveState) (next : ℕ) : Type 0 where
+  pub is : next ≡ 1 + max (greatest_sequence (sequences (drive_logs old))) (greatest_sequence (sequences (drive_logs new)))
+  pub above : AllByRecursion (λ s. s < next) (sequences (drive_logs new))
+  pub small : next ≤ 2 ^ 63
+
+pub next-is : (old new : DriveState) (n before now next : ℕ) (first last : Survey) → Repaired old new n last → heads_in first.scanned.items ≡ map heads_of (drive_logs old) → before ≡ greatest_of (heads_in first.scanned.items) → now ≡ greatest_of (heads_in last.scanned.items)
+    → next ≡ min (max now before + 1) (2 ^ 64 - 1) → IsNextSequence old new next
+next-is old new n before now next first last is heads was are e =
+    let a : before ≡ greatest_sequence (sequences (drive_logs old)) = was ∙ ap greatest_of heads ∙ greatest-all (drive_logs old) in
+    let b : now ≡ greatest_sequence (sequences (drive_logs new)) = are ∙ ap greatest_of is.known.heads ∙ greatest-all (drive_logs new) in
+    let a' = greatest-below (2 ^ 63) (sequences (drive_logs old)) (omega arith) is.can.mountable.holds.disk.sound.numbers in
+    let b' = greatest-below (2 ^ 63) (sequences (drive_logs new)) (omega arith) is.known.sound.numbers in
+    let same : next ≡ 1 + max (greatest_sequence (sequences (drive_logs old))) (greatest_sequence (sequences (drive_logs new))) = omega (arith, e, a, b, a', b') in
+    record { is = same; above = below-next next (sequences (drive_logs new)) (omega (arith, same)); small = omega (arith, same, a', b') }
+
+pub mounts : (old new : DriveState) (n : ℕ) (survey : Survey) (tables : TablesView) → Repaired old new n survey → IsNextSequence old new tables.next → tables.given ≡ n → Agrees (mounted new tables) → AreMountedRoles new.geometry.capacity (contents new.zones) tables.roles
+    → Mounts old new n tables
+mounts old new n survey tables is next given agrees roles = record {
+  can = is.can;
+  agrees = agrees;
+  roles = roles;
+  given = given;
+  array = is.kept.array is.can.mountable;
+  next = next.is;
+}
+
+-- ---- what the parts of a plan say of this drive
+
+pub to-empty : (drive : DriveState) (n : ℕ) (survey : Survey) (zones : List ℕ) → Knows drive n (drive_logs drive) survey
+    → ((logs : List (List Batch)) → heads_in survey.scanned.items ≡ map heads_of logs → length survey.zones.items ≡ length logs → AreToEmpty logs survey zones) → AreToEmpty (drive_logs drive) survey zones
+to-empty drive n survey zones known all = all (drive_logs drive) known.heads (omega (arith, known.zones.count, known.count))
+
+pub plans-of : (old new : DriveState) (n : ℕ) (resets : List ℕ) (survey : Survey) (plan : Option Repair) (geometry : Geometry) → geometry ≡ old.geometry → KeepsZones old new → Knows new n (cleared (drive_logs old) resets) survey
+    → ((drive : DriveState) (logs : List (List Batch)) → drive.geometry ≡ geometry → Knows drive n logs survey → Plans geometry n logs (zone_tails (contents drive.zones)) plan)
+    → Plans old.geometry n (cleared (drive_logs old) resets) (zone_tails (contents old.zones)) plan
+plans-of old new n resets survey plan geometry e k known all = rw (kept-contents old new k, e) at (all new (cleared (drive_logs old) resets) (k.geometry ∙ sym e) known)
+
+-- ---- faults
+
+-- nothing was sent that changes the drive; or the drive was to be mounted
+pub early-kept : (old new : DriveState) (n : ℕ) → KeepsZones old new → KeepsZones old new ⊎ IsToMount old n
+early-kept old new n k = inl k
+
+-- a fault of the repairs is out of memory, or a halt
+pub carry-refused : (old third last : DriveState) (n : ℕ) (fault : MountFault) → FailsBy (λ _. ⊥) last fault → FailsBy (MountFails old n) last fault
+carry-refused old third last n fault fails = fails-more (λ _. ⊥) (MountFails old n) last fault (λ f bad. absurd bad) fails
+
+pub carry-kept : (P : Type 0) (last : DriveState) (fault : MountFault) → FailsBy (λ _. ⊥) last fault → fault ≢ faults.Halted → fault ≢ faults.OutOfMemory → P
+carry-kept P last fault (inl memory) not_halted not_memory = absurd (not_memory memory)
+carry-kept P last fault (inr (inl halted)) not_halted not_memory = absurd (not_halted halted.0)
+carry-kept P last fault (inr (inr bad)) not_halted not_memory = absurd bad
