@@ -4,6 +4,7 @@ pub mod Sizes
 pub mod ZoneLogs
 pub mod Spare
 pub mod Repair
+pub mod Repairing
 pub mod Mountable
 pub mod Roles
 pub mod Tables
