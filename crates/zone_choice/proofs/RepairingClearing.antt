@@ -8,8 +8,8 @@ use Rattle.batch_log.specs.Log.{Batch}
 use Rattle.zone_choice.specs.Records.{Record, log_records, newest, records, shown, without}
 use Rattle.zone_choice.specs.Repair.{CanRepair, IsTornAt}
 use Rattle.zone_choice.specs.Repairing.{IsRepairing, LiesIn}
-use Rattle.zone_choice.specs.Sizes.{array_of, encoded_size, log_greatest, size_or}
-use Rattle.zone_choice.specs.Spare.{IsBefore, IsClearing, IsHalfClean, IsMoveFrom, IsSpare, IsVacant, cleared, first_sequence}
+use Rattle.zone_choice.specs.Sizes.{array_of, encoded_size, size_or}
+use Rattle.zone_choice.specs.Spare.{IsBefore, IsClearing, IsHalfClean, IsSpare, IsVacant, cleared, first_sequence}
 use Rattle.zone_choice.specs.ZoneLogs.{log_at, log_sequences, sequences}
 use Rattle.zone_choice.proofs.ClearingLaws.{clearing-part, one_clearing}
 use Rattle.zone_choice.proofs.DeadLaws.{NotIn, newest-without}

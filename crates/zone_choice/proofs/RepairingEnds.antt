@@ -1,14 +1,12 @@
 -- After the last Move of a repair nothing is lost with the torn zone; before that the torn zone is not half clean.
-use Rattle.std.proofs.Common.{◌≡◌, ◌≢◌, ◌⊎◌, inl, inr, ℕ, ◌+◌, ◌<◌, List, [], ◌∷◌, length, set, get_or, Option, Some, None, refl, sym, ap, ◌∙◌, arith}
+use Rattle.std.proofs.Common.{◌≡◌, ◌≢◌, ◌⊎◌, inl, inr, ℕ, ◌<◌, List, [], length, set, Option, Some, None, refl, sym, ap, ◌∙◌, arith}
 use Rattle.std.specs.List.{AllByRecursion}
 use Rattle.std.proofs.lemmas.Bool.{cases_eq}
 use Rattle.std.proofs.lemmas.List.{get_or-set_other, get_or-set_same, length-set, set_comm}
-use Rattle.zone_states.specs.declared.geometry.Geometry.{Geometry}
 use Rattle.batch_log.specs.Log.{Batch}
-use Rattle.drive_port.specs.Contents.{Content, content_at}
 use Rattle.zone_choice.specs.Records.{Record, log_records, newest, records, shown, without}
-use Rattle.zone_choice.specs.Repairing.{IsMoved, IsRepairing, IsStillNeeded, LiesIn, NeededStays, NeedsItsBlock, RepairEnds}
-use Rattle.zone_choice.specs.Sizes.{array_of, encoded_size, greatest, larger, log_greatest, size_or}
+use Rattle.zone_choice.specs.Repairing.{IsMoved, IsRepairing, LiesIn, NeededStays, RepairEnds}
+use Rattle.zone_choice.specs.Sizes.{greatest, larger, log_greatest, size_or}
 use Rattle.zone_choice.specs.Spare.{IsBefore, IsHalfClean, IsSpare, IsVacant, first_sequence}
 use Rattle.zone_choice.specs.ZoneLogs.{log_at, sequences, zone_log, zone_logs}
 use Rattle.zone_choice.proofs.AllLaws.{all-weaker}
@@ -53,10 +51,6 @@ none-or (Some r) = inr (λ e. absurd (cc))
 lies-or : (zone : ℕ) (x : Option Record) → LiesIn zone x ⊎ NotIn zone x
 lies-or zone None = inr tt
 lies-or zone (Some r) = cases_eq r.zone zone
-
-not-both : (zone : ℕ) (x : Option Record) → LiesIn zone x → NotIn zone x → ⊥
-not-both zone None is out = is
-not-both zone (Some r) is out = out is
 
 torn-spare : (block_bytes n torn into : ℕ) (logs : List (List Batch)) (moves : List Batch) → IsRepairing block_bytes n logs torn into moves
     → ((block : ℕ) → LiesIn torn (newest block (records 0 logs)) → newest block (log_records into 0 moves) ≢ None) → log_greatest moves ≡ log_greatest (log_at logs torn)

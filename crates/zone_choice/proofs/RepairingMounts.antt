@@ -1,5 +1,5 @@
 -- A drive on repair can be mounted, from its beginning on.
-use Rattle.std.proofs.Common.{◌≡◌, ◌≢◌, ◌⊎◌, inl, inr, ℕ, zero, suc, ◌+◌, ◌<◌, ◌≤◌, ◌^◌, Bool, true, false, cond, List, [], ◌∷◌, length, set, get_or, refl, sym, ap, ◌∙◌, arith}
+use Rattle.std.proofs.Common.{◌≡◌, ◌≢◌, ◌⊎◌, inl, inr, ℕ, zero, suc, ◌<◌, ◌≤◌, ◌^◌, Bool, true, false, cond, List, [], ◌∷◌, length, set, get_or, refl, sym, ap, ◌∙◌, arith}
 use Rattle.std.specs.List.{count_by}
 use Rattle.std.proofs.lemmas.Bool.{cases_eq}
 use Rattle.std.proofs.lemmas.List.{get_or-set_other, get_or-set_same, length-map, length-set, map-set, set-get_or}
@@ -9,7 +9,7 @@ use Rattle.drive_port.specs.Contents.{Content, content_at, emptied, is_usable, n
 use Rattle.batch_log.specs.Log.{Batch}
 use Rattle.zone_choice.specs.Mountable.{is_partly_written}
 use Rattle.zone_choice.specs.Repairing.{IsOnRepair, IsRepairing, RepairBegins, RepairMounts}
-use Rattle.zone_choice.specs.Sizes.{array_of, encoded_size}
+use Rattle.zone_choice.specs.Sizes.{array_of}
 use Rattle.zone_choice.specs.Spare.{HasSpare, IsVacant}
 use Rattle.zone_choice.specs.ZoneLogs.{HasLog, has_torn_tail, log_at, spelled_array, zone_log, zone_logs, zone_tails}
 use Rattle.zone_choice.proofs.AllLaws.{all-set}

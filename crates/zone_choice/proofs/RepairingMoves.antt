@@ -1,5 +1,5 @@
 -- A Move of a repair, whole or torn, leaves a drive on repair.
-use Rattle.std.proofs.Common.{◌≡◌, ◌≢◌, ◌⊎◌, inl, inr, ℕ, ◌+◌, ◌<◌, ◌≤◌, ◌^◌, Bool, true, false, List, [], ◌∷◌, ◌++◌, length, take, set, get_or, Option, Some, None, refl, sym, ap, subst, ◌∙◌, arith}
+use Rattle.std.proofs.Common.{◌≡◌, ◌⊎◌, inl, inr, ℕ, ◌+◌, ◌<◌, ◌^◌, Bool, true, false, List, [], ◌∷◌, ◌++◌, length, take, set, get_or, Option, Some, None, refl, sym, ap, subst, ◌∙◌, arith}
 use Rattle.std.specs.List.{AllByRecursion}
 use Rattle.std.proofs.lemmas.List.{get_or-set_same, length-map, length-set, set-set}
 use Rattle.zone_states.specs.declared.geometry.Geometry.{Geometry}
@@ -7,12 +7,12 @@ use Rattle.drive_port.specs.Contents.{Content, content_at, filled, is_usable, no
 use Rattle.batch_log.specs.declared.header.Entry.{Entry}
 use Rattle.batch_log.specs.Log.{Batch, batch_blocks, log_size, one_unless}
 use Rattle.zone_choice.specs.Laws.{IsLast}
-use Rattle.zone_choice.specs.Mountable.{AreSound, IsInside}
-use Rattle.zone_choice.specs.Records.{AllBelow, IsNewest, Record, append_log, batch_records, entry_records, log_records, new_records, newer, newest, record_of, records, shown, shown_content, without}
+use Rattle.zone_choice.specs.Mountable.{AreSound}
+use Rattle.zone_choice.specs.Records.{IsNewest, Record, append_log, batch_records, entry_records, log_records, new_records, newer, newest, record_of, records, shown, shown_content}
 use Rattle.zone_choice.specs.Repairing.{IsCopyFrom, IsOnRepair, IsRepairMove, IsRepairing, IsWithin, LiesIn, MoveRepairs, TornMoveRepairs}
-use Rattle.zone_choice.specs.Sizes.{array_of, encoded_size, greatest, larger, log_greatest, size_or}
+use Rattle.zone_choice.specs.Sizes.{encoded_size, larger, log_greatest, size_or}
 use Rattle.zone_choice.specs.Spare.{IsMoveFrom}
-use Rattle.zone_choice.specs.ZoneLogs.{HasLog, has_torn_tail, log_at, sequences, zone_log, zone_logs, zone_tails}
+use Rattle.zone_choice.specs.ZoneLogs.{HasLog, log_at, sequences, zone_log, zone_logs}
 use Rattle.zone_choice.proofs.AllLaws.{all-append, all-at, all-set}
 use Rattle.zone_choice.proofs.ContentLaws.{log_at-same}
 use Rattle.zone_choice.proofs.DeadLaws.{OnRecord, on-newest}

@@ -1,5 +1,5 @@
 -- The newest records of logs in which a vacant zone got a log.
-use Rattle.std.proofs.Common.{◌≡◌, ◌≢◌, ℕ, zero, suc, ◌+◌, ◌<◌, ◌≤◌, List, [], ◌∷◌, ◌++◌, length, set, get_or, Option, Some, None, refl, sym, ap, ◌∙◌, arith}
+use Rattle.std.proofs.Common.{◌≡◌, ◌≢◌, ℕ, zero, suc, ◌+◌, ◌<◌, ◌≤◌, List, [], ◌∷◌, ◌++◌, length, set, Option, Some, None, refl, sym, ap, ◌∙◌, arith}
 use Rattle.std.specs.List.{AllByRecursion}
 use Rattle.std.proofs.lemmas.Bool.{le-ltb, lt-ltb}
 use Rattle.std.proofs.lemmas.List.{set-get_or}
@@ -10,7 +10,7 @@ use Rattle.zone_choice.specs.Spare.{IsVacant}
 use Rattle.zone_choice.specs.ZoneLogs.{sequences}
 use Rattle.zone_choice.proofs.AllLaws.{all-append}
 use Rattle.zone_choice.proofs.DeadLaws.{OnRecord, on-newer, on-newest}
-use Rattle.zone_choice.proofs.NewestLaws.{AllBelow-parts, newer-assoc, newer-none, newest-append}
+use Rattle.zone_choice.proofs.NewestLaws.{AllBelow-parts, newer-assoc, newest-append}
 use Rattle.zone_choice.proofs.SequenceLaws.{records-below}
 
 abbrev pub OlderThan : ℕ → Option Record → Type 0

@@ -1,7 +1,3 @@
-use Rattle.std.proofs.Common.{rules, ◌≡◌, ℕ, ◌+◌, ◌-◌, ◌*◌, ◌<◌, ◌≤◌, length, ◌/◌, ◌%◌, Bool, true, false, nat_eq, nat_lt, List, [], ◌∷◌, ◌++◌, slice_index_or, slice_set, bit_and, bit_or, Fits, w8, w32, w64, Bor, MutBor}
-use Rattle.zone_choice.specs.Laws.{AppendFirst, AppendKeepsSpare, AppendLogs, AppendWrites, ClearingKeeps, EmptySpare, FewFit, FinishLogs, FinishMounts, GreatestIs, LowestResets, NewestIsLive, NextIsLast, OneClearing, RestartMounts, SpareResets, SpelledCount, SpelledWhole, TornLogs, TornMounts, VacantResets}
-use Rattle.zone_choice.specs.Repairing.{MoveRepairs, NeededStays, RepairBegins, RepairEnds, RepairMounts, TornMoveRepairs}
-use Rattle.zone_choice.specs.Victim.{HasSealed, LeastCanMove}
 use Rattle.zone_choice.proofs.RepairingEnds.{needed_stays, repair_ends}
 use Rattle.zone_choice.proofs.RepairingMounts.{repair_begins, repair_mounts}
 use Rattle.zone_choice.proofs.RepairingMoves.{move_repairs, torn_move_repairs}
