@@ -1,5 +1,5 @@
 -- While a torn zone is repaired, the cleared drive has at most that one torn zone.
-use Rattle.std.proofs.Common.{◌≡◌, ◌≢◌, ◌⊎◌, inl, inr, ℕ, ◌<◌, ◌≤◌, Bool, true, false, List, [], ◌∷◌, length, set, get_or, Option, Some, None, refl, sym, ap, ◌∙◌, arith}
+use Rattle.std.proofs.Common.{◌≡◌, ◌≢◌, ◌⊎◌, inl, inr, ℕ, ◌<◌, Bool, true, false, List, [], ◌∷◌, length, set, get_or, Option, Some, None, refl, sym, ap, ◌∙◌, arith}
 use Rattle.std.specs.List.{AllByRecursion}
 use Rattle.std.proofs.lemmas.Bool.{cases_eq}
 use Rattle.std.proofs.lemmas.List.{get_or-set_same, get_or-set_other, length-set, set_comm, set-set}
@@ -13,6 +13,7 @@ use Rattle.zone_choice.specs.Spare.{IsBefore, IsClearing, IsHalfClean, IsSpare, 
 use Rattle.zone_choice.specs.ZoneLogs.{log_at, log_sequences, sequences}
 use Rattle.zone_choice.proofs.ClearingLaws.{clearing-part, one_clearing}
 use Rattle.zone_choice.proofs.DeadLaws.{NotIn, newest-without}
+use Rattle.zone_choice.proofs.FitLaws.{some-length}
 use Rattle.zone_choice.proofs.RepairingArrays.{array-same, block-same, greatest-within, in-range}
 use Rattle.zone_choice.proofs.RepairingRecords.{IsAbove, newest-unsaid, put-none}
 use Rattle.zone_choice.proofs.SequenceLaws.{first-below, zone-sequences}
@@ -22,10 +23,6 @@ use Rattle.zone_choice.proofs.SizeLaws.{same-size}
 
 pub torn-below : (block_bytes n torn into : ℕ) (logs : List (List Batch)) (moves : List Batch) → IsRepairing block_bytes n logs torn into moves → torn < length logs
 torn-below block_bytes n torn into logs moves is = in-range logs torn is.has_batch
-
-some-length : (log : List Batch) → log ≢ [] → 1 ≤ length log
-some-length [] some = absurd (some refl)
-some-length (b ∷ bs) some = omega arith
 
 older-first : (logs : List (List Batch)) (zone : ℕ) (moves : List Batch) → AllByRecursion (IsAbove (sequences logs)) moves → log_at logs zone ≢ [] → moves ≢ [] → IsBefore (first_sequence (log_at logs zone)) (first_sequence moves)
 older-first logs zone [] later some some' = absurd (some' refl)

@@ -1,4 +1,4 @@
--- A drive on repair can be mounted, from its beginning on.
+-- A drive on repair can be mounted, from the beginning of the repair on.
 use Rattle.std.proofs.Common.{◌≡◌, ◌≢◌, ◌⊎◌, inl, inr, ℕ, zero, suc, ◌<◌, ◌≤◌, ◌^◌, Bool, true, false, cond, List, [], ◌∷◌, length, set, get_or, refl, sym, ap, ◌∙◌, arith}
 use Rattle.std.specs.List.{count_by}
 use Rattle.std.proofs.lemmas.Bool.{cases_eq}
@@ -7,6 +7,7 @@ use Rattle.std.proofs.lemmas.List.Sums.{sum_by-cons, sum_by-set}
 use Rattle.zone_states.specs.declared.geometry.Geometry.{Geometry}
 use Rattle.drive_port.specs.Contents.{Content, content_at, emptied, is_usable, nothing}
 use Rattle.batch_log.specs.Log.{Batch}
+use Rattle.zone_choice.specs.Laws.{OnlyTorn}
 use Rattle.zone_choice.specs.Mountable.{is_partly_written}
 use Rattle.zone_choice.specs.Repairing.{IsOnRepair, IsRepairing, RepairBegins, RepairMounts}
 use Rattle.zone_choice.specs.Sizes.{array_of}
@@ -130,3 +131,16 @@ repair_mounts geometry n torn into base now small is whole =
       };
       array = ap (array_of geometry.block n) now_logs ∙ repairing.array_is;
     }
+
+-- where no Append was torn on the way, no zone but the torn one is torn
+pub only_torn : (geometry : Geometry) (n torn into : ℕ) (base now : List Content) → IsOnRepair geometry n base now torn into → has_torn_tail (content_at now into) ≡ false → OnlyTorn geometry now torn
+only_torn geometry n torn into base now is whole other at = elim (set-other (zone_tails base) into (has_torn_tail is.made) other tail) as (λ _. other ≡ torn) [
+  | inl before ↦ is.only other before
+  | inr here ↦ absurd (untorn (set-here (zone_tails base) into (has_torn_tail is.made) (rw here at tail)))
+]
+  where
+    tail : get_or (set (zone_tails base) into (has_torn_tail is.made)) other false ≡ true
+    tail = rw (tails-set base now into is.made is.zones) at at.tail
+
+    untorn : has_torn_tail is.made ≡ true → ⊥
+    untorn e = let whole_there = rw (made-there geometry n torn into base now is) at whole in cc
