@@ -184,7 +184,7 @@ log-data zone offset (b ∷ bs) =
     let rest = log_records zone (offset + batch_size b) bs in
     omega (arith, count-append is_data (batch_records zone offset b) rest, entries-data b.heading.sequence zone offset 0 b.body b.heading.entries, log-data zone (offset + batch_size b) bs)
 
-some-length : (log : List Batch) → log ≢ [] → 1 ≤ length log
+pub some-length : (log : List Batch) → log ≢ [] → 1 ≤ length log
 some-length [] some = absurd (some refl)
 some-length (b ∷ bs) some = omega arith
 

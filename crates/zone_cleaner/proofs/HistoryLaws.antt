@@ -1,5 +1,5 @@
 -- What a clean leaves in the logs, as batches are appended.
-use Rattle.std.proofs.Common.{◌≡◌, ◌≢◌, ℕ, zero, suc, ◌<◌, ◌≤◌, max, List, [], ◌∷◌, ◌++◌, length, Option, Some, None, refl, sym, ap, ◌∙◌, inl, inr, arith}
+use Rattle.std.proofs.Common.{◌≡◌, ◌≢◌, ℕ, ◌<◌, ◌≤◌, max, List, [], ◌∷◌, ◌++◌, length, Option, Some, None, refl, sym, ap, ◌∙◌, inl, inr, arith}
 use Rattle.std.specs.List.{AllByRecursion}
 use Rattle.std.proofs.lemmas.List.{set-set}
 use Rattle.batch_log.specs.Log.{Batch}
@@ -8,23 +8,15 @@ use Rattle.zone_choice.specs.Mountable.{AreSound}
 use Rattle.zone_choice.specs.Records.{append_log}
 use Rattle.zone_choice.specs.Sizes.{IsUpTo, array_of, encoded_size, greatest, larger, log_greatest, size_or}
 use Rattle.zone_choice.specs.Spare.{HasSpare, IsBefore, IsHalfClean, IsMoveFrom, first_sequence}
-use Rattle.zone_choice.specs.ZoneLogs.{log_at, log_sequences, sequences}
-use Rattle.zone_choice.proofs.AllLaws.{all-append, all-parts}
+use Rattle.zone_choice.specs.ZoneLogs.{log_at, sequences}
+use Rattle.zone_choice.proofs.AllLaws.{all-append}
 use Rattle.zone_choice.proofs.ContentLaws.{log_at-other, log_at-same}
+use Rattle.zone_choice.proofs.DeadLaws.{greatest-absorbs}
 use Rattle.zone_choice.proofs.SizeLaws.{append_keeps_spare, larger-assoc, log_greatest-more}
+use Rattle.zone_choice.proofs.SequenceLaws.{first-below, zone-sequences}
 use Rattle.zone_cleaner.specs.Clean.{AreMoves, Follows}
-use Rattle.zone_cleaner.proofs.DeadLaws.{greatest-absorbs}
 
--- ---- sequences and sizes of one zone
-
-pub zone-sequences : (P : ℕ → Type 0) (logs : List (List Batch)) (zone : ℕ) → AllByRecursion P (sequences logs) → AllByRecursion P (log_sequences (log_at logs zone))
-zone-sequences P [] zone all = tt
-zone-sequences P (log ∷ logs) zero all = (all-parts P (log_sequences log) (sequences logs) all).0
-zone-sequences P (log ∷ logs) (suc zone) all = zone-sequences P logs zone (all-parts P (log_sequences log) (sequences logs) all).1
-
-first-below : (limit : ℕ) (log : List Batch) → AllByRecursion (λ s. s < limit) (log_sequences log) → 1 ≤ length log → IsBefore (first_sequence log) (Some limit)
-first-below limit [] all some = absurd (omega arith)
-first-below limit (b ∷ log) all some = all.0
+-- ---- sizes of one zone
 
 up-to : (n size : ℕ) (d g : Option ℕ) → larger d g ≡ g → size_or n g ≤ size → IsUpTo size d
 up-to n size None g e le = tt
