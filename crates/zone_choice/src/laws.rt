@@ -2,6 +2,7 @@
 //! and does nothing.
 
 ghost use Rattle.zone_choice.specs.Laws.{AppendFirst, AppendKeepsSpare, AppendLogs, AppendWrites, ClearingKeeps, EmptySpare, FewFit, FinishLogs, FinishMounts, GreatestIs, LowestResets, NewestIsLive, NextIsLast, OneClearing, RestartMounts, SpareResets, SpelledCount, SpelledWhole, TornLogs, TornMounts, VacantResets};
+ghost use Rattle.zone_choice.specs.Repairing.{MoveRepairs, NeededStays, RepairBegins, RepairEnds, RepairMounts, TornMoveRepairs};
 ghost use Rattle.zone_choice.specs.Victim.{HasSealed, LeastCanMove};
 
 /// `newest` finds a live record of the block, where there is a record of it.
@@ -83,4 +84,15 @@ pub fn spelled_blocks()
 pub fn a_zone_can_be_cleaned()
     ensures sealed { HasSealed }
     ensures least { LeastCanMove }
+{}
+
+/// A torn zone of a cleared drive is repaired by Moves to a vacant zone: after each of them, whole or torn,
+/// the drive can be mounted, with the same array. After the last one nothing is lost with the torn zone.
+pub fn repair_mounts()
+    ensures begins { RepairBegins }
+    ensures mounts { RepairMounts }
+    ensures whole { MoveRepairs }
+    ensures torn { TornMoveRepairs }
+    ensures ends { RepairEnds }
+    ensures needed { NeededStays }
 {}
