@@ -1,6 +1,6 @@
 -- The steps of a mount, one after the other.
 use Rattle.std.proofs.Common.{◌≡◌, ◌≢◌, ◌⊎◌, inl, inr, ℕ, zero, suc, ◌+◌, ◌<◌, ◌≤◌, ◌^◌, ◌-◌, max, min, Bool, true, false, List, [], ◌∷◌, ◌++◌, length, map, get_or, Option, Some, None, refl, sym, ap, subst, ◌∙◌, arith, append-nil}
-use Rattle.std.specs.Prelude.{slice_get}
+use Rattle.std.specs.Prelude.{OnOk, Result, Ok, Err, slice_get}
 use Rattle.std.specs.List.{AllByRecursion}
 use Rattle.std.proofs.lemmas.Bool.{cases_eq}
 use Rattle.std.proofs.lemmas.List.{append_assoc, length-map, map-append, nil_from_length}
@@ -28,7 +28,7 @@ use Rattle.remount.specs.declared.steps.Plan.{Plan}
 use Rattle.remount.specs.declared.survey.Survey.{Survey}
 use Rattle.remount.specs.Heads.{HeadsView, greatest_of, greatest_sequence, heads_after, heads_of, no_heads, sequence_of, with_heading}
 use Rattle.remount.specs.Known.{AreVacantEmpty, KeepsMountable, Knows}
-use Rattle.remount.specs.Mount.{AreMountedRoles, AreToEmpty, AreWhole, CannotClear, CannotRepair, HasVacant, IsCleared, IsPlan, IsPlanned, IsRepaired, IsToMount, IsUntorn, MountFails, Mounts, NoneIsTorn, PlanFails, Plans}
+use Rattle.remount.specs.Mount.{AreMountedRoles, AreToEmpty, AreWhole, CannotClear, CannotRepair, HasVacant, IsCleared, IsPlan, IsPlanned, IsRepaired, IsToMount, IsUntorn, LeavesCleared, MountFails, Mounts, NoneIsTorn, PlanFails, Plans}
 use Rattle.remount.specs.Reported.{KeepsZones}
 use Rattle.remount.specs.Scan.{AreKnown, FailsBy, ScansAll, heads_in, tails_in}
 use Rattle.remount.specs.Survey.{AreInside, CanScan, HoldLogs, SurveyFails, Surveys, drive_size}
@@ -374,6 +374,9 @@ below-next next (x ∷ xs) lt = (omega (arith, lt), below-next next xs (omega (a
 -- what a mount has come by before it makes its tables
 pub record Repaired (old new : DriveState) (n : ℕ) (survey : Survey) : Type 0 where
   pub can : IsToMount old n
+  pub resets : List ℕ
+  pub clearing : IsClearing old.geometry.block n (drive_logs old) resets
+  pub left : LeavesCleared old resets new
   pub kept : KeepsMountable n old new
   pub known : Knows new n (drive_logs new) survey
   pub repaired : IsRepaired new survey
@@ -384,11 +387,14 @@ to-mount old middle third n first second plan lawful k is k' planned =
     record { geometry = is.can.geometry; reserve = is.can.reserve; mountable = record { lawful = lawful; holds = rw (both.geometry, kept-contents old third both) at planned.mountable.holds } }
 
 pub repairs : (old middle third new : DriveState) (n : ℕ) (first second last : Survey) (plan : Plan) → IsLawful old → KeepsZones old middle → Surveys old middle n first → KeepsZones middle third → IsPlanned third n second plan
-    → KeepsMountable n third new → Knows new n (drive_logs new) last → IsRepaired new last → Repaired old new n last
-repairs old middle third new n first second last plan lawful k is k' planned kept known repaired =
+    → KeepsMountable n third new → Knows new n (drive_logs new) last → IsRepaired new last → LeavesCleared third plan.half_clean.items new → Repaired old new n last
+repairs old middle third new n first second last plan lawful k is k' planned kept known repaired left =
     let both = keeps-both old middle third k k' in
     record {
       can = to-mount old middle third n first second plan lawful k is k' planned;
+      resets = plan.half_clean.items;
+      clearing = rw (kept-logs old third both, both.geometry) at planned.clearing;
+      left = rw (kept-logs old third both, kept-contents old third both) at left;
       kept = keeps-twice old third new n (closing-keeps old third n both) kept;
       known = known;
       repaired = repaired;
@@ -414,6 +420,9 @@ pub mounts : (old new : DriveState) (n : ℕ) (survey : Survey) (tables : Tables
     → Mounts old new n tables
 mounts old new n survey tables is next given agrees roles = record {
   can = is.can;
+  resets = is.resets;
+  clearing = is.clearing;
+  left = is.left;
   agrees = agrees;
   roles = roles;
   given = given;
@@ -446,3 +455,16 @@ pub carry-kept : (P : Type 0) (last : DriveState) (fault : MountFault) → Fails
 carry-kept P last fault (inl memory) not_halted not_memory = absurd (not_memory memory)
 carry-kept P last fault (inr (inl halted)) not_halted not_memory = absurd (not_halted halted.0)
 carry-kept P last fault (inr (inr bad)) not_halted not_memory = absurd bad
+
+-- ---- what is left
+
+pub torn-left : (P : Type 0) (geometry : Geometry) (n : ℕ) (logs : List (List Batch)) (tails : List Bool) (plan : Option Repair) (repair : Repair) → plan ≡ Some repair → Plans geometry n logs tails plan → NoneIsTorn logs tails → P
+torn-left P geometry n logs tails plan repair e is none = absurd (none repair.zone (plans-some geometry n logs tails plan repair e is).torn.torn)
+
+pub carried-left : (old middle third new : DriveState) (n : ℕ) (resets : List ℕ) (survey : Survey) → Empties old middle n resets survey
+    → (NoneIsTorn (drive_logs middle) (zone_tails (contents middle.zones)) → drive_logs third ≡ drive_logs middle) → drive_logs new ≡ drive_logs third → LeavesCleared old resets new
+carried-left old middle third new n resets survey is left same none = same ∙ left (λ zone torn. none zone (rw is.logs at (tails-kept (drive_logs middle) (zone_tails (contents old.zones)) (zone_tails (contents middle.zones)) zone is.tails torn))) ∙ is.logs
+
+pub on-ok : (result : Result (Unit {0}) MountFault) (P Q : Type 0) → (P → Q) → OnOk result P → OnOk result Q
+on-ok (Ok done) P Q f is = f is
+on-ok (Err fault) P Q f is = tt

@@ -125,9 +125,16 @@ pub record IsToMount (drive : DriveState) (n : ℕ) : Type 0 where
   pub reserve : FitsReserve drive.geometry n
   pub mountable : IsMountable drive n
 
--- A drive that can be mounted is mounted, with n logical blocks where no header says how many: the tables agree with the drive that is left, which has the same array; and the next sequence is one more than the greatest that any batch had.
+-- The zones that were emptied, and what is left of the others: if no zone was torn, just their batches.
+abbrev pub LeavesCleared : DriveState → List ℕ → DriveState → Type 0
+LeavesCleared old resets new = NoneIsTorn (cleared (drive_logs old) resets) (zone_tails (contents old.zones)) → drive_logs new ≡ cleared (drive_logs old) resets
+
+-- A drive that can be mounted is mounted, with n logical blocks where no header says how many. Its half clean zones were emptied, the lowest first. The tables agree with the drive that is left, which has the same array; and the next sequence is one more than the greatest that any batch had.
 pub record Mounts (old new : DriveState) (n : ℕ) (tables : TablesView) : Type 0 where
   pub can : IsToMount old n
+  pub resets : List ℕ
+  pub clearing : IsClearing old.geometry.block n (drive_logs old) resets
+  pub left : LeavesCleared old resets new
   pub agrees : Agrees (mounted new tables)
   pub roles : AreMountedRoles new.geometry.capacity (contents new.zones) tables.roles
   pub given : tables.given ≡ n

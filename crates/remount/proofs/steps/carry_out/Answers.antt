@@ -2,7 +2,8 @@ use Rattle.std.proofs.Common.{List, ℕ, ◌≡◌, ap, subst, sym, ◌∙◌}
 use Rattle.batch_log.specs.Log.{Batch}
 use Rattle.zone_choice.specs.Agreement.{drive_logs}
 use Rattle.zone_choice.specs.Spare.{cleared}
-use Rattle.remount.proofs.StepLaws.{Empties, emptied-cleared, emptied-plans, keeps-twice}
+use Rattle.remount.specs.Mount.{LeavesCleared}
+use Rattle.remount.proofs.StepLaws.{Empties, carried-left, emptied-cleared, emptied-plans, keeps-twice, on-ok}
 use Rattle.remount.proofs.steps.carry_out.Goals as goal
 
 pub repair_torn-requires-clause-cleared : goal.repair_torn-requires-clause-cleared
@@ -34,3 +35,19 @@ repair_torn-requires-clause-plan g c =
 pub returns-clause-kept : goal.returns-clause-kept
 returns-clause-kept g c =
     keeps-twice _ _ _ c.args.blocks c.empty_zones.ensures.kept (keeps-twice _ _ _ c.args.blocks c.repair_torn.ensures.kept c.finish_zones.ensures.kept)
+
+pub returns-clause-left : goal.returns-clause-left
+returns-clause-left g c =
+    let old = g.D.Device.drive c.args.device.now in
+    let middle = g.D.Device.drive c.empty_zones.new.device in
+    let third = g.D.Device.drive c.repair_torn.new.device in
+    let new = g.D.Device.drive c.finish_zones.new.device in
+    let is : Empties old middle c.args.blocks c.args.plan.now.half_clean.items c.empty_zones.new.survey = record {
+      known = c.in_ok-empty_zones.ensures.known;
+      logs = c.in_ok-empty_zones.ensures.logs ∙ ap (λ (xs : List ℕ). cleared (drive_logs old) xs) c.deref-2.ensures.value;
+      vacant = c.in_ok-empty_zones.ensures.vacant;
+      tails = c.in_ok-empty_zones.ensures.tails;
+      kept = c.empty_zones.ensures.kept;
+    } in
+    on-ok c.finish_zones.result (drive_logs new ≡ drive_logs third) (LeavesCleared old c.args.plan.now.half_clean.items new)
+    (carried-left old middle third new c.args.blocks c.args.plan.now.half_clean.items c.empty_zones.new.survey is c.in_ok-repair_torn.ensures.left) c.finish_zones.ensures.logs
