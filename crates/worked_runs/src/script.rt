@@ -7,6 +7,7 @@ use crate::fault::ScriptFault;
 use crate::grammar::{show_raw_lines, show_trace_lines};
 use crate::images::{show_all_changes, show_changed_images, show_image, show_random_images};
 use crate::logs::show_logs;
+use crate::mounts::{show_mount, show_mount_halts};
 use crate::questions::{
     show_array, show_contents, show_drive_fault, show_moves, show_reserve, show_room, show_zones,
 };
@@ -332,6 +333,7 @@ impl<'a> Session<'a> {
         match name {
             "trace" => show_run(self.alloc, world, setting, Lines::Trace(n), lines, out),
             "disk" => show_disk(self.alloc, world, setting, n, lines, out),
+            "mount" => show_mount(self.alloc, world, setting, n, out),
             _ => Err(ScriptFault::Words),
         }
     }
@@ -360,7 +362,7 @@ impl<'a> Session<'a> {
         }
     }
 
-    // Runs a trace once with each halt.
+    // Runs a trace, or mounts the drive, once with each halt.
     fn run_halts(
         &self,
         words: &[&str],
@@ -368,10 +370,11 @@ impl<'a> Session<'a> {
         lines: &[&str],
         out: &mut String,
     ) -> Result<(), ScriptFault> {
-        let ["trace", n] = words else {
-            return Err(ScriptFault::Words);
-        };
-        show_halts(self.alloc, &self.world, halts, number(n)?, lines, out)
+        match words {
+            ["trace", n] => show_halts(self.alloc, &self.world, halts, number(n)?, lines, out),
+            ["mount", n] => show_mount_halts(self.alloc, &self.world, halts, number(n)?, out),
+            _ => Err(ScriptFault::Words),
+        }
     }
 
     // Lines that run the lines that belong to them.

@@ -27,7 +27,7 @@ pub enum Halts {
 
 impl Halts {
     // The halt after that many commands, and for a tear after that many blocks of the Append then.
-    fn setting(self, commands: u64, tear: u32) -> Setting {
+    pub fn setting(self, commands: u64, tear: u32) -> Setting {
         match self {
             Halts::Stop | Halts::Tear => Setting {
                 stop_after: Some(commands),
@@ -179,7 +179,7 @@ fn show_right(out: &mut String) -> Result<(), AllocError> {
 }
 
 // How many blocks a command writes, if it is an Append.
-fn append_blocks(entry: &[u8; 64]) -> u32 {
+pub fn append_blocks(entry: &[u8; 64]) -> u32 {
     match Command::decode(entry) {
         Ok(Command::Append { blocks, .. }) => blocks,
         _ => 0,

@@ -89,6 +89,15 @@ impl World {
         Ok(Drive::from_zones(alloc, self.geometry, zones))
     }
 
+    /// What the drive holds after a restart.
+    pub fn restarted(&self, alloc: Global) -> Result<World, ScriptFault> {
+        let Ok(mut drive) = self.drive(alloc)? else {
+            return Err(ScriptFault::Words);
+        };
+        drive.restart();
+        Ok(World::of(alloc, self.geometry, &drive)?)
+    }
+
     /// Gives a zone this state, and no block.
     pub fn set_zone(
         &mut self,
