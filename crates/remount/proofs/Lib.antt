@@ -9,3 +9,7 @@ pub mod ReportLaws
 pub mod SoundLaws
 pub mod HeadLaws
 pub mod SurveyLaws
+pub mod SetAllLaws
+pub mod KeepLaws
+pub mod ResetLaws
+pub mod EmptyLaws
