@@ -1,6 +1,6 @@
 -- Zones are reset, one after the other.
-use Rattle.std.proofs.Common.{◌≡◌, ◌≢◌, ◌⊎◌, inl, inr, ℕ, ◌<◌, ◌≤◌, Bool, true, false, List, [], ◌∷◌, ◌++◌, map, length, set, get_or, Option, Some, None, refl, sym, ap, subst, ◌∙◌, arith}
-use Rattle.std.specs.Prelude.{slice_get}
+use Rattle.std.proofs.Common.{◌≡◌, ◌≢◌, ◌⊎◌, inl, inr, ℕ, ◌<◌, ◌≤◌, Bool, true, false, List, [], ◌∷◌, ◌++◌, map, length, set, get_or, Option, Some, None, Result, Ok, Err, refl, sym, ap, subst, ◌∙◌, arith}
+use Rattle.std.specs.Prelude.{OnOk, slice_get}
 use Rattle.std.specs.List.{AllByRecursion, Contains}
 use Rattle.std.proofs.lemmas.List.{length-map, set-get_or}
 use Rattle.std.proofs.lemmas.List.Elements.{Contains-append_left, Contains-append_right}
@@ -14,6 +14,7 @@ use Rattle.zone_choice.specs.Mountable.{IsMountable}
 use Rattle.zone_choice.specs.Records.{without}
 use Rattle.zone_choice.specs.Spare.{IsClearing, IsLowest, IsVacant, cleared}
 use Rattle.zone_choice.specs.ZoneLogs.{has_torn_tail, log_at, zone_log, zone_logs, zone_tails}
+use Rattle.remount.specs.declared.fault.MountFault.{MountFault}
 use Rattle.remount.specs.declared.reported.ReportedZone.{ReportedZone}
 use Rattle.remount.specs.declared.survey.Survey.{Survey}
 use Rattle.remount.specs.Heads.{heads_of}
@@ -195,3 +196,7 @@ tails-emptied old middle new before survey after vacant half_clean one two zone 
       | inl gone ↦ absurd (some (ap (λ (ls : List (List Batch)). log_at ls zone) logs ∙ gone))
       | inr same ↦ ap (λ (ts : List Bool). get_or ts zone false) tails ∙ same
     ]
+
+pub if-ok : {P Q : Type 0} (result : Result (Unit {0}) MountFault) → (P → Q) → OnOk result P → OnOk result Q
+if-ok (Ok done) f is = f is
+if-ok (Err fault) f is = tt

@@ -13,3 +13,4 @@ pub mod SetAllLaws
 pub mod KeepLaws
 pub mod ResetLaws
 pub mod EmptyLaws
+pub mod ToEmptyLaws
