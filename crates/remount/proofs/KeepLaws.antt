@@ -95,9 +95,9 @@ finish-keeps n old new zone Changes can change = record {
   mountable = λ is. elim change.contents_are as (λ _. IsMountable new n) [
     | inl same ↦ same-mountable n old new change.geometry change.lawful same is
     | inr changes ↦ (
-      let c = can (contents old.zones) (contents new.zones) changes in
-      record { lawful = change.lawful; holds = rw change.geometry (finish_mounts old.geometry (contents old.zones) (contents new.zones) n zone c.1.small is.holds c.1.writable c.1.whole c.0) }
-    )
+        let c = can (contents old.zones) (contents new.zones) changes in
+        record { lawful = change.lawful; holds = rw change.geometry (finish_mounts old.geometry (contents old.zones) (contents new.zones) n zone c.1.small is.holds c.1.writable c.1.whole c.0) }
+        )
   ];
   array = λ is. elim change.contents_are as (λ _. spelled new n ≡ spelled old n) [
     | inl same ↦ same-array n old new change.geometry same

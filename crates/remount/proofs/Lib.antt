@@ -14,3 +14,4 @@ pub mod KeepLaws
 pub mod ResetLaws
 pub mod EmptyLaws
 pub mod ToEmptyLaws
+pub mod FinishLaws
