@@ -7,7 +7,7 @@ use Rattle.std.proofs.Math.Seq.{map-set_same}
 use Rattle.std.proofs.lemmas.Option.{get_or_from_slice_get, slice_get-get_or, slice_get_within}
 use Rattle.nvme_wire.specs.declared.zone_state.ZoneState.TheVariants.{Empty, Full}
 use Rattle.zone_states.specs.declared.geometry.Geometry.{Geometry}
-use Rattle.drive_port.specs.Calls.{CanFinish, CanReset, Finished, FinishedContents, FinishGives, FinishKeeps, IsNotRefused, Obeys, ResetContents, ResetGives, ResetKeeps, ResetZone}
+use Rattle.drive_port.specs.Calls.{CanFinish, CanReset, Finished, FinishedContents, FinishGives, FinishKeeps, FinishLeaves, IsNotRefused, Obeys, ResetContents, ResetGives, ResetKeeps, ResetLeaves, ResetZone}
 use Rattle.drive_port.specs.Contents.{Content, Finishes, Resets, SameContents, content_at, content_of, contents, emptied, finished, is_full, is_usable, nothing, usage_of}
 use Rattle.drive_port.specs.Drive.{DriveState, IsLawful}
 use Rattle.drive_port.specs.Step.{end_of, zone_at}
@@ -16,6 +16,8 @@ use Rattle.drive_port.specs.declared.calls.PortFault.TheVariants as port
 use Rattle.batch_log.specs.Log.{zero_block}
 use Rattle.zone_choice.specs.Changes.{IsHalt}
 use Rattle.zone_choice.specs.ZoneLogs.{readable}
+use Rattle.zone_choice.proofs.OpenLaws.{OpensNone, finish-opens, reset-opens, settled-shut}
+use Rattle.zone_choice.proofs.ContentLaws.{IsSettled}
 use Rattle.zone_choice.proofs.CommandLaws.{content-zone, start-below, zone-few, zone-start}
 use Rattle.remount.specs.declared.reported.ReportedZone.{ReportedZone}
 use Rattle.remount.specs.declared.scan.ScannedZone.{ScannedZone}
@@ -90,28 +92,32 @@ finish-halts old new reported zone start port.Stopped known lt is gives kept obe
 
 pub record ResetsOne (old new : DriveState) (zone : ℕ) : Type 0 where
   pub kept : MayChange (λ a b. Resets a b zone) old new
+  pub opens : OpensNone old.zones new.zones
   pub contents_are : Resets (contents old.zones) (contents new.zones) zone
 
-pub reset-done : (old new : DriveState) (reported : List ReportedZone) (zone start : ℕ) → AreKnown old reported → zone < length reported → start ≡ zone * old.geometry.size → ResetZone old new start → Obeys {V = Unit {0}} old (Ok tt) new → ResetsOne old new zone
-reset-done old new reported zone start known lt is done obeys =
+pub reset-done : (old new : DriveState) (reported : List ReportedZone) (zone start : ℕ) → AreKnown old reported → zone < length reported → start ≡ zone * old.geometry.size → ResetZone old new start → ResetLeaves {V = Unit {0}} old start (Ok tt) new → Obeys {V = Unit {0}} old (Ok tt) new
+    → ResetsOne old new zone
+reset-done old new reported zone start known lt is done leaves obeys =
     let resets = subst (λ (k : ℕ). Resets (contents old.zones) (contents new.zones) k) (starts-there old reported zone start known lt is).index done.contents in
-    record { kept = record { geometry = obeys.geometry; lawful = obeys.lawful; refused = done.counts.refused; contents_are = inr resets }; contents_are = resets }
+    record { kept = record { geometry = obeys.geometry; lawful = obeys.lawful; refused = done.counts.refused; contents_are = inr resets }; opens = reset-opens {V = Unit {0}} old new start (Ok tt) leaves; contents_are = resets }
 
 pub record FinishDone (old new : DriveState) (zone : ℕ) : Type 0 where
   pub kept : MayChange (λ a b. Finishes a b zone) old new
+  pub opens : OpensNone old.zones new.zones
   pub contents_are : Finishes (contents old.zones) (contents new.zones) zone
 
-pub finish-done : (old new : DriveState) (reported : List ReportedZone) (zone start : ℕ) → AreKnown old reported → zone < length reported → start ≡ zone * old.geometry.size → Finished old new start → Obeys {V = Unit {0}} old (Ok tt) new → FinishDone old new zone
-finish-done old new reported zone start known lt is done obeys =
+pub finish-done : (old new : DriveState) (reported : List ReportedZone) (zone start : ℕ) → AreKnown old reported → zone < length reported → start ≡ zone * old.geometry.size → Finished old new start → FinishLeaves {V = Unit {0}} old start (Ok tt) new → Obeys {V = Unit {0}} old (Ok tt) new
+    → FinishDone old new zone
+finish-done old new reported zone start known lt is done leaves obeys =
     let finishes = subst (λ (k : ℕ). Finishes (contents old.zones) (contents new.zones) k) (starts-there old reported zone start known lt is).index done.contents in
-    record { kept = record { geometry = obeys.geometry; lawful = obeys.lawful; refused = done.counts.refused; contents_are = inr finishes }; contents_are = finishes }
+    record { kept = record { geometry = obeys.geometry; lawful = obeys.lawful; refused = done.counts.refused; contents_are = inr finishes }; opens = finish-opens {V = Unit {0}} old new start (Ok tt) leaves; contents_are = finishes }
 
 -- ---- what is known of the zones then
 
 -- one zone changed its content, and is known in its new one
 known-set : (old new : DriveState) (reported : List ReportedZone) (zone : ℕ) (made : Content) (r : ReportedZone) → AreKnown old reported → zone < length reported → new.geometry ≡ old.geometry → IsLawful new → contents new.zones ≡ set (contents old.zones) zone made
-    → made.usage ≡ usage_of r.state → is_usable (usage_of r.state) ≡ true → r.blocks ≡ length (readable old.geometry made) → AreKnown new (set reported zone r)
-known-set old new reported zone made r known lt geometry lawful contents-are usage usable blocks = record {
+    → OpensNone old.zones new.zones → IsSettled made.usage → made.usage ≡ usage_of r.state → is_usable (usage_of r.state) ≡ true → r.blocks ≡ length (readable old.geometry made) → AreKnown new (set reported zone r)
+known-set old new reported zone made r known lt geometry lawful contents-are opens settled usage usable blocks = record {
   geometry = rw geometry known.geometry;
   lawful = lawful;
   count = length-set reported zone r ∙ known.count ∙ sym long;
@@ -132,6 +138,7 @@ known-set old new reported zone made r known lt geometry lawful contents-are usa
           usage = rw (here, is) usage;
           usable = rw is usable;
           blocks = rw (here, is, geometry) blocks;
+          shut = λ told. settled-shut new.zones k (rw here settled);
         }
     by k other there (inr apart) =
         let lt' : k < length reported = omega (arith, slice_get_within (set reported zone r) k other there, length-set reported zone r) in
@@ -145,10 +152,11 @@ known-set old new reported zone made r known lt geometry lawful contents-are usa
           usage = rw here one.usage;
           usable = one.usable;
           blocks = rw (here, geometry) one.blocks;
+          shut = λ told. opens k (one.shut told);
         }
 
 pub known-reset : (old new : DriveState) (reported : List ReportedZone) (zone : ℕ) → AreKnown old reported → zone < length reported → ResetsOne old new zone → AreKnown new (set reported zone reported_empty)
-known-reset old new reported zone known lt done = known-set old new reported zone emptied reported_empty known lt done.kept.geometry done.kept.lawful done.contents_are.zones refl refl refl
+known-reset old new reported zone known lt done = known-set old new reported zone emptied reported_empty known lt done.kept.geometry done.kept.lawful done.contents_are.zones done.opens (inl refl) refl refl refl
 
 pub known-finish : (old new : DriveState) (reported : List ReportedZone) (zone : ℕ) → AreKnown old reported → zone < length reported → FinishDone old new zone → AreKnown new (set reported zone (reported_full old.geometry.capacity))
 known-finish old new reported zone known lt done =
@@ -157,7 +165,7 @@ known-finish old new reported zone known lt done =
     let few : length was.blocks ≤ g.capacity = zone-few old zone known.lawful (omega (arith, lt, known.count)) in
     let whole : g.capacity ≡ length (was.blocks ++ replicate (g.capacity - length was.blocks) (zero_block g.block)) =
     omega (arith, few, length-append was.blocks (replicate (g.capacity - length was.blocks) (zero_block g.block)), length-replicate (g.capacity - length was.blocks) (zero_block g.block)) in
-    known-set old new reported zone (finished was) (reported_full g.capacity) known lt done.kept.geometry done.kept.lawful done.contents_are.zones refl refl whole
+    known-set old new reported zone (finished was) (reported_full g.capacity) known lt done.kept.geometry done.kept.lawful done.contents_are.zones done.opens (inr refl) refl refl whole
 
 -- ---- and what the survey says
 

@@ -21,5 +21,5 @@ returns-in-Err-clause-kept g c =
 pub returns-clause-ok : goal.returns-clause-ok
 returns-clause-ok g c =
     finishes-one (g.D.Device.drive c.args.device.now) (g.D.Device.drive c.finish.new.device) c.args.survey.now _ c.args.zone c.requires.zones c.requires.in_range
-    (finish-done (g.D.Device.drive c.args.device.now) _ c.args.survey.now.zones.items c.args.zone _ c.requires.zones c.requires.in_range (ap (λ (x : Geometry). c.args.zone * x.size) c.geometry-geometry.ensures.value) c.in_default.ensures.finished c.in_default.ensures.obeys)
+    (finish-done (g.D.Device.drive c.args.device.now) _ c.args.survey.now.zones.items c.args.zone _ c.requires.zones c.requires.in_range (ap (λ (x : Geometry). c.args.zone * x.size) c.geometry-geometry.ensures.value) c.in_default.ensures.finished c.in_default.ensures.leaves c.in_default.ensures.obeys)
     (ap (λ (x : Geometry). slice_set c.args.survey.now.zones.items c.args.zone (reported_full x.capacity)) c.geometry-geometry.ensures.value) refl refl

@@ -18,5 +18,5 @@ returns-in-Err-clause-kept g c =
 pub returns-clause-ok : goal.returns-clause-ok
 returns-clause-ok g c =
     resets-all-one (g.D.Device.drive c.args.device.now) (g.D.Device.drive c.reset.new.device) c.args.survey.now _ c.args.zone c.index_mut-2.result.now c.requires.zones c.requires.in_range c.requires.scanned
-    (reset-done (g.D.Device.drive c.args.device.now) _ c.args.survey.now.zones.items c.args.zone _ c.requires.zones c.requires.in_range (ap (λ (x : Geometry). c.args.zone * x.size) c.geometry.ensures.value) c.in_default.ensures.reset c.in_default.ensures.obeys)
+    (reset-done (g.D.Device.drive c.args.device.now) _ c.args.survey.now.zones.items c.args.zone _ c.requires.zones c.requires.in_range (ap (λ (x : Geometry). c.args.zone * x.size) c.geometry.ensures.value) c.in_default.ensures.reset c.in_default.ensures.leaves c.in_default.ensures.obeys)
     (sym c.index_mut-2.ensures.value) refl refl refl
