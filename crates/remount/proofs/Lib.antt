@@ -9,4 +9,10 @@ pub mod ReportLaws
 pub mod SoundLaws
 pub mod HeadLaws
 pub mod SurveyLaws
+pub mod SetAllLaws
+pub mod KeepLaws
+pub mod ResetLaws
+pub mod EmptyLaws
+pub mod ToEmptyLaws
+pub mod FinishLaws
 pub mod StepLaws

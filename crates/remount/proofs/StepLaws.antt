@@ -34,6 +34,7 @@ use Rattle.remount.specs.Scan.{AreKnown, FailsBy, ScansAll, heads_in, tails_in}
 use Rattle.remount.specs.Survey.{AreInside, CanScan, HoldLogs, SurveyFails, Surveys, drive_size}
 use Rattle.zone_choice.proofs.ClearingLaws.{clearing_keeps, one_clearing}
 use Rattle.remount.proofs.AllScanLaws.{there-is}
+use Rattle.remount.proofs.KeepLaws.{keeps-mountable-both}
 use Rattle.remount.proofs.NextLaws.{fails-more}
 use Rattle.remount.proofs.ReadLaws.{keeps-both, kept-contents}
 
@@ -49,15 +50,6 @@ closing-keeps old new n k = record {
   refused = k.refused;
   mountable = λ is. record { lawful = k.lawful; holds = rw (k.geometry, kept-contents old new k) is.holds };
   array = λ is. rw (k.geometry, kept-contents old new k) refl;
-}
-
-pub keeps-twice : (a b c : DriveState) (n : ℕ) → KeepsMountable n a b → KeepsMountable n b c → KeepsMountable n a c
-keeps-twice a b c n first second = record {
-  geometry = second.geometry ∙ first.geometry;
-  lawful = second.lawful;
-  refused = second.refused ∙ first.refused;
-  mountable = λ is. second.mountable (first.mountable is);
-  array = λ is. second.array (first.mountable is) ∙ first.array is;
 }
 
 -- ---- a survey
@@ -395,7 +387,7 @@ repairs old middle third new n first second last plan lawful k is k' planned kep
       resets = plan.half_clean.items;
       clearing = rw (kept-logs old third both, both.geometry) at planned.clearing;
       left = rw (kept-logs old third both, kept-contents old third both) at left;
-      kept = keeps-twice old third new n (closing-keeps old third n both) kept;
+      kept = keeps-mountable-both n old third new (closing-keeps old third n both) kept;
       known = known;
       repaired = repaired;
     }

@@ -4,3 +4,4 @@ pub mod Scan
 pub mod Survey
 pub mod Known
 pub mod Mount
+pub mod Resets

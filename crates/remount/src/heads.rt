@@ -162,6 +162,13 @@ impl ZoneHeads {
         greatest
     }
 
+    /// The greatest number of entries of a batch, 0 where there is none.
+    pub fn most(&self) -> u32
+        ensures { result ≡ self.now.most }
+    {
+        self.most
+    }
+
     fn source_with(&self, source: u32) -> u32
         ensures { result ≡ source_with self.now.heads self.now.source source }
     {

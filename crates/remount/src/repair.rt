@@ -1,15 +1,11 @@
-ghost use Rattle.std.specs.Prelude.{◌≡◌, ◌⊎◌, ℕ, List, length, IfErr, IfOk, OnOk};
-ghost use Rattle.batch_log.specs.Log.{Batch};
+ghost use Rattle.std.specs.Prelude.{length, IfErr, OnOk};
 ghost use Rattle.drive_port.specs.Contents.{contents};
-ghost use Rattle.drive_port.specs.Drive.{DriveState};
 ghost use Rattle.zone_choice.specs.Agreement.{drive_logs};
 ghost use Rattle.zone_choice.specs.Mountable.{IsMountable};
-ghost use Rattle.zone_choice.specs.Sizes.{encoded_size};
 ghost use Rattle.zone_choice.specs.Spare.{NoneBelow};
 ghost use Rattle.zone_choice.specs.ZoneLogs.{zone_tails};
-ghost use Rattle.remount.specs.declared.fault.MountFault.TheVariants as faults;
 ghost use Rattle.remount.specs.Known.{AreVacantEmpty, KeepsMountable, Knows};
-ghost use Rattle.remount.specs.Mount.{AreWhole, CannotRepair, HasVacant, IsPlan, Plans};
+ghost use Rattle.remount.specs.Mount.{AreWhole, HasVacant, IsPlan};
 ghost use Rattle.remount.specs.Scan.{FailsBy};
 
 use crate::fault::MountFault;
@@ -17,7 +13,6 @@ use crate::survey::Survey;
 use drive_port::Device;
 use std::alloc::Global;
 use zone_choice::Tables;
-use zone_states::Geometry;
 
 /// A torn zone that can be repaired.
 #[derive(Drop)]
@@ -27,19 +22,6 @@ pub struct Repair {
     pub blocks: Vec<u32>,
     /// Where the newest records of all blocks lie.
     pub tables: Tables,
-}
-
-/// Whether a zone of a cleared drive is torn, and how it is repaired.
-pub fn plan_repair(
-    alloc: Global,
-    survey: &Survey,
-    geometry: &Geometry,
-    blocks: u32,
-) -> Result<Option<Repair>, MountFault>
-    ensures ok { IfOk result (λ plan. (drive : DriveState) (logs : List (List Batch)) → drive.geometry ≡ geometry.now → Knows drive blocks logs survey.now → Plans geometry.now blocks logs (zone_tails (contents drive.zones)) plan) }
-    ensures err { IfErr result (λ fault. (fault ≡ faults.OutOfMemory) ⊎ ((drive : DriveState) (logs : List (List Batch)) → drive.geometry ≡ geometry.now → Knows drive blocks logs survey.now → CannotRepair geometry.now (encoded_size blocks logs) logs (zone_tails (contents drive.zones)) fault)) }
-{
-    Err(MountFault::OutOfMemory)
 }
 
 /// Moves the live records of the torn zone of a cleared drive to its lowest Empty zone, and resets it. Another zone

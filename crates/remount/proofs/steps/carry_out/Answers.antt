@@ -3,7 +3,8 @@ use Rattle.batch_log.specs.Log.{Batch}
 use Rattle.zone_choice.specs.Agreement.{drive_logs}
 use Rattle.zone_choice.specs.Spare.{cleared}
 use Rattle.remount.specs.Mount.{LeavesCleared}
-use Rattle.remount.proofs.StepLaws.{Empties, carried-left, emptied-cleared, emptied-plans, keeps-twice, on-ok}
+use Rattle.remount.proofs.KeepLaws.{keeps-mountable-both}
+use Rattle.remount.proofs.StepLaws.{Empties, carried-left, emptied-cleared, emptied-plans, on-ok}
 use Rattle.remount.proofs.steps.carry_out.Goals as goal
 
 pub repair_torn-requires-clause-cleared : goal.repair_torn-requires-clause-cleared
@@ -34,7 +35,7 @@ repair_torn-requires-clause-plan g c =
 
 pub returns-clause-kept : goal.returns-clause-kept
 returns-clause-kept g c =
-    keeps-twice _ _ _ c.args.blocks c.empty_zones.ensures.kept (keeps-twice _ _ _ c.args.blocks c.repair_torn.ensures.kept c.finish_zones.ensures.kept)
+    keeps-mountable-both c.args.blocks _ _ _ c.empty_zones.ensures.kept (keeps-mountable-both c.args.blocks _ _ _ c.repair_torn.ensures.kept c.finish_zones.ensures.kept)
 
 pub returns-clause-left : goal.returns-clause-left
 returns-clause-left g c =

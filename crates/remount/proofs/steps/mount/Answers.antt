@@ -11,7 +11,8 @@ use Rattle.zone_choice.specs.Agreement.{drive_logs}
 use Rattle.remount.specs.declared.fault.MountFault.TheVariants as faults
 use Rattle.remount.proofs.ReadLaws.{keeps-both}
 use Rattle.remount.proofs.NextLaws.{if-fault}
-use Rattle.remount.proofs.StepLaws.{can-kept, carry-kept, carry-refused, closing-keeps, keeps-twice, mounts, next-is, plan-refused, repairs, survey-knows, survey-refused, to-mount}
+use Rattle.remount.proofs.KeepLaws.{keeps-mountable-both}
+use Rattle.remount.proofs.StepLaws.{can-kept, carry-kept, carry-refused, closing-keeps, mounts, next-is, plan-refused, repairs, survey-knows, survey-refused, to-mount}
 use Rattle.remount.proofs.steps.mount.Goals as goal
 
 pub returns-in_err-survey-clause-kept : goal.returns-in_err-survey-clause-kept
@@ -57,7 +58,7 @@ returns-in_err-carry_out-clause-early g c =
 
 pub returns-in_err-carry_out-clause-kept : goal.returns-in_err-carry_out-clause-kept
 returns-in_err-carry_out-clause-kept g c =
-    keeps-twice _ _ _ c.args.blocks (closing-keeps _ _ c.args.blocks (keeps-both _ _ _ c.survey_drive.ensures.kept c.plan_mount.ensures.kept)) c.carry_out.ensures.kept
+    keeps-mountable-both c.args.blocks _ _ _ (closing-keeps _ _ c.args.blocks (keeps-both _ _ _ c.survey_drive.ensures.kept c.plan_mount.ensures.kept)) c.carry_out.ensures.kept
 
 pub returns-in_err-tables-clause-early : goal.returns-in_err-tables-clause-early
 returns-in_err-tables-clause-early g c =
@@ -67,7 +68,7 @@ returns-in_err-tables-clause-early g c =
 
 pub returns-in_err-tables-clause-kept : goal.returns-in_err-tables-clause-kept
 returns-in_err-tables-clause-kept g c =
-    keeps-twice _ _ _ c.args.blocks (closing-keeps _ _ c.args.blocks (keeps-both _ _ _ c.survey_drive.ensures.kept c.plan_mount.ensures.kept)) c.carry_out.ensures.kept
+    keeps-mountable-both c.args.blocks _ _ _ (closing-keeps _ _ c.args.blocks (keeps-both _ _ _ c.survey_drive.ensures.kept c.plan_mount.ensures.kept)) c.carry_out.ensures.kept
 
 pub returns-clause-ok : goal.returns-clause-ok
 returns-clause-ok g c =
@@ -88,4 +89,4 @@ returns-clause-ok g c =
 
 pub returns-clause-kept : goal.returns-clause-kept
 returns-clause-kept g c =
-    keeps-twice _ _ _ c.args.blocks (closing-keeps _ _ c.args.blocks (keeps-both _ _ _ c.survey_drive.ensures.kept c.plan_mount.ensures.kept)) c.carry_out.ensures.kept
+    keeps-mountable-both c.args.blocks _ _ _ (closing-keeps _ _ c.args.blocks (keeps-both _ _ _ c.survey_drive.ensures.kept c.plan_mount.ensures.kept)) c.carry_out.ensures.kept

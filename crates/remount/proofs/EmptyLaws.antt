@@ -1,0 +1,202 @@
+-- Zones are reset, one after the other.
+use Rattle.std.proofs.Common.{◌≡◌, ◌≢◌, ◌⊎◌, inl, inr, ℕ, ◌<◌, ◌≤◌, Bool, true, false, List, [], ◌∷◌, ◌++◌, map, length, set, get_or, Option, Some, None, Result, Ok, Err, refl, sym, ap, subst, ◌∙◌, arith}
+use Rattle.std.specs.Prelude.{OnOk, slice_get}
+use Rattle.std.specs.List.{AllByRecursion, Contains}
+use Rattle.std.proofs.lemmas.List.{length-map, set-get_or}
+use Rattle.std.proofs.lemmas.List.Elements.{Contains-append_left, Contains-append_right}
+use Rattle.nvme_wire.specs.declared.zone_state.ZoneState.TheVariants.{Empty}
+use Rattle.zone_states.specs.declared.geometry.Geometry.{Geometry}
+use Rattle.drive_port.specs.Contents.{Content, Resets, contents, emptied}
+use Rattle.drive_port.specs.Drive.{DriveState}
+use Rattle.batch_log.specs.Log.{Batch}
+use Rattle.zone_choice.specs.Agreement.{drive_logs}
+use Rattle.zone_choice.specs.Mountable.{IsMountable}
+use Rattle.zone_choice.specs.Records.{without}
+use Rattle.zone_choice.specs.Spare.{IsClearing, IsLowest, IsVacant, cleared}
+use Rattle.zone_choice.specs.ZoneLogs.{has_torn_tail, log_at, zone_log, zone_logs, zone_tails}
+use Rattle.remount.specs.declared.fault.MountFault.{MountFault}
+use Rattle.remount.specs.declared.reported.ReportedZone.{ReportedZone}
+use Rattle.remount.specs.declared.survey.Survey.{Survey}
+use Rattle.remount.specs.Heads.{heads_of}
+use Rattle.remount.specs.Known.{AreVacantEmpty, KeepsMountable, Knows}
+use Rattle.remount.specs.Mount.{AreToEmpty}
+use Rattle.remount.specs.Resets.{MayChange, MayReset, ResetsAll, reported_empty, set_all}
+use Rattle.remount.specs.Scan.{AreKnown, heads_in, tails_in}
+use Rattle.remount.proofs.KeepLaws.{keeps-mountable-both, keeps-mountable-none, reset-keeps}
+use Rattle.remount.proofs.SetAllLaws.{cleared-set_all, get-set_all, get_or-set_all_other, length-set_all, map-set_all, set_all-both, set_all-parts}
+
+-- ---- logs and tails
+
+pub logs-set_all : (geometry : Geometry) (zones : List Content) (is : List ℕ) → zone_logs geometry (set_all zones is emptied) ≡ set_all (zone_logs geometry zones) is []
+unfolding zone_log
+logs-set_all geometry zones is = map-set_all (zone_log geometry) zones is emptied
+
+tails-set_all : (zones : List Content) (is : List ℕ) → zone_tails (set_all zones is emptied) ≡ set_all (zone_tails zones) is false
+unfolding has_torn_tail
+tails-set_all zones is = map-set_all has_torn_tail zones is emptied
+
+drive-logs-reset : (old new : DriveState) (before after : Survey) (zones : List ℕ) → ResetsAll old new before after zones → drive_logs new ≡ set_all (drive_logs old) zones []
+drive-logs-reset old new before after zones resets = rw (resets.geometry, resets.contents_are) (logs-set_all old.geometry (contents old.zones) zones)
+
+-- ---- which zones may be reset
+
+without-vacant : (logs : List (List Batch)) (zone : ℕ) → IsVacant logs zone → without logs zone ≡ logs
+without-vacant logs zone vacant = rw vacant at (set-get_or logs zone [])
+
+pub vacant-may : (block_bytes n : ℕ) (logs : List (List Batch)) (zones : List ℕ) → AllByRecursion (λ zone. (zone < length logs) × IsVacant logs zone) zones → MayReset block_bytes n logs zones
+vacant-may block_bytes n logs [] all = tt
+vacant-may block_bytes n logs (z ∷ zs) all =
+    (all.0.0, inl all.0.1, subst (λ (ls : List (List Batch)). MayReset block_bytes n ls zs) (sym (without-vacant logs z all.0.1)) (vacant-may block_bytes n logs zs all.1))
+
+pub clearing-may : (block_bytes n : ℕ) (logs : List (List Batch)) (zones : List ℕ) → IsClearing block_bytes n logs zones → MayReset block_bytes n logs zones
+clearing-may block_bytes n logs [] is = tt
+clearing-may block_bytes n logs (z ∷ zs) is = (is.0.in_range, inr is.0, clearing-may block_bytes n (without logs z) zs is.1)
+
+pub vacant-stay : (logs : List (List Batch)) (zones : List ℕ) → AllByRecursion (λ zone. (zone < length logs) × IsVacant logs zone) zones → set_all logs zones [] ≡ logs
+vacant-stay logs [] all = refl
+vacant-stay logs (z ∷ zs) all = ap (λ (ls : List (List Batch)). set_all ls zs []) (without-vacant logs z all.0.1) ∙ vacant-stay logs zs all.1
+
+-- ---- one Reset after the other
+
+-- some zones were reset, and the rest are left
+pub record ResetsSome (first now : DriveState) (before survey : Survey) (n : ℕ) (zones rest : List ℕ) : Type 0 where
+  pub keeps : KeepsMountable n first now
+  pub geometry : now.geometry ≡ first.geometry
+  pub contents_are : set_all (contents now.zones) rest emptied ≡ set_all (contents first.zones) zones emptied
+  pub known : AreKnown now survey.zones.items
+  pub reported : set_all survey.zones.items rest reported_empty ≡ set_all before.zones.items zones reported_empty
+  pub heads : heads_in survey.scanned.items ≡ heads_in before.scanned.items
+  pub tails : set_all (tails_in survey.scanned.items) rest false ≡ set_all (tails_in before.scanned.items) zones false
+  pub size : survey.size ≡ before.size
+  pub may : MayReset first.geometry.block n (drive_logs now) rest
+
+pub resets-none : (drive : DriveState) (survey : Survey) (n : ℕ) (zones : List ℕ) → AreKnown drive survey.zones.items → MayReset drive.geometry.block n (drive_logs drive) zones → ResetsSome drive drive survey survey n zones zones
+resets-none drive survey n zones known may = record {
+  keeps = keeps-mountable-none n drive known.lawful;
+  geometry = refl;
+  contents_are = refl;
+  known = known;
+  reported = refl;
+  heads = refl;
+  tails = refl;
+  size = refl;
+  may = may;
+}
+
+pub some-keeps : (first now new : DriveState) (before survey : Survey) (n zone : ℕ) (zones rest : List ℕ) → ResetsSome first now before survey n zones (zone ∷ rest) → MayChange (λ a b. Resets a b zone) now new → KeepsMountable n first new
+some-keeps first now new before survey n zone zones rest some change =
+    let may : IsVacant (drive_logs now) zone ⊎ IsLowest now.geometry.block n (drive_logs now) zone = subst (λ (g : Geometry). IsVacant (drive_logs now) zone ⊎ IsLowest g.block n (drive_logs now) zone) (sym some.geometry) some.may.1 in
+    keeps-mountable-both n first now new some.keeps (reset-keeps n now new zone may change)
+
+pub resets-more : (first now new : DriveState) (before survey after : Survey) (n zone : ℕ) (zones rest : List ℕ) → ResetsSome first now before survey n zones (zone ∷ rest) → MayChange (λ a b. Resets a b zone) now new → ResetsAll now new survey after (zone ∷ [])
+    → ResetsSome first new before after n zones rest
+resets-more first now new before survey after n zone zones rest some change one = record {
+  keeps = some-keeps first now new before survey n zone zones rest some change;
+  geometry = one.geometry ∙ some.geometry;
+  contents_are = ap (λ (cs : List Content). set_all cs rest emptied) one.contents_are ∙ some.contents_are;
+  known = one.known;
+  reported = ap (λ (rs : List ReportedZone). set_all rs rest reported_empty) one.reported ∙ some.reported;
+  heads = one.heads ∙ some.heads;
+  tails = ap (λ (ts : List Bool). set_all ts rest false) one.tails ∙ some.tails;
+  size = one.size ∙ some.size;
+  may = subst (λ (ls : List (List Batch)). MayReset first.geometry.block n ls rest) (sym (drive-logs-reset now new survey after (zone ∷ []) one)) some.may.2;
+}
+
+pub resets-end : (first now : DriveState) (before survey : Survey) (n : ℕ) (zones : List ℕ) → ResetsSome first now before survey n zones [] → ResetsAll first now before survey zones
+resets-end first now before survey n zones some = record {
+  geometry = some.geometry;
+  contents_are = some.contents_are;
+  known = some.known;
+  reported = some.reported;
+  heads = some.heads;
+  tails = some.tails;
+  size = some.size;
+}
+
+-- ---- vacant zones, and then half clean ones
+
+-- what is known before
+pub record CanEmpty (drive : DriveState) (n : ℕ) (survey : Survey) (vacant half_clean : List ℕ) : Type 0 where
+  pub known : Knows drive n (cleared (drive_logs drive) half_clean) survey
+  pub to_empty : AreToEmpty (drive_logs drive) survey vacant
+  pub clearing : IsClearing drive.geometry.block n (drive_logs drive) half_clean
+
+pub logs-middle : (old middle : DriveState) (before survey : Survey) (n : ℕ) (vacant half_clean : List ℕ) → CanEmpty old n before vacant half_clean → ResetsAll old middle before survey vacant → drive_logs middle ≡ drive_logs old
+logs-middle old middle before survey n vacant half_clean can one = drive-logs-reset old middle before survey vacant one ∙ vacant-stay (drive_logs old) vacant can.to_empty.vacant
+
+pub may-clear : (old middle : DriveState) (before survey : Survey) (n : ℕ) (vacant half_clean : List ℕ) → CanEmpty old n before vacant half_clean → ResetsAll old middle before survey vacant → MayReset middle.geometry.block n (drive_logs middle) half_clean
+may-clear old middle before survey n vacant half_clean can one =
+    rw (logs-middle old middle before survey n vacant half_clean can one, one.geometry) (clearing-may old.geometry.block n (drive_logs old) half_clean can.clearing)
+
+pub logs-cleared : (old middle new : DriveState) (before survey after : Survey) (n : ℕ) (vacant half_clean : List ℕ) → CanEmpty old n before vacant half_clean → ResetsAll old middle before survey vacant → ResetsAll middle new survey after half_clean
+    → drive_logs new ≡ cleared (drive_logs old) half_clean
+logs-cleared old middle new before survey after n vacant half_clean can one two =
+    drive-logs-reset middle new survey after half_clean two ∙ ap (λ (ls : List (List Batch)). set_all ls half_clean []) (logs-middle old middle before survey n vacant half_clean can one) ∙ sym (cleared-set_all (drive_logs old) half_clean)
+
+-- all zones that were reset
+resets-both : (old middle new : DriveState) (before survey after : Survey) (vacant half_clean : List ℕ) → ResetsAll old middle before survey vacant → ResetsAll middle new survey after half_clean → ResetsAll old new before after (vacant ++ half_clean)
+resets-both old middle new before survey after vacant half_clean one two = record {
+  geometry = two.geometry ∙ one.geometry;
+  contents_are = two.contents_are ∙ ap (λ (cs : List Content). set_all cs half_clean emptied) one.contents_are ∙ set_all-both (contents old.zones) vacant half_clean emptied;
+  known = two.known;
+  reported = two.reported ∙ ap (λ (rs : List ReportedZone). set_all rs half_clean reported_empty) one.reported ∙ set_all-both before.zones.items vacant half_clean reported_empty;
+  heads = two.heads ∙ one.heads;
+  tails = two.tails ∙ ap (λ (ts : List Bool). set_all ts half_clean false) one.tails ∙ set_all-both (tails_in before.scanned.items) vacant half_clean false;
+  size = two.size ∙ one.size;
+}
+
+pub knows-cleared : (old middle new : DriveState) (before survey after : Survey) (n : ℕ) (vacant half_clean : List ℕ) → CanEmpty old n before vacant half_clean → ResetsAll old middle before survey vacant → ResetsAll middle new survey after half_clean
+    → IsMountable new n → Knows new n (drive_logs new) after
+knows-cleared old middle new before survey after n vacant half_clean can one two mountable =
+    let all = resets-both old middle new before survey after vacant half_clean one two in
+    let logs = logs-cleared old middle new before survey after n vacant half_clean can one two in
+    let was = can.known in
+    record {
+      all_logs = mountable.holds.disk.logs;
+      count = length-map (contents new.zones) (zone_log new.geometry) ∙ length-contents new;
+      part = λ zone. inl refl;
+      sound = rw logs was.sound;
+      reserve = rw (logs, all.geometry) was.reserve;
+      size_is = all.size ∙ rw logs was.size_is;
+      zones = all.known;
+      heads = rw logs (all.heads ∙ was.heads);
+      tails = all.tails ∙ ap (λ (ts : List Bool). set_all ts (vacant ++ half_clean) false) was.tails ∙ sym (ap zone_tails all.contents_are ∙ tails-set_all (contents old.zones) (vacant ++ half_clean));
+    }
+  where
+    length-contents : (drive : DriveState) → length (contents drive.zones) ≡ length drive.zones
+    length-contents drive = length-map drive.zones _
+
+among : (xs ys : List ℕ) (k : ℕ) → Contains xs k → Contains (xs ++ ys) k
+among xs ys k c = Contains-append_left xs ys k c
+
+pub vacant-emptied : (old middle new : DriveState) (before survey after : Survey) (n : ℕ) (vacant half_clean : List ℕ) → CanEmpty old n before vacant half_clean → ResetsAll old middle before survey vacant → ResetsAll middle new survey after half_clean
+    → AreVacantEmpty after.zones.items (drive_logs new)
+vacant-emptied old middle new before survey after n vacant half_clean can one two zone r there none =
+    let all = resets-both old middle new before survey after vacant half_clean one two in
+    by (get-set_all before.zones.items (vacant ++ half_clean) reported_empty r zone (ap (λ (rs : List ReportedZone). slice_get rs zone) (sym all.reported) ∙ there))
+  where
+    by : (r ≡ reported_empty) ⊎ ((Contains (vacant ++ half_clean) zone → ⊥) × (slice_get before.zones.items zone ≡ Some r)) → r.state ≡ Empty
+    by (inl same) = ap (λ (x : ReportedZone). x.state) same
+    by (inr out) =
+        let stays : log_at (set_all (drive_logs old) half_clean []) zone ≡ log_at (drive_logs old) zone = get_or-set_all_other (drive_logs old) half_clean [] [] zone (λ c. out.0 (Contains-append_right vacant half_clean zone c)) in
+        let logs = logs-cleared old middle new before survey after n vacant half_clean can one two ∙ cleared-set_all (drive_logs old) half_clean in
+        let empty : IsVacant (drive_logs old) zone = sym stays ∙ ap (λ (ls : List (List Batch)). log_at ls zone) (sym logs) ∙ none in
+        elim (can.to_empty.others zone r out.1 empty) as (λ _. r.state ≡ Empty) [
+          | inl is ↦ is
+          | inr c ↦ absurd (out.0 (among vacant half_clean zone c))
+        ]
+
+pub tails-emptied : (old middle new : DriveState) (before survey after : Survey) (vacant half_clean : List ℕ) → ResetsAll old middle before survey vacant → ResetsAll middle new survey after half_clean
+    → (zone : ℕ) → log_at (drive_logs new) zone ≢ [] → get_or (zone_tails (contents new.zones)) zone false ≡ get_or (zone_tails (contents old.zones)) zone false
+tails-emptied old middle new before survey after vacant half_clean one two zone some =
+    let all = resets-both old middle new before survey after vacant half_clean one two in
+    let logs = drive-logs-reset old new before after (vacant ++ half_clean) all in
+    let tails = ap zone_tails all.contents_are ∙ tails-set_all (contents old.zones) (vacant ++ half_clean) in
+    elim (set_all-parts (drive_logs old) (zone_tails (contents old.zones)) (vacant ++ half_clean) false false zone) as (λ _. get_or (zone_tails (contents new.zones)) zone false ≡ get_or (zone_tails (contents old.zones)) zone false) [
+      | inl gone ↦ absurd (some (ap (λ (ls : List (List Batch)). log_at ls zone) logs ∙ gone))
+      | inr same ↦ ap (λ (ts : List Bool). get_or ts zone false) tails ∙ same
+    ]
+
+pub if-ok : {P Q : Type 0} (result : Result (Unit {0}) MountFault) → (P → Q) → OnOk result P → OnOk result Q
+if-ok (Ok done) f is = f is
+if-ok (Err fault) f is = tt

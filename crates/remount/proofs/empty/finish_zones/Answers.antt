@@ -1,0 +1,42 @@
+use Rattle.std.proofs.Common.{◌<◌, ◌≤◌, length, arith}
+use Rattle.remount.proofs.FinishLaws.{CanFinishAll, finish-if-keeps, finish-knows, finish-repaired, finishes-more, same-long}
+use Rattle.remount.proofs.empty.finish_zones.Goals as goal
+
+pub returns-in_err-finish_if_due-clause-kept : goal.returns-in_err-finish_if_due-clause-kept
+returns-in_err-finish_if_due-clause-kept g c =
+    let first = g.D.Device.drive c.args.device.now in
+    let now = g.D.Device.drive c.loop-zone.device in
+    let can : CanFinishAll first c.args.survey.now c.args.blocks = record { known = c.requires.known; mountable = c.requires.mountable; vacant = c.requires.vacant; whole = c.requires.whole; spare = c.requires.spare } in
+    let some = c.loop-zone.invariant in
+    let long = same-long first now c.args.survey.now c.loop-zone.survey c.args.blocks c.loop-zone.zone can some in
+    let lt : c.loop-zone.zone < length c.loop-zone.survey.zones.items = omega (arith, long, c.loop-zone-test.true, c.len-zone-end.ensures) in
+    let keeps = finish-if-keeps first now (g.D.Device.drive c.finish_if_due.new.device) c.args.survey.now c.loop-zone.survey c.args.blocks c.loop-zone.zone can some lt c.finish_if_due.ensures.kept in
+    keeps
+
+pub loop-zone-preserved : goal.loop-zone-preserved
+loop-zone-preserved g c =
+    let first = g.D.Device.drive c.args.device.now in
+    let now = g.D.Device.drive c.loop-zone.device in
+    let can : CanFinishAll first c.args.survey.now c.args.blocks = record { known = c.requires.known; mountable = c.requires.mountable; vacant = c.requires.vacant; whole = c.requires.whole; spare = c.requires.spare } in
+    let some = c.loop-zone.invariant in
+    let long = same-long first now c.args.survey.now c.loop-zone.survey c.args.blocks c.loop-zone.zone can some in
+    let lt : c.loop-zone.zone < length c.loop-zone.survey.zones.items = omega (arith, long, c.loop-zone-test.true, c.len-zone-end.ensures) in
+    let keeps = finish-if-keeps first now (g.D.Device.drive c.finish_if_due.new.device) c.args.survey.now c.loop-zone.survey c.args.blocks c.loop-zone.zone can some lt c.finish_if_due.ensures.kept in
+    finishes-more first now (g.D.Device.drive c.finish_if_due.new.device) c.args.survey.now c.loop-zone.survey c.finish_if_due.new.survey c.args.blocks c.loop-zone.zone can some lt keeps c.in_ok-finish_if_due.ensures.ok
+
+pub returns-clause-known : goal.returns-clause-known
+returns-clause-known g c =
+    let first = g.D.Device.drive c.args.device.now in
+    let now = g.D.Device.drive c.loop-zone.device in
+    let can : CanFinishAll first c.args.survey.now c.args.blocks = record { known = c.requires.known; mountable = c.requires.mountable; vacant = c.requires.vacant; whole = c.requires.whole; spare = c.requires.spare } in
+    let some = c.loop-zone.invariant in
+    finish-knows first now c.args.survey.now c.loop-zone.survey c.args.blocks c.loop-zone.zone can some
+
+pub returns-clause-repaired : goal.returns-clause-repaired
+returns-clause-repaired g c =
+    let first = g.D.Device.drive c.args.device.now in
+    let now = g.D.Device.drive c.loop-zone.device in
+    let can : CanFinishAll first c.args.survey.now c.args.blocks = record { known = c.requires.known; mountable = c.requires.mountable; vacant = c.requires.vacant; whole = c.requires.whole; spare = c.requires.spare } in
+    let some = c.loop-zone.invariant in
+    let long = same-long first now c.args.survey.now c.loop-zone.survey c.args.blocks c.loop-zone.zone can some in
+    finish-repaired first now c.args.survey.now c.loop-zone.survey c.args.blocks c.loop-zone.zone can some (omega (arith, long, c.loop-zone-test.false, c.len-zone-end.ensures))
