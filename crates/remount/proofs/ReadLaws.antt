@@ -17,6 +17,7 @@ use Rattle.batch_log.specs.Log.{zero_block}
 use Rattle.zone_choice.specs.Changes.{IsHalt}
 use Rattle.zone_choice.specs.ZoneLogs.{padding, readable}
 use Rattle.zone_choice.proofs.CommandLaws.{content-zone, zone-few}
+use Rattle.zone_choice.proofs.OpenLaws.{closing-opens}
 use Rattle.remount.specs.declared.reported.ReportedZone.{ReportedZone}
 use Rattle.remount.specs.Reported.{IsKnown, KeepsZones}
 use Rattle.remount.specs.Scan.{FailsBy, block_of, blocks_of, mount_fault}
@@ -51,6 +52,7 @@ kept-known old new zone reported k known =
       usage = rw same known.usage;
       usable = known.usable;
       blocks = known.blocks ∙ sym (ap length (kept-blocks old new zone k));
+      shut = λ told. closing-opens old.zones new.zones k.closing zone (known.shut told);
     }
 
 -- ---- a block

@@ -11,13 +11,16 @@ use Rattle.nvme_wire.specs.declared.zone_state.ZoneState.{ZoneState}
 use Rattle.nvme_wire.specs.declared.zone_state.ZoneState.TheVariants as states
 use Rattle.zone_states.specs.declared.geometry.Geometry.{Geometry}
 use Rattle.zone_states.specs.Geometry.{IsInRange}
+use Rattle.zone_states.specs.Transition.{is_open}
 use Rattle.zone_states.specs.Zone.{Zone}
 use Rattle.batch_log.specs.declared.fault.LogFault.{LogFault}
 use Rattle.batch_log.specs.Ending.{Ending, ended, torn, failed, ending_of}
 use Rattle.batch_log.specs.Log.{Batch, BeginsWithNoBatch, log_size}
 use Rattle.drive_port.specs.Contents.{Content, content_at, content_of, contents, is_active_usage, is_full, is_usable, nothing, usage_of}
 use Rattle.drive_port.specs.Drive.{DriveState, IsLawful}
+use Rattle.drive_port.specs.Step.{zone_at}
 use Rattle.drive_port.proofs.ClosingLaws.{contents-closing, length-closing}
+use Rattle.zone_choice.proofs.OpenLaws.{closing-opens}
 use Rattle.zone_choice.specs.Mountable.{AreSound, IsInside, is_partly_written}
 use Rattle.zone_choice.specs.Reserve.{FitsReserve}
 use Rattle.zone_choice.specs.Sizes.{encoded_size, greatest, larger, size_or}
@@ -49,16 +52,17 @@ record Found (geometry : Geometry) (zones : List Zone) (i : ℕ) (r : ReportedZo
   in_range : i < length zones
   zone : Zone
   content : content_at (contents zones) i ≡ content_of zone
+  here : zone_at zones i ≡ zone
   is : IsReported geometry zone r
 
 found-at : (geometry : Geometry) (zones : List Zone) (reported : List ReportedZone) (i : ℕ) (r : ReportedZone) → AreReported geometry zones reported → slice_get reported i ≡ Some r → Found geometry zones i r
 found-at geometry [] [] i r are there = absurd (cc)
 found-at geometry [] (x ∷ xs) i r are there = absurd are
 found-at geometry (z ∷ zs) [] i r are there = absurd are
-found-at geometry (z ∷ zs) (x ∷ xs) zero r are there = let same : x ≡ r = cc in record { in_range = omega arith; zone = z; content = refl; is = rw (← same) are.0 }
+found-at geometry (z ∷ zs) (x ∷ xs) zero r are there = let same : x ≡ r = cc in record { in_range = omega arith; zone = z; content = refl; here = refl; is = rw (← same) are.0 }
 found-at geometry (z ∷ zs) (x ∷ xs) (suc i) r are there =
     let rest = found-at geometry zs xs i r are.1 there in
-    record { in_range = omega (arith, rest.in_range); zone = rest.zone; content = rest.content; is = rest.is }
+    record { in_range = omega (arith, rest.in_range); zone = rest.zone; content = rest.content; here = rest.here; is = rest.is }
 
 found-usage : (geometry : Geometry) (zones : List Zone) (i : ℕ) (r : ReportedZone) → (f : Found geometry zones i r) → (content_at (contents zones) i).usage ≡ usage_of r.state
 found-usage geometry zones i r f = ap (λ (c : Content). c.usage) f.content ∙ ap usage_of (sym f.is.state)
@@ -88,6 +92,7 @@ known-all old new reported range kept reports usable = record {
           usage = rw same (found-usage old.geometry reports.zones zone r f);
           usable = can;
           blocks = f.is.blocks (rw f.is.state at can) ∙ sym (rw (same, kept.geometry, f.content) refl);
+          shut = λ told. closing-opens reports.zones new.zones reports.after zone (ap (λ (z : Zone). is_open z.state) f.here ∙ ap is_open (sym f.is.state) ∙ told);
         }
 
 -- ---- usable zones

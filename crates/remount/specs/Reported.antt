@@ -1,5 +1,5 @@
 -- What a report tells of the zones of a drive, and what a look at a drive keeps.
-use Rattle.std.specs.Prelude.{◌≡◌, ℕ, ◌<◌, ◌^◌, true, List, [], ◌∷◌, length}
+use Rattle.std.specs.Prelude.{◌≡◌, ℕ, ◌<◌, ◌^◌, true, false, List, [], ◌∷◌, length}
 use Rattle.std.specs.List.{AllByRecursion, flat_map}
 use Rattle.nvme_wire.specs.declared.descriptor.Descriptor.{Descriptor}
 use Rattle.nvme_wire.specs.declared.command.ReportingOptions.TheVariants.{AnyState}
@@ -7,10 +7,12 @@ use Rattle.nvme_wire.specs.Descriptor.{descriptor_bytes}
 use Rattle.zone_report.specs.Report.{descriptor_of, matching, status_of}
 use Rattle.zone_states.specs.declared.geometry.Geometry.{Geometry}
 use Rattle.zone_states.specs.Geometry.{IsInRange}
+use Rattle.zone_states.specs.Transition.{is_open}
 use Rattle.zone_states.specs.Zone.{IsLawfulZone, Zone}
 use Rattle.drive_port.specs.Contents.{content_at, content_of, contents, is_usable, usage_of}
 use Rattle.drive_port.specs.Drive.{DriveState, IsClosing, IsLawful}
 use Rattle.remount.specs.declared.reported.ReportedZone.{ReportedZone}
+use Rattle.zone_choice.specs.Agreement.{IsShut}
 use Rattle.zone_choice.specs.ZoneLogs.{readable}
 
 -- What a report and Reads keep of a drive: all but that its controller may close zones. No command was refused, and nothing was appended.
@@ -54,7 +56,7 @@ pub record ReportsZones (old : DriveState) (reported : List ReportedZone) (new :
   pub after : IsClosing zones new.zones
   pub are : AreReported old.geometry zones reported
 
--- A zone of a lawful drive, with a geometry in range, that can be used: how far it is used, and the number of its readable blocks are known.
+-- A zone of a lawful drive, with a geometry in range, that can be used: how far it is used, and the number of its readable blocks are known. Unless it was reported open, it is not.
 pub record IsKnown (drive : DriveState) (zone : ℕ) (reported : ReportedZone) : Type 0 where
   pub geometry : IsInRange drive.geometry
   pub lawful : IsLawful drive
@@ -62,3 +64,4 @@ pub record IsKnown (drive : DriveState) (zone : ℕ) (reported : ReportedZone) :
   pub usage : (content_at (contents drive.zones) zone).usage ≡ usage_of reported.state
   pub usable : is_usable (usage_of reported.state) ≡ true
   pub blocks : reported.blocks ≡ length (readable drive.geometry (content_at (contents drive.zones) zone))
+  pub shut : is_open reported.state ≡ false → IsShut drive.zones zone
