@@ -9,3 +9,7 @@ pub mod ReportLaws
 pub mod SoundLaws
 pub mod HeadLaws
 pub mod SurveyLaws
+pub mod HeadRecordLaws
+pub mod HeadPlaceLaws
+pub mod PlacingLaws
+pub mod MountedLaws

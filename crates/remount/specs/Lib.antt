@@ -4,3 +4,6 @@ pub mod Scan
 pub mod Survey
 pub mod Known
 pub mod Mount
+pub mod KeptRecords
+pub mod Placing
+pub mod Mounting

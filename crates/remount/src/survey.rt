@@ -47,7 +47,7 @@ fn lowest_unusable(zones: &[ReportedZone]) -> Option<u32>
     None
 }
 
-fn is_partly_written(zone: ReportedZone) -> bool
+pub(crate) fn is_partly_written(zone: ReportedZone) -> bool
     ensures { result ≡ is_partly_reported zone }
 {
     match zone.state {
