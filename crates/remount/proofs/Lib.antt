@@ -12,4 +12,6 @@ pub mod SurveyLaws
 pub mod HeadRecordLaws
 pub mod HeadPlaceLaws
 pub mod PlacingLaws
+pub mod PlacedLaws
+pub mod MountingLaws
 pub mod MountedLaws

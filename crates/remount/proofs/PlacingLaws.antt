@@ -10,6 +10,7 @@ use Rattle.batch_log.specs.Log.{Batch, one_unless}
 use Rattle.logical_map.specs.declared.place.Place.{Place}
 use Rattle.logical_map.specs.declared.place.Place.TheVariants as places
 use Rattle.zone_choice.specs.Records.{Record, newer, newest, place, records, told}
+use Rattle.zone_choice.specs.Tables.{TablesView}
 use Rattle.zone_choice.proofs.AllLaws.{all-append}
 use Rattle.zone_choice.proofs.FreshLaws.{told-none}
 use Rattle.zone_choice.proofs.NewestLaws.{map-range_set, map_same, newer-none, newest-append, newest-is}
@@ -18,7 +19,7 @@ use Rattle.remount.specs.declared.heads.Head.{Head}
 use Rattle.remount.specs.declared.records.KeptRecord.{KeptRecord}
 use Rattle.remount.specs.Heads.{HeadsView, no_heads}
 use Rattle.remount.specs.KeptRecords.{entry_record, is_trim, kept_batches, kept_entries, kept_in, kept_record, kept_records}
-use Rattle.remount.specs.Placing.{heads_at, is_later, kept_place, placed_all, placed_one, sequence_at, sequence_from, sequence_of}
+use Rattle.remount.specs.Placing.{SameButPlaces, heads_at, is_later, kept_place, placed_all, placed_one, sequence_at, sequence_from, sequence_of}
 use Rattle.remount.proofs.HeadPlaceLaws.{IsRead}
 
 -- ---- the last header before a block
@@ -123,6 +124,9 @@ placed-newest zone_size n views rs read below =
     ap (λ (table : List Place). placed_all zone_size views table (map kept_record rs)) (sym (told-none (place zone_size) 0 n)) ∙ placed-rest zone_size n views [] rs tt read below
 
 -- ---- loops
+
+pub both-kept : (a b c : TablesView) → SameButPlaces a b → SameButPlaces b c → SameButPlaces a c
+both-kept a b c k l = record { size = l.size ∙ k.size; zones = l.zones ∙ k.zones; zone_size = l.zone_size ∙ k.zone_size; given = l.given ∙ k.given }
 
 -- the records of a batch are placed
 pub batch-placed : (zone_size zone from i i' k : ℕ) (views : List HeadsView) (heads items : List Head) (head d : Head) (rest own others : List ℕ) (table table' all : List Place)

@@ -1,12 +1,10 @@
 -- What a mount makes of the zones by their report.
 use Rattle.std.specs.Prelude.{◌≡◌, ℕ, ◌+◌, ◌<◌, ◌≤◌, Bool, true, false, List, map, slice_get, Option, Some, None}
 use Rattle.std.specs.List.{range_with_len}
-use Rattle.std.specs.Option.{option_map}
 use Rattle.nvme_wire.specs.declared.zone_state.ZoneState.TheVariants.{Empty}
 use Rattle.zone_states.specs.Transition.{is_open, is_state}
 use Rattle.zone_choice.specs.declared.roles.Filling.{Filling}
-use Rattle.zone_choice.specs.declared.roles.Second.TheVariants.{Next}
-use Rattle.zone_choice.specs.Roles.{RolesView}
+use Rattle.zone_choice.specs.Roles.{RolesView, mounted_as}
 use Rattle.remount.specs.declared.reported.ReportedZone.{ReportedZone}
 use Rattle.remount.specs.Survey.{is_partly_reported}
 
@@ -53,8 +51,8 @@ FindsNext reported end (Some first) next = FindsPartly reported (first.zone + 1)
 
 -- The zones of a drive with that many have roles by their report: of two that are partly written the lower is the host zone, and the other the next one.
 pub record MountsRoles (reported : List ReportedZone) (zones : ℕ) (roles : RolesView) : Type 0 where
+  pub host : Option Filling
   pub next : Option Filling
-  pub empty : roles.empty ≡ empties reported zones
-  pub second : roles.second ≡ option_map Next next
-  pub host_is : FindsPartly reported 0 zones roles.host
-  pub next_is : FindsNext reported zones roles.host next
+  pub is : roles ≡ mounted_as (empties reported zones) host next
+  pub host_is : FindsPartly reported 0 zones host
+  pub next_is : FindsNext reported zones host next

@@ -14,7 +14,7 @@ ghost use Rattle.remount.specs.Mount.{AreMountedRoles, IsPlaced, IsRepaired};
 ghost use Rattle.remount.specs.Placing.{AreAscending, SameButPlaces, heads_at, is_later, kept_place, placed_all, placed_one, sequence_in, sequence_of};
 ghost use Rattle.remount.specs.Scan.{heads_in};
 
-use crate::heads::Head;
+use crate::heads::{Head, ZoneHeads};
 use crate::records::{KeptRecord, entry_record, is_trim};
 use crate::roles::mounted_roles;
 use crate::scan::ScannedZone;
@@ -125,7 +125,31 @@ fn place_batch(
     Ok(())
 }
 
-/// Places the records of a zone, and makes room to note them.
+/// Places the records of a zone's batches.
+fn place_heads(
+    tables: &mut Tables,
+    scanned: &[ScannedZone],
+    zone_size: u32,
+    zone: u32,
+    heads: &ZoneHeads,
+) -> Result<(), AllocError>
+    requires few { size_of tables.old ≤ 2 ^ 31 }
+    ensures places { OnOk result (AreAscending (heads_in scanned.now) → tables.new.map.places ≡ placed_all zone_size (heads_in scanned.now) tables.old.map.places (kept_in zone heads.now)) }
+    ensures kept { SameButPlaces tables.old tables.new }
+{
+    let mut from = 0;
+    let mut rest = heads.entries();
+    for head in heads.heads() {
+        let count = head.end.saturating_sub(from) as usize;
+        let (own, others) = rest.split_at(count.min(rest.len()));
+        place_batch(tables, scanned, zone_size, zone, head, own)?;
+        from = head.end;
+        rest = others;
+    }
+    Ok(())
+}
+
+/// Places the records of a zone, and makes room to note their blocks.
 fn place_zone(
     tables: &mut Tables,
     scanned: &[ScannedZone],
@@ -139,18 +163,9 @@ fn place_zone(
     let Some(found) = scanned.get(zone as usize) else {
         return Ok(());
     };
-    let mut from = 0;
-    let mut rest = found.heads.entries();
-    let most = rest.len().min(tables.blocks() as usize);
+    let most = found.heads.entries().len().min(tables.blocks() as usize);
     tables.reserve_moves(zone, most as u32)?;
-    for head in found.heads.heads() {
-        let count = head.end.saturating_sub(from) as usize;
-        let (own, others) = rest.split_at(count.min(rest.len()));
-        place_batch(tables, scanned, zone_size, zone, head, own)?;
-        from = head.end;
-        rest = others;
-    }
-    Ok(())
+    place_heads(tables, scanned, zone_size, zone, &found.heads)
 }
 
 /// Tables that say where the newest record of each block lies, by the headers that are kept. They say nothing of
