@@ -176,7 +176,9 @@ pub fn place_records(
     geometry: &Geometry,
     blocks: u32,
 ) -> Result<Tables, AllocError>
-    ensures { IfOk result (λ tables. (drive : DriveState) (logs : List (List Batch)) → drive.geometry ≡ geometry.now → Knows drive blocks logs survey.now → IsPlaced geometry.now blocks logs tables) }
+    ensures placed { IfOk result (λ tables. (drive : DriveState) (logs : List (List Batch)) → drive.geometry ≡ geometry.now → Knows drive blocks logs survey.now → IsPlaced geometry.now blocks logs tables) }
+    ensures zones { IfOk result (λ tables. tables.map.zones ≡ geometry.now.zones) }
+    ensures given { IfOk result (λ tables. tables.given ≡ blocks) }
 {
     let size = survey.size.min(MOST_BLOCKS);
     let mut tables = Tables::new(alloc, geometry.zones, geometry.size, size, blocks)?;

@@ -16,8 +16,8 @@ loop-zone-preserved c =
       given = kept.given ∙ was.given;
     }
 
-pub returns : goal.returns
-returns c drive logs same knows =
+pub returns-clause-placed : goal.returns-clause-placed
+returns-clause-placed c drive logs same knows =
     let was = c.loop-zone.invariant in
     record {
       places = places-at drive c.args.geometry.now c.args.blocks c.loop-zone.zone logs c.args.survey.now c.min-size.result c.loop-zone.tables.map.places same knows c.min-size.ensures (omega (arith, c.loop-zone-test.false)) was.places;
