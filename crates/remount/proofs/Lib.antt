@@ -9,6 +9,12 @@ pub mod ReportLaws
 pub mod SoundLaws
 pub mod HeadLaws
 pub mod SurveyLaws
+pub mod HeadRecordLaws
+pub mod HeadPlaceLaws
+pub mod PlacingLaws
+pub mod PlacedLaws
+pub mod MountingLaws
+pub mod MountedLaws
 pub mod SetAllLaws
 pub mod KeepLaws
 pub mod ResetLaws

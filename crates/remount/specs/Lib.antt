@@ -5,3 +5,6 @@ pub mod Survey
 pub mod Known
 pub mod Mount
 pub mod Resets
+pub mod KeptRecords
+pub mod Placing
+pub mod Mounting

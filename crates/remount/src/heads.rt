@@ -1,6 +1,9 @@
 ghost use Rattle.std.specs.Prelude.{◌≡◌, ◌+◌, ◌<◌, ◌^◌, ◌++◌, length, map, OnOk};
 ghost use Rattle.batch_log.specs.Log.{data_count};
 ghost use Rattle.remount.specs.Heads.{greatest_sequence, highest_of, is_move, kept_bit, kept_block, kept_entry, no_heads, sequence_of, source_with, with_heading};
+ghost use Rattle.remount.specs.Placing.{sequence_at};
+ghost use Rattle.remount.specs.declared.heads.Head.{Head};
+ghost use Rattle.std.specs.List.Sorted.{IsNonDecreasingBy};
 ghost use Rattle.zone_choice.specs.Sizes.{larger};
 
 use batch_log::{Entry, HeaderView, Kind};
@@ -167,6 +170,47 @@ impl ZoneHeads {
         ensures { result ≡ self.now.most }
     {
         self.most
+    }
+
+    /// The headers, in the order of the batches.
+    pub fn heads(&self) -> &[Head]
+        ensures { result.now ≡ self.now.heads }
+    {
+        &self.heads
+    }
+
+    /// The entries of all batches, one after the other.
+    pub fn entries(&self) -> &[u32]
+        ensures { result.now ≡ self.now.entries }
+    {
+        &self.entries
+    }
+
+    /// The source zone of the first batch.
+    pub fn source(&self) -> u32
+        ensures { result ≡ self.now.source }
+    {
+        self.source
+    }
+
+    /// Whether all batches are Moves from that zone.
+    pub fn are_moves(&self) -> bool
+        ensures { result ≡ self.now.are_moves }
+    {
+        self.are_moves
+    }
+
+    /// The sequence of the last batch that begins at this block of the zone or before it.
+    pub fn sequence_at(&self, offset: u64) -> Option<u64>
+        ensures { IsNonDecreasingBy (λ (head : Head). head.offset) self.now.heads → result ≡ sequence_at self.now.heads offset }
+    {
+        let after = self
+            .heads
+            .partition_point(|head| head.offset as u64 <= offset);
+        if after == 0 {
+            return None;
+        }
+        Some(self.heads[after - 1].sequence)
     }
 
     fn source_with(&self, source: u32) -> u32

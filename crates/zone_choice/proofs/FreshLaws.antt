@@ -46,7 +46,7 @@ fresh-records geometry first [] all = refl
 fresh-records geometry first (z ∷ zs) all = rw (all.0, zone_log-emptied) (fresh-records geometry (suc first) zs all.1)
 
 -- where there is no record, the same is told of all blocks
-told-none : {X : Type 0} (f : Option Record → X) (a n : ℕ) → map (λ (block : ℕ). f None) (range_with_len a n) ≡ replicate n (f None)
+pub told-none : {X : Type 0} (f : Option Record → X) (a n : ℕ) → map (λ (block : ℕ). f None) (range_with_len a n) ≡ replicate n (f None)
 told-none f a zero = refl
 told-none {X} f a (suc n) = ap (λ (xs : List X). f None ∷ xs) (told-none f (a + 1) n)
 

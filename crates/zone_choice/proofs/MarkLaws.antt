@@ -1,13 +1,13 @@
 -- Which zones are sealed, when roles change.
-use Rattle.std.proofs.Common.{◌≡◌, ◌≢◌, ℕ, ◌<◌, Bool, true, false, not, ◌||◌, ◌&&◌, ltb, eqb, List, [], ◌∷◌, ◌++◌, length, set, get_or, Option, Some, None, refl, sym, ap, subst, ◌∙◌, inl, inr, arith}
+use Rattle.std.proofs.Common.{◌≡◌, ◌≢◌, ◌⊎◌, ℕ, zero, suc, ◌<◌, ◌≤◌, Bool, true, false, not, ◌||◌, ◌&&◌, ltb, eqb, List, [], ◌∷◌, ◌++◌, length, map, set, get_or, Option, Some, None, refl, sym, ap, subst, ◌∙◌, inl, inr, arith}
 use Rattle.std.specs.List.{AllByRecursion, list_any}
 use Rattle.std.specs.Option.{IfSome, option_map}
-use Rattle.std.proofs.lemmas.Bool.{cases_eq, eq-eqb, lt-ltb, ltb-true, ne_eqb}
-use Rattle.std.proofs.lemmas.List.{get_or-set_same, get_or-set_other, length-set}
+use Rattle.std.proofs.lemmas.Bool.{cases_eq, cases_lt, eq-eqb, le-ltb, lt-ltb, ltb-true, ne_eqb}
+use Rattle.std.proofs.lemmas.List.{get_or-set_same, get_or-set_other, get_or_past, length-map, length-set}
 use Rattle.zone_choice.specs.declared.roles.Filling.{Filling}
 use Rattle.zone_choice.specs.declared.roles.Second.{Second}
 use Rattle.zone_choice.specs.declared.roles.Second.TheVariants.{Next, Destination}
-use Rattle.zone_choice.specs.Roles.{AreApart, AreMarked, Differ, IsLowestIn, IsOccupied, RolesView, clean_ended, filling_of, fillings, is_at, is_empty_at, is_filling_at, is_sealed_at, listed, marked, ended, promoted, sealed, taken, with_destination, with_fillings}
+use Rattle.zone_choice.specs.Roles.{AreApart, AreMarked, Differ, IsLowestIn, IsOccupied, RolesView, clean_ended, filling_of, fillings, is_at, is_empty_at, is_filling_at, is_sealed_at, listed, marked, mounted_as, ended, promoted, sealed, taken, unmarked, with_destination, with_fillings}
 use Rattle.zone_choice.proofs.RolesLaws.{KeepsZone, filling_at-with, occupied-set, roles_with, second_list}
 
 -- ---- sealed zones
@@ -172,3 +172,68 @@ sealed-take roles zone taken_zone none empty is =
     let other : eqb taken_zone zone ≡ false = ne_eqb taken_zone zone (λ same. ne (sym same)) in
     let here : list_any (is_at zone) (listed None ++ second_list roles.second) ≡ false = rw none at was.not_filling in
     sealed-made (taken roles taken_zone) zone (omega (arith, was.in_range, length-set roles.empty taken_zone false)) (get_or-set_other roles.empty taken_zone zone false false ne ∙ was.not_empty) (ap (λ (b : Bool). b || list_any (is_at zone) (second_list roles.second)) other ∙ here)
+
+-- ---- after a mount
+
+abbrev pub nexts : Option Filling → Option Second
+nexts next = option_map Next next
+
+not-map : (empties : List Bool) (k : ℕ) → get_or (map not empties) k false ≡ (ltb k (length empties) && not (get_or empties k false))
+not-map [] k = sym (ap (λ (b : Bool). b && true) (le-ltb k 0 (omega arith)))
+not-map (e ∷ es) zero = sym (ap (λ (b : Bool). b && not e) (lt-ltb 0 (length (e ∷ es)) (omega arith)))
+not-map (e ∷ es) (suc k) = not-map es k ∙ ap (λ (b : Bool). b && not (get_or es k false)) (shift (cases_lt k (length es)))
+  where
+    shift : (k < length es) ⊎ (length es ≤ k) → ltb k (length es) ≡ ltb (suc k) (length (e ∷ es))
+    shift (inl lt) = lt-ltb k (length es) lt ∙ sym (lt-ltb (suc k) (length (e ∷ es)) (omega (arith, lt)))
+    shift (inr le) = le-ltb k (length es) le ∙ sym (le-ltb (suc k) (length (e ∷ es)) (omega (arith, le)))
+
+unmark-at : (marks : List Bool) (f : Filling) (k : ℕ) → get_or (set marks f.zone false) k false ≡ (get_or marks k false && not (eqb f.zone k))
+unmark-at marks f k = elim (cases_eq f.zone k) as (λ _. get_or (set marks f.zone false) k false ≡ (get_or marks k false && not (eqb f.zone k))) [
+  | inl same ↦ rw (same, eq-eqb k k refl) (here (cases_lt k (length marks)) ∙ sym (no_and (get_or marks k false)))
+  | inr other ↦ rw (ne_eqb f.zone k other) (get_or-set_other marks f.zone k false false (λ e. other (sym e)) ∙ sym (and_yes (get_or marks k false)))
+]
+  where
+    and_yes : (b : Bool) → (b && true) ≡ b
+    and_yes true = refl
+    and_yes false = refl
+
+    here : (k < length marks) ⊎ (length marks ≤ k) → get_or (set marks k false) k false ≡ false
+    here (inl lt) = get_or-set_same marks k false false lt
+    here (inr le) = get_or_past (set marks k false) k false (omega (arith, le, length-set marks k false))
+
+-- all zones are sealed but the empty ones and those that are being filled
+pub marked-mounted : (empties : List Bool) (host next : Option Filling) → AreMarked (mounted_as empties host next) (unmarked (unmarked (map not empties) host) next)
+marked-mounted empties host next = record { long = long host next; each = λ k. each host next k }
+  where
+    long : (host next : Option Filling) → length (unmarked (unmarked (map not empties) host) next) ≡ length empties
+    long None None = length-map empties not
+    long None (Some n) = length-set (map not empties) n.zone false ∙ length-map empties not
+    long (Some h) None = length-set (map not empties) h.zone false ∙ length-map empties not
+    long (Some h) (Some n) = length-set (set (map not empties) h.zone false) n.zone false ∙ length-set (map not empties) h.zone false ∙ length-map empties not
+
+    none : (a b : Bool) → (a && b) ≡ (a && (b && true))
+    none true true = refl
+    none true false = refl
+    none false b = refl
+
+    one : (a b c : Bool) → ((a && b) && not c) ≡ (a && (b && not (c || false)))
+    one true true true = refl
+    one true true false = refl
+    one true false c = refl
+    one false b c = refl
+
+    two : (a b c d : Bool) → (((a && b) && not c) && not d) ≡ (a && (b && not (c || (d || false))))
+    two true true true d = refl
+    two true true false true = refl
+    two true true false false = refl
+    two true false c d = refl
+    two false b c d = refl
+
+    each : (host next : Option Filling) (k : ℕ) → get_or (unmarked (unmarked (map not empties) host) next) k false ≡ is_sealed_at (mounted_as empties host next) k
+    each None None k = not-map empties k ∙ none (ltb k (length empties)) (not (get_or empties k false))
+    each None (Some n) k = unmark-at (map not empties) n k ∙ ap (λ (b : Bool). b && not (eqb n.zone k)) (not-map empties k) ∙ one (ltb k (length empties)) (not (get_or empties k false)) (eqb n.zone k)
+    each (Some h) None k = unmark-at (map not empties) h k ∙ ap (λ (b : Bool). b && not (eqb h.zone k)) (not-map empties k) ∙ one (ltb k (length empties)) (not (get_or empties k false)) (eqb h.zone k)
+    each (Some h) (Some n) k =
+        unmark-at (set (map not empties) h.zone false) n k
+        ∙ ap (λ (b : Bool). b && not (eqb n.zone k)) (unmark-at (map not empties) h k ∙ ap (λ (b : Bool). b && not (eqb h.zone k)) (not-map empties k))
+        ∙ two (ltb k (length empties)) (not (get_or empties k false)) (eqb h.zone k) (eqb n.zone k)

@@ -152,3 +152,12 @@ marked marks (Some filling) = slice_set marks filling.zone true
 -- all zones are empty
 abbrev pub unused : ℕ → RolesView
 unused zones = record { empty = replicate zones true; host = None; second = None }
+
+-- one marked zone less, if there is one
+abbrev pub unmarked : List Bool → Option Filling → List Bool
+unmarked marks None = marks
+unmarked marks (Some filling) = slice_set marks filling.zone false
+
+-- The zones that are marked are empty; one or two others are being filled, a host zone and a next one; and the rest is sealed.
+abbrev pub mounted_as : List Bool → Option Filling → Option Filling → RolesView
+mounted_as empty host next = record { empty = empty; host = host; second = option_map Next next }

@@ -1,4 +1,4 @@
-ghost use Rattle.std.specs.Prelude.{◌≡◌, ◌<◌, ◌≤◌, IfNone, IfOk, IfSome, count_by, false, length, replicate, slice_index_or, slice_set, true};
+ghost use Rattle.std.specs.Prelude.{◌≡◌, ◌<◌, ◌≤◌, ◌^◌, IfNone, IfOk, IfSome, count_by, false, length, replicate, slice_index_or, slice_set, true};
 ghost use Rattle.zone_choice.specs.Roles.{IsLowestIn};
 
 use std::alloc::{AllocError, Global};
@@ -35,6 +35,24 @@ impl EmptyZones {
             count: zones,
             lowest: 0,
         })
+    }
+
+    /// The zones that are marked are empty.
+    pub fn marked(marks: Vec<bool>) -> EmptyZones
+        requires { length marks.items < 2 ^ 32 }
+        ensures { result ≡ marks.items }
+    {
+        let mut count = 0;
+        for mark in &marks {
+            if *mark {
+                count += 1;
+            }
+        }
+        EmptyZones {
+            marks,
+            count,
+            lowest: 0,
+        }
     }
 
     /// How many zones are empty.

@@ -3,7 +3,7 @@
 //! the tables of a mounted disk follow its drive, batch by batch.
 //!
 //! ```text
-//! let mut tables = Tables::new(alloc, geometry.zones, geometry.size, 9)?;
+//! let mut tables = Tables::new(alloc, geometry.zones, geometry.size, 9, 9)?;
 //! let zone = tables.take_empty()?;                       // the host zone
 //! let mut batch = BatchBuilder::new(alloc);
 //! batch.start(Kind::Host, tables.next(), 0, Some(tables.blocks()));

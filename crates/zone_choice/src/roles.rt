@@ -1,6 +1,6 @@
 ghost use Rattle.std.specs.Prelude.{◌≡◌, ◌≤◌, ◌<◌, ◌+◌, ◌^◌, ℕ, IfOk, IfSome, IfNone, None, Some, false, length, replicate, slice_index_or, true};
 ghost use Rattle.std.specs.List.{AllByRecursion};
-ghost use Rattle.zone_choice.specs.Roles.{AreMarked, IsLowestEmpty, clean_ended, closed_beside, closed_unless, empty_count, filling_of, fillings, grown, is_open_beside, is_sealed_at, listed, marked, ended, next_of, open_beside, promoted, sealed, second_with, taken, unused, with_destination, wrote};
+ghost use Rattle.zone_choice.specs.Roles.{AreApart, AreMarked, IsLowestEmpty, clean_ended, closed_beside, closed_unless, empty_count, filling_of, fillings, grown, is_open_beside, is_sealed_at, listed, marked, mounted_as, ended, next_of, open_beside, promoted, sealed, second_with, taken, unmarked, unused, with_destination, wrote};
 ghost use Rattle.std.specs.Option.{option_map};
 
 use crate::empties::EmptyZones;
@@ -108,6 +108,31 @@ impl Roles {
             sealed: vec![in alloc; false; zones as usize]?,
             host: None,
             second: None,
+        })
+    }
+
+    /// The zones that are marked are empty, one or two are being filled, and all others are sealed.
+    pub fn mounted(
+        alloc: Global,
+        empty: Vec<bool>,
+        host: Option<Filling>,
+        next: Option<Filling>,
+    ) -> Result<Roles, AllocError>
+        requires few { length empty.items < 2 ^ 32 }
+        requires apart { AreApart (mounted_as empty.items host next) }
+        ensures { IfOk result (λ r. r ≡ mounted_as empty.items host next) }
+    {
+        let mut sealed = Vec::new(alloc);
+        for mark in &empty {
+            sealed.push(!*mark)?;
+        }
+        unmark(&mut sealed, host);
+        unmark(&mut sealed, next);
+        Ok(Roles {
+            empty: EmptyZones::marked(empty),
+            sealed,
+            host,
+            second: next_zone(next),
         })
     }
 
@@ -241,6 +266,26 @@ fn mark(marks: &mut Vec<bool>, filling: Option<Filling>)
 {
     if let Some(filling) = filling {
         marks[filling.zone as usize] = true;
+    }
+}
+
+/// Marks a zone as not sealed, if there is one.
+fn unmark(marks: &mut Vec<bool>, filling: Option<Filling>)
+    requires { IfSome filling (λ filling. filling.zone < length marks.old.items) }
+    ensures { marks.new.items ≡ unmarked marks.old.items filling }
+{
+    if let Some(filling) = filling {
+        marks[filling.zone as usize] = false;
+    }
+}
+
+/// The next zone, if there is one.
+fn next_zone(filling: Option<Filling>) -> Option<Second>
+    ensures { result ≡ option_map Second.Next filling }
+{
+    match filling {
+        Some(filling) => Some(Second::Next(filling)),
+        None => None,
     }
 }
 

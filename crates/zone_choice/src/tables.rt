@@ -37,14 +37,20 @@ impl Model for Tables {
 
 impl Tables {
     /// The tables of a drive of `zones` empty zones, with `zone_size` addresses each, and of `blocks` logical
-    /// blocks, none of which is written.
-    pub fn new(alloc: Global, zones: u32, zone_size: u32, blocks: u32) -> Result<Tables, AllocError>
+    /// blocks, none of which is written. `given` is the number of logical blocks that the mount was given.
+    pub fn new(
+        alloc: Global,
+        zones: u32,
+        zone_size: u32,
+        blocks: u32,
+        given: u32,
+    ) -> Result<Tables, AllocError>
         ensures places { IfOk result (λ tables. tables.map.places ≡ replicate blocks places.None) }
         ensures zones { IfOk result (λ tables. tables.map.zones ≡ zones) }
         ensures zone_size { IfOk result (λ tables. tables.map.zone_size ≡ zone_size) }
         ensures roles { IfOk result (λ tables. tables.roles ≡ unused zones) }
         ensures next { IfOk result (λ tables. tables.next ≡ 1) }
-        ensures given { IfOk result (λ tables. tables.given ≡ blocks) }
+        ensures given { IfOk result (λ tables. tables.given ≡ given) }
     {
         let index = LiveIndex::new(alloc, zones)?;
         let roles = Roles::new(alloc, zones)?;
@@ -53,8 +59,17 @@ impl Tables {
             index,
             roles,
             next: 1,
-            given: blocks,
+            given,
         })
+    }
+
+    /// Sets what the zones are for, and the sequence of the next batch.
+    pub fn begin(&mut self, roles: Roles, next: u64)
+        requires { length roles.empty ≡ self.old.map.zones }
+        ensures { self.new ≡ record self.old { roles = roles; next = next } }
+    {
+        self.roles = roles;
+        self.next = next;
     }
 
     /// How many logical blocks there are.
@@ -213,7 +228,7 @@ impl Tables {
     }
 
     /// Places a block that room was made for.
-    pub(crate) fn place(&mut self, block: u32, place: Place)
+    pub fn place(&mut self, block: u32, place: Place)
         requires in_range { block < size_of self.old }
         requires ready { IsReady self.old.map block }
         requires fits { address_of place + 1 < 2 ^ 63 }

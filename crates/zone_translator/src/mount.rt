@@ -82,6 +82,7 @@ pub(crate) fn fresh_tables<D: Device>(
     if empty != geometry.zones as u64 {
         return Err(MountFault::NotFresh);
     }
-    let tables = Tables::new(alloc, geometry.zones, geometry.size, blocks as u32)?;
+    let given = blocks as u32;
+    let tables = Tables::new(alloc, geometry.zones, geometry.size, given, given)?;
     Ok(tables)
 }
