@@ -9,3 +9,4 @@ pub mod ReportLaws
 pub mod SoundLaws
 pub mod HeadLaws
 pub mod SurveyLaws
+pub mod RivalLaws

@@ -151,6 +151,34 @@ impl ZoneHeads {
         self.highest
     }
 
+    /// The headers, in the order of the batches.
+    pub fn heads(&self) -> &[Head]
+        ensures { result.now ≡ self.now.heads }
+    {
+        &self.heads
+    }
+
+    /// The entries of all batches, one after the other.
+    pub fn entries(&self) -> &[u32]
+        ensures { result.now ≡ self.now.entries }
+    {
+        &self.entries
+    }
+
+    /// The source zone of the first batch.
+    pub fn source(&self) -> u32
+        ensures { result ≡ self.now.source }
+    {
+        self.source
+    }
+
+    /// Whether all batches are Moves from that zone.
+    pub fn are_moves(&self) -> bool
+        ensures { result ≡ self.now.are_moves }
+    {
+        self.are_moves
+    }
+
     fn source_with(&self, source: u32) -> u32
         ensures { result ≡ source_with self.now.heads self.now.source source }
     {

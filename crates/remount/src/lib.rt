@@ -21,7 +21,9 @@
 mod clearing;
 mod fault;
 mod heads;
+mod records;
 mod reported;
+mod rivals;
 mod scan;
 mod survey;
 
