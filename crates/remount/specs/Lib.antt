@@ -5,3 +5,4 @@ pub mod Survey
 pub mod Known
 pub mod KeptRecords
 pub mod Rivals
+pub mod Clearing

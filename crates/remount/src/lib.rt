@@ -21,10 +21,12 @@
 mod clearing;
 mod fault;
 mod heads;
+mod moved;
 mod records;
 mod reported;
 mod rivals;
 mod scan;
+mod shown;
 mod survey;
 
 pub use clearing::{Finding, clear_zones, examine_zone};

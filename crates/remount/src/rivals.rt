@@ -96,11 +96,13 @@ fn note_zone(table: &mut BTreeMap<u32, Rivals>, zone: u32, heads: &ZoneHeads)
 
 /// Takes the records of all batches.
 pub(crate) fn note_all(table: &mut BTreeMap<u32, Rivals>, scanned: &[ScannedZone])
-    requires few { length scanned.now < 2 ^ 32 }
-    ensures { (block : ℕ) → held_of table.new block ≡ held_after block (held_of table.old block) (kept_records 0 (heads_in scanned.now)) }
+    ensures { length scanned.now < 2 ^ 32 → (block : ℕ) → held_of table.new block ≡ held_after block (held_of table.old block) (kept_records 0 (heads_in scanned.now)) }
 {
-    for (zone, found) in scanned.iter().enumerate() {
-        note_zone(table, zone as u32, &found.heads);
+    for (number, found) in scanned.iter().enumerate() {
+        let Ok(zone) = u32::try_from(number) else {
+            return;
+        };
+        note_zone(table, zone, &found.heads);
     }
 }
 
