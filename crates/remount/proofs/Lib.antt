@@ -10,3 +10,5 @@ pub mod SoundLaws
 pub mod HeadLaws
 pub mod SurveyLaws
 pub mod RivalLaws
+pub mod HeadRecordLaws
+pub mod OutsideLaws

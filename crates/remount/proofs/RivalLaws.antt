@@ -1,5 +1,5 @@
 -- A table takes the records of all batches.
-use Rattle.std.proofs.Common.{◌≡◌, ◌⊎◌, inl, inr, ℕ, zero, suc, ◌+◌, ◌-◌, ◌<◌, ◌≤◌, min, Bool, true, false, cond, eqb, List, [], ◌∷◌, ◌++◌, length, map, take, drop, get_or, Option, Some, None, refl, sym, ap, ◌∙◌, arith}
+use Rattle.std.proofs.Common.{◌≡◌, ◌⊎◌, inl, inr, ℕ, zero, suc, ◌+◌, ◌-◌, ◌<◌, ◌≤◌, min, Bool, true, false, cond, eqb, List, [], ◌∷◌, ◌++◌, length, map, take, drop, get_or, Option, Some, None, refl, sym, ap, subst, ◌∙◌, ◌^◌, arith}
 use Rattle.std.specs.BTreeMap.{BTreeMap, is_at}
 use Rattle.std.specs.List.{AllByRecursion}
 use Rattle.std.specs.Option.{IsSome, option_map}
@@ -8,14 +8,20 @@ use Rattle.std.proofs.lemmas.Bool.{cases_lt, eq-eqb}
 use Rattle.std.proofs.lemmas.Bool.Decides.{nat_tests}
 use Rattle.std.proofs.lemmas.List.{drop_all, take_min}
 use Rattle.std.proofs.Math.Seq.{drop-cons}
+use Rattle.batch_log.specs.Log.{Batch}
+use Rattle.zone_choice.specs.Mountable.{IsInside}
+use Rattle.zone_choice.specs.Records.{Record, newest, records}
 use Rattle.remount.specs.declared.heads.Head.{Head}
 use Rattle.remount.specs.declared.records.KeptRecord.{KeptRecord}
 use Rattle.remount.specs.declared.rivals.Rivals.{Rivals}
 use Rattle.remount.specs.declared.scan.ScannedZone.{ScannedZone}
+use Rattle.remount.specs.Clearing.{AreOf}
 use Rattle.remount.specs.Heads.{HeadsView}
-use Rattle.remount.specs.KeptRecords.{block_in, kept_batches, kept_entries, kept_in, kept_records}
-use Rattle.remount.specs.Rivals.{HasNoRecord, HoldsBlocks, HoldsMore, held_after, held_of, no_rivals, rivals_after}
+use Rattle.remount.specs.KeptRecords.{block_in, kept_batches, kept_entries, kept_in, kept_record, kept_records}
+use Rattle.remount.specs.Rivals.{AreRivals, HasNoRecord, HoldsBlocks, HoldsMore, HoldsRivals, held_after, held_of, no_rivals, rivals_after}
 use Rattle.remount.specs.Scan.{heads_in}
+use Rattle.remount.proofs.HeadRecordLaws.{kept-are}
+use Rattle.remount.proofs.OutsideLaws.{IfRivals, IsRivals, held-rivals, no-rivals, outside-is}
 
 -- ---- one part after the other
 
@@ -100,3 +106,31 @@ pub holds-all : (first now : BTreeMap ℕ Rivals) (entries : List ℕ) (i : ℕ)
 holds-all first now entries i le so_far =
     let rest = rw (drop_all i entries le) at so_far.2 in
     rest now (λ q some. some) tt
+
+-- ---- the table of all records
+
+same-rivals : (logs : List (List Batch)) (block : ℕ) (rivals : Rivals) → IsRivals (records 0 logs) block rivals → AreRivals logs block rivals
+same-rivals logs block rivals is = record {
+  newest_is = is.newest_is;
+  other_is = λ r e. is.other_is r e ∙ ap (λ (rs : List Record). option_map kept_record (newest block rs)) (outside-is 0 r.zone r.zone logs (omega arith));
+}
+
+held-none : (block : ℕ) (held : Option Rivals) → ((rivals : Rivals) → held ≡ Some rivals → rivals ≡ no_rivals) → IfRivals [] block held
+held-none block None none = tt
+held-none block (Some rivals) none = rw (none rivals refl) (no-rivals block)
+
+pub holds-rivals : (logs : List (List Batch)) (scanned : List ScannedZone) (old new : BTreeMap ℕ Rivals) → AreOf scanned logs → AllByRecursion (AllByRecursion (IsInside (2 ^ 31))) logs → HasNoRecord old
+    → ((block : ℕ) → held_of new block ≡ held_after block (held_of old block) (kept_records 0 (heads_in scanned))) → HoldsRivals logs new
+holds-rivals logs scanned old new are inside none taken block rivals there =
+    let all : kept_records 0 (heads_in scanned) ≡ map kept_record (records 0 logs) = ap (kept_records 0) are ∙ kept-are 0 logs inside in
+    let held : held_after block (held_of old block) (map kept_record (records 0 logs)) ≡ Some rivals = ap (held_after block (held_of old block)) (sym all) ∙ sym (taken block) ∙ there in
+    let is = held-rivals [] (records 0 logs) block (held_of old block) (held-none block (held_of old block) (none block)) in
+    same-rivals logs block rivals (subst (IfRivals (records 0 logs) block) held is)
+
+held-stays : (block : ℕ) (held : Option Rivals) (rs : List KeptRecord) → IsSome held → IsSome (held_after block held rs)
+held-stays block held [] some = some
+held-stays block None (r ∷ rs) some = absurd (cc)
+held-stays block (Some rivals) (r ∷ rs) some = held-stays block (Some (cond (eqb r.block block) (rivals_after rivals r) rivals)) rs refl
+
+pub taken-more : (old new : BTreeMap ℕ Rivals) (rs : List KeptRecord) → ((block : ℕ) → held_of new block ≡ held_after block (held_of old block) rs) → HoldsMore old new
+taken-more old new rs taken block some = rw (taken block) (held-stays block (held_of old block) rs some)
