@@ -12,3 +12,5 @@ pub mod SurveyLaws
 pub mod RivalLaws
 pub mod HeadRecordLaws
 pub mod OutsideLaws
+pub mod SpareLaws
+pub mod MovedLaws

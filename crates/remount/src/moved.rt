@@ -32,16 +32,22 @@ pub(crate) fn is_moved(scanned: &[ScannedZone], zone: u32) -> bool
         return false;
     };
     let source = found.heads.source();
-    if !found.heads.are_moves() || source == zone {
+    if !found.heads.are_moves() {
+        return false;
+    }
+    if source == zone {
         return false;
     }
     let Some(victim) = scanned.get(source as usize) else {
         return false;
     };
-    match (first_sequence(&victim.heads), first_sequence(&found.heads)) {
-        (Some(old), Some(new)) => old < new,
-        _ => false,
-    }
+    let Some(old) = first_sequence(&victim.heads) else {
+        return false;
+    };
+    let Some(new) = first_sequence(&found.heads) else {
+        return false;
+    };
+    old < new
 }
 
 /// Whether there is such a zone.
@@ -68,9 +74,10 @@ pub(crate) fn moved_table(
 {
     let mut table = BTreeMap::new(alloc);
     for (zone, found) in scanned.iter().enumerate() {
-        if is_moved(scanned, zone as u32) {
-            hold_blocks(&mut table, &found.heads)?;
+        if !is_moved(scanned, zone as u32) {
+            continue;
         }
+        hold_blocks(&mut table, &found.heads)?;
     }
     note_all(&mut table, scanned);
     Ok(table)
@@ -82,9 +89,10 @@ pub(crate) fn size_without(scanned: &[ScannedZone], zone: u32, blocks: u32) -> u
 {
     let mut size = None;
     for (number, found) in scanned.iter().enumerate() {
-        if number != zone as usize {
-            size = larger(size, found.heads.size());
+        if number == zone as usize {
+            continue;
         }
+        size = larger(size, found.heads.size());
     }
     match size {
         Some(size) => size,

@@ -1,6 +1,7 @@
 use Rattle.std.proofs.Common.{◌≡◌, refl}
 use Rattle.remount.proofs.HeadRecordLaws.{kept-are}
-use Rattle.remount.proofs.OutsideLaws.{stays-outside}
+use Rattle.remount.proofs.SpareLaws.{spare-all}
+use Rattle.remount.proofs.MovedLaws.{no-heads}
 use Rattle.remount.proofs.moved.forget.Goals as goal
 
 pub returns-in-Some-clause-heads : goal.returns-in-Some-clause-heads
