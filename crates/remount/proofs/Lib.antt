@@ -14,3 +14,5 @@ pub mod HeadRecordLaws
 pub mod OutsideLaws
 pub mod SpareLaws
 pub mod MovedLaws
+pub mod FindLaws
+pub mod ShowLaws

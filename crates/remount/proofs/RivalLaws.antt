@@ -82,7 +82,7 @@ put-more block old new puts q some = rw (puts q) (by (is_at (nat_cmp block) q))
 put-holds : (block : ℕ) (old new : BTreeMap ℕ Rivals) → Puts block old new → IsSome (held_of new block)
 put-holds block old new puts = rw (puts block, at-is block block, eq-eqb block block refl) refl
 
-blocks-more : (old new : BTreeMap ℕ Rivals) (entries : List ℕ) → HoldsMore old new → HoldsBlocks old entries → HoldsBlocks new entries
+pub blocks-more : (old new : BTreeMap ℕ Rivals) (entries : List ℕ) → HoldsMore old new → HoldsBlocks old entries → HoldsBlocks new entries
 blocks-more old new [] more holds = tt
 blocks-more old new (e ∷ es) more holds = (more (block_in e) holds.0, blocks-more old new es more holds.1)
 
