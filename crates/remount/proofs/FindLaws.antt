@@ -7,20 +7,31 @@ use Rattle.std.specs.Option.{IsSome, option_map}
 use Rattle.std.proofs.lemmas.Bool.{cases_eq, cases_lt}
 use Rattle.std.proofs.lemmas.List.{length-map, length-set, map-set}
 use Rattle.std.proofs.Math.Seq.{map-set_same}
+use Rattle.drive_port.specs.Drive.{DriveState}
 use Rattle.batch_log.specs.Log.{Batch}
 use Rattle.zone_choice.specs.Mountable.{AreSound, IsInside}
 use Rattle.zone_choice.specs.Records.{Record, newest, records, shown, without}
+use Rattle.zone_choice.specs.Sizes.{encoded_size, size_or}
+use Rattle.zone_choice.specs.Spare.{IsClearing, IsHalfClean, IsLowest, NoneBelow, cleared}
 use Rattle.zone_choice.specs.ZoneLogs.{log_at}
+use Rattle.zone_choice.proofs.SizeLaws.{same-size}
 use Rattle.remount.specs.declared.rivals.Rivals.{Rivals}
 use Rattle.remount.specs.declared.scan.ScannedZone.{ScannedZone}
-use Rattle.remount.specs.Clearing.{AreOf, CoversMoved, CoversZone, forgotten}
+use Rattle.remount.specs.declared.survey.Survey.{Survey}
+use Rattle.remount.specs.declared.clearing.Finding.{Finding}
+use Rattle.remount.specs.declared.clearing.Finding.TheVariants.{HalfClean, NotMoves, NeedsBlock, NeedsSize}
+use Rattle.remount.specs.Clearing.{AreOf, CoversMoved, CoversZone, FindsLowest, FindsNeeded, ShowsSame, forgotten}
 use Rattle.remount.specs.Heads.{HeadsView, heads_of, no_heads}
-use Rattle.remount.specs.KeptRecords.{kept_records}
-use Rattle.remount.specs.Known.{IsMoved}
+use Rattle.remount.specs.KeptRecords.{block_in, kept_records}
+use Rattle.remount.specs.Known.{Finds, IsMoved, Knows}
+use Rattle.remount.specs.Reported.{KeepsZones}
 use Rattle.remount.specs.Rivals.{HasNoRecord, HoldsBlocks, HoldsMore, HoldsRivals, held_after, held_of}
 use Rattle.remount.specs.Scan.{heads_in, tails_in}
-use Rattle.remount.proofs.MovedLaws.{not-found, not-there, there}
+use Rattle.remount.specs.Survey.{greatest_in}
+use Rattle.remount.proofs.HeadRecordLaws.{entries-are, entries_of}
+use Rattle.remount.proofs.MovedLaws.{found-heads, not-found, not-there, size-forgotten, there}
 use Rattle.remount.proofs.RivalLaws.{blocks-more, holds-rivals, taken-more}
+use Rattle.remount.proofs.SpareLaws.{all-same, knows-kept, knows-small, needed-inside, spare-all, spare-at}
 
 -- ---- a table covers zones
 
@@ -64,3 +75,93 @@ pub forgets-past : (scanned : List ScannedZone) (zone : ℕ) → length scanned 
 forgets-past [] zone le = refl
 forgets-past (s ∷ ss) zero le = absurd (omega (arith, le))
 forgets-past (s ∷ ss) (suc zone) le = ap (λ (hs : List HeadsView). s.heads ∷ hs) (forgets-past ss zone (omega (arith, le)))
+
+-- ---- what is found of a zone
+
+pub half-moved : (block_bytes n : ℕ) (logs : List (List Batch)) (zone : ℕ) → IsHalfClean block_bytes n logs zone → IsMoved logs zone
+half-moved block_bytes n logs zone half = record { victim = half.victim; apart = half.apart; moves = half.moves; older = half.older }
+
+pub finds-needed : (drive : DriveState) (n : ℕ) (logs : List (List Batch)) (survey : Survey) (zone block : ℕ) → Knows drive n logs survey → IsMoved logs zone → (ShowsSame drive.geometry.block logs zone block → ⊥) → Finds drive.geometry.block n logs zone (NeedsBlock block)
+finds-needed drive n logs survey zone block known moved differs =
+    (moved, record { in_range = needed-inside drive.geometry.block (encoded_size n logs) logs zone block known.sound.inside differs; differs = differs })
+
+pub finds-size : (drive : DriveState) (n : ℕ) (logs : List (List Batch)) (survey : Survey) (zone size : ℕ) → Knows drive n logs survey → IsMoved logs zone → size ≡ size_or n (greatest_in (forgotten (heads_in survey.scanned.items) zone)) → size ≢ survey.size
+    → Finds drive.geometry.block n logs zone NeedsSize
+finds-size drive n logs survey zone size known moved is differs = (moved, λ same. differs (is ∙ size-forgotten n logs (heads_in survey.scanned.items) zone known.heads ∙ same ∙ sym known.size_is))
+
+pub finds-half : (drive : DriveState) (n : ℕ) (logs : List (List Batch)) (survey : Survey) (zone size : ℕ) (found : ScannedZone) (entries : List ℕ) → Knows drive n logs survey → IsMoved logs zone
+    → slice_get survey.scanned.items zone ≡ Some found → entries ≡ found.heads.entries → FindsNeeded drive.geometry.block logs zone entries None
+    → size ≡ size_or n (greatest_in (forgotten (heads_in survey.scanned.items) zone)) → size ≡ survey.size → Finds drive.geometry.block n logs zone HalfClean
+finds-half drive n logs survey zone size found entries known moved there_is are same is equal =
+    let b = drive.geometry.block in
+    let own : entries ≡ entries_of (log_at logs zone) = are ∙ ap (λ (h : HeadsView). h.entries) (found-heads survey.scanned.items logs zone found known.heads there_is) ∙ entries-are (log_at logs zone) in
+    let each = all-same b logs zone (knows-small drive n logs survey known) (subst (λ (xs : List ℕ). AllByRecursion (λ entry. ShowsSame b logs zone (block_in entry)) xs) own same) in
+    let sizes : encoded_size n (without logs zone) ≡ encoded_size n logs = sym (size-forgotten n logs (heads_in survey.scanned.items) zone known.heads) ∙ sym is ∙ equal ∙ known.size_is in
+    record { victim = moved.victim; apart = moved.apart; moves = moved.moves; older = moved.older; spare = spare-all b n logs zone sizes each }
+
+pub finds-other : (block_bytes n : ℕ) (logs : List (List Batch)) (zone : ℕ) (finding : Finding) → (finding ≡ HalfClean → ⊥) → Finds block_bytes n logs zone finding → IsHalfClean block_bytes n logs zone → ⊥
+finds-other block_bytes n logs zone HalfClean other finds half = other refl
+finds-other block_bytes n logs zone NotMoves other finds half = finds (half-moved block_bytes n logs zone half)
+finds-other block_bytes n logs zone (NeedsBlock block) other finds half =
+    let same = same-size block_bytes n (without logs zone) logs half.spare in
+    finds.1.differs (spare-at block_bytes n logs zone block same half.spare finds.1.in_range)
+finds-other block_bytes n logs zone NeedsSize other finds half = finds.1 (same-size block_bytes n (without logs zone) logs half.spare)
+
+-- ---- the lowest
+
+pub count-known : (drive : DriveState) (n : ℕ) (logs : List (List Batch)) (survey : Survey) → Knows drive n logs survey → length survey.scanned.items ≡ length logs
+count-known drive n logs survey known = sym (length-map survey.scanned.items (λ (z : ScannedZone). z.heads)) ∙ ap length known.heads ∙ length-map logs heads_of
+
+pub few-known : (drive : DriveState) (n : ℕ) (logs : List (List Batch)) (survey : Survey) → Knows drive n logs survey → length survey.scanned.items < 2 ^ 32
+few-known drive n logs survey known = omega (arith, count-known drive n logs survey known, known.count, known.zones.lawful.count, known.zones.geometry.zones.1)
+
+-- the tables of what is known
+abbrev pub HoldsTable : DriveState → ℕ → Survey → BTreeMap ℕ Rivals → List (List Batch) → Type 0
+HoldsTable drive n survey table logs = Knows drive n logs survey × HoldsRivals logs table × CoversMoved logs survey.scanned.items table
+
+abbrev pub NoneSoFar : DriveState → ℕ → Survey → BTreeMap ℕ Rivals → ℕ → Type 0
+NoneSoFar drive n survey table limit = (logs : List (List Batch)) → Knows drive n logs survey → HoldsRivals logs table → CoversMoved logs survey.scanned.items table → NoneBelow drive.geometry.block n logs limit
+
+abbrev pub TellsFinding : DriveState → ℕ → Survey → BTreeMap ℕ Rivals → ℕ → Finding → Type 0
+TellsFinding drive n survey table zone finding = (logs : List (List Batch)) → Knows drive n logs survey → HoldsRivals logs table → (IsMoved logs zone → CoversZone survey.scanned.items table zone) → Finds drive.geometry.block n logs zone finding
+
+finding-first : (first now : DriveState) (n : ℕ) (survey : Survey) (table : BTreeMap ℕ Rivals) (zone : ℕ) (finding : Finding) → KeepsZones first now → TellsFinding now n survey table zone finding → TellsFinding first n survey table zone finding
+finding-first first now n survey table zone finding kept tells logs known holds covers = rw (← kept.geometry) (tells logs (knows-kept first now n logs survey kept known) holds covers)
+
+pub none-more : (first now : DriveState) (n : ℕ) (survey : Survey) (table : BTreeMap ℕ Rivals) (limit : ℕ) (finding : Finding) → KeepsZones first now → (finding ≡ HalfClean → ⊥) → TellsFinding now n survey table limit finding
+    → NoneSoFar first n survey table limit → NoneSoFar first n survey table (limit + 1)
+none-more first now n survey table limit finding kept other tells none logs known holds covers zone lt half = elim (cases_eq zone limit) as (λ _. ⊥) [
+  | inl here ↦ finds-other first.geometry.block n logs limit finding other (finding-first first now n survey table limit finding kept tells logs known holds (covers limit)) (rw here at half)
+  | inr apart ↦ none logs known holds covers zone (omega (arith, lt, apart)) half
+]
+
+pub lowest-here : (first now : DriveState) (n : ℕ) (survey : Survey) (table : BTreeMap ℕ Rivals) (zone : ℕ) (finding : Finding) → KeepsZones first now → zone < length survey.scanned.items → finding ≡ HalfClean → TellsFinding now n survey table zone finding
+    → NoneSoFar first n survey table zone
+    → (logs : List (List Batch)) → Knows first n logs survey → HoldsRivals logs table → CoversMoved logs survey.scanned.items table → FindsLowest first.geometry.block n logs (Some zone)
+lowest-here first now n survey table zone finding kept lt is tells none logs known holds covers =
+    let here = rw is at (finding-first first now n survey table zone finding kept tells) in
+    record {
+      in_range = omega (arith, lt, count-known first n logs survey known);
+      half_clean = here logs known holds (covers zone);
+      lowest = none logs known holds covers;
+    }
+
+pub lowest-none : (drive : DriveState) (n : ℕ) (survey : Survey) (table : BTreeMap ℕ Rivals) (limit : ℕ) → length survey.scanned.items ≤ limit → NoneSoFar drive n survey table limit
+    → (logs : List (List Batch)) → Knows drive n logs survey → HoldsRivals logs table → CoversMoved logs survey.scanned.items table → FindsLowest drive.geometry.block n logs None
+lowest-none drive n survey table limit le none logs known holds covers zone lt half =
+    none logs known holds covers zone (omega (arith, lt, le, count-known drive n logs survey known)) half
+
+-- no zone is half clean where none is moved
+pub lowest-unmoved : (drive : DriveState) (n : ℕ) (survey : Survey) → ((logs : List (List Batch)) → AreOf survey.scanned.items logs → ((zone : ℕ) × IsMoved logs zone) → ⊥)
+    → (logs : List (List Batch)) → Knows drive n logs survey → FindsLowest drive.geometry.block n logs None
+lowest-unmoved drive n survey none logs known zone lt half = none logs known.heads (zone, half-moved drive.geometry.block n logs zone half)
+
+abbrev pub TellsLowest : DriveState → ℕ → Survey → BTreeMap ℕ Rivals → Option ℕ → Type 0
+TellsLowest drive n survey table found = (logs : List (List Batch)) → Knows drive n logs survey → HoldsRivals logs table → CoversMoved logs survey.scanned.items table → FindsLowest drive.geometry.block n logs found
+
+abbrev pub IsTableOf : Survey → BTreeMap ℕ Rivals → Type 0
+IsTableOf survey table = ((logs : List (List Batch)) → AreOf survey.scanned.items logs → CoversMoved logs survey.scanned.items table)
+    × ((logs : List (List Batch)) → AreOf survey.scanned.items logs → AllByRecursion (AllByRecursion (IsInside (2 ^ 31))) logs → HoldsRivals logs table)
+
+pub lowest-by : (drive : DriveState) (n : ℕ) (survey : Survey) (table : BTreeMap ℕ Rivals) (found : Option ℕ) → IsTableOf survey table → TellsLowest drive n survey table found → (logs : List (List Batch)) → Knows drive n logs survey → FindsLowest drive.geometry.block n logs found
+lowest-by drive n survey table found is tells logs known = tells logs known (is.1 logs known.heads (knows-small drive n logs survey known)) (is.0 logs known.heads)

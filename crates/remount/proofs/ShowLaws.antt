@@ -1,5 +1,6 @@
 -- What blocks show, as it is read.
-use Rattle.std.proofs.Common.{◌≡◌, ◌≢◌, ◌⊎◌, inl, inr, ℕ, zero, suc, ◌+◌, ◌<◌, ◌≤◌, Bool, true, false, cond, not, List, [], ◌∷◌, ◌++◌, length, map, drop, get_or, replicate, Option, Some, None, refl, sym, ap, subst, ◌∙◌, arith}
+use Rattle.std.proofs.Common.{◌≡◌, ◌≢◌, ◌⊎◌, inl, inr, ℕ, zero, suc, ◌+◌, ◌<◌, ◌≤◌, Bool, true, false, cond, not, List, [], ◌∷◌, ◌++◌, length, map, drop, get_or, replicate, Option, Some, None, Result, Ok, Err, refl, sym, ap, subst, ◌∙◌, arith}
+use Rattle.std.specs.Prelude.{IfOk}
 use Rattle.std.specs.BTreeMap.{BTreeMap}
 use Rattle.std.specs.List.{AllByRecursion}
 use Rattle.std.specs.Option.{IsSome, option_map}
@@ -169,3 +170,27 @@ needed-here first now table zone entries i block same kept lt is not_same tells 
 pub none-needed : (drive : DriveState) (table : BTreeMap ℕ Rivals) (zone : ℕ) (entries : List ℕ) (i : ℕ) → length entries ≤ i → SameSoFar drive table zone entries i
     → (logs : List (List Batch)) → HoldsRivals logs table → AllStand drive logs → HoldsBlocks table entries → FindsNeeded drive.geometry.block logs zone entries None
 none-needed drive table zone entries i le so_far logs holds stand held = so_far logs holds stand held (rw (drop_all i entries le) tt)
+
+-- ---- two records are compared
+
+abbrev pub ReadsShown : DriveState → Option KeptRecord → List ℕ → Type 0
+ReadsShown drive kept bytes = (found : Option Record) → kept ≡ option_map kept_record found → IfStands drive found → bytes ≡ shown drive.geometry.block found
+
+pub both-same : (first now : DriveState) (rivals : Rivals) (a b : List ℕ) → KeepsZones first now → ReadsShown first rivals.newest a → ReadsShown now rivals.other b → a ≡ b
+    → (newest other : Option Record) → rivals.newest ≡ option_map kept_record newest → rivals.other ≡ option_map kept_record other → IfStands first newest → IfStands first other → shown first.geometry.block other ≡ shown first.geometry.block newest
+both-same first now rivals a b kept reads reads' same newest other e f stands stands' =
+    let second = rw kept.geometry at (reads' other f (if-kept first now other kept stands')) in
+    sym second ∙ sym same ∙ reads newest e stands
+
+pub both-differ : (first now : DriveState) (rivals : Rivals) (a b : List ℕ) → KeepsZones first now → ReadsShown first rivals.newest a → ReadsShown now rivals.other b → a ≢ b
+    → (newest other : Option Record) → rivals.newest ≡ option_map kept_record newest → rivals.other ≡ option_map kept_record other → IfStands first newest → IfStands first other → shown first.geometry.block other ≡ shown first.geometry.block newest → ⊥
+both-differ first now rivals a b kept reads reads' differ newest other e f stands stands' same =
+    let second = rw kept.geometry at (reads' other f (if-kept first now other kept stands')) in
+    differ (reads newest e stands ∙ sym same ∙ sym second)
+
+abbrev pub TellsRivals : DriveState → Rivals → Bool → Type 0
+TellsRivals drive rivals same = (newest other : Option Record) → rivals.newest ≡ option_map kept_record newest → rivals.other ≡ option_map kept_record other → IfStands drive newest → IfStands drive other → Tells same (shown drive.geometry.block other ≡ shown drive.geometry.block newest)
+
+pub told-ok : {E : Type 0} (P Q : Bool → Type 0) (result : Result Bool E) → ((same : Bool) → P same → Q same) → IfOk result P → IfOk result Q
+told-ok P Q (Ok same) f p = f same p
+told-ok P Q (Err e) f p = tt

@@ -83,7 +83,7 @@ fn lowest_by<D: Device>(
     let mut second = Vec::new(alloc);
     for zone in 0..survey.scanned.len() as u32 {
         let finding = examine_by(device, survey, blocks, table, zone, &mut first, &mut second)?;
-        if finding == Finding::HalfClean {
+        if let Finding::HalfClean = finding {
             return Ok(Some(zone));
         }
     }
