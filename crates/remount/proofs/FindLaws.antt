@@ -1,6 +1,6 @@
 -- What is found of the zones.
-use Rattle.std.proofs.Common.{◌≡◌, ◌≢◌, ◌⊎◌, inl, inr, ℕ, zero, suc, ◌+◌, ◌-◌, ◌^◌, ◌<◌, ◌≤◌, Bool, true, false, cond, List, [], ◌∷◌, ◌++◌, length, map, get_or, set, Option, Some, None, refl, sym, ap, subst, ◌∙◌, arith}
-use Rattle.std.specs.Prelude.{slice_get}
+use Rattle.std.proofs.Common.{◌≡◌, ◌≢◌, ◌⊎◌, inl, inr, ℕ, zero, suc, ◌+◌, ◌-◌, ◌^◌, ◌<◌, ◌≤◌, Bool, true, false, cond, List, [], ◌∷◌, ◌++◌, length, map, get_or, set, Option, Some, None, Result, Ok, Err, refl, sym, ap, subst, ◌∙◌, arith}
+use Rattle.std.specs.Prelude.{IfOk, slice_get}
 use Rattle.std.specs.BTreeMap.{BTreeMap}
 use Rattle.std.specs.List.{AllByRecursion}
 use Rattle.std.specs.Option.{IsSome, option_map}
@@ -20,7 +20,7 @@ use Rattle.remount.specs.declared.scan.ScannedZone.{ScannedZone}
 use Rattle.remount.specs.declared.survey.Survey.{Survey}
 use Rattle.remount.specs.declared.clearing.Finding.{Finding}
 use Rattle.remount.specs.declared.clearing.Finding.TheVariants.{HalfClean, NotMoves, NeedsBlock, NeedsSize}
-use Rattle.remount.specs.Clearing.{AreOf, CoversMoved, CoversZone, FindsLowest, FindsNeeded, ShowsSame, forgotten}
+use Rattle.remount.specs.Clearing.{AllStand, AreOf, CoversMoved, CoversZone, FindsLowest, FindsNeeded, ShowsSame, forgotten}
 use Rattle.remount.specs.Heads.{HeadsView, heads_of, no_heads}
 use Rattle.remount.specs.KeptRecords.{block_in, kept_records}
 use Rattle.remount.specs.Known.{Finds, IsMoved, Knows}
@@ -31,7 +31,7 @@ use Rattle.remount.specs.Survey.{greatest_in}
 use Rattle.remount.proofs.HeadRecordLaws.{entries-are, entries_of}
 use Rattle.remount.proofs.MovedLaws.{found-heads, not-found, not-there, size-forgotten, there}
 use Rattle.remount.proofs.RivalLaws.{blocks-more, holds-rivals, taken-more}
-use Rattle.remount.proofs.SpareLaws.{all-same, knows-kept, knows-small, needed-inside, spare-all, spare-at}
+use Rattle.remount.proofs.SpareLaws.{all-same, knows-kept, knows-small, knows-stand, needed-inside, spare-all, spare-at}
 
 -- ---- a table covers zones
 
@@ -165,3 +165,62 @@ IsTableOf survey table = ((logs : List (List Batch)) → AreOf survey.scanned.it
 
 pub lowest-by : (drive : DriveState) (n : ℕ) (survey : Survey) (table : BTreeMap ℕ Rivals) (found : Option ℕ) → IsTableOf survey table → TellsLowest drive n survey table found → (logs : List (List Batch)) → Knows drive n logs survey → FindsLowest drive.geometry.block n logs found
 lowest-by drive n survey table found is tells logs known = tells logs known (is.1 logs known.heads (knows-small drive n logs survey known)) (is.0 logs known.heads)
+
+-- ---- a zone is examined
+
+abbrev pub AllMoved : Survey → ℕ → Type 0
+AllMoved survey zone = (logs : List (List Batch)) → AreOf survey.scanned.items logs → IsMoved logs zone
+
+abbrev pub LooksFor : DriveState → BTreeMap ℕ Rivals → ℕ → List ℕ → Option ℕ → Type 0
+LooksFor drive table zone entries found = (logs : List (List Batch)) → HoldsRivals logs table → AllStand drive logs → HoldsBlocks table entries → FindsNeeded drive.geometry.block logs zone entries found
+
+looked : (drive : DriveState) (n : ℕ) (survey : Survey) (table : BTreeMap ℕ Rivals) (zone : ℕ) (found : ScannedZone) (entries : List ℕ) (block : Option ℕ) → AllMoved survey zone → slice_get survey.scanned.items zone ≡ Some found → entries ≡ found.heads.entries
+    → LooksFor drive table zone entries block → (logs : List (List Batch)) → Knows drive n logs survey → HoldsRivals logs table → (IsMoved logs zone → CoversZone survey.scanned.items table zone) → FindsNeeded drive.geometry.block logs zone entries block
+looked drive n survey table zone found entries block moved there_is are looks logs known holds covers =
+    looks logs holds (knows-stand drive n logs survey known) (subst (HoldsBlocks table) (sym are) (covers (moved logs known.heads) found there_is))
+
+pub examine-needs : (drive : DriveState) (n : ℕ) (survey : Survey) (table : BTreeMap ℕ Rivals) (zone : ℕ) (found : ScannedZone) (entries : List ℕ) (block : ℕ) → AllMoved survey zone → slice_get survey.scanned.items zone ≡ Some found → entries ≡ found.heads.entries
+    → LooksFor drive table zone entries (Some block) → TellsFinding drive n survey table zone (NeedsBlock block)
+examine-needs drive n survey table zone found entries block moved there_is are looks logs known holds covers =
+    finds-needed drive n logs survey zone block known (moved logs known.heads) (looked drive n survey table zone found entries (Some block) moved there_is are looks logs known holds covers)
+
+pub examine-size : (drive : DriveState) (n : ℕ) (survey : Survey) (table : BTreeMap ℕ Rivals) (zone size : ℕ) (items : List ScannedZone) → AllMoved survey zone → items ≡ survey.scanned.items → size ≡ size_or n (greatest_in (forgotten (heads_in items) zone)) → size ≢ survey.size
+    → TellsFinding drive n survey table zone NeedsSize
+examine-size drive n survey table zone size items moved same is differs logs known holds covers =
+    finds-size drive n logs survey zone size known (moved logs known.heads) (is ∙ ap (λ (s : List ScannedZone). size_or n (greatest_in (forgotten (heads_in s) zone))) same) differs
+
+pub examine-half : (drive : DriveState) (n : ℕ) (survey : Survey) (table : BTreeMap ℕ Rivals) (zone : ℕ) (found : ScannedZone) (entries : List ℕ) (size : ℕ) (items : List ScannedZone) → AllMoved survey zone → slice_get survey.scanned.items zone ≡ Some found → entries ≡ found.heads.entries
+    → LooksFor drive table zone entries None → items ≡ survey.scanned.items → size ≡ size_or n (greatest_in (forgotten (heads_in items) zone)) → size ≡ survey.size → TellsFinding drive n survey table zone HalfClean
+examine-half drive n survey table zone found entries size items moved there_is are looks same is equal logs known holds covers =
+    finds-half drive n logs survey zone size found entries known (moved logs known.heads) there_is are (looked drive n survey table zone found entries None moved there_is are looks logs known holds covers)
+    (is ∙ ap (λ (s : List ScannedZone). size_or n (greatest_in (forgotten (heads_in s) zone))) same) equal
+
+pub found-in : (items : List ScannedZone) (survey : Survey) (zone : ℕ) (found : ScannedZone) → items ≡ survey.scanned.items → zone < length items → found ≡ get_or items zone found → slice_get survey.scanned.items zone ≡ Some found
+found-in items survey zone found same lt is = subst (λ (xs : List ScannedZone). slice_get xs zone ≡ Some found) same (there items zone found lt is)
+
+-- a table of one zone's blocks
+pub examine-one : (drive : DriveState) (n : ℕ) (survey : Survey) (old table : BTreeMap ℕ Rivals) (zone : ℕ) (found : ScannedZone) (items : List ScannedZone) (finding : Finding) → items ≡ survey.scanned.items → slice_get survey.scanned.items zone ≡ Some found → HasNoRecord old → HoldsBlocks old found.heads.entries
+    → (length items < 2 ^ 32 → (block : ℕ) → held_of table block ≡ held_after block (held_of old block) (kept_records 0 (heads_in items))) → TellsFinding drive n survey table zone finding
+    → (logs : List (List Batch)) → Knows drive n logs survey → Finds drive.geometry.block n logs zone finding
+examine-one drive n survey old table zone found items finding same there_is none holds taken tells logs known =
+    let noted = rw same at taken (omega (arith, few-known drive n logs survey known, ap length same)) in
+    tells logs known (holds-rivals logs survey.scanned.items old table known.heads (knows-small drive n logs survey known) none noted)
+    (λ moved other other_is. let one : found ≡ other = (let e = sym there_is ∙ other_is in cc) in
+        subst (λ (z : ScannedZone). HoldsBlocks table z.heads.entries) one (blocks-more old table found.heads.entries (taken-more old table (kept_records 0 (heads_in survey.scanned.items)) noted) holds))
+
+pub finding-ok : {E : Type 0} (P Q : Finding → Type 0) (result : Result Finding E) → ((finding : Finding) → P finding → Q finding) → IfOk result P → IfOk result Q
+finding-ok P Q (Ok finding) f p = f finding p
+finding-ok P Q (Err e) f p = tt
+
+pub lowest-ok : {E : Type 0} (P Q : Option ℕ → Type 0) (result : Result (Option ℕ) E) → ((found : Option ℕ) → P found → Q found) → IfOk result P → IfOk result Q
+lowest-ok P Q (Ok found) f p = f found p
+lowest-ok P Q (Err e) f p = tt
+
+abbrev pub FindsOf : DriveState → ℕ → Survey → ℕ → Finding → Type 0
+FindsOf drive n survey zone finding = (logs : List (List Batch)) → Knows drive n logs survey → Finds drive.geometry.block n logs zone finding
+
+abbrev pub LowestOf : DriveState → ℕ → Survey → Option ℕ → Type 0
+LowestOf drive n survey found = (logs : List (List Batch)) → Knows drive n logs survey → FindsLowest drive.geometry.block n logs found
+
+pub none-held : (table : BTreeMap ℕ Rivals) → table.entries ≡ [] → HasNoRecord table
+none-held table empty block rivals held = absurd (let bad = rw empty at held in cc)
