@@ -16,3 +16,4 @@ pub mod SpareLaws
 pub mod MovedLaws
 pub mod FindLaws
 pub mod ShowLaws
+pub mod ClearLaws

@@ -15,7 +15,7 @@ returns-in_err-finding-clause-kept g c = keeps-both _ _ _ c.loop-zone.invariant.
 
 pub returns-in-HalfClean-clause-ok : goal.returns-in-HalfClean-clause-ok
 returns-in-HalfClean-clause-ok g c =
-    lowest-here (g.D.Device.drive c.args.device.now) (g.D.Device.drive c.loop-zone.device) c.args.blocks c.args.survey.now c.args.table.now c.loop-zone.zone c.in_ok-finding.finding c.loop-zone.invariant.0 ? c.in-HalfClean.is c.in_ok-finding.ensures.ok c.loop-zone.invariant.1
+    lowest-here (g.D.Device.drive c.args.device.now) (g.D.Device.drive c.loop-zone.device) c.args.blocks c.args.survey.now c.args.table.now c.loop-zone.zone c.in_ok-finding.finding c.loop-zone.invariant.0 (omega (arith, c.loop-zone-test.true, c.len-zone-end.ensures)) c.in-HalfClean.is c.in_ok-finding.ensures.ok c.loop-zone.invariant.1
 
 pub returns-in-HalfClean-clause-kept : goal.returns-in-HalfClean-clause-kept
 returns-in-HalfClean-clause-kept g c = keeps-both _ _ _ c.loop-zone.invariant.0 c.examine_by.ensures.kept
@@ -23,8 +23,8 @@ returns-in-HalfClean-clause-kept g c = keeps-both _ _ _ c.loop-zone.invariant.0 
 pub loop-zone-preserved : goal.loop-zone-preserved
 loop-zone-preserved g c = (
   keeps-both _ _ _ c.loop-zone.invariant.0 c.examine_by.ensures.kept,
-  none-more (g.D.Device.drive c.args.device.now) (g.D.Device.drive c.loop-zone.device) c.args.blocks c.args.survey.now c.args.table.now c.loop-zone.zone c.in_ok-finding.finding c.loop-zone.invariant.0 ? c.in_ok-finding.ensures.ok c.loop-zone.invariant.1,
+  none-more (g.D.Device.drive c.args.device.now) (g.D.Device.drive c.loop-zone.device) c.args.blocks c.args.survey.now c.args.table.now c.loop-zone.zone c.in_ok-finding.finding c.loop-zone.invariant.0 c.in_default.not-HalfClean c.in_ok-finding.ensures.ok c.loop-zone.invariant.1,
 )
 
 pub returns-clause-ok : goal.returns-clause-ok
-returns-clause-ok g c = lowest-none (g.D.Device.drive c.args.device.now) c.args.blocks c.args.survey.now c.args.table.now c.loop-zone.zone ? c.loop-zone.invariant.1
+returns-clause-ok g c = lowest-none (g.D.Device.drive c.args.device.now) c.args.blocks c.args.survey.now c.args.table.now c.loop-zone.zone (omega (arith, c.loop-zone-test.false, c.len-zone-end.ensures)) c.loop-zone.invariant.1

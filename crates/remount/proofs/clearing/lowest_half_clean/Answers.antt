@@ -10,4 +10,7 @@ pub returns-in_err-table-clause-kept : goal.returns-in_err-table-clause-kept
 returns-in_err-table-clause-kept g c = keeps-none _ c.requires.zones.lawful
 
 pub returns-clause-ok : goal.returns-clause-ok
-returns-clause-ok g c = ?
+returns-clause-ok g c =
+    lowest-ok (TellsLowest (g.D.Device.drive c.args.device.now) c.args.blocks c.args.survey.now c.in_ok-table.table) (LowestOf (g.D.Device.drive c.args.device.now) c.args.blocks c.args.survey.now) c.lowest_by.result
+    (λ found tells. lowest-by (g.D.Device.drive c.args.device.now) c.args.blocks c.args.survey.now c.in_ok-table.table found (rw c.deref-2.ensures.value at c.in_ok-table.ensures.covers, rw c.deref-2.ensures.value at c.in_ok-table.ensures.holds) tells)
+    c.lowest_by.ensures.ok
