@@ -2,6 +2,7 @@
 use Rattle.std.proofs.Common.{◌≡◌, ◌≢◌, ◌⊎◌, inl, inr, ℕ, zero, suc, ◌+◌, ◌-◌, ◌^◌, ◌<◌, ◌≤◌, Bool, true, false, List, [], ◌∷◌, ◌++◌, length, map, get_or, set, Option, Some, None, Result, Ok, Err, refl, sym, ap, subst, ◌∙◌, arith, append_assoc, append-nil}
 use Rattle.std.specs.List.{AllByRecursion}
 use Rattle.std.proofs.lemmas.List.{length-set}
+use Rattle.zone_states.specs.declared.geometry.Geometry.{Geometry}
 use Rattle.drive_port.specs.Drive.{DriveState}
 use Rattle.batch_log.specs.Log.{Batch}
 use Rattle.zone_choice.specs.Agreement.{drive_logs}
@@ -73,7 +74,7 @@ clears-none drive n survey known = record { kept = keeps-none drive known.zones.
 -- after the next was looked for
 pub lowest-known : (first old new : DriveState) (n : ℕ) (survey : Survey) (resets : List ℕ) (found : Option ℕ) → ClearsSoFar first old n survey resets → ((logs : List (List Batch)) → Knows old n logs survey → FindsLowest old.geometry.block n logs found)
     → FindsLowest first.geometry.block n (cleared (drive_logs first) resets) found
-lowest-known first old new n survey resets found so_far finds = rw (← so_far.kept.geometry) (finds (cleared (drive_logs first) resets) so_far.known)
+lowest-known first old new n survey resets found so_far finds = subst (λ (g : Geometry). FindsLowest g.block n (cleared (drive_logs first) resets) found) so_far.kept.geometry (finds (cleared (drive_logs first) resets) so_far.known)
 
 pub clears-more : (first old new : DriveState) (n : ℕ) (before after : Survey) (resets more : List ℕ) (zone : ℕ) → ClearsSoFar first old n before resets → KeepsZones old new → IsLowest first.geometry.block n (cleared (drive_logs first) resets) zone → Forgets before after zone → more ≡ resets ++ zone ∷ []
     → ClearsSoFar first new n after more

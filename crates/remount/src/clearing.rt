@@ -160,8 +160,11 @@ pub fn clear_zones<D: Device>(
         }
         forget(alloc, &mut survey.scanned, zone);
     }
-    if resets.is_empty() && !has_vacant(&survey.scanned) {
-        return Err(MountFault::NoSpare);
+    if !resets.is_empty() {
+        return Ok(resets);
     }
-    Ok(resets)
+    if has_vacant(&survey.scanned) {
+        return Ok(resets);
+    }
+    Err(MountFault::NoSpare)
 }
