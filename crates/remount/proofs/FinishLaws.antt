@@ -25,7 +25,8 @@ use Rattle.remount.specs.declared.scan.ScannedZone.{ScannedZone}
 use Rattle.remount.specs.declared.survey.Survey.{Survey}
 use Rattle.remount.specs.Heads.{HeadsView, heads_after, heads_of, no_heads, with_heading}
 use Rattle.remount.specs.Known.{AreVacantEmpty, KeepsMountable, Knows}
-use Rattle.remount.specs.Mount.{AreWhole, HasVacant, IsRepaired}
+use Rattle.remount.specs.Known.{HasVacant}
+use Rattle.remount.specs.Mount.{AreWhole, IsRepaired}
 use Rattle.remount.specs.Reported.{IsKnown}
 use Rattle.remount.specs.Resets.{FinishesIf, FinishesOne, GoesOn, IsTested, MayChange, is_to_finish, reported_full}
 use Rattle.remount.specs.Scan.{AreKnown, heads_in, tails_in}

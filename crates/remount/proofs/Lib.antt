@@ -9,7 +9,14 @@ pub mod ReportLaws
 pub mod SoundLaws
 pub mod HeadLaws
 pub mod SurveyLaws
+pub mod RivalLaws
 pub mod HeadRecordLaws
+pub mod OutsideLaws
+pub mod SpareLaws
+pub mod MovedLaws
+pub mod FindLaws
+pub mod ShowLaws
+pub mod ClearLaws
 pub mod HeadPlaceLaws
 pub mod PlacingLaws
 pub mod PlacedLaws

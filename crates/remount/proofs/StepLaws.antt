@@ -28,7 +28,8 @@ use Rattle.remount.specs.declared.steps.Plan.{Plan}
 use Rattle.remount.specs.declared.survey.Survey.{Survey}
 use Rattle.remount.specs.Heads.{HeadsView, greatest_of, greatest_sequence, heads_after, heads_of, no_heads, sequence_of, with_heading}
 use Rattle.remount.specs.Known.{AreVacantEmpty, KeepsMountable, Knows}
-use Rattle.remount.specs.Mount.{AreMountedRoles, AreToEmpty, AreWhole, CannotClear, CannotRepair, HasVacant, IsCleared, IsPlan, IsPlanned, IsRepaired, IsToMount, IsUntorn, LeavesCleared, MountFails, Mounts, NoneIsTorn, PlanFails, Plans}
+use Rattle.remount.specs.Known.{HasVacant}
+use Rattle.remount.specs.Mount.{AreMountedRoles, AreToEmpty, AreWhole, CannotClear, CannotRepair, IsCleared, IsPlan, IsPlanned, IsRepaired, IsToMount, IsUntorn, LeavesCleared, MountFails, Mounts, NoneIsTorn, PlanFails, Plans}
 use Rattle.remount.specs.Reported.{KeepsZones}
 use Rattle.remount.specs.Scan.{AreKnown, FailsBy, ScansAll, heads_in, tails_in}
 use Rattle.remount.specs.Survey.{AreInside, CanScan, HoldLogs, SurveyFails, Surveys, drive_size}

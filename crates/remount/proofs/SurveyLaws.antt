@@ -156,7 +156,7 @@ partly-old old new reported reports usable = at reports.zones reported reports.a
 
 -- ---- the headers
 
-greatest-heads : (logs : List (List Batch)) → greatest_in (map heads_of logs) ≡ greatest logs
+pub greatest-heads : (logs : List (List Batch)) → greatest_in (map heads_of logs) ≡ greatest logs
 greatest-heads [] = refl
 greatest-heads (log ∷ logs) = rw (size-is log, greatest-heads logs) refl
 

@@ -11,7 +11,7 @@ use Rattle.zone_choice.specs.Records.{without}
 use Rattle.zone_choice.specs.Repairing.{IsMoved, NeedsItsBlock}
 use Rattle.zone_choice.specs.Reserve.{FitsReserve}
 use Rattle.zone_choice.specs.Sizes.{encoded_size}
-use Rattle.zone_choice.specs.Spare.{IsHalfClean, IsPart}
+use Rattle.zone_choice.specs.Spare.{IsHalfClean, IsPart, IsVacant}
 use Rattle.zone_choice.specs.ZoneLogs.{HasLog, log_at, zone_tails}
 use Rattle.remount.specs.declared.survey.Survey.{Survey}
 use Rattle.remount.specs.declared.clearing.Finding.{Finding}
@@ -35,6 +35,12 @@ pub record Knows (drive : DriveState) (n : ℕ) (logs : List (List Batch)) (surv
 -- each zone that is vacant in these logs was reported Empty
 abbrev pub AreVacantEmpty : List ReportedZone → List (List Batch) → Type 0
 AreVacantEmpty reported logs = (zone : ℕ) (r : ReportedZone) → slice_get reported zone ≡ Some r → log_at logs zone ≡ [] → r.state ≡ Empty
+
+-- some zone has no batch
+pub record HasVacant (logs : List (List Batch)) : Type 0 where
+  pub zone : ℕ
+  pub in_range : zone < length logs
+  pub vacant : IsVacant logs zone
 
 -- What a command of the mount's repairs keeps: no command is refused, and a drive that can be mounted can still be, with the same array.
 pub record KeepsMountable (n : ℕ) (old new : DriveState) : Type 0 where

@@ -8,3 +8,5 @@ pub mod Resets
 pub mod KeptRecords
 pub mod Placing
 pub mod Mounting
+pub mod Rivals
+pub mod Clearing

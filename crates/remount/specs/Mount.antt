@@ -27,7 +27,7 @@ use Rattle.remount.specs.declared.repair.Repair.{Repair}
 use Rattle.remount.specs.declared.survey.Survey.{Survey}
 use Rattle.remount.specs.declared.steps.Plan.{Plan}
 use Rattle.remount.specs.Heads.{greatest_sequence}
-use Rattle.remount.specs.Known.{AreVacantEmpty, Knows}
+use Rattle.remount.specs.Known.{AreVacantEmpty, HasVacant, Knows}
 use Rattle.remount.specs.Survey.{AreInside, CanScan, HoldLogs, SurveyFails, drive_size}
 
 -- ---- torn zones
@@ -89,12 +89,6 @@ pub record AreToEmpty (logs : List (List Batch)) (survey : Survey) (zones : List
 -- no zone has a torn tail
 abbrev pub AreWhole : List Content → Type 0
 AreWhole zones = (zone : ℕ) → slice_index_or (zone_tails zones) zone false ≡ false
-
--- some zone has no batch
-pub record HasVacant (logs : List (List Batch)) : Type 0 where
-  pub zone : ℕ
-  pub in_range : zone < length logs
-  pub vacant : IsVacant logs zone
 
 -- A drive that a disk can serve: vacant zones are Empty, and there is one; no zone has a torn tail; and zones that are partly written, two at most, have two free blocks and no batch with more entries than ours.
 pub record IsRepaired (drive : DriveState) (survey : Survey) : Type 0 where

@@ -9,7 +9,8 @@ ghost use Rattle.zone_choice.specs.Spare.{IsClearing, cleared};
 ghost use Rattle.zone_choice.specs.ZoneLogs.{log_at, zone_tails};
 ghost use Rattle.remount.specs.Heads.{heads_of, no_heads};
 ghost use Rattle.remount.specs.Known.{AreVacantEmpty, KeepsMountable, Knows};
-ghost use Rattle.remount.specs.Mount.{AreToEmpty, AreWhole, HasVacant, IsRepaired};
+ghost use Rattle.remount.specs.Known.{HasVacant};
+ghost use Rattle.remount.specs.Mount.{AreToEmpty, AreWhole, IsRepaired};
 ghost use Rattle.remount.specs.Resets.{FinishesIf, FinishesOne, IsTested, MayChange, MayReset, ResetsAll, is_to_finish, reported_empty};
 ghost use Rattle.remount.specs.Scan.{AreKnown, FailsBy, heads_in};
 

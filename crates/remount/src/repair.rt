@@ -5,7 +5,8 @@ ghost use Rattle.zone_choice.specs.Mountable.{IsMountable};
 ghost use Rattle.zone_choice.specs.Spare.{NoneBelow};
 ghost use Rattle.zone_choice.specs.ZoneLogs.{zone_tails};
 ghost use Rattle.remount.specs.Known.{AreVacantEmpty, KeepsMountable, Knows};
-ghost use Rattle.remount.specs.Mount.{AreWhole, HasVacant, IsPlan};
+ghost use Rattle.remount.specs.Known.{HasVacant};
+ghost use Rattle.remount.specs.Mount.{AreWhole, IsPlan};
 ghost use Rattle.remount.specs.Scan.{FailsBy};
 
 use crate::fault::MountFault;

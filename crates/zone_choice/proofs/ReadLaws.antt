@@ -32,9 +32,9 @@ use Rattle.zone_choice.proofs.NewestLaws.{newest-is}
 -- ---- in one zone
 
 -- the data of a record of a zone stands in these blocks
-record StandsIn (blocks : List (List ℕ)) (zero_fill : List ℕ) (zone : ℕ) (r : Record) : Type 0 where
-  zone_is : r.zone ≡ zone
-  stands : (bytes : List ℕ) → r.content ≡ Some bytes → (r.offset < length blocks) × (get_or blocks r.offset zero_fill ≡ bytes)
+pub record StandsIn (blocks : List (List ℕ)) (zero_fill : List ℕ) (zone : ℕ) (r : Record) : Type 0 where
+  pub zone_is : r.zone ≡ zone
+  pub stands : (bytes : List ℕ) → r.content ≡ Some bytes → (r.offset < length blocks) × (get_or blocks r.offset zero_fill ≡ bytes)
 
 abbrev BodyAt : List (List ℕ) → List ℕ → ℕ → List (List ℕ) → Type 0
 BodyAt blocks z header body = (k : ℕ) → k < length body → (header + 1 + k < length blocks) × (get_or blocks (header + 1 + k) z ≡ get_or body k [])
@@ -78,7 +78,7 @@ log_stands size zone offset front (b ∷ bs) tail blocks z fits e is =
         let total : length blocks ≡ length front + suc (length b.body + length rest) = ap length whole ∙ omega (arith, length-append front (header ∷ (b.body ++ rest)), length-append b.body rest) in
         (omega (arith, total), rw (spot, whole) (get_or-append-add front (header ∷ (b.body ++ rest)) (suc k) z ∙ get_or-left z b.body rest k lt))
 
-zone_stands : (size zone : ℕ) (is_full : Bool) (blocks : List (List ℕ)) (log : List Batch) (z : List ℕ) → IsLog size is_full blocks log → AllByRecursion (StandsIn blocks z zone) (log_records zone 0 log)
+pub zone_stands : (size zone : ℕ) (is_full : Bool) (blocks : List (List ℕ)) (log : List Batch) (z : List ℕ) → IsLog size is_full blocks log → AllByRecursion (StandsIn blocks z zone) (log_records zone 0 log)
 zone_stands size zone is_full blocks log z is = log_stands size zone 0 [] log is.tail blocks z is.front.batches refl is.front.spelled
 
 -- ---- on the drive

@@ -1,0 +1,196 @@
+-- What blocks show, as it is read.
+use Rattle.std.proofs.Common.{◌≡◌, ◌≢◌, ◌⊎◌, inl, inr, ℕ, zero, suc, ◌+◌, ◌<◌, ◌≤◌, Bool, true, false, cond, not, List, [], ◌∷◌, ◌++◌, length, map, drop, get_or, replicate, Option, Some, None, Result, Ok, Err, refl, sym, ap, subst, ◌∙◌, arith}
+use Rattle.std.specs.Prelude.{IfOk}
+use Rattle.std.specs.BTreeMap.{BTreeMap}
+use Rattle.std.specs.List.{AllByRecursion}
+use Rattle.std.specs.Option.{IsSome, option_map}
+use Rattle.std.proofs.lemmas.List.{drop_all}
+use Rattle.std.proofs.Math.Seq.{drop-cons}
+use Rattle.drive_port.specs.Drive.{DriveState}
+use Rattle.drive_port.proofs.ClosingLaws.{length-closing}
+use Rattle.batch_log.specs.Log.{Batch}
+use Rattle.zone_choice.specs.Records.{IsNewest, Record, newest, records, shown, without}
+use Rattle.zone_choice.proofs.AllLaws.{all-at, all-weaker}
+use Rattle.zone_choice.proofs.NewestLaws.{newest-is}
+use Rattle.zone_choice.proofs.ReadLaws.{all-among}
+use Rattle.remount.specs.declared.records.KeptRecord.{KeptRecord}
+use Rattle.remount.specs.declared.rivals.Rivals.{Rivals}
+use Rattle.remount.specs.Clearing.{AllStand, FindsNeeded, IfStands, ShowsSame, StandsAt, Tells}
+use Rattle.remount.specs.KeptRecords.{block_in, is_absent, kept_record}
+use Rattle.remount.specs.Reported.{KeepsZones}
+use Rattle.remount.specs.Rivals.{AreRivals, HoldsBlocks, HoldsRivals, held_of}
+use Rattle.remount.specs.Scan.{block_of, blocks_of}
+use Rattle.remount.proofs.OutsideLaws.{is_outside, outside, outside-is}
+use Rattle.remount.proofs.ReadLaws.{kept-blocks}
+use Rattle.remount.proofs.SpareLaws.{same-none, same-other}
+
+-- ---- the drive stays as it is
+
+stands-kept : (old new : DriveState) (r : Record) → KeepsZones old new → StandsAt old r → StandsAt new r
+stands-kept old new r kept stands bytes some =
+    let at = stands bytes some in
+    (omega (arith, at.0, length-closing old.zones new.zones kept.closing), rw (kept-blocks old new r.zone kept) at.1, rw (kept-blocks old new r.zone kept) at.2)
+
+pub if-kept : (old new : DriveState) (r : Option Record) → KeepsZones old new → IfStands old r → IfStands new r
+if-kept old new None kept stands = tt
+if-kept old new (Some r) kept stands = stands-kept old new r kept stands
+
+pub all-kept : (old new : DriveState) (logs : List (List Batch)) → KeepsZones old new → AllStand old logs → AllStand new logs
+all-kept old new logs kept all = all-weaker (StandsAt old) (StandsAt new) (records 0 logs) (λ r stands. stands-kept old new r kept stands) all
+
+-- ---- what a record shows
+
+trim-shown : (block_bytes : ℕ) (r : Record) → is_absent r.content ≡ true → shown block_bytes (Some r) ≡ replicate block_bytes 0
+trim-shown block_bytes r e = by r.content refl
+  where
+    by : (content : Option (List ℕ)) → r.content ≡ content → shown block_bytes (Some r) ≡ replicate block_bytes 0
+    by None is = rw is refl
+    by (Some bytes) is = absurd (let bad = rw is at e in cc)
+
+pub shows-trim : (block_bytes : ℕ) (kept : KeptRecord) (found : Option Record) → Some kept ≡ option_map kept_record found → kept.trim ≡ true → shown block_bytes found ≡ replicate block_bytes 0
+shows-trim block_bytes kept None e trim = absurd (cc)
+shows-trim block_bytes kept (Some r) e trim =
+    let same : kept ≡ kept_record r = cc in
+    trim-shown block_bytes r (sym (ap (λ (k : KeptRecord). k.trim) same) ∙ trim)
+
+pub shows-none : (block_bytes : ℕ) (found : Option Record) → None ≡ option_map kept_record found → shown block_bytes found ≡ replicate block_bytes 0
+shows-none block_bytes None e = refl
+shows-none block_bytes (Some r) e = absurd (cc)
+
+pub shows-data : (drive : DriveState) (block_bytes : ℕ) (kept : KeptRecord) (found : Option Record) (bytes : List ℕ) → Some kept ≡ option_map kept_record found → kept.trim ≡ false → IfStands drive found
+    → (kept.zone < length drive.zones → kept.offset < length (blocks_of drive kept.zone) → bytes ≡ block_of drive kept.zone kept.offset) → bytes ≡ shown block_bytes found
+shows-data drive block_bytes kept None bytes e trim stands read = absurd (cc)
+shows-data drive block_bytes kept (Some r) bytes e trim stands read = by r.content refl
+  where
+    same : kept ≡ kept_record r
+    same = cc
+
+    by : (content : Option (List ℕ)) → r.content ≡ content → bytes ≡ shown block_bytes (Some r)
+    by None is =
+        let absent : is_absent r.content ≡ false = sym (ap (λ (k : KeptRecord). k.trim) same) ∙ trim in
+        absurd (let bad = rw is at absent in cc)
+    by (Some content) is =
+        let at = stands content is in
+        let read' = rw same at read in
+        rw is (read' at.0 at.1 ∙ at.2)
+
+-- ---- whether a block shows the same
+
+newest-stands : (drive : DriveState) (logs : List (List Batch)) (block : ℕ) (rs : List Record) → AllByRecursion (StandsAt drive) rs → IfStands drive (newest block rs)
+newest-stands drive logs block rs all = by (newest block rs) (newest-is block rs)
+  where
+    by : (x : Option Record) → IsNewest rs block x → IfStands drive x
+    by None is = tt
+    by (Some r) is = all-among (StandsAt drive) rs r all is.1.among
+
+outside-stands : (P : Record → Type 0) (zone : ℕ) (rs : List Record) → AllByRecursion P rs → AllByRecursion P (outside zone rs)
+outside-stands P zone [] all = tt
+outside-stands P zone (r ∷ rs) all = by (is_outside zone r) (outside-stands P zone rs all.1)
+  where
+    by : (t : Bool) → AllByRecursion P (outside zone rs) → AllByRecursion P (cond t (r ∷ outside zone rs) (outside zone rs))
+    by true rest = (all.0, rest)
+    by false rest = rest
+
+-- the block is one that the table holds
+pub same-told : (drive : DriveState) (logs : List (List Batch)) (table : BTreeMap ℕ Rivals) (zone block : ℕ) (rivals : Rivals) (kept : KeptRecord) (same : Bool) → held_of table block ≡ Some rivals → rivals.newest ≡ Some kept → kept.zone ≡ zone
+    → ((a b : Option Record) → rivals.newest ≡ option_map kept_record a → rivals.other ≡ option_map kept_record b → IfStands drive a → IfStands drive b → Tells same (shown drive.geometry.block b ≡ shown drive.geometry.block a))
+    → HoldsRivals logs table → AllStand drive logs → Tells same (ShowsSame drive.geometry.block logs zone block)
+same-told drive logs table zone block rivals kept same there newest_kept zone_is tells holds stand = by (newest block (records 0 logs)) refl
+  where
+    are : AreRivals logs block rivals
+    are = holds block rivals there
+
+    rest : List Record
+    rest = records 0 (without logs zone)
+
+    stands : IfStands drive (newest block rest)
+    stands = newest-stands drive logs block rest (subst (λ (rs : List Record). AllByRecursion (StandsAt drive) rs) (outside-is 0 zone zone logs (omega arith)) (outside-stands (StandsAt drive) zone (records 0 logs) stand))
+
+    by : (x : Option Record) → newest block (records 0 logs) ≡ x → Tells same (ShowsSame drive.geometry.block logs zone block)
+    by None e = absurd (let some = sym newest_kept ∙ are.newest_is ∙ ap (option_map kept_record) e in cc)
+    by (Some r) e =
+        let one : Some kept ≡ Some (kept_record r) = sym newest_kept ∙ are.newest_is ∙ ap (option_map kept_record) e in
+        let eq : kept ≡ kept_record r = cc in
+        let z : r.zone ≡ zone = sym (ap (λ (k : KeptRecord). k.zone) eq) ∙ zone_is in
+        let other : rivals.other ≡ option_map kept_record (newest block rest) = are.other_is r e ∙ ap (λ (k : ℕ). option_map kept_record (newest block (records 0 (without logs k)))) z in
+        tells (newest block (records 0 logs)) (newest block rest) are.newest_is other (newest-stands drive logs block (records 0 logs) stand) stands
+
+pub same-unheld : (table : BTreeMap ℕ Rivals) (block : ℕ) → held_of table block ≡ None → IsSome (held_of table block) → ⊥
+same-unheld table block none some = let bad = rw none at some in absurd (cc)
+
+pub same-absent : (drive : DriveState) (logs : List (List Batch)) (table : BTreeMap ℕ Rivals) (zone block : ℕ) (rivals : Rivals) → held_of table block ≡ Some rivals → rivals.newest ≡ None → HoldsRivals logs table → ShowsSame drive.geometry.block logs zone block
+same-absent drive logs table zone block rivals there none holds = by (newest block (records 0 logs)) refl
+  where
+    by : (x : Option Record) → newest block (records 0 logs) ≡ x → ShowsSame drive.geometry.block logs zone block
+    by None e = same-none drive.geometry.block logs zone block e
+    by (Some r) e = absurd (let bad = sym none ∙ (holds block rivals there).newest_is ∙ ap (option_map kept_record) e in cc)
+
+pub same-apart : (drive : DriveState) (logs : List (List Batch)) (table : BTreeMap ℕ Rivals) (zone block : ℕ) (rivals : Rivals) (kept : KeptRecord) → held_of table block ≡ Some rivals → rivals.newest ≡ Some kept → kept.zone ≢ zone → HoldsRivals logs table
+    → ShowsSame drive.geometry.block logs zone block
+same-apart drive logs table zone block rivals kept there newest_kept apart holds = by (newest block (records 0 logs)) refl
+  where
+    by : (x : Option Record) → newest block (records 0 logs) ≡ x → ShowsSame drive.geometry.block logs zone block
+    by None e = absurd (let bad = sym newest_kept ∙ (holds block rivals there).newest_is ∙ ap (option_map kept_record) e in cc)
+    by (Some r) e =
+        let one : Some kept ≡ Some (kept_record r) = sym newest_kept ∙ (holds block rivals there).newest_is ∙ ap (option_map kept_record) e in
+        let eq : kept ≡ kept_record r = cc in
+        same-other drive.geometry.block logs zone block r e (λ z. apart (ap (λ (k : KeptRecord). k.zone) eq ∙ z))
+
+-- ---- block after block
+
+abbrev AreSame : ℕ → List (List Batch) → ℕ → List ℕ → Type 0
+AreSame block_bytes logs zone entries = AllByRecursion (λ entry. ShowsSame block_bytes logs zone (block_in entry)) entries
+
+-- the blocks of the first entries show the same
+abbrev pub SameSoFar : DriveState → BTreeMap ℕ Rivals → ℕ → List ℕ → ℕ → Type 0
+SameSoFar drive table zone entries i = (logs : List (List Batch)) → HoldsRivals logs table → AllStand drive logs → HoldsBlocks table entries → AreSame drive.geometry.block logs zone (drop i entries) → AreSame drive.geometry.block logs zone entries
+
+abbrev pub TellsBlock : DriveState → BTreeMap ℕ Rivals → ℕ → ℕ → Bool → Type 0
+TellsBlock drive table zone block same = (logs : List (List Batch)) → HoldsRivals logs table → AllStand drive logs → IsSome (held_of table block) → Tells same (ShowsSame drive.geometry.block logs zone block)
+
+tells-first : (first now : DriveState) (table : BTreeMap ℕ Rivals) (zone block : ℕ) (same : Bool) → KeepsZones first now → TellsBlock now table zone block same → TellsBlock first table zone block same
+tells-first first now table zone block same kept tells logs holds stand some =
+    rw (← kept.geometry) (tells logs holds (all-kept first now logs kept stand) some)
+
+block-held : (table : BTreeMap ℕ Rivals) (entries : List ℕ) (i d : ℕ) → HoldsBlocks table entries → i < length entries → IsSome (held_of table (block_in (get_or entries i d)))
+block-held table entries i d holds lt = all-at (λ entry. IsSome (held_of table (block_in entry))) entries i d holds lt
+
+pub same-more : (first now : DriveState) (table : BTreeMap ℕ Rivals) (zone : ℕ) (entries : List ℕ) (i i' block : ℕ) (same : Bool) → KeepsZones first now → i < length entries → i' ≡ suc i → block ≡ block_in (get_or entries i 0) → same ≡ true → TellsBlock now table zone block same
+    → SameSoFar first table zone entries i → SameSoFar first table zone entries i'
+same-more first now table zone entries i i' block same kept lt more is yes_same tells so_far logs holds stand held rest =
+    let here = rw (yes_same, is) at (tells-first first now table zone block same kept tells) in
+    so_far logs holds stand held (rw (drop-cons entries i 0 lt) (here logs holds stand (block-held table entries i 0 held lt), rw more at rest))
+
+pub needed-here : (first now : DriveState) (table : BTreeMap ℕ Rivals) (zone : ℕ) (entries : List ℕ) (i block : ℕ) (same : Bool) → KeepsZones first now → i < length entries → block ≡ block_in (get_or entries i 0) → same ≡ false → TellsBlock now table zone block same
+    → (logs : List (List Batch)) → HoldsRivals logs table → AllStand first logs → HoldsBlocks table entries → FindsNeeded first.geometry.block logs zone entries (Some block)
+needed-here first now table zone entries i block same kept lt is not_same tells logs holds stand held =
+    let here = rw not_same at (tells-first first now table zone block same kept tells) in
+    here logs holds stand (rw is (block-held table entries i 0 held lt))
+
+pub none-needed : (drive : DriveState) (table : BTreeMap ℕ Rivals) (zone : ℕ) (entries : List ℕ) (i : ℕ) → length entries ≤ i → SameSoFar drive table zone entries i
+    → (logs : List (List Batch)) → HoldsRivals logs table → AllStand drive logs → HoldsBlocks table entries → FindsNeeded drive.geometry.block logs zone entries None
+none-needed drive table zone entries i le so_far logs holds stand held = so_far logs holds stand held (rw (drop_all i entries le) tt)
+
+-- ---- two records are compared
+
+abbrev pub ReadsShown : DriveState → Option KeptRecord → List ℕ → Type 0
+ReadsShown drive kept bytes = (found : Option Record) → kept ≡ option_map kept_record found → IfStands drive found → bytes ≡ shown drive.geometry.block found
+
+pub both-same : (first now : DriveState) (rivals : Rivals) (a b : List ℕ) → KeepsZones first now → ReadsShown first rivals.newest a → ReadsShown now rivals.other b → a ≡ b
+    → (newest other : Option Record) → rivals.newest ≡ option_map kept_record newest → rivals.other ≡ option_map kept_record other → IfStands first newest → IfStands first other → shown first.geometry.block other ≡ shown first.geometry.block newest
+both-same first now rivals a b kept reads reads' same newest other e f stands stands' =
+    let second = rw kept.geometry at (reads' other f (if-kept first now other kept stands')) in
+    sym second ∙ sym same ∙ reads newest e stands
+
+pub both-differ : (first now : DriveState) (rivals : Rivals) (a b : List ℕ) → KeepsZones first now → ReadsShown first rivals.newest a → ReadsShown now rivals.other b → a ≢ b
+    → (newest other : Option Record) → rivals.newest ≡ option_map kept_record newest → rivals.other ≡ option_map kept_record other → IfStands first newest → IfStands first other → shown first.geometry.block other ≡ shown first.geometry.block newest → ⊥
+both-differ first now rivals a b kept reads reads' differ newest other e f stands stands' same =
+    let second = rw kept.geometry at (reads' other f (if-kept first now other kept stands')) in
+    differ (reads newest e stands ∙ sym same ∙ sym second)
+
+abbrev pub TellsRivals : DriveState → Rivals → Bool → Type 0
+TellsRivals drive rivals same = (newest other : Option Record) → rivals.newest ≡ option_map kept_record newest → rivals.other ≡ option_map kept_record other → IfStands drive newest → IfStands drive other → Tells same (shown drive.geometry.block other ≡ shown drive.geometry.block newest)
+
+pub told-ok : {E : Type 0} (P Q : Bool → Type 0) (result : Result Bool E) → ((same : Bool) → P same → Q same) → IfOk result P → IfOk result Q
+told-ok P Q (Ok same) f p = f same p
+told-ok P Q (Err e) f p = tt

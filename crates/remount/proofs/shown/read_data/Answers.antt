@@ -1,0 +1,18 @@
+use Rattle.std.proofs.Common.{◌≡◌, length, arith}
+use Rattle.remount.proofs.MovedLaws.{there}
+use Rattle.remount.proofs.ReadLaws.{keeps-none}
+use Rattle.remount.proofs.shown.read_data.Goals as goal
+
+pub returns-in_default-clause-kept : goal.returns-in_default-clause-kept
+returns-in_default-clause-kept g c = keeps-none _ c.requires.zones.lawful
+
+pub returns-then-found-reported-clause-ok : goal.returns-then-found-reported-clause-ok
+returns-then-found-reported-clause-ok g c = λ zone_lt offset_lt.
+    let known = c.requires.zones.each c.args.found.zone c.in-Some.reported.now (there c.args.zones.now c.args.found.zone c.in-Some.reported.now c.in-Some.ensures.lookup.3.0 c.in-Some.ensures.lookup.1) in
+    absurd (omega (arith, known.blocks, offset_lt, c.if-found-reported.true))
+
+pub returns-then-found-reported-clause-kept : goal.returns-then-found-reported-clause-kept
+returns-then-found-reported-clause-kept g c = keeps-none _ c.requires.zones.lawful
+
+pub read_block-requires-clause-zone : goal.read_block-requires-clause-zone
+read_block-requires-clause-zone g c = c.requires.zones.each c.args.found.zone c.in-Some.reported.now (there c.args.zones.now c.args.found.zone c.in-Some.reported.now c.in-Some.ensures.lookup.3.0 c.in-Some.ensures.lookup.1)
