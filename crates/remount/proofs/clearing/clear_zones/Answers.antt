@@ -2,7 +2,7 @@ use Rattle.std.proofs.Common.{◌≡◌, [], Some, None, inl, inr, refl, sym, ap
 use Rattle.std.proofs.lemmas.Bool.{eqb-true}
 use Rattle.std.proofs.lemmas.List.{nil_from_length}
 use Rattle.zone_choice.specs.Agreement.{drive_logs}
-use Rattle.remount.proofs.ClearLaws.{clears-all, clears-fewer, clears-more, clears-none, has-cleared, has-vacant, lowest-known, no-spare}
+use Rattle.remount.proofs.ClearLaws.{clears-all, clears-fewer, clears-more, clears-none, lowest-known, no-spare}
 use Rattle.remount.proofs.ReadLaws.{keeps-both}
 use Rattle.remount.proofs.SpareLaws.{knows-kept}
 use Rattle.remount.proofs.clearing.clear_zones.Goals as goal
