@@ -122,11 +122,3 @@ no-spare first now n survey resets so_far none empty vacant has =
     let none' = rw empty at none in
     let vacant' = rw empty at vacant in
     elim has.spare as (λ _. ⊥) [ inl is ↦ vacant' (record { zone = has.zone; in_range = has.in_range; vacant = is }) | inr half ↦ none' has.zone has.in_range half ]
-
-pub has-vacant : (first : DriveState) (n : ℕ) (resets : List ℕ) → resets ≡ [] → HasVacant (cleared (drive_logs first) resets) → HasSpare first.geometry.block n (drive_logs first)
-has-vacant first n resets empty vacant =
-    let there = rw empty at vacant in
-    record { zone = there.zone; in_range = there.in_range; spare = inl there.vacant }
-
-pub has-cleared : (first now : DriveState) (n : ℕ) (survey : Survey) (resets : List ℕ) → ClearsSoFar first now n survey resets → (resets ≡ [] → ⊥) → HasSpare first.geometry.block n (drive_logs first)
-has-cleared first now n survey resets so_far some = elim so_far.spare as (λ _. HasSpare first.geometry.block n (drive_logs first)) [ inl none ↦ absurd (some none) | inr has ↦ has ]

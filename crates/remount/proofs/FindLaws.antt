@@ -50,13 +50,6 @@ covers-more scanned limit one old new lt is more holds covers logs are zone less
   | inr other ↦ blocks-more old new found.heads.entries more (covers logs are zone (omega (arith, less, other)) moved found there_is)
 ]
 
--- of a zone that isn't moved nothing is needed
-pub covers-same : (scanned : List ScannedZone) (limit : ℕ) (table : BTreeMap ℕ Rivals) → ((logs : List (List Batch)) → AreOf scanned logs → IsMoved logs limit → ⊥) → CoversBelow scanned table limit → CoversBelow scanned table (limit + 1)
-covers-same scanned limit table never covers logs are zone less moved found there_is = elim (cases_eq zone limit) as (λ _. HoldsBlocks table found.heads.entries) [
-  | inl here ↦ absurd (never logs are (rw here at moved))
-  | inr other ↦ covers logs are zone (omega (arith, less, other)) moved found there_is
-]
-
 pub covers-all : (scanned : List ScannedZone) (limit : ℕ) (old new : BTreeMap ℕ Rivals) → length scanned ≤ limit → CoversBelow scanned old limit
     → ((block : ℕ) → held_of new block ≡ held_after block (held_of old block) (kept_records 0 (heads_in scanned))) → (logs : List (List Batch)) → AreOf scanned logs → CoversMoved logs scanned new
 covers-all scanned limit old new le covers taken logs are zone moved found there_is = elim (cases_lt zone limit) as (λ _. HoldsBlocks new found.heads.entries) [
@@ -115,10 +108,6 @@ count-known drive n logs survey known = sym (length-map survey.scanned.items (λ
 
 pub few-known : (drive : DriveState) (n : ℕ) (logs : List (List Batch)) (survey : Survey) → Knows drive n logs survey → length survey.scanned.items < 2 ^ 32
 few-known drive n logs survey known = omega (arith, count-known drive n logs survey known, known.count, known.zones.lawful.count, known.zones.geometry.zones.1)
-
--- the tables of what is known
-abbrev pub HoldsTable : DriveState → ℕ → Survey → BTreeMap ℕ Rivals → List (List Batch) → Type 0
-HoldsTable drive n survey table logs = Knows drive n logs survey × HoldsRivals logs table × CoversMoved logs survey.scanned.items table
 
 abbrev pub NoneSoFar : DriveState → ℕ → Survey → BTreeMap ℕ Rivals → ℕ → Type 0
 NoneSoFar drive n survey table limit = (logs : List (List Batch)) → Knows drive n logs survey → HoldsRivals logs table → CoversMoved logs survey.scanned.items table → NoneBelow drive.geometry.block n logs limit
@@ -223,5 +212,3 @@ FindsOf drive n survey zone finding = (logs : List (List Batch)) → Knows drive
 abbrev pub LowestOf : DriveState → ℕ → Survey → Option ℕ → Type 0
 LowestOf drive n survey found = (logs : List (List Batch)) → Knows drive n logs survey → FindsLowest drive.geometry.block n logs found
 
-pub none-held : (table : BTreeMap ℕ Rivals) → table.entries ≡ [] → HasNoRecord table
-none-held table empty block rivals held = absurd (let bad = rw empty at held in cc)

@@ -253,25 +253,6 @@ not-vacant scanned logs zone limit found heads are lt is same some none less emp
 pub none-vacant : (scanned : List ScannedZone) (logs : List (List Batch)) (limit : ℕ) → AreOf scanned logs → length scanned ≤ limit → ((k : ℕ) → k < limit → log_at logs k ≡ [] → ⊥) → HasVacant logs → ⊥
 none-vacant scanned logs limit are le none some = none some.zone (omega (arith, some.in_range, le, count-same scanned logs are)) some.vacant
 
--- the sizes of all zones but one
-size-here : (xs : List HeadsView) (zone : ℕ) → zone < length xs → drop zone (forgotten xs zone) ≡ no_heads ∷ drop (suc zone) xs
-size-here [] zone lt = absurd (omega arith)
-size-here (x ∷ xs) zero lt = refl
-size-here (x ∷ xs) (suc zone) lt = size-here xs zone (omega (arith, lt))
-
-drop-past : (xs : List HeadsView) (zone : ℕ) → drop (suc zone) (forgotten xs zone) ≡ drop (suc zone) xs
-drop-past [] zone = refl
-drop-past (x ∷ xs) zero = refl
-drop-past (x ∷ xs) (suc zone) = drop-past xs zone
-
-pub size-skips : (scanned : List ScannedZone) (zone number : ℕ) (size all : Option ℕ) → number ≡ zone → number < length scanned → larger size (greatest_in (drop number (forgotten (heads_in scanned) zone))) ≡ all
-    → larger size (greatest_in (drop (number + 1) (forgotten (heads_in scanned) zone))) ≡ all
-size-skips scanned zone number size all same lt before =
-    let views = heads_in scanned in
-    let more : number + 1 ≡ suc zone = omega (arith, same) in
-    let before' = rw (same, size-here views zone (omega (arith, lt, same, length-map scanned (λ (z : ScannedZone). z.heads)))) at before in
-    rw (more, drop-past views zone) before'
-
 other-here : (xs : List HeadsView) (zone number : ℕ) (d : HeadsView) → (number ≡ zone → ⊥) → number < length xs → drop number (forgotten xs zone) ≡ get_or xs number d ∷ drop (suc number) (forgotten xs zone)
 other-here [] zone number d other lt = absurd (omega arith)
 other-here (x ∷ xs) zero zero d other lt = absurd (other refl)

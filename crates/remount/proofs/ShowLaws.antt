@@ -14,10 +14,11 @@ use Rattle.zone_choice.proofs.AllLaws.{all-at, all-weaker}
 use Rattle.zone_choice.proofs.NewestLaws.{newest-is}
 use Rattle.zone_choice.proofs.ReadLaws.{all-among}
 use Rattle.remount.specs.declared.records.KeptRecord.{KeptRecord}
+use Rattle.remount.specs.declared.reported.ReportedZone.{ReportedZone}
 use Rattle.remount.specs.declared.rivals.Rivals.{Rivals}
 use Rattle.remount.specs.Clearing.{AllStand, FindsNeeded, IfStands, ShowsSame, StandsAt, Tells}
 use Rattle.remount.specs.KeptRecords.{block_in, is_absent, kept_record}
-use Rattle.remount.specs.Reported.{KeepsZones}
+use Rattle.remount.specs.Reported.{IsKnown, KeepsZones}
 use Rattle.remount.specs.Rivals.{AreRivals, HoldsBlocks, HoldsRivals, held_of}
 use Rattle.remount.specs.Scan.{block_of, blocks_of}
 use Rattle.remount.proofs.OutsideLaws.{is_outside, outside, outside-is}
@@ -39,40 +40,6 @@ pub all-kept : (old new : DriveState) (logs : List (List Batch)) → KeepsZones 
 all-kept old new logs kept all = all-weaker (StandsAt old) (StandsAt new) (records 0 logs) (λ r stands. stands-kept old new r kept stands) all
 
 -- ---- what a record shows
-
-trim-shown : (block_bytes : ℕ) (r : Record) → is_absent r.content ≡ true → shown block_bytes (Some r) ≡ replicate block_bytes 0
-trim-shown block_bytes r e = by r.content refl
-  where
-    by : (content : Option (List ℕ)) → r.content ≡ content → shown block_bytes (Some r) ≡ replicate block_bytes 0
-    by None is = rw is refl
-    by (Some bytes) is = absurd (let bad = rw is at e in cc)
-
-pub shows-trim : (block_bytes : ℕ) (kept : KeptRecord) (found : Option Record) → Some kept ≡ option_map kept_record found → kept.trim ≡ true → shown block_bytes found ≡ replicate block_bytes 0
-shows-trim block_bytes kept None e trim = absurd (cc)
-shows-trim block_bytes kept (Some r) e trim =
-    let same : kept ≡ kept_record r = cc in
-    trim-shown block_bytes r (sym (ap (λ (k : KeptRecord). k.trim) same) ∙ trim)
-
-pub shows-none : (block_bytes : ℕ) (found : Option Record) → None ≡ option_map kept_record found → shown block_bytes found ≡ replicate block_bytes 0
-shows-none block_bytes None e = refl
-shows-none block_bytes (Some r) e = absurd (cc)
-
-pub shows-data : (drive : DriveState) (block_bytes : ℕ) (kept : KeptRecord) (found : Option Record) (bytes : List ℕ) → Some kept ≡ option_map kept_record found → kept.trim ≡ false → IfStands drive found
-    → (kept.zone < length drive.zones → kept.offset < length (blocks_of drive kept.zone) → bytes ≡ block_of drive kept.zone kept.offset) → bytes ≡ shown block_bytes found
-shows-data drive block_bytes kept None bytes e trim stands read = absurd (cc)
-shows-data drive block_bytes kept (Some r) bytes e trim stands read = by r.content refl
-  where
-    same : kept ≡ kept_record r
-    same = cc
-
-    by : (content : Option (List ℕ)) → r.content ≡ content → bytes ≡ shown block_bytes (Some r)
-    by None is =
-        let absent : is_absent r.content ≡ false = sym (ap (λ (k : KeptRecord). k.trim) same) ∙ trim in
-        absurd (let bad = rw is at absent in cc)
-    by (Some content) is =
-        let at = stands content is in
-        let read' = rw same at read in
-        rw is (read' at.0 at.1 ∙ at.2)
 
 -- ---- whether a block shows the same
 
@@ -114,9 +81,6 @@ same-told drive logs table zone block rivals kept same there newest_kept zone_is
         let z : r.zone ≡ zone = sym (ap (λ (k : KeptRecord). k.zone) eq) ∙ zone_is in
         let other : rivals.other ≡ option_map kept_record (newest block rest) = are.other_is r e ∙ ap (λ (k : ℕ). option_map kept_record (newest block (records 0 (without logs k)))) z in
         tells (newest block (records 0 logs)) (newest block rest) are.newest_is other (newest-stands drive logs block (records 0 logs) stand) stands
-
-pub same-unheld : (table : BTreeMap ℕ Rivals) (block : ℕ) → held_of table block ≡ None → IsSome (held_of table block) → ⊥
-same-unheld table block none some = let bad = rw none at some in absurd (cc)
 
 pub same-absent : (drive : DriveState) (logs : List (List Batch)) (table : BTreeMap ℕ Rivals) (zone block : ℕ) (rivals : Rivals) → held_of table block ≡ Some rivals → rivals.newest ≡ None → HoldsRivals logs table → ShowsSame drive.geometry.block logs zone block
 same-absent drive logs table zone block rivals there none holds = by (newest block (records 0 logs)) refl
@@ -194,3 +158,9 @@ TellsRivals drive rivals same = (newest other : Option Record) → rivals.newest
 pub told-ok : {E : Type 0} (P Q : Bool → Type 0) (result : Result Bool E) → ((same : Bool) → P same → Q same) → IfOk result P → IfOk result Q
 told-ok P Q (Ok same) f p = f same p
 told-ok P Q (Err e) f p = tt
+
+-- ---- outside the readable blocks
+
+-- there is no such block
+pub not-readable : (drive : DriveState) (reported : ReportedZone) (zone offset : ℕ) (bytes : List ℕ) → IsKnown drive zone reported → reported.blocks ≤ offset → offset < length (blocks_of drive zone) → bytes ≡ block_of drive zone offset
+not-readable drive reported zone offset bytes known le lt = absurd (omega (arith, known.blocks, le, lt))

@@ -1,7 +1,8 @@
 use Rattle.std.proofs.Common.{◌≡◌, [], Some, None, inl, inr, refl, sym, ap, ◌∙◌, arith}
+use Rattle.std.proofs.lemmas.Bool.{eqb-true}
 use Rattle.std.proofs.lemmas.List.{nil_from_length}
 use Rattle.zone_choice.specs.Agreement.{drive_logs}
-use Rattle.remount.proofs.ClearLaws.{clears-all, clears-fewer, clears-more, clears-none, has-cleared, has-vacant, lowest-known, no-spare}
+use Rattle.remount.proofs.ClearLaws.{clears-all, clears-fewer, clears-more, clears-none, lowest-known, no-spare}
 use Rattle.remount.proofs.ReadLaws.{keeps-both}
 use Rattle.remount.proofs.SpareLaws.{knows-kept}
 use Rattle.remount.proofs.clearing.clear_zones.Goals as goal
@@ -55,7 +56,8 @@ pub returns-clause-err : goal.returns-clause-err
 returns-clause-err g c = inr (inr (refl,
     no-spare (g.D.Device.drive c.args.device.now) (g.D.Device.drive c.loop-resets.device) c.args.blocks c.loop-resets.survey c.loop-resets.resets.items c.loop-resets.invariant.0
     (lowest-known (g.D.Device.drive c.args.device.now) (g.D.Device.drive c.loop-resets.device) (g.D.Device.drive c.lowest_half_clean.new.device) c.args.blocks c.loop-resets.survey c.loop-resets.resets.items None c.loop-resets.invariant.0 (rw c.in_default.is at c.in_ok-zone.ensures.ok))
-    ? ?))
+    (nil_from_length c.loop-resets.resets.items (sym c.loop-resets.resets.ok.0 ∙ eqb-true _ 0 (sym c.is_empty.ensures ∙ c.if-not-is_empty.false)))
+    ((rw (c.deref.ensures.value, c.if-has_vacant.false) at c.has_vacant.ensures) _ c.loop-resets.invariant.0.known.heads)))
 
 pub returns-clause-kept : goal.returns-clause-kept
 returns-clause-kept g c = keeps-both _ _ _ c.loop-resets.invariant.0.kept c.lowest_half_clean.ensures.kept

@@ -1,6 +1,5 @@
 use Rattle.std.proofs.Common.{◌≡◌, length, arith}
 use Rattle.remount.proofs.ReadLaws.{keeps-none}
-use Rattle.remount.proofs.ShowLaws.{shows-data, shows-none, shows-trim}
 use Rattle.remount.proofs.shown.read_shown.Goals as goal
 
 pub returns-in_err-write_zeros-clause-kept : goal.returns-in_err-write_zeros-clause-kept
