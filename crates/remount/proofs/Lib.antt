@@ -15,3 +15,4 @@ pub mod ResetLaws
 pub mod EmptyLaws
 pub mod ToEmptyLaws
 pub mod FinishLaws
+pub mod TornLaws

@@ -5,3 +5,4 @@ pub mod Survey
 pub mod Known
 pub mod Mount
 pub mod Resets
+pub mod Torn

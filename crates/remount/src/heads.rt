@@ -151,6 +151,13 @@ impl ZoneHeads {
         self.highest
     }
 
+    /// The headers, in the order of the batches.
+    pub fn heads(&self) -> &[Head]
+        ensures { result.now ≡ self.now.heads }
+    {
+        &self.heads
+    }
+
     /// The greatest number of entries of a batch, 0 where there is none.
     pub fn most(&self) -> u32
         ensures { result ≡ self.now.most }

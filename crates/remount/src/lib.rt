@@ -26,6 +26,7 @@ mod places;
 mod repair;
 mod reported;
 mod scan;
+mod sequences;
 mod steps;
 mod survey;
 mod torn;
