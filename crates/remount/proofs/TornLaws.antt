@@ -37,7 +37,7 @@ data-one places.None = refl
 data-one (places.Trimmed address) = refl
 data-one (places.At address) = refl
 
-abbrev has_data : ℕ → ℕ → Place → Bool
+abbrev pub has_data : ℕ → ℕ → Place → Bool
 has_data zone_size zone p = lies_in zone_size zone p && is_data_place p
 
 record NextIn (zone_size zone first block : ℕ) (all : List Place) : Type 0 where
