@@ -1,14 +1,14 @@
 -- Which zone is torn, and whether it can be repaired.
-use Rattle.std.proofs.Common.{◌≡◌, ◌≢◌, ◌⊎◌, inl, inr, ℕ, zero, suc, ◌+◌, ◌-◌, ◌*◌, ◌/◌, ◌<◌, ◌≤◌, ◌^◌, max, Bool, true, false, cond, eqb, not, ◌&&◌, ◌==◌, List, [], ◌∷◌, ◌++◌, map, length, get_or, Option, Some, None, is_some, refl, sym, ap, subst, ◌∙◌, arith, append-nil, append_assoc}
+use Rattle.std.proofs.Common.{◌≡◌, ◌≢◌, inl, inr, ℕ, suc, ◌+◌, ◌*◌, ◌/◌, ◌<◌, ◌≤◌, ◌^◌, Bool, true, false, cond, eqb, not, ◌&&◌, List, [], ◌∷◌, ◌++◌, map, length, get_or, Option, Some, None, is_some, refl, sym, ap, subst, ◌∙◌, arith, append-nil, append_assoc}
 use Rattle.std.specs.Prelude.{IfNone, IfSome, slice_get}
 use Rattle.std.specs.List.{AllByRecursion, count_by, flat_map, range_with_len}
 use Rattle.std.specs.Option.{option_map}
 use Rattle.std.proofs.lemmas.Bool.{cases_lt, eq-eqb, ne_eqb}
 use Rattle.std.proofs.lemmas.List.{get_or_past, length-append, length-map, map-append}
 use Rattle.std.proofs.lemmas.List.FromFn.{length-range_with_len}
-use Rattle.std.proofs.lemmas.List.Sums.{count_by-le-length, sum_by-cons}
+use Rattle.std.proofs.lemmas.List.Sums.{sum_by-cons}
 use Rattle.std.proofs.lemmas.Nat.{div-mul-add}
-use Rattle.std.proofs.lemmas.Option.{get_or_from_slice_get, slice_get-get_or, slice_get-map, slice_get_past, slice_get_within}
+use Rattle.std.proofs.lemmas.Option.{get_or_from_slice_get, slice_get-get_or, slice_get-map}
 use Rattle.std.proofs.Math.ListN.{get_or-map}
 use Rattle.zone_states.specs.declared.geometry.Geometry.{Geometry}
 use Rattle.zone_states.specs.Geometry.{IsInRange}
@@ -27,11 +27,10 @@ use Rattle.zone_choice.specs.Reserve.{batch_most}
 use Rattle.zone_choice.specs.Sizes.{encoded_size, map_of}
 use Rattle.zone_choice.specs.Tables.{TablesView, size_of}
 use Rattle.zone_choice.specs.ZoneLogs.{HasLog, log_at, log_sequences, readable, sequences, zone_log, zone_tails}
-use Rattle.zone_choice.proofs.AllLaws.{all-append, all-at}
+use Rattle.zone_choice.proofs.AllLaws.{all-append, all-at, all-weaker}
 use Rattle.zone_choice.proofs.NewestLaws.{newest-is}
 use Rattle.zone_choice.proofs.ReadLaws.{all-among}
 use Rattle.remount.specs.declared.heads.Head.{Head}
-use Rattle.remount.specs.declared.reported.ReportedZone.{ReportedZone}
 use Rattle.remount.specs.declared.scan.ScannedZone.{ScannedZone}
 use Rattle.remount.specs.declared.survey.Survey.{Survey}
 use Rattle.remount.specs.Heads.{HeadsView, heads_after, heads_of, no_heads, with_heading}
@@ -39,17 +38,14 @@ use Rattle.remount.specs.Known.{Knows}
 use Rattle.remount.specs.declared.repair.Repair.{Repair}
 use Rattle.remount.specs.Mount.{IsOnlyTorn, IsPastRepair, IsPlaced, IsPlan, LacksSequences, NoneIsTorn, greatest_sequence}
 use Rattle.remount.specs.Resets.{reported_empty}
-use Rattle.remount.specs.Scan.{heads_in, tails_in}
-use Rattle.remount.specs.Torn.{IsNextTorn, WasSurveyed, data_blocks, data_in, head_sequences, is_data_place, is_torn_in, is_torn_zone, sequences_in}
+use Rattle.remount.specs.Scan.{heads_in}
+use Rattle.remount.specs.Torn.{IsNextTorn, WasSurveyed, data_in, head_sequences, is_torn_in, is_torn_zone, sequences_in}
 use Rattle.remount.proofs.ReadLaws.{known-few}
 use Rattle.remount.proofs.TakeLaws.{blocks-are}
-use Rattle.remount.proofs.TornLaws.{greatest-append, has_data}
+use Rattle.remount.proofs.FinishLaws.{and-both}
+use Rattle.remount.proofs.TornLaws.{has_data}
 
 -- ---- torn zones
-
-both-true : (a b : Bool) → (a && b) ≡ true → (a ≡ true) × (b ≡ true)
-both-true true b is = (refl, is)
-both-true false b is = absurd (cc)
 
 pub scanned-long : (drive : DriveState) (n : ℕ) (logs : List (List Batch)) (survey : Survey) → Knows drive n logs survey → length survey.scanned.items ≡ length logs
 scanned-long drive n logs survey known = omega (arith, ap length known.heads, length-map survey.scanned.items (λ (z : ScannedZone). z.heads), length-map logs heads_of)
@@ -79,7 +75,7 @@ torn-at drive n logs survey zone known lt torn =
     let z = get_or survey.scanned.items zone none in
     let there = slice_get-get_or survey.scanned.items zone none lt in
     let is : is_torn_zone z ≡ true = rw there at torn in
-    let both = both-true z.is_torn (not (eqb z.heads.blocks 0)) is in
+    let both = and-both z.is_torn (not (eqb z.heads.blocks 0)) is in
     let kept = kept-at drive n logs survey zone z known there in
     record {
       batch = λ empty. (let zero_blocks : z.heads.blocks ≡ 0 = kept.blocks ∙ ap log_size empty in let yes : eqb z.heads.blocks 0 ≡ true = eq-eqb z.heads.blocks 0 zero_blocks in let bad : false ≡ true = rw yes at both.1 in absurd (cc));
@@ -171,7 +167,8 @@ drive-few drive n logs survey zone known lt =
     omega (arith, total, few, one.blocks, ap log_size same)
 
 known-below : (drive : DriveState) (n : ℕ) (logs : List (List Batch)) (survey : Survey) → Knows drive n logs survey → AllByRecursion (λ (r : Record). r.offset < drive.geometry.size) (records 0 logs)
-known-below drive n logs survey known = weaker (records 0 logs) (records-below drive.geometry.capacity 0 logs few)
+known-below drive n logs survey known =
+    all-weaker (λ (r : Record). r.offset < drive.geometry.capacity) (λ (r : Record). r.offset < drive.geometry.size) (records 0 logs) (λ r lt. omega (arith, lt, known.zones.geometry.capacity)) (records-below drive.geometry.capacity 0 logs few)
   where
     few : (zone : ℕ) → log_size (log_at logs zone) ≤ drive.geometry.capacity
     few zone = elim (cases_lt zone (length drive.zones)) as (λ _. log_size (log_at logs zone) ≤ drive.geometry.capacity) [
@@ -181,10 +178,6 @@ known-below drive n logs survey known = weaker (records 0 logs) (records-below d
       ])
       | inr past ↦ omega (arith, ap log_size (get_or_past logs zone [] (omega (arith, past, known.count))))
     ]
-
-    weaker : (rs : List Record) → AllByRecursion (λ (r : Record). r.offset < drive.geometry.capacity) rs → AllByRecursion (λ (r : Record). r.offset < drive.geometry.size) rs
-    weaker [] all = tt
-    weaker (r ∷ rs) all = (omega (arith, all.0, known.zones.geometry.capacity), weaker rs all.1)
 
 -- ---- live records, by their places
 

@@ -1,7 +1,6 @@
 -- Torn zones, and the blocks whose newest record lies in one.
-use Rattle.std.proofs.Common.{◌≡◌, ◌≢◌, ◌⊎◌, inl, inr, ℕ, zero, suc, ◌+◌, ◌-◌, ◌<◌, ◌≤◌, ◌^◌, max, Bool, true, false, cond, not, ◌&&◌, ◌==◌, List, [], ◌∷◌, ◌++◌, map, drop, length, get_or, Option, Some, None, refl, sym, ap, subst, ◌∙◌, arith, append-nil, append_assoc}
+use Rattle.std.proofs.Common.{◌≡◌, ℕ, suc, ◌+◌, ◌<◌, ◌≤◌, max, Bool, true, false, cond, ◌&&◌, List, [], ◌∷◌, ◌++◌, drop, length, get_or, Option, Some, None, refl, sym, ap, ◌∙◌, arith, append-nil, append_assoc}
 use Rattle.std.specs.Prelude.{slice_get}
-use Rattle.std.specs.List.{count_by, flat_map}
 use Rattle.std.specs.Option.{option_map}
 use Rattle.std.proofs.lemmas.List.{drop-drop, length-drop, get_or-drop, drop_more}
 use Rattle.std.proofs.lemmas.List.Sums.{count_by-le-length, sum_by-cons}
@@ -10,7 +9,6 @@ use Rattle.logical_map.specs.declared.place.Place.{Place}
 use Rattle.logical_map.specs.declared.place.Place.TheVariants as places
 use Rattle.zone_choice.specs.Tables.{TablesView, size_of}
 use Rattle.remount.specs.declared.scan.ScannedZone.{ScannedZone}
-use Rattle.remount.specs.Heads.{HeadsView}
 use Rattle.remount.specs.Mount.{greatest_sequence}
 use Rattle.remount.specs.Scan.{heads_in}
 use Rattle.remount.specs.Torn.{data_blocks, data_in, head_sequences, is_data_place, sequences_in}

@@ -31,6 +31,7 @@ struct LiveBlocks {
     with_data: u32,
 }
 
+/// Whether a zone has a batch and a torn tail.
 fn is_torn(zone: &ScannedZone) -> bool
     ensures { result ≡ is_torn_zone zone.now }
 {
@@ -89,7 +90,9 @@ fn count_moves(most: u32, records: u64) -> u64
     records.div_ceil(most as u64).max(1)
 }
 
-/// Whether a zone of a cleared drive is torn, and how it is repaired.
+/// How the torn zone of a cleared drive is repaired; `None` where no zone is torn. `TornZone` names the lowest torn
+/// zone, where another is torn, too, or where its live records do not fit in a zone. `Spent` comes where no sequences
+/// are left for the Moves.
 pub fn plan_repair(
     alloc: Global,
     survey: &Survey,

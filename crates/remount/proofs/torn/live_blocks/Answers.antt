@@ -1,5 +1,5 @@
-use Rattle.std.proofs.Common.{◌≡◌, ◌-◌, ◌<◌, ◌≤◌, Some, None, refl, sym, ap, ◌∙◌, subst, List, ℕ, arith}
-use Rattle.remount.proofs.TornLaws.{LiveNext, LiveSoFar, live-end, live-next}
+use Rattle.std.proofs.Common.{arith}
+use Rattle.remount.proofs.TornLaws.{live-end, live-next}
 use Rattle.remount.proofs.torn.live_blocks.Goals as goal
 
 pub overflow_add-from : goal.overflow_add-from

@@ -1,4 +1,4 @@
-use Rattle.std.proofs.Common.{ℕ, ◌≡◌, ◌+◌, ◌<◌, ◌≤◌, false, inr, List, length, refl, sym, ap, subst, ◌∙◌, arith}
+use Rattle.std.proofs.Common.{ℕ, ◌≡◌, ◌+◌, ◌≤◌, false, inr, List, length, refl, sym, ap, subst, ◌∙◌, arith}
 use Rattle.zone_choice.specs.Repair.{moves}
 use Rattle.zone_choice.specs.Reserve.{batch_most}
 use Rattle.remount.specs.declared.scan.ScannedZone.{ScannedZone}
