@@ -1,8 +1,8 @@
 -- Zones are reset, one after the other.
-use Rattle.std.proofs.Common.{◌≡◌, ◌≢◌, ◌⊎◌, inl, inr, ℕ, ◌<◌, ◌≤◌, Bool, true, false, List, [], ◌∷◌, ◌++◌, map, length, set, get_or, Option, Some, None, Result, Ok, Err, refl, sym, ap, subst, ◌∙◌, arith}
+use Rattle.std.proofs.Common.{◌≡◌, ◌≢◌, ◌⊎◌, inl, inr, ℕ, ◌<◌, Bool, false, List, [], ◌∷◌, ◌++◌, length, get_or, Some, Result, Ok, Err, refl, sym, ap, subst, ◌∙◌}
 use Rattle.std.specs.Prelude.{OnOk, slice_get}
 use Rattle.std.specs.List.{AllByRecursion, Contains}
-use Rattle.std.proofs.lemmas.List.{length-map, set-get_or}
+use Rattle.std.proofs.lemmas.List.{length-map}
 use Rattle.std.proofs.lemmas.List.Elements.{Contains-append_left, Contains-append_right}
 use Rattle.nvme_wire.specs.declared.zone_state.ZoneState.TheVariants.{Empty}
 use Rattle.zone_states.specs.declared.geometry.Geometry.{Geometry}
@@ -17,13 +17,12 @@ use Rattle.zone_choice.specs.ZoneLogs.{has_torn_tail, log_at, zone_log, zone_log
 use Rattle.remount.specs.declared.fault.MountFault.{MountFault}
 use Rattle.remount.specs.declared.reported.ReportedZone.{ReportedZone}
 use Rattle.remount.specs.declared.survey.Survey.{Survey}
-use Rattle.remount.specs.Heads.{heads_of}
 use Rattle.remount.specs.Known.{AreVacantEmpty, KeepsMountable, Knows}
 use Rattle.remount.specs.Mount.{AreToEmpty}
 use Rattle.remount.specs.Resets.{MayChange, MayReset, ResetsAll, reported_empty, set_all}
 use Rattle.remount.specs.Scan.{AreKnown, heads_in, tails_in}
-use Rattle.remount.proofs.KeepLaws.{keeps-mountable-both, keeps-mountable-none, reset-keeps}
-use Rattle.remount.proofs.SetAllLaws.{cleared-set_all, get-set_all, get_or-set_all_other, length-set_all, map-set_all, set_all-both, set_all-parts}
+use Rattle.remount.proofs.KeepLaws.{keeps-mountable-both, keeps-mountable-none, reset-keeps, without-vacant}
+use Rattle.remount.proofs.SetAllLaws.{cleared-set_all, get-set_all, get_or-set_all_other, map-set_all, set_all-both, set_all-parts}
 
 -- ---- logs and tails
 
@@ -39,9 +38,6 @@ drive-logs-reset : (old new : DriveState) (before after : Survey) (zones : List 
 drive-logs-reset old new before after zones resets = rw (resets.geometry, resets.contents_are) (logs-set_all old.geometry (contents old.zones) zones)
 
 -- ---- which zones may be reset
-
-without-vacant : (logs : List (List Batch)) (zone : ℕ) → IsVacant logs zone → without logs zone ≡ logs
-without-vacant logs zone vacant = rw vacant at (set-get_or logs zone [])
 
 pub vacant-may : (block_bytes n : ℕ) (logs : List (List Batch)) (zones : List ℕ) → AllByRecursion (λ zone. (zone < length logs) × IsVacant logs zone) zones → MayReset block_bytes n logs zones
 vacant-may block_bytes n logs [] all = tt

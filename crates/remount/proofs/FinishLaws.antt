@@ -1,15 +1,14 @@
 -- Partly written zones that a disk does not go on with are finished, one after the other.
-use Rattle.std.proofs.Common.{◌≡◌, ◌≢◌, ◌⊎◌, inl, inr, ℕ, zero, suc, ◌+◌, ◌<◌, ◌≤◌, ◌^◌, max, ◌==◌, ◌&&◌, ◌||◌, not, ltb, Bool, true, false, List, [], ◌∷◌, ◌++◌, map, length, set, get_or, Option, Some, None, Result, Ok, Err, refl, sym, ap, subst, ◌∙◌, arith, append-nil}
+use Rattle.std.proofs.Common.{◌≡◌, ◌⊎◌, inl, inr, ℕ, ◌+◌, ◌<◌, ◌≤◌, ◌==◌, ◌&&◌, ◌||◌, not, ltb, Bool, true, false, List, [], ◌∷◌, ◌++◌, map, length, set, get_or, Some, refl, sym, ap, subst, ◌∙◌, arith, append-nil}
 use Rattle.std.specs.Prelude.{slice_get}
 use Rattle.std.specs.List.{AllByRecursion}
 use Rattle.std.proofs.lemmas.Bool.{cases_eq, cases_lt, lt-ltb}
 use Rattle.std.proofs.lemmas.List.{get_or-set_other, get_or-set_same, get_or_past, length-map, length-set}
 use Rattle.std.proofs.lemmas.Option.{get_or_from_slice_get, slice_get-get_or, slice_get_within}
 use Rattle.std.proofs.Math.ListN.{get_or-map}
-use Rattle.nvme_wire.specs.declared.zone_state.ZoneState.{ZoneState}
 use Rattle.nvme_wire.specs.declared.zone_state.ZoneState.TheVariants as states
 use Rattle.zone_states.specs.declared.geometry.Geometry.{Geometry}
-use Rattle.drive_port.specs.Contents.{Content, Finishes, Usage, active, empty, full, unusable, content_at, content_of, contents, finished, is_active_usage, is_full, is_writable, nothing, usage_of}
+use Rattle.drive_port.specs.Contents.{Content, Finishes, Usage, active, empty, full, unusable, content_at, content_of, contents, finished, is_active_usage, is_full, nothing, usage_of}
 use Rattle.drive_port.specs.Drive.{DriveState}
 use Rattle.batch_log.specs.Log.{Batch}
 use Rattle.zone_choice.specs.Agreement.{drive_logs}
@@ -29,13 +28,13 @@ use Rattle.remount.specs.Known.{HasVacant}
 use Rattle.remount.specs.Mount.{AreWhole, IsRepaired}
 use Rattle.remount.specs.Reported.{IsKnown}
 use Rattle.remount.specs.Resets.{FinishesIf, FinishesOne, GoesOn, IsTested, MayChange, is_to_finish, reported_full}
-use Rattle.remount.specs.Scan.{AreKnown, heads_in, tails_in}
+use Rattle.remount.specs.Scan.{AreKnown, heads_in}
 use Rattle.remount.specs.Survey.{is_partly_reported}
 use Rattle.remount.proofs.KeepLaws.{CanFinishZone, finish-keeps, keeps-mountable-both, keeps-mountable-none}
 
 -- ---- tests
 
-and-both : (a b : Bool) → (a && b) ≡ true → (a ≡ true) × (b ≡ true)
+pub and-both : (a b : Bool) → (a && b) ≡ true → (a ≡ true) × (b ≡ true)
 and-both true b is = (refl, is)
 and-both false b is = absurd (cc)
 

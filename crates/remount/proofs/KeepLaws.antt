@@ -1,17 +1,16 @@
 -- A command of a mount's repairs leaves a drive that can be mounted, with the same array.
-use Rattle.std.proofs.Common.{◌≡◌, ◌⊎◌, inl, inr, ℕ, ◌<◌, ◌^◌, true, false, List, [], ◌∷◌, refl, sym, ap, subst, ◌∙◌, arith}
-use Rattle.std.proofs.lemmas.List.{length-map, set-get_or}
-use Rattle.zone_states.specs.declared.geometry.Geometry.{Geometry}
+use Rattle.std.proofs.Common.{◌≡◌, ◌⊎◌, inl, inr, ℕ, ◌<◌, ◌^◌, true, false, List, [], refl, ap, ◌∙◌}
+use Rattle.std.proofs.lemmas.List.{set-get_or}
 use Rattle.drive_port.specs.Contents.{Content, Finishes, Resets, content_at, contents, is_writable, nothing}
 use Rattle.drive_port.specs.Drive.{DriveState, IsLawful}
 use Rattle.batch_log.specs.Log.{Batch}
 use Rattle.zone_choice.specs.Agreement.{drive_logs, spelled}
 use Rattle.zone_choice.specs.Laws.{ResetMounts}
-use Rattle.zone_choice.specs.Mountable.{AreMountable, IsMountable}
+use Rattle.zone_choice.specs.Mountable.{IsMountable}
 use Rattle.zone_choice.specs.Records.{without}
 use Rattle.zone_choice.specs.Sizes.{array_of}
 use Rattle.zone_choice.specs.Spare.{IsLowest, IsVacant}
-use Rattle.zone_choice.specs.ZoneLogs.{HasLog, has_torn_tail, spelled_array, zone_log, zone_logs}
+use Rattle.zone_choice.specs.ZoneLogs.{HasLog, has_torn_tail, spelled_array, zone_logs}
 use Rattle.zone_choice.proofs.MountLaws.{finish_mounts, lowest_resets, vacant_resets}
 use Rattle.zone_choice.proofs.AllLaws.{all-at}
 use Rattle.zone_choice.proofs.ZoneLogLaws.{finish_logs}
@@ -51,7 +50,7 @@ reset-mounts : (n : ℕ) (old new : DriveState) (zone : ℕ) → IsVacant (drive
 reset-mounts n old new zone (inl vacant) resets is = vacant_resets old.geometry (contents old.zones) (contents new.zones) n zone is.holds vacant resets
 reset-mounts n old new zone (inr lowest) resets is = lowest_resets old.geometry (contents old.zones) (contents new.zones) n zone is.holds lowest resets
 
-without-vacant : (logs : List (List Batch)) (zone : ℕ) → IsVacant logs zone → without logs zone ≡ logs
+pub without-vacant : (logs : List (List Batch)) (zone : ℕ) → IsVacant logs zone → without logs zone ≡ logs
 without-vacant logs zone vacant = rw vacant at (set-get_or logs zone [])
 
 spare-array : (block_bytes n : ℕ) (logs : List (List Batch)) (zone : ℕ) → IsVacant logs zone ⊎ IsLowest block_bytes n logs zone → array_of block_bytes n (without logs zone) ≡ array_of block_bytes n logs

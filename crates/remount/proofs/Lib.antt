@@ -28,4 +28,6 @@ pub mod ResetLaws
 pub mod EmptyLaws
 pub mod ToEmptyLaws
 pub mod FinishLaws
+pub mod TornLaws
+pub mod PlanLaws
 pub mod StepLaws

@@ -1,14 +1,12 @@
 -- A zone is reset, or finished, and what is known of the drive then.
-use Rattle.std.proofs.Common.{◌≡◌, ◌⊎◌, inl, inr, ℕ, ◌+◌, ◌-◌, ◌*◌, ◌/◌, ◌%◌, ◌<◌, ◌≤◌, ◌^◌, Bool, true, false, List, [], ◌∷◌, ◌++◌, map, length, set, get_or, replicate, Option, Some, None, Ok, Err, refl, sym, ap, subst, ◌∙◌, arith}
+use Rattle.std.proofs.Common.{◌≡◌, ◌⊎◌, inl, inr, ℕ, ◌-◌, ◌*◌, ◌/◌, ◌%◌, ◌<◌, ◌≤◌, true, false, List, [], ◌∷◌, ◌++◌, length, set, get_or, replicate, Some, Ok, Err, refl, sym, ap, subst, ◌∙◌, arith}
 use Rattle.std.specs.Prelude.{slice_get}
 use Rattle.std.proofs.lemmas.Bool.{cases_eq}
 use Rattle.std.proofs.lemmas.List.{get_or-set_other, get_or-set_same, length-append, length-map, length-replicate, length-set, map-set}
 use Rattle.std.proofs.Math.Seq.{map-set_same}
 use Rattle.std.proofs.lemmas.Option.{get_or_from_slice_get, slice_get-get_or, slice_get_within}
-use Rattle.nvme_wire.specs.declared.zone_state.ZoneState.TheVariants.{Empty, Full}
-use Rattle.zone_states.specs.declared.geometry.Geometry.{Geometry}
 use Rattle.drive_port.specs.Calls.{CanFinish, CanReset, Finished, FinishedContents, FinishGives, FinishKeeps, FinishLeaves, IsNotRefused, Obeys, ResetContents, ResetGives, ResetKeeps, ResetLeaves, ResetZone}
-use Rattle.drive_port.specs.Contents.{Content, Finishes, Resets, SameContents, content_at, content_of, contents, emptied, finished, is_full, is_usable, nothing, usage_of}
+use Rattle.drive_port.specs.Contents.{Content, Finishes, Resets, SameContents, content_at, content_of, contents, emptied, finished, is_usable, nothing, usage_of}
 use Rattle.drive_port.specs.Drive.{DriveState, IsLawful}
 use Rattle.drive_port.specs.Step.{end_of, zone_at}
 use Rattle.drive_port.specs.declared.calls.PortFault.{PortFault}

@@ -26,17 +26,19 @@ use Rattle.remount.specs.declared.repair.Repair.{Repair}
 use Rattle.remount.specs.declared.reported.ReportedZone.{ReportedZone}
 use Rattle.remount.specs.declared.steps.Plan.{Plan}
 use Rattle.remount.specs.declared.survey.Survey.{Survey}
-use Rattle.remount.specs.Heads.{HeadsView, greatest_of, greatest_sequence, heads_after, heads_of, no_heads, sequence_of, with_heading}
+use Rattle.remount.specs.Heads.{HeadsView, greatest_sequence, heads_of}
 use Rattle.remount.specs.Known.{AreVacantEmpty, KeepsMountable, Knows}
 use Rattle.remount.specs.Known.{HasVacant}
 use Rattle.remount.specs.Mount.{AreMountedRoles, AreToEmpty, AreWhole, CannotClear, CannotRepair, IsCleared, IsPlan, IsPlanned, IsRepaired, IsToMount, IsUntorn, LeavesCleared, MountFails, Mounts, NoneIsTorn, PlanFails, Plans}
 use Rattle.remount.specs.Reported.{KeepsZones}
 use Rattle.remount.specs.Scan.{AreKnown, FailsBy, ScansAll, heads_in, tails_in}
+use Rattle.remount.specs.Torn.{WasSurveyed, sequences_in}
 use Rattle.remount.specs.Survey.{AreInside, CanScan, HoldLogs, SurveyFails, Surveys, drive_size}
 use Rattle.zone_choice.proofs.ClearingLaws.{clearing_keeps, one_clearing}
 use Rattle.remount.proofs.AllScanLaws.{there-is}
 use Rattle.remount.proofs.KeepLaws.{keeps-mountable-both}
 use Rattle.remount.proofs.NextLaws.{fails-more}
+use Rattle.remount.proofs.PlanLaws.{sequences-kept}
 use Rattle.remount.proofs.ReadLaws.{keeps-both, kept-contents}
 
 -- ---- what is kept
@@ -338,22 +340,6 @@ plan-refused old new last n survey fault k is fails = fails-more (PlanFails new 
 
 -- ---- sequences
 
-heads-sequences : (view : HeadsView) (log : List Batch) → map sequence_of (heads_after view log).heads ≡ map sequence_of view.heads ++ log_sequences log
-heads-sequences view [] = sym (append-nil (map sequence_of view.heads))
-heads-sequences view (b ∷ bs) =
-    heads-sequences (with_heading view b.heading) bs
-    ∙ ap (λ (xs : List ℕ). xs ++ log_sequences bs) (map-append sequence_of view.heads _)
-    ∙ append_assoc (map sequence_of view.heads) (b.heading.sequence ∷ []) (log_sequences bs)
-
-greatest-append : (xs ys : List ℕ) → greatest_sequence (xs ++ ys) ≡ max (greatest_sequence xs) (greatest_sequence ys)
-greatest-append [] ys = omega arith
-greatest-append (x ∷ xs) ys = omega (arith, greatest-append xs ys)
-
-pub greatest-all : (logs : List (List Batch)) → greatest_of (map heads_of logs) ≡ greatest_sequence (sequences logs)
-greatest-all [] = refl
-greatest-all (log ∷ logs) =
-    omega (arith, greatest-append (log_sequences log) (sequences logs), greatest-all logs, ap greatest_sequence (heads-sequences no_heads log))
-
 greatest-below : (limit : ℕ) (xs : List ℕ) → 1 ≤ limit → AllByRecursion (λ s. s < limit) xs → greatest_sequence xs < limit
 greatest-below limit [] some all = omega (arith, some)
 greatest-below limit (x ∷ xs) some all = omega (arith, all.0, greatest-below limit xs some all.1)
@@ -399,11 +385,11 @@ pub record IsNextSequence (old new : DriveState) (next : ℕ) : Type 0 where
   pub above : AllByRecursion (λ s. s < next) (sequences (drive_logs new))
   pub small : next ≤ 2 ^ 63
 
-pub next-is : (old new : DriveState) (n before now next : ℕ) (first last : Survey) → Repaired old new n last → heads_in first.scanned.items ≡ map heads_of (drive_logs old) → before ≡ greatest_of (heads_in first.scanned.items) → now ≡ greatest_of (heads_in last.scanned.items)
+pub next-is : (old new : DriveState) (n before now next : ℕ) (first last : Survey) → Repaired old new n last → heads_in first.scanned.items ≡ map heads_of (drive_logs old) → before ≡ greatest_sequence (sequences_in (heads_in first.scanned.items)) → now ≡ greatest_sequence (sequences_in (heads_in last.scanned.items))
     → next ≡ min (max now before + 1) (2 ^ 64 - 1) → IsNextSequence old new next
 next-is old new n before now next first last is heads was are e =
-    let a : before ≡ greatest_sequence (sequences (drive_logs old)) = was ∙ ap greatest_of heads ∙ greatest-all (drive_logs old) in
-    let b : now ≡ greatest_sequence (sequences (drive_logs new)) = are ∙ ap greatest_of is.known.heads ∙ greatest-all (drive_logs new) in
+    let a : before ≡ greatest_sequence (sequences (drive_logs old)) = was ∙ ap (λ (hs : List HeadsView). greatest_sequence (sequences_in hs)) heads ∙ ap greatest_sequence (sequences-kept (drive_logs old)) in
+    let b : now ≡ greatest_sequence (sequences (drive_logs new)) = are ∙ ap (λ (hs : List HeadsView). greatest_sequence (sequences_in hs)) is.known.heads ∙ ap greatest_sequence (sequences-kept (drive_logs new)) in
     let a' = greatest-below (2 ^ 63) (sequences (drive_logs old)) (omega arith) is.can.mountable.holds.disk.sound.numbers in
     let b' = greatest-below (2 ^ 63) (sequences (drive_logs new)) (omega arith) is.known.sound.numbers in
     let same : next ≡ 1 + max (greatest_sequence (sequences (drive_logs old))) (greatest_sequence (sequences (drive_logs new))) = omega (arith, e, a, b, a', b') in

@@ -1,9 +1,8 @@
 -- Which zones are vacant but not Empty.
-use Rattle.std.proofs.Common.{◌≡◌, ◌≢◌, ◌⊎◌, inl, inr, ℕ, zero, suc, ◌+◌, ◌<◌, ◌≤◌, Bool, true, false, List, [], ◌∷◌, ◌++◌, map, length, get_or, Option, Some, None, refl, sym, ap, subst, ◌∙◌, arith}
+use Rattle.std.proofs.Common.{◌≡◌, ◌⊎◌, inl, inr, ℕ, ◌+◌, ◌<◌, ◌≤◌, List, [], ◌∷◌, ◌++◌, map, length, get_or, Some, refl, sym, ap, ◌∙◌, arith}
 use Rattle.std.specs.Prelude.{slice_get}
 use Rattle.std.specs.List.{AllByRecursion, Contains}
-use Rattle.std.proofs.lemmas.Bool.{cases_eq, cases_lt}
-use Rattle.std.proofs.lemmas.List.{get_or-append-add, length-append, length-map}
+use Rattle.std.proofs.lemmas.Bool.{cases_eq}
 use Rattle.std.proofs.lemmas.List.Elements.{Contains-append_left, Contains-append_right}
 use Rattle.std.proofs.lemmas.Option.{get_or_from_slice_get, slice_get_within}
 use Rattle.std.proofs.Math.ListN.{get_or-map}
@@ -11,7 +10,7 @@ use Rattle.nvme_wire.specs.declared.zone_state.ZoneState.TheVariants.{Empty}
 use Rattle.batch_log.specs.Log.{Batch, log_size}
 use Rattle.zone_choice.specs.Spare.{IsVacant}
 use Rattle.zone_choice.specs.ZoneLogs.{log_at}
-use Rattle.zone_choice.proofs.AllLaws.{all-append}
+use Rattle.zone_choice.proofs.AllLaws.{all-append, all-weaker}
 use Rattle.remount.specs.declared.reported.ReportedZone.{ReportedZone}
 use Rattle.remount.specs.declared.survey.Survey.{Survey}
 use Rattle.remount.specs.Heads.{HeadsView, heads_of, no_heads}
@@ -44,17 +43,13 @@ pub record AreFound (survey : Survey) (zones : List ℕ) (below : ℕ) : Type 0 
   pub vacant : AllByRecursion (λ zone. (zone < below) × HasNoBatch survey zone) zones
   pub others : (zone : ℕ) → zone < below → HasNoBatch survey zone → ((get_or survey.zones.items zone reported_empty).state ≡ Empty) ⊎ Contains zones zone
 
-all-later : (P Q : ℕ → Type 0) (xs : List ℕ) → ((x : ℕ) → P x → Q x) → AllByRecursion P xs → AllByRecursion Q xs
-all-later P Q [] f all = tt
-all-later P Q (x ∷ xs) f all = (f x all.0, all-later P Q xs f all.1)
-
 pub found-none : (survey : Survey) → AreFound survey [] 0
 found-none survey = record { vacant = tt; others = λ zone lt. absurd (omega (arith, lt)) }
 
 pub found-one : (survey : Survey) (zones more : List ℕ) (below : ℕ) → AreFound survey zones below → HasNoBatch survey below → more ≡ zones ++ below ∷ [] → AreFound survey more (below + 1)
 found-one survey zones more below found none pushed = rw pushed (record {
   vacant = all-append (λ zone. (zone < below + 1) × HasNoBatch survey zone) zones (below ∷ [])
-      (all-later (λ zone. (zone < below) × HasNoBatch survey zone) (λ zone. (zone < below + 1) × HasNoBatch survey zone) zones (λ zone is. (omega (arith, is.0), is.1)) found.vacant) ((omega arith, none), tt);
+      (all-weaker (λ zone. (zone < below) × HasNoBatch survey zone) (λ zone. (zone < below + 1) × HasNoBatch survey zone) zones (λ zone is. (omega (arith, is.0), is.1)) found.vacant) ((omega arith, none), tt);
   others = each;
 })
   where
@@ -69,7 +64,7 @@ found-one survey zones more below found none pushed = rw pushed (record {
 
 pub found-other : (survey : Survey) (zones : List ℕ) (below : ℕ) → AreFound survey zones below → (HasNoBatch survey below → (get_or survey.zones.items below reported_empty).state ≡ Empty) → AreFound survey zones (below + 1)
 found-other survey zones below found empty = record {
-  vacant = all-later (λ zone. (zone < below) × HasNoBatch survey zone) (λ zone. (zone < below + 1) × HasNoBatch survey zone) zones (λ zone is. (omega (arith, is.0), is.1)) found.vacant;
+  vacant = all-weaker (λ zone. (zone < below) × HasNoBatch survey zone) (λ zone. (zone < below + 1) × HasNoBatch survey zone) zones (λ zone is. (omega (arith, is.0), is.1)) found.vacant;
   others = λ zone lt none. elim (cases_eq zone below) as (λ _. ((get_or survey.zones.items zone reported_empty).state ≡ Empty) ⊎ Contains zones zone) [
     | inl same ↦ inl (rw same (empty (rw same at none)))
     | inr other ↦ found.others zone (omega (arith, lt, other)) none
@@ -80,7 +75,7 @@ found-other survey zones below found empty = record {
 
 pub found-all : (survey : Survey) (zones : List ℕ) (below : ℕ) (logs : List (List Batch)) → AreFound survey zones below → length survey.zones.items ≤ below → below ≤ length survey.zones.items → heads_in survey.scanned.items ≡ map heads_of logs → length survey.zones.items ≡ length logs → AreToEmpty logs survey zones
 found-all survey zones below logs found le ge heads long = record {
-  vacant = all-later (λ zone. (zone < below) × HasNoBatch survey zone) (λ zone. (zone < length logs) × IsVacant logs zone) zones (λ zone is. (omega (arith, is.0, ge, long), vacant-heads logs zone (ap (λ (hs : List HeadsView). (get_or hs zone no_heads).blocks) (sym heads) ∙ is.1))) found.vacant;
+  vacant = all-weaker (λ zone. (zone < below) × HasNoBatch survey zone) (λ zone. (zone < length logs) × IsVacant logs zone) zones (λ zone is. (omega (arith, is.0, ge, long), vacant-heads logs zone (ap (λ (hs : List HeadsView). (get_or hs zone no_heads).blocks) (sym heads) ∙ is.1))) found.vacant;
   others = each;
 }
   where

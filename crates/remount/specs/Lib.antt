@@ -10,3 +10,4 @@ pub mod Placing
 pub mod Mounting
 pub mod Rivals
 pub mod Clearing
+pub mod Torn

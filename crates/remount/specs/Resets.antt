@@ -1,8 +1,8 @@
 -- What a Reset or a Finish of a mount leaves of the drive, and of what is known of it.
-use Rattle.std.specs.Prelude.{◌≡◌, ◌≢◌, ◌⊎◌, ℕ, ◌+◌, ◌<◌, ◌≤◌, ◌&&◌, ◌||◌, nat_lt, Bool, true, false, List, [], ◌∷◌, length, slice_get, slice_set, Some}
+use Rattle.std.specs.Prelude.{◌≡◌, ◌⊎◌, ℕ, ◌+◌, ◌<◌, ◌≤◌, ◌&&◌, ◌||◌, nat_lt, Bool, true, false, List, [], ◌∷◌, length, slice_get, slice_set, Some}
 use Rattle.std.specs.List.{AllByRecursion}
 use Rattle.nvme_wire.specs.declared.zone_state.ZoneState.TheVariants.{Empty, Full}
-use Rattle.drive_port.specs.Contents.{Content, Finishes, Resets, content_at, contents, emptied}
+use Rattle.drive_port.specs.Contents.{Content, Finishes, content_at, contents, emptied}
 use Rattle.drive_port.specs.Drive.{DriveState, IsLawful}
 use Rattle.batch_log.specs.Log.{Batch}
 use Rattle.zone_choice.specs.Agreement.{drive_logs}

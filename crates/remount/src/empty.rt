@@ -177,7 +177,8 @@ fn finish_if_due<D: Device>(
     finish_zone(alloc, device, survey, zone)
 }
 
-/// Finishes the zones that are partly written and have one free block, or a batch with more entries than ours.
+/// Finishes the zones that are partly written and have fewer than two free blocks, or a batch with more entries than
+/// ours.
 pub fn finish_zones<D: Device>(
     alloc: Global,
     device: &mut D,

@@ -30,6 +30,7 @@ mod reported;
 mod rivals;
 mod roles;
 mod scan;
+mod sequences;
 mod shown;
 mod steps;
 mod survey;

@@ -3,11 +3,10 @@ ghost use Rattle.drive_port.specs.Contents.{contents};
 ghost use Rattle.zone_choice.specs.Agreement.{drive_logs};
 ghost use Rattle.zone_choice.specs.ZoneLogs.{zone_tails};
 ghost use Rattle.remount.specs.declared.fault.MountFault.TheVariants as faults;
-ghost use Rattle.remount.specs.Heads.{greatest_of};
 ghost use Rattle.remount.specs.Known.{KeepsMountable, Knows};
 ghost use Rattle.remount.specs.Mount.{IsCleared, IsPlanned, IsRepaired, IsToMount, IsUntorn, LeavesCleared, MountFails, Mounts, NoneIsTorn, PlanFails, Plans};
 ghost use Rattle.remount.specs.Reported.{KeepsZones};
-ghost use Rattle.remount.specs.Scan.{FailsBy, heads_in};
+ghost use Rattle.remount.specs.Scan.{FailsBy};
 ghost use Rattle.remount.specs.Survey.{CanScan};
 
 use crate::clearing::clear_zones;
@@ -15,7 +14,7 @@ use crate::empty::{empty_zones, finish_zones, zones_to_empty};
 use crate::fault::MountFault;
 use crate::places::mounted_tables;
 use crate::repair::{Repair, repair_zone};
-use crate::scan::ScannedZone;
+use crate::sequences::greatest_sequence;
 use crate::survey::{Survey, survey_drive};
 use crate::torn::plan_repair;
 use drive_port::Device;
@@ -31,17 +30,6 @@ struct Plan {
     half_clean: Vec<u32>,
     /// The torn zone that is left, if one is.
     repair: Option<Repair>,
-}
-
-/// The greatest sequence of all batches, 0 where there is none.
-fn greatest_sequence(scanned: &[ScannedZone]) -> u64
-    ensures { result ≡ greatest_of (heads_in scanned.now) }
-{
-    let mut greatest = 0;
-    for zone in scanned {
-        greatest = zone.heads.greatest_sequence().max(greatest);
-    }
-    greatest
 }
 
 /// What is to be done to a drive, once all headers are read. Its half clean zones are forgotten.

@@ -1,4 +1,3 @@
-use Rattle.std.proofs.Common.{ℕ, List}
 use Rattle.zone_choice.specs.Agreement.{drive_logs}
 use Rattle.remount.specs.Resets.{ResetsAll}
 use Rattle.remount.proofs.KeepLaws.{keeps-mountable-both}

@@ -1,4 +1,4 @@
-use Rattle.std.proofs.Common.{ℕ, true, inr, ap, ◌∙◌}
+use Rattle.std.proofs.Common.{true, inr, ap, ◌∙◌}
 use Rattle.zone_states.specs.declared.geometry.Geometry.{Geometry}
 use Rattle.zone_choice.specs.Reserve.{batch_most}
 use Rattle.remount.specs.Resets.{IsTested}

@@ -1,7 +1,6 @@
-use Rattle.std.proofs.Common.{◌*◌, refl, ap, ℕ, List}
+use Rattle.std.proofs.Common.{◌*◌, refl, ap}
 use Rattle.std.specs.Prelude.{slice_set}
 use Rattle.zone_states.specs.declared.geometry.Geometry.{Geometry}
-use Rattle.remount.specs.declared.reported.ReportedZone.{ReportedZone}
 use Rattle.remount.specs.Resets.{reported_full}
 use Rattle.remount.proofs.ResetLaws.{finish-done, finish-halts, finishes-one}
 use Rattle.remount.proofs.empty.finish_zone.Goals as goal

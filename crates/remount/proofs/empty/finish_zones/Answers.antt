@@ -1,4 +1,4 @@
-use Rattle.std.proofs.Common.{◌<◌, ◌≤◌, length, arith}
+use Rattle.std.proofs.Common.{◌<◌, length, arith}
 use Rattle.remount.proofs.FinishLaws.{CanFinishAll, finish-if-keeps, finish-knows, finish-repaired, finishes-more, same-long}
 use Rattle.remount.proofs.empty.finish_zones.Goals as goal
 

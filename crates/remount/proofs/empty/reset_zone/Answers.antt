@@ -1,4 +1,4 @@
-use Rattle.std.proofs.Common.{◌*◌, refl, sym, ap, ℕ}
+use Rattle.std.proofs.Common.{◌*◌, refl, sym, ap}
 use Rattle.zone_states.specs.declared.geometry.Geometry.{Geometry}
 use Rattle.remount.proofs.ResetLaws.{reset-done, reset-halts, resets-all-one}
 use Rattle.remount.proofs.empty.reset_zone.Goals as goal

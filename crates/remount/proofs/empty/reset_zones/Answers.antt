@@ -1,4 +1,4 @@
-use Rattle.std.proofs.Common.{ℕ, ◌≡◌, ◌<◌, ◌+◌, ◌∷◌, List, drop, get_or, subst}
+use Rattle.std.proofs.Common.{ℕ, ◌+◌, ◌∷◌, List, drop, get_or, subst}
 use Rattle.std.proofs.lemmas.List.{drop_more}
 use Rattle.remount.proofs.EmptyLaws.{ResetsSome, resets-more, some-keeps}
 use Rattle.remount.proofs.empty.reset_zones.Goals as goal

@@ -4,7 +4,8 @@ use Rattle.zone_states.specs.declared.geometry.Geometry.{Geometry}
 use Rattle.drive_port.specs.Contents.{contents}
 use Rattle.zone_choice.specs.ZoneLogs.{sequences}
 use Rattle.remount.specs.declared.scan.ScannedZone.{ScannedZone}
-use Rattle.remount.specs.Heads.{greatest_of}
+use Rattle.remount.specs.Heads.{greatest_sequence}
+use Rattle.remount.specs.Torn.{sequences_in}
 use Rattle.remount.specs.Mount.{AreMountedRoles}
 use Rattle.remount.specs.Scan.{heads_in}
 use Rattle.zone_choice.specs.Agreement.{drive_logs}
@@ -78,8 +79,8 @@ returns-clause-ok g c =
     let last = g.D.Device.drive c.carry_out.new.device in
     let is = repairs old middle third last c.args.blocks c.in_ok-survey.survey c.plan_mount.new.survey c.carry_out.new.survey c.in_ok-plan.plan c.geometry-geometry.ensures.lawful c.survey_drive.ensures.kept c.in_ok-survey.ensures.ok
     c.plan_mount.ensures.kept c.in_ok-plan.ensures.ok c.carry_out.ensures.kept c.in_ok-carry_out.ensures.known c.in_ok-carry_out.ensures.repaired c.in_ok-carry_out.ensures.left in
-    let was = c.greatest_sequence-greatest.ensures ∙ ap (λ (zs : List ScannedZone). greatest_of (heads_in zs)) c.deref.ensures.value in
-    let now = c.greatest_sequence.ensures ∙ ap (λ (zs : List ScannedZone). greatest_of (heads_in zs)) c.deref-2.ensures.value in
+    let was = c.greatest_sequence-greatest.ensures ∙ ap (λ (zs : List ScannedZone). greatest_sequence (sequences_in (heads_in zs))) c.deref.ensures.value in
+    let now = c.greatest_sequence.ensures ∙ ap (λ (zs : List ScannedZone). greatest_sequence (sequences_in (heads_in zs))) c.deref-2.ensures.value in
     let next = next-is old last c.args.blocks c.greatest_sequence-greatest.result c.greatest_sequence.result c.in_ok-tables.tables.next c.in_ok-survey.survey c.carry_out.new.survey is c.in_ok-survey.ensures.ok.scans.heads was now
     (c.in_ok-tables.ensures.next ∙ c.saturating_add-next.ensures ∙ ap (λ (k : ℕ). min (k + 1) (2 ^ 64 - 1)) c.max.ensures) in
     let geometry = is.kept.geometry ∙ sym c.geometry-geometry.ensures.value in
