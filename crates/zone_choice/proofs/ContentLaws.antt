@@ -253,7 +253,7 @@ pub count-zero : {X : Type 0} (p : X → Bool) (xs : List X) (d : X) → ((k : �
 count-zero p [] d none = refl
 count-zero p (x ∷ xs) d none = let here : p x ≡ false = none 0 (omega arith) in rw here (count-zero p xs d (λ k lt. none (suc k) (omega arith)))
 
-at_most : (b : Bool) → cond {A = ℕ} b 1 0 ≤ 1
+pub at_most : (b : Bool) → cond {A = ℕ} b 1 0 ≤ 1
 at_most true = omega arith
 at_most false = omega arith
 

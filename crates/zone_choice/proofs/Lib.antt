@@ -25,3 +25,10 @@ pub mod ReadLaws
 pub mod WholeLaws
 pub mod FreshLaws
 pub mod VictimLaws
+pub mod DeadLaws
+pub mod RepairingRecords
+pub mod RepairingArrays
+pub mod RepairingClearing
+pub mod RepairingMounts
+pub mod RepairingMoves
+pub mod RepairingEnds

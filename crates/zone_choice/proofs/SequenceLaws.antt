@@ -1,5 +1,5 @@
 -- The sequences of all batches, and one more that is greater than all.
-use Rattle.std.proofs.Common.{◌≡◌, ℕ, zero, suc, ◌+◌, ◌<◌, false, eqb, List, [], ◌∷◌, ◌++◌, length, refl, sym, ap, ◌∙◌, arith, append_assoc}
+use Rattle.std.proofs.Common.{◌≡◌, ℕ, zero, suc, ◌+◌, ◌<◌, ◌≤◌, false, eqb, List, [], ◌∷◌, ◌++◌, length, Some, refl, sym, ap, ◌∙◌, arith, append_assoc}
 use Rattle.std.specs.Prelude.{nat_eq}
 use Rattle.std.specs.List.{AllByRecursion, IsDistinct}
 use Rattle.std.proofs.lemmas.Bool.{ne_eqb}
@@ -7,7 +7,8 @@ use Rattle.std.proofs.lemmas.List.{map-append}
 use Rattle.batch_log.specs.declared.header.Entry.{Entry}
 use Rattle.batch_log.specs.Log.{Batch, batch_size, one_unless}
 use Rattle.zone_choice.specs.Records.{AllBelow, append_log, batch_records, entry_records, log_records, records}
-use Rattle.zone_choice.specs.ZoneLogs.{log_sequences, sequences}
+use Rattle.zone_choice.specs.Spare.{IsBefore, first_sequence}
+use Rattle.zone_choice.specs.ZoneLogs.{log_at, log_sequences, sequences}
 use Rattle.zone_choice.proofs.AllLaws.{all-append, all-parts, all-weaker}
 
 -- a list that is another one with one number put in
@@ -78,3 +79,15 @@ records-below limit first [] all = tt
 records-below limit first (z ∷ zs) all =
     let parts = all-parts (λ (s : ℕ). s < limit) (log_sequences z) (sequences zs) all in
     all-append (λ r. r.sequence < limit) (log_records first 0 z) (records (suc first) zs) (log-below limit first 0 z parts.0) (records-below limit (suc first) zs parts.1)
+
+-- ---- the sequences of one zone
+
+pub zone-sequences : (P : ℕ → Type 0) (logs : List (List Batch)) (zone : ℕ) → AllByRecursion P (sequences logs) → AllByRecursion P (log_sequences (log_at logs zone))
+zone-sequences P [] zone all = tt
+zone-sequences P (log ∷ logs) zero all = (all-parts P (log_sequences log) (sequences logs) all).0
+zone-sequences P (log ∷ logs) (suc zone) all = zone-sequences P logs zone (all-parts P (log_sequences log) (sequences logs) all).1
+
+-- where all are below a limit, so is the first
+pub first-below : (limit : ℕ) (log : List Batch) → AllByRecursion (λ s. s < limit) (log_sequences log) → 1 ≤ length log → IsBefore (first_sequence log) (Some limit)
+first-below limit [] all some = absurd (omega arith)
+first-below limit (b ∷ log) all some = all.0

@@ -12,19 +12,11 @@ use Rattle.zone_choice.specs.ZoneLogs.{log_at, log_sequences, sequences}
 use Rattle.zone_choice.proofs.AllLaws.{all-append, all-parts}
 use Rattle.zone_choice.proofs.ContentLaws.{log_at-other, log_at-same}
 use Rattle.zone_choice.proofs.SizeLaws.{append_keeps_spare, larger-assoc, log_greatest-more}
+use Rattle.zone_choice.proofs.SequenceLaws.{first-below, zone-sequences}
 use Rattle.zone_cleaner.specs.Clean.{AreMoves, Follows}
-use Rattle.zone_cleaner.proofs.DeadLaws.{greatest-absorbs}
+use Rattle.zone_choice.proofs.DeadLaws.{greatest-absorbs}
 
 -- ---- sequences and sizes of one zone
-
-pub zone-sequences : (P : ℕ → Type 0) (logs : List (List Batch)) (zone : ℕ) → AllByRecursion P (sequences logs) → AllByRecursion P (log_sequences (log_at logs zone))
-zone-sequences P [] zone all = tt
-zone-sequences P (log ∷ logs) zero all = (all-parts P (log_sequences log) (sequences logs) all).0
-zone-sequences P (log ∷ logs) (suc zone) all = zone-sequences P logs zone (all-parts P (log_sequences log) (sequences logs) all).1
-
-first-below : (limit : ℕ) (log : List Batch) → AllByRecursion (λ s. s < limit) (log_sequences log) → 1 ≤ length log → IsBefore (first_sequence log) (Some limit)
-first-below limit [] all some = absurd (omega arith)
-first-below limit (b ∷ log) all some = all.0
 
 up-to : (n size : ℕ) (d g : Option ℕ) → larger d g ≡ g → size_or n g ≤ size → IsUpTo size d
 up-to n size None g e le = tt

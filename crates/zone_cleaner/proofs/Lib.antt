@@ -1,5 +1,4 @@
 pub mod OnlyLaws
-pub mod DeadLaws
 pub mod PlaceLaws
 pub mod RecordLaws
 pub mod MoveLaws

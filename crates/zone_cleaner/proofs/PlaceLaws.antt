@@ -21,7 +21,7 @@ use Rattle.zone_choice.specs.ZoneLogs.{HasLog, padding, readable, zone_log, zone
 use Rattle.zone_choice.proofs.AgreementLaws.{size-encoded}
 use Rattle.zone_choice.proofs.AllLaws.{all-append, all-from, all-weaker}
 use Rattle.zone_choice.proofs.CommandLaws.{zone-few}
-use Rattle.zone_cleaner.proofs.DeadLaws.{NotIn, OnRecord, on-newest}
+use Rattle.zone_choice.proofs.DeadLaws.{NotIn, OnRecord, on-newest}
 
 -- ---- records lie within their zone
 

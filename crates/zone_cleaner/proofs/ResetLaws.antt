@@ -33,7 +33,7 @@ use Rattle.zone_choice.proofs.SizeLaws.{empty_spare}
 use Rattle.zone_cleaner.specs.Clean.{CleanView, Follows, IsClean, destination_written}
 use Rattle.zone_choice.specs.Roles.{clean_ended, ended, is_sealed_at}
 use Rattle.zone_cleaner.proofs.CleanLaws.{clean_spare, live-parts}
-use Rattle.zone_cleaner.proofs.DeadLaws.{greatest-without, told-without}
+use Rattle.zone_choice.proofs.DeadLaws.{greatest-without, told-without}
 use Rattle.zone_cleaner.proofs.PlaceLaws.{dead-zone}
 use Rattle.zone_cleaner.proofs.SealedLaws.{of-second, sealed-apart, sealed-in_range, sealed-zone, second-filling, zone-logs}
 use Rattle.zone_cleaner.proofs.StepLaws.{ResetDue}

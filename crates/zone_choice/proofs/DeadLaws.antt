@@ -10,7 +10,7 @@ use Rattle.zone_choice.specs.Sizes.{encoded_size, greatest, larger, log_greatest
 use Rattle.zone_choice.specs.ZoneLogs.{log_at}
 use Rattle.zone_choice.proofs.AllLaws.{all-append}
 use Rattle.zone_choice.proofs.NewestLaws.{newer-assoc, newest-append}
-use Rattle.zone_choice.proofs.SizeLaws.{larger-assoc}
+use Rattle.zone_choice.proofs.SizeLaws.{larger-assoc, larger-comm}
 
 -- ---- what holds of all records holds of the newest
 
@@ -18,7 +18,7 @@ abbrev pub OnRecord : (Record → Type 0) → Option Record → Type 0
 OnRecord P None = Unit {0}
 OnRecord P (Some r) = P r
 
-on-newer : (P : Record → Type 0) (x y : Option Record) → OnRecord P x → OnRecord P y → OnRecord P (newer x y)
+pub on-newer : (P : Record → Type 0) (x y : Option Record) → OnRecord P x → OnRecord P y → OnRecord P (newer x y)
 on-newer P None y h k = k
 on-newer P (Some x) None h k = h
 on-newer P (Some x) (Some y) h k = elim (ltb x.sequence y.sequence) as (λ b. OnRecord P (cond b (Some y) (Some x))) [ true ↦ k | false ↦ h ]
@@ -98,17 +98,11 @@ newest-without block zone logs lt out = newest-rest block 0 zone zone None logs 
 
 -- ---- sizes
 
-larger-comm : (x y : Option ℕ) → larger x y ≡ larger y x
-larger-comm None None = refl
-larger-comm None (Some b) = refl
-larger-comm (Some a) None = refl
-larger-comm (Some a) (Some b) = ap (λ (n : ℕ). Some n) (omega arith)
-
 larger-same : (x : Option ℕ) → larger x x ≡ x
 larger-same None = refl
 larger-same (Some a) = ap (λ (n : ℕ). Some n) (omega arith)
 
-greatest-split : (logs : List (List Batch)) (zone : ℕ) → zone < length logs → greatest logs ≡ larger (log_greatest (log_at logs zone)) (greatest (without logs zone))
+pub greatest-split : (logs : List (List Batch)) (zone : ℕ) → zone < length logs → greatest logs ≡ larger (log_greatest (log_at logs zone)) (greatest (without logs zone))
 greatest-split [] zone lt = absurd (omega arith)
 greatest-split (log ∷ logs) zero lt = refl
 greatest-split (log ∷ logs) (suc zone) lt =
@@ -139,7 +133,7 @@ greatest-without logs zone other lt lt' apart covers =
 
 -- ---- what is told of all blocks
 
-map-range_same : {X : Type 0} (f g : ℕ → X) (a n : ℕ) → ((k : ℕ) → a ≤ k → k < a + n → f k ≡ g k) → map f (range_with_len a n) ≡ map g (range_with_len a n)
+pub map-range_same : {X : Type 0} (f g : ℕ → X) (a n : ℕ) → ((k : ℕ) → a ≤ k → k < a + n → f k ≡ g k) → map f (range_with_len a n) ≡ map g (range_with_len a n)
 map-range_same f g a zero same = refl
 map-range_same {X} f g a (suc n) same =
     rw (same a (omega arith) (omega arith)) (ap (λ (xs : List X). g a ∷ xs) (map-range_same f g (a + 1) n (λ k le lt. same k (omega arith) (omega arith))))
