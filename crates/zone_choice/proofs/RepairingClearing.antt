@@ -104,7 +104,7 @@ not-half block_bytes n torn into zone logs moves is lt off_into off_torn half =
 
 -- ---- the zone of the Moves is half clean
 
-put-back : (logs : List (List Batch)) (into : ℕ) (moves : List Batch) → IsVacant logs into → without (set logs into moves) into ≡ logs
+pub put-back : (logs : List (List Batch)) (into : ℕ) (moves : List Batch) → IsVacant logs into → without (set logs into moves) into ≡ logs
 put-back logs into moves vacant = set-set logs into moves [] ∙ put-none logs into vacant
 
 pub moves-half : (block_bytes n torn into : ℕ) (logs : List (List Batch)) (moves : List Batch) → IsRepairing block_bytes n logs torn into moves → moves ≢ [] → IsHalfClean block_bytes n (set logs into moves) into

@@ -126,7 +126,7 @@ repair_mounts geometry n torn into base now small is whole =
         repair = rw (now_logs, tails, size) (λ resets clearing.
             repair_keeps geometry (2 ^ 63) n torn into logs moves (zone_tails base) (set (zone_tails base) into (has_torn_tail is.made)) resets repairing (is.mountable.repair [] repairing.none_left)
             (set-other (zone_tails base) into (has_torn_tail is.made)) is.only
-            (λ tail. rw (made, now_logs) at (whole (rw made (set-here (zone_tails base) into (has_torn_tail is.made) tail)))) clearing);
+            (λ tail. rw now_logs at (whole (rw made (set-here (zone_tails base) into (has_torn_tail is.made) tail)))) clearing);
       };
       array = ap (array_of geometry.block n) now_logs ∙ repairing.array_is;
     }

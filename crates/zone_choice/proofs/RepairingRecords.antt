@@ -13,7 +13,7 @@ use Rattle.zone_choice.proofs.DeadLaws.{OnRecord, on-newer, on-newest}
 use Rattle.zone_choice.proofs.NewestLaws.{AllBelow-parts, newer-assoc, newer-none, newest-append}
 use Rattle.zone_choice.proofs.SequenceLaws.{records-below}
 
-abbrev OlderThan : ℕ → Option Record → Type 0
+abbrev pub OlderThan : ℕ → Option Record → Type 0
 OlderThan s x = OnRecord (λ (r : Record). r.sequence < s) x
 
 -- of a block, the newest records before a zone's and behind them, whatever the zone's log
@@ -22,6 +22,9 @@ record Around (block first index zone : ℕ) (logs : List (List Batch)) : Type 0
   behind : Option Record
   both : (log : List Batch) → newest block (records first (set logs index log)) ≡ newer before (newer (newest block (log_records zone 0 log)) behind)
   older : (s : ℕ) → AllBelow s (records first logs) → OlderThan s before × OlderThan s behind
+
+newest-front : (block : ℕ) (xs ys : List Record) (a b : Option Record) → newest block ys ≡ newer a b → newest block (xs ++ ys) ≡ newer (newer (newest block xs) a) b
+newest-front block xs ys a b e = newest-append block xs ys ∙ ap (newer (newest block xs)) e ∙ newer-assoc (newest block xs) a b
 
 around : (block first index zone : ℕ) (logs : List (List Batch)) → zone ≡ first + index → index < length logs → Around block first index zone logs
 around block first index zone [] e lt = absurd (omega arith)
@@ -40,11 +43,7 @@ around block first (suc index) zone (x ∷ logs) e lt =
     record {
       before = newer mine rest.before;
       behind = rest.behind;
-      both = λ log. (
-          newest-append block (log_records first 0 x) (records (suc first) (set logs index log))
-          ∙ ap (newer mine) (rest.both log)
-          ∙ newer-assoc mine rest.before (newer (newest block (log_records zone 0 log)) rest.behind)
-          );
+      both = λ log. newest-front block (log_records first 0 x) (records (suc first) (set logs index log)) rest.before (newer (newest block (log_records zone 0 log)) rest.behind) (rest.both log);
       older = λ s all. (
           let parts = AllBelow-parts s (log_records first 0 x) (records (suc first) logs) all in
           let others = rest.older s parts.1 in
@@ -63,7 +62,7 @@ newest-unsaid block zone logs log lt vacant none =
     let at = around block 0 zone zone logs (omega arith) lt in
     at.both log ∙ ap (λ (r : Option Record). newer at.before (newer r at.behind)) none ∙ sym (at.both []) ∙ ap (λ (ls : List (List Batch)). newest block (records 0 ls)) (put-none logs zone vacant)
 
-newer-older : (s : ℕ) (before behind : Option Record) (r : Record) → s ≤ r.sequence → OlderThan s before → OlderThan s behind → newer before (newer (Some r) behind) ≡ Some r
+pub newer-older : (s : ℕ) (before behind : Option Record) (r : Record) → s ≤ r.sequence → OlderThan s before → OlderThan s behind → newer before (newer (Some r) behind) ≡ Some r
 newer-older s before behind r le old old' = ap (newer before) (front behind old') ∙ back before old
   where
     front : (x : Option Record) → OlderThan s x → newer (Some r) x ≡ Some r
@@ -80,7 +79,7 @@ newer-older s before behind r le old old' = ap (newer before) (front behind old'
 abbrev pub IsAbove : List ℕ → Batch → Type 0
 IsAbove numbers batch = AllByRecursion (λ sequence. sequence < batch.heading.sequence) numbers
 
-entries-above : (numbers : List ℕ) (s zone header k : ℕ) (body : List (List ℕ)) (es : List Entry) → AllByRecursion (λ n. n < s) numbers
+pub entries-above : (numbers : List ℕ) (s zone header k : ℕ) (body : List (List ℕ)) (es : List Entry) → AllByRecursion (λ n. n < s) numbers
     → AllByRecursion (λ (r : Record). AllByRecursion (λ n. n < r.sequence) numbers) (entry_records s body zone header k es)
 entries-above numbers s zone header k body [] above = tt
 entries-above numbers s zone header k body (e ∷ es) above = (above, entries-above numbers s zone header (k + one_unless e.trim) body es above)

@@ -244,7 +244,7 @@ append_writes block_bytes zone_size limit n zone size logs batch lt sound last =
 
 -- ---- a zone is emptied
 
-without-numbers : (P : ℕ → Type 0) (logs : List (List Batch)) (zone : ℕ) → AllByRecursion P (sequences logs) → AllByRecursion P (sequences (without logs zone))
+pub without-numbers : (P : ℕ → Type 0) (logs : List (List Batch)) (zone : ℕ) → AllByRecursion P (sequences logs) → AllByRecursion P (sequences (without logs zone))
 without-numbers P [] zone all = tt
 without-numbers P (log ∷ logs) zero all = (all-parts P (log_sequences log) (sequences logs) all).1
 without-numbers P (log ∷ logs) (suc zone) all =

@@ -39,7 +39,7 @@ pub record TornBatch (old new : DriveState) (tables : TablesView) (zone j : ℕ)
   pub lawful : IsLawful new
   pub appends : Appends (contents old.zones) (contents new.zones) old.geometry.capacity zone (take j (batch_blocks old.geometry.block b))
 
-filled-usable : (capacity : ℕ) (blocks : List (List ℕ)) → is_usable (filled capacity blocks).usage ≡ true
+pub filled-usable : (capacity : ℕ) (blocks : List (List ℕ)) → is_usable (filled capacity blocks).usage ≡ true
 filled-usable capacity blocks = by (eqb (length blocks) capacity)
   where
     by : (b : Bool) → is_usable (cond b full active) ≡ true

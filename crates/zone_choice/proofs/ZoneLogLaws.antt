@@ -74,7 +74,7 @@ tail-at (z ∷ zs) (suc zone) lt = tail-at zs zone (omega arith)
 tails-kept : (zones : List Content) (zone : ℕ) → zone < length zones → has_torn_tail (content_at zones zone) ≡ false → set (zone_tails zones) zone false ≡ zone_tails zones
 tails-kept zones zone lt untorn = let here : get_or (zone_tails zones) zone false ≡ false = tail-at zones zone lt ∙ untorn in rw here at (set-get_or (zone_tails zones) zone false)
 
-tails-set : (old new : List Content) (zone : ℕ) (made : Content) → new ≡ set old zone made → zone_tails new ≡ set (zone_tails old) zone (has_torn_tail made)
+pub tails-set : (old new : List Content) (zone : ℕ) (made : Content) → new ≡ set old zone made → zone_tails new ≡ set (zone_tails old) zone (has_torn_tail made)
 tails-set old new zone made zones = ap zone_tails zones ∙ map-set has_torn_tail old zone made
 
 -- ---- an Append

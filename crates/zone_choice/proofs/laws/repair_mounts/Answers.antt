@@ -2,7 +2,9 @@ use Rattle.std.proofs.Common.{rules, ◌≡◌, ℕ, ◌+◌, ◌-◌, ◌*◌, 
 use Rattle.zone_choice.specs.Laws.{AppendFirst, AppendKeepsSpare, AppendLogs, AppendWrites, ClearingKeeps, EmptySpare, FewFit, FinishLogs, FinishMounts, GreatestIs, LowestResets, NewestIsLive, NextIsLast, OneClearing, RestartMounts, SpareResets, SpelledCount, SpelledWhole, TornLogs, TornMounts, VacantResets}
 use Rattle.zone_choice.specs.Repairing.{MoveRepairs, NeededStays, RepairBegins, RepairEnds, RepairMounts, TornMoveRepairs}
 use Rattle.zone_choice.specs.Victim.{HasSealed, LeastCanMove}
+use Rattle.zone_choice.proofs.RepairingEnds.{needed_stays, repair_ends}
 use Rattle.zone_choice.proofs.RepairingMounts.{repair_begins, repair_mounts}
+use Rattle.zone_choice.proofs.RepairingMoves.{move_repairs, torn_move_repairs}
 use Rattle.zone_choice.proofs.laws.repair_mounts.Goals as goal
 
 -- src/laws.rt:91:1
@@ -15,16 +17,16 @@ returns-clause-mounts c = repair_mounts
 
 -- src/laws.rt:91:1
 pub returns-clause-whole : goal.returns-clause-whole
-returns-clause-whole c = ?
+returns-clause-whole c = move_repairs
 
 -- src/laws.rt:91:1
 pub returns-clause-torn : goal.returns-clause-torn
-returns-clause-torn c = ?
+returns-clause-torn c = torn_move_repairs
 
 -- src/laws.rt:91:1
 pub returns-clause-ends : goal.returns-clause-ends
-returns-clause-ends c = ?
+returns-clause-ends c = repair_ends
 
 -- src/laws.rt:91:1
 pub returns-clause-needed : goal.returns-clause-needed
-returns-clause-needed c = ?
+returns-clause-needed c = needed_stays
