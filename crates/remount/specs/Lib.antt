@@ -3,4 +3,5 @@ pub mod Heads
 pub mod Scan
 pub mod Survey
 pub mod Known
+pub mod Moving
 pub mod Mount

@@ -47,7 +47,7 @@ fn is_zero(bytes: &[u8]) -> bool
 }
 
 /// Reads one of the readable blocks of a zone.
-fn read_block<D: Device>(
+pub(crate) fn read_block<D: Device>(
     device: &mut D,
     zone: u32,
     reported: ReportedZone,
