@@ -9,3 +9,5 @@ pub mod ReportLaws
 pub mod SoundLaws
 pub mod HeadLaws
 pub mod SurveyLaws
+pub mod CallLaws
+pub mod MoveBuildLaws

@@ -52,6 +52,16 @@ pub record FinishesZone (n : ℕ) (old new : DriveState) (before after : Survey)
   pub settled : is_active_usage (content_at (contents new.zones) zone).usage ≡ false
   pub others : (other : ℕ) → other ≢ zone → content_at (contents new.zones) other ≡ content_at (contents old.zones) other
 
+-- A zone is not opened or Closed any more, unless it is the torn one: all logs and tails stay, and no other zone is opened.
+pub record SettlesZone (n : ℕ) (old new : DriveState) (before after : Survey) (torn zone : ℕ) : Type 0 where
+  pub known : Knows new n (drive_logs new) after
+  pub logs : drive_logs new ≡ drive_logs old
+  pub tails : zone_tails (contents new.zones) ≡ zone_tails (contents old.zones)
+  pub vacant : AreVacantEmpty before.zones.items (drive_logs old) → AreVacantEmpty after.zones.items (drive_logs new)
+  pub settled : zone ≢ torn → is_active_usage (content_at (contents new.zones) zone).usage ≡ false
+  pub others : (other : ℕ) → is_active_usage (content_at (contents old.zones) other).usage ≡ false → is_active_usage (content_at (contents new.zones) other).usage ≡ false
+  pub count : length after.zones.items ≡ length before.zones.items
+
 -- no zone below this one is opened or Closed, but for the torn one
 abbrev pub AreSettled : DriveState → ℕ → ℕ → Type 0
 AreSettled drive torn limit = (zone : ℕ) → zone < limit → zone ≢ torn → is_active_usage (content_at (contents drive.zones) zone).usage ≡ false
@@ -88,33 +98,30 @@ abbrev pub source_of : DriveState → TablesView → ℕ → Source
 source_of drive tables zone = record { blocks = blocks_of drive zone; start = zone * drive.geometry.size; places = tables.map.places }
 
 -- what is said of a block that lies at a place: its data, or none for a trim
-abbrev pub said_at : Source → Place → Option (List ℕ)
-said_at source (places.At address) = Some (slice_index_or source.blocks (address - source.start) [])
-said_at source place = None
+abbrev pub said_at : List (List ℕ) → ℕ → Place → Option (List ℕ)
+said_at blocks start (places.At address) = Some (slice_index_or blocks (address - start) [])
+said_at blocks start place = None
 
 abbrev pub said : Source → ℕ → Option (List ℕ)
-said source block = said_at source (slice_index_or source.places block places.None)
+said source block = said_at source.blocks source.start (slice_index_or source.places block places.None)
 
 abbrev pub listed : Option (List ℕ) → List (List ℕ)
 listed None = []
 listed (Some bytes) = bytes ∷ []
 
-abbrev pub entry_with : ℕ → Option (List ℕ) → Entry
-entry_with block None = record { block = block; trim = true }
-entry_with block (Some bytes) = record { block = block; trim = false }
+abbrev pub placed_entry : ℕ → Place → Entry
+placed_entry block (places.At address) = record { block = block; trim = false }
+placed_entry block place = record { block = block; trim = true }
 
-abbrev pub moved_entry : Source → ℕ → Entry
-moved_entry source block = entry_with block (said source block)
-
-abbrev pub moved_entries : Source → List ℕ → List Entry
-moved_entries source blocks = map (moved_entry source) blocks
+abbrev pub moved_entries : List Place → List ℕ → List Entry
+moved_entries all blocks = map (λ block. placed_entry block (slice_index_or all block places.None)) blocks
 
 abbrev pub moved_data : Source → List ℕ → List (List ℕ)
 moved_data source blocks = flat_map (λ block. listed (said source block)) blocks
 
 -- the Move from a zone that says of these blocks what is said there
 abbrev pub move_of : Source → ℕ → ℕ → Option ℕ → List ℕ → Batch
-move_of source zone sequence size blocks = record { heading = record { kind = Move; sequence = sequence; source = zone; size = size; entries = moved_entries source blocks }; body = moved_data source blocks }
+move_of source zone sequence size blocks = record { heading = record { kind = Move; sequence = sequence; source = zone; size = size; entries = moved_entries source.places blocks }; body = moved_data source blocks }
 
 -- the bytes of a batch were built
 pub record IsBuiltAs (block_bytes : ℕ) (batch : Batch) (builder : BuilderView) : Type 0 where

@@ -6,7 +6,7 @@ ghost use Rattle.zone_choice.specs.Mountable.{IsMountable};
 ghost use Rattle.zone_choice.specs.ZoneLogs.{has_torn_tail, zone_tails};
 ghost use Rattle.remount.specs.Known.{AreVacantEmpty, KeepsMountable, Knows};
 ghost use Rattle.remount.specs.Mount.{IsOnlyTorn};
-ghost use Rattle.remount.specs.Moving.{AreSettled, FinishesZone, KeepsShut};
+ghost use Rattle.remount.specs.Moving.{AreSettled, FinishesZone, KeepsShut, SettlesZone};
 ghost use Rattle.remount.specs.Reported.{IsKnown};
 ghost use Rattle.remount.specs.Scan.{FailsBy};
 ghost use Rattle.remount.specs.declared.reported.ReportedZone.{ReportedZone};
@@ -54,6 +54,31 @@ fn finish_zone<D: Device>(
     Ok(())
 }
 
+/// Finishes a zone that is opened or Closed, unless it is the torn one.
+fn finish_other<D: Device>(
+    alloc: Global,
+    device: &mut D,
+    survey: &mut Survey,
+    torn: u32,
+    zone: u32,
+) -> Result<(), MountFault>
+    requires known { (n : ℕ) × Knows (D.drive device.old) n (drive_logs (D.drive device.old)) survey.old }
+    requires vacant { AreVacantEmpty survey.old.zones.items (drive_logs (D.drive device.old)) }
+    requires torn { IsOnlyTorn (drive_logs (D.drive device.old)) (zone_tails (contents (D.drive device.old).zones)) torn }
+    requires in_range { zone < length survey.old.zones.items }
+    ensures ok { OnOk result ((n : ℕ) → Knows (D.drive device.old) n (drive_logs (D.drive device.old)) survey.old → SettlesZone n (D.drive device.old) (D.drive device.new) survey.old survey.new torn zone) }
+    ensures err { IfErr result (FailsBy (λ _. ⊥) (D.drive device.new)) }
+    ensures kept { (n : ℕ) → KeepsMountable n (D.drive device.old) (D.drive device.new) }
+{
+    if zone == torn {
+        return Ok(());
+    }
+    if !is_active(survey.zones[zone as usize].state) {
+        return Ok(());
+    }
+    finish_zone(alloc, device, survey, zone)
+}
+
 /// Finishes each zone but the torn one that is opened or Closed.
 pub(crate) fn finish_beside<D: Device>(
     alloc: Global,
@@ -74,9 +99,7 @@ pub(crate) fn finish_beside<D: Device>(
     ensures kept { KeepsMountable blocks (D.drive device.old) (D.drive device.new) }
 {
     for zone in 0..survey.zones.len() as u32 {
-        if zone != torn && is_active(survey.zones[zone as usize].state) {
-            finish_zone(alloc, device, survey, zone)?;
-        }
+        finish_other(alloc, device, survey, torn, zone)?;
     }
     Ok(())
 }

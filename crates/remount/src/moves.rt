@@ -1,4 +1,4 @@
-ghost use Rattle.std.specs.Prelude.{◌≡◌, ◌++◌, ◌+◌, ◌*◌, ◌<◌, ◌≤◌, ◌^◌, ℕ, List, length, take, drop, slice_index_or, IfErr, IfOk, OnOk};
+ghost use Rattle.std.specs.Prelude.{◌≡◌, ◌++◌, [], ◌∷◌, ◌+◌, ◌*◌, ◌<◌, ◌≤◌, ◌^◌, ℕ, List, length, take, drop, slice_index_or, IfErr, IfOk, OnOk};
 ghost use Rattle.std.specs.List.{AllByRecursion, concat};
 ghost use Rattle.batch_log.specs.Header.{IsHeading, header_block};
 ghost use Rattle.batch_log.specs.Log.{batch_size, data_count};
@@ -8,7 +8,7 @@ ghost use Rattle.zone_choice.specs.Builder.{IsBuilt, built};
 ghost use Rattle.zone_choice.specs.Tables.{size_of};
 ghost use Rattle.remount.specs.Heads.{no_heads, with_heading};
 ghost use Rattle.remount.specs.Known.{KeepsMountable};
-ghost use Rattle.remount.specs.Moving.{CanTake, IsAtMove, IsBlockAt, IsBuiltAs, IsReadableAt, Source, TakesFront, TakesSome, entry_with, listed, move_by, move_count, moved_data, moved_entries, named_by, said_at, size_by, source_of};
+ghost use Rattle.remount.specs.Moving.{CanTake, IsAtMove, IsBlockAt, IsBuiltAs, IsReadableAt, TakesFront, TakesSome, listed, move_by, move_count, moved_data, moved_entries, named_by, placed_entry, said_at, size_by, source_of};
 ghost use Rattle.remount.specs.Reported.{IsKnown, KeepsZones};
 ghost use Rattle.remount.specs.Scan.{FailsBy, blocks_of};
 
@@ -46,7 +46,7 @@ pub struct MovePlan {
 /// Names a block that lies at a place.
 fn name_record(batch: &mut BatchBuilder, block: u32, place: Place) -> Result<(), AllocError>
     requires { block + 1 < 2 ^ 32 }
-    ensures { OnOk result ((source : Source) → batch.new.heading ≡ record batch.old.heading { entries = batch.old.heading.entries ++ entry_with block (said_at source place) ∷ [] }) }
+    ensures { OnOk result (batch.new.heading ≡ record batch.old.heading { entries = batch.old.heading.entries ++ placed_entry block place ∷ [] }) }
 {
     match place {
         Place::At(_) => batch.name_data(block, 1),
@@ -60,8 +60,8 @@ fn name_records(
     tables: &Tables,
     blocks: &[u32],
 ) -> Result<(), AllocError>
-    requires { (start : ℕ) × (count : ℕ) × AllByRecursion (IsReadableAt tables.now start count) blocks.now }
-    ensures { OnOk result ((source : Source) → source.places ≡ tables.now.map.places → batch.new.heading ≡ record batch.old.heading { entries = batch.old.heading.entries ++ moved_entries source blocks.now }) }
+    requires { AllByRecursion (λ block. (block < size_of tables.now) × (block + 1 < 2 ^ 32)) blocks.now }
+    ensures { OnOk result (batch.new.heading ≡ record batch.old.heading { entries = batch.old.heading.entries ++ moved_entries tables.now.map.places blocks.now }) }
 {
     for block in blocks {
         name_record(batch, *block, tables.place_of(*block))?;
@@ -81,8 +81,8 @@ fn copy_record<D: Device>(
     requires known { IsKnown (D.drive device.old) zone reported }
     requires place { IsBlockAt (zone * (D.drive device.old).geometry.size) reported.blocks place }
     ensures heading { batch.new.heading ≡ batch.old.heading }
-    ensures bytes { OnOk result ((source : Source) → source.blocks ≡ blocks_of (D.drive device.old) zone → source.start ≡ zone * (D.drive device.old).geometry.size → batch.new.bytes ≡ batch.old.bytes ++ concat (listed (said_at source place))) }
-    ensures whole { OnOk result ((source : Source) → source.blocks ≡ blocks_of (D.drive device.old) zone → source.start ≡ zone * (D.drive device.old).geometry.size → AllByRecursion (λ block. length block ≡ (D.drive device.old).geometry.block) (listed (said_at source place))) }
+    ensures bytes { OnOk result (batch.new.bytes ≡ batch.old.bytes ++ concat (listed (said_at (blocks_of (D.drive device.old) zone) (zone * (D.drive device.old).geometry.size) place))) }
+    ensures whole { OnOk result (AllByRecursion (λ block. length block ≡ (D.drive device.old).geometry.block) (listed (said_at (blocks_of (D.drive device.old) zone) (zone * (D.drive device.old).geometry.size) place))) }
     ensures err { IfErr result (FailsBy (λ _. ⊥) (D.drive device.new)) }
     ensures kept { KeepsZones (D.drive device.old) (D.drive device.new) }
 {
