@@ -1,6 +1,6 @@
 -- What the commands of a repair keep, and which faults they end with.
 use Rattle.std.proofs.Common.{◌≡◌, ◌≢◌, ◌⊎◌, inl, inr, ℕ, zero, suc, ◌+◌, ◌-◌, ◌*◌, ◌/◌, ◌%◌, ◌<◌, ◌≤◌, ◌^◌, Bool, true, false, List, [], ◌∷◌, ◌++◌, length, set, get_or, replicate, Option, Some, None, Result, Ok, Err, refl, sym, ap, subst, ◌∙◌, arith}
-use Rattle.std.specs.Prelude.{OnOk, slice_get}
+use Rattle.std.specs.Prelude.{IfErr, OnOk, slice_get}
 use Rattle.std.specs.List.{AllByRecursion}
 use Rattle.std.proofs.lemmas.Bool.{cases_eq}
 use Rattle.std.proofs.lemmas.List.{get_or-set_other, get_or-set_same, length-append, length-map, length-replicate, length-set}
@@ -431,6 +431,15 @@ pub reported-active : (drive : DriveState) (reported : List ReportedZone) (zone 
 reported-active drive reported zone r known is = ap is_active_usage (known.each zone r is).usage
 
 -- ---- answers
+
+pub on-two : {P Q R : Type 0} {V : Type 0} (result : Result V MountFault) → (P → Q → R) → OnOk result P → OnOk result Q → OnOk result R
+on-two (Ok value) step p q = step p q
+on-two (Err fault) step p q = tt
+
+-- what follows from success, and from failure
+pub on-either : {P Q R : Type 0} {V : Type 0} (result : Result V MountFault) → (P → R) → (Q → R) → OnOk result P → IfErr result (λ _. Q) → R
+on-either (Ok value) done failed p q = done p
+on-either (Err fault) done failed p q = failed q
 
 pub on-ok : {P Q : Type 0} {V : Type 0} (result : Result V MountFault) → (P → Q) → OnOk result P → OnOk result Q
 on-ok (Ok value) step p = step p

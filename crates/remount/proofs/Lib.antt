@@ -11,3 +11,7 @@ pub mod HeadLaws
 pub mod SurveyLaws
 pub mod CallLaws
 pub mod MoveBuildLaws
+pub mod TakingLaws
+pub mod PlanLaws
+pub mod MovingLaws
+pub mod MakingLaws

@@ -19,8 +19,12 @@ use Rattle.logical_map.specs.declared.place.Place.TheVariants as places
 use Rattle.zone_choice.specs.Builder.{BuilderView, IsBuilt, built}
 use Rattle.zone_choice.specs.Tables.{TablesView}
 use Rattle.zone_choice.proofs.AllLaws.{all-append}
+use Rattle.zone_choice.proofs.ChangeLaws.{large-block}
+use Rattle.zone_states.specs.Geometry.{IsInRange}
+use Rattle.batch_log.specs.declared.header.Kind.TheVariants.{Move}
 use Rattle.remount.specs.declared.reported.ReportedZone.{ReportedZone}
-use Rattle.remount.specs.Moving.{IsBuiltAs, IsReadableAt, Source, listed, moved_data, moved_entries, move_of, placed_entry, said, said_at, source_of}
+use Rattle.remount.specs.declared.moves.MovePlan.{MovePlan}
+use Rattle.remount.specs.Moving.{IsBuiltAs, IsReadableAt, Source, listed, move_by, moved_data, moved_entries, named_by, placed_entry, said, said_at, size_by, source_of}
 use Rattle.remount.specs.Reported.{IsKnown, KeepsZones}
 use Rattle.remount.specs.Scan.{blocks_of}
 use Rattle.remount.proofs.ReadLaws.{kept-blocks, kept-known, keeps-both, keeps-none}
@@ -71,8 +75,8 @@ length-moved source (block ∷ blocks) = one (slice_index_or source.places block
   where
     one : (p : Place) → length (moved_data source blocks) ≡ data_count (moved_entries source.places blocks)
         → length (listed (said_at source.blocks source.start p) ++ moved_data source blocks) ≡ data_count (placed_entry block p ∷ moved_entries source.places blocks)
-    one places.None rest = rest
-    one (places.Trimmed address) rest = rest
+    one places.None rest = omega (arith, rest)
+    one (places.Trimmed address) rest = omega (arith, rest)
     one (places.At address) rest = omega (arith, rest)
 
 abbrev batch_with : Heading → List (List ℕ) → Batch
@@ -140,5 +144,33 @@ copying-all start now tables zone reported old new blocks i past was =
     record { bytes = sym (append-nil new.bytes) ∙ bytes; whole = whole tt }
 
 -- the next of some blocks
-pub turn : {X : Type 0} (xs : List X) (i : ℕ) (x : X) → i < length xs → x ≡ get_or xs i x → drop i xs ≡ x ∷ drop (i + 1) xs
-turn xs i x lt is = drop_more xs i x lt ∙ ap (λ y. y ∷ drop (i + 1) xs) (sym is)
+pub turn : {X : Type 0} (xs : List X) (i : ℕ) (x d : X) → i < length xs → x ≡ get_or xs i d → drop i xs ≡ x ∷ drop (i + 1) xs
+turn xs i x d lt is = drop_more xs i d lt ∙ ap (λ y. y ∷ drop (i + 1) xs) (sym is)
+
+-- a trim has no data
+pub no-data : (blocks : List (List ℕ)) (start : ℕ) (p : Place) → ((address : ℕ) → p ≡ places.At address → ⊥) → listed (said_at blocks start p) ≡ []
+no-data blocks start places.None other = refl
+no-data blocks start (places.Trimmed address) other = refl
+no-data blocks start (places.At address) other = absurd (other address refl)
+
+-- ---- step by step
+
+abbrev heading_by : ℕ → ℕ → Option ℕ → List Entry → Heading
+heading_by sequence torn size entries = record { kind = Move; sequence = sequence; source = torn; size = size; entries = entries }
+
+pub build-done : (start : DriveState) (tables : TablesView) (plan : MovePlan) (k block sequence : ℕ) (size : Option ℕ) (blocks : List ℕ) (begun named encoded copied : BuilderView) → IsInRange start.geometry → IsHeading start.geometry.block (move_by (source_of start tables plan.torn) plan k).heading
+    → block ≡ start.geometry.block → blocks ≡ named_by plan k → size ≡ size_by plan k → sequence ≡ plan.next + k
+    → begun.heading ≡ record { kind = Move; sequence = sequence; source = plan.torn; size = size; entries = [] }
+    → named.heading ≡ record begun.heading { entries = begun.heading.entries ++ moved_entries tables.map.places blocks }
+    → encoded.heading ≡ named.heading → encoded.bytes ≡ header_block block named.heading → copied.heading ≡ encoded.heading
+    → copied.bytes ≡ encoded.bytes ++ concat (moved_data (source_of start tables plan.torn) blocks) → AreWhole start.geometry.block (moved_data (source_of start tables plan.torn) blocks)
+    → IsBuiltAs start.geometry.block (move_by (source_of start tables plan.torn) plan k) copied
+build-done start tables plan k block sequence size blocks begun named encoded copied range says block-is blocks-is size-is sequence-is begun-is named-is encoded-heading encoded-bytes copied-heading copied-bytes whole =
+    let source = source_of start tables plan.torn in
+    let batch = move_by source plan k in
+    let raw : named.heading ≡ heading_by sequence plan.torn size (moved_entries tables.map.places blocks) = named-is ∙ ap (λ (h : Heading). record h { entries = h.entries ++ moved_entries tables.map.places blocks }) begun-is in
+    let same : heading_by sequence plan.torn size (moved_entries tables.map.places blocks) ≡ batch.heading = rw (sequence-is, size-is, blocks-is) refl in
+    let heading : named.heading ≡ batch.heading = raw ∙ same in
+    built-as start.geometry.block copied batch (large-block start.geometry range) says (copied-heading ∙ encoded-heading ∙ heading)
+      (copied-bytes ∙ ap (λ (xs : List ℕ). xs ++ concat (moved_data source blocks)) (encoded-bytes ∙ ap (λ (s : ℕ). header_block s named.heading) block-is ∙ ap (header_block start.geometry.block) heading) ∙ ap (λ (bs : List ℕ). header_block start.geometry.block batch.heading ++ concat (moved_data source bs)) blocks-is)
+      (rw blocks-is at whole) (length-moved source (named_by plan k))

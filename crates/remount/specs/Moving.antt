@@ -29,7 +29,7 @@ use Rattle.remount.specs.declared.repair.Repair.{Repair}
 use Rattle.remount.specs.declared.reported.ReportedZone.{ReportedZone}
 use Rattle.remount.specs.declared.survey.Survey.{Survey}
 use Rattle.remount.specs.Heads.{HeadsView, heads_of}
-use Rattle.remount.specs.Known.{AreVacantEmpty, Knows}
+use Rattle.remount.specs.Known.{AreVacantEmpty, KeepsMountable, Knows}
 use Rattle.remount.specs.Reported.{IsKnown}
 use Rattle.remount.specs.Scan.{blocks_of}
 
@@ -84,7 +84,7 @@ pub record TakesFront (old new : DriveState) (zone : ℕ) (batch : Batch) (j : �
 
 -- nothing of it, or a front
 abbrev pub TakesSome : DriveState → DriveState → ℕ → Batch → Type 0
-TakesSome old new zone batch = KeepsShut old new ⊎ ((j : ℕ) × TakesFront old new zone batch j)
+TakesSome old new zone batch = ((n : ℕ) → KeepsMountable n old new) ⊎ ((j : ℕ) × TakesFront old new zone batch j)
 
 -- ---- one Move
 
