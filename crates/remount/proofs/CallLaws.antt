@@ -239,7 +239,7 @@ full-known old new zone range was lawful geometry finishes =
       shut = λ h. settled-shut new.zones zone (inr (ap (λ (c : Content). c.usage) there));
     }
 
-other-known : (old new : DriveState) (zone : ℕ) (reported : ReportedZone) → IsLawful old → IsLawful new → new.geometry ≡ old.geometry → content_at (contents new.zones) zone ≡ content_at (contents old.zones) zone → (IsShut old.zones zone → IsShut new.zones zone)
+pub other-known : (old new : DriveState) (zone : ℕ) (reported : ReportedZone) → IsLawful old → IsLawful new → new.geometry ≡ old.geometry → content_at (contents new.zones) zone ≡ content_at (contents old.zones) zone → (IsShut old.zones zone → IsShut new.zones zone)
     → IsKnown old zone reported → IsKnown new zone reported
 other-known old new zone reported was lawful geometry same opens known = record {
   geometry = rw geometry known.geometry;

@@ -15,3 +15,6 @@ pub mod TakingLaws
 pub mod PlanLaws
 pub mod MovingLaws
 pub mod MakingLaws
+pub mod SettleLaws
+pub mod NoteLaws
+pub mod BeginLaws

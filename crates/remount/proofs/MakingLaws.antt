@@ -99,7 +99,7 @@ blocks-before source plan (suc k) =
     let b = move_by source plan k in
     omega (arith, blocks-before source plan k, ap (λ (h : HeadsView). h.blocks) (heads-more (moves_before source plan k) b), log_size-append (moves_before source plan k) b)
 
-count-before : (source : Source) (plan : MovePlan) (k : ℕ) → k ≤ log_size (moves_before source plan k)
+pub count-before : (source : Source) (plan : MovePlan) (k : ℕ) → k ≤ log_size (moves_before source plan k)
 count-before source plan zero = omega arith
 count-before source plan (suc k) = omega (arith, count-before source plan k, log_size-append (moves_before source plan k) (move_by source plan k))
 

@@ -86,11 +86,11 @@ larger-same : (x : Option ℕ) → larger x x ≡ x
 larger-same None = refl
 larger-same (Some a) = ap Some (omega arith)
 
-within-by : (x most : Option ℕ) → (x ≡ most) ⊎ (x ≡ None) → IsWithin x most
+pub within-by : (x most : Option ℕ) → (x ≡ most) ⊎ (x ≡ None) → IsWithin x most
 within-by x most (inl same) = rw same (larger-same most)
 within-by x most (inr none) = rw none refl
 
-size-either : (geometry : Geometry) (n : ℕ) (logs : List (List Batch)) (source : Source) (plan : MovePlan) (k : ℕ) → CanMove geometry n logs source plan → (size_by plan k ≡ log_greatest (log_at logs plan.torn)) ⊎ (size_by plan k ≡ None)
+pub size-either : (geometry : Geometry) (n : ℕ) (logs : List (List Batch)) (source : Source) (plan : MovePlan) (k : ℕ) → CanMove geometry n logs source plan → (size_by plan k ≡ log_greatest (log_at logs plan.torn)) ⊎ (size_by plan k ≡ None)
 size-either geometry n logs source plan k can = at (eqb (k + 1) (move_count plan))
   where
     at : (b : Bool) → (cond b plan.size plan.early ≡ log_greatest (log_at logs plan.torn)) ⊎ (cond b plan.size plan.early ≡ None)
@@ -207,3 +207,7 @@ after-more view (x ∷ xs) b = after-more (with_heading view x.heading) xs b
 pub heads-more : (log : List Batch) (b : Batch) → heads_of (log ++ b ∷ []) ≡ with_heading (heads_of log) b.heading
 heads-more log b = after-more no_heads log b
 
+
+pub named-blocks : (P : ℕ → Type 0) (all : List Place) (blocks : List ℕ) → AllByRecursion (λ (e : Entry). P e.block) (moved_entries all blocks) → AllByRecursion P blocks
+named-blocks P all [] each = tt
+named-blocks P all (b ∷ bs) each = (subst P (entry-block b (slice_index_or all b places.None)) each.0, named-blocks P all bs each.1)

@@ -1,6 +1,7 @@
-ghost use Rattle.std.specs.Prelude.{◌≡◌, ◌<◌, ◌≤◌, ◌^◌, ℕ, List, length, IfErr, OnOk};
+ghost use Rattle.std.specs.Prelude.{◌≡◌, ◌<◌, ◌≤◌, ◌^◌, ℕ, false, List, length, IfErr, OnOk};
+ghost use Rattle.zone_states.specs.Transition.{is_open};
 ghost use Rattle.batch_log.specs.Log.{Batch};
-ghost use Rattle.drive_port.specs.Contents.{contents, usage_of};
+ghost use Rattle.drive_port.specs.Contents.{contents, full, usage_of};
 ghost use Rattle.drive_port.specs.Drive.{DriveState};
 ghost use Rattle.zone_choice.specs.Agreement.{drive_logs};
 ghost use Rattle.zone_choice.specs.Tables.{TablesView};
@@ -43,6 +44,7 @@ fn filled_zone(blocks: u32, capacity: u32) -> ReportedZone
     requires { 1 ≤ blocks }
     ensures usage { usage_of result.state ≡ usage_with capacity blocks }
     ensures blocks { result.blocks ≡ blocks }
+    ensures opened { is_open result.state ≡ false → usage_of result.state ≡ full }
 {
     if blocks == capacity {
         return ReportedZone {
@@ -69,7 +71,7 @@ pub(crate) fn note_repair(
     requires count { length survey.old.scanned.items ≡ length survey.old.zones.items }
     requires some { 1 ≤ heads.blocks }
     ensures known { (n : ℕ) (start new : DriveState) (made : List Batch) → start.geometry.capacity ≡ capacity → heads ≡ heads_of made → Knows start n (drive_logs start) survey.old → EmptiesTorn n start new plan.now made → Knows new n (drive_logs new) survey.new }
-    ensures vacant { (n : ℕ) (start new : DriveState) (made : List Batch) → AreVacantEmpty survey.old.zones.items (drive_logs start) → EmptiesTorn n start new plan.now made → AreVacantEmpty survey.new.zones.items (drive_logs new) }
+    ensures vacant { (n : ℕ) (start new : DriveState) (made : List Batch) → Knows start n (drive_logs start) survey.old → AreVacantEmpty survey.old.zones.items (drive_logs start) → EmptiesTorn n start new plan.now made → AreVacantEmpty survey.new.zones.items (drive_logs new) }
 {
     let written = filled_zone(heads.blocks(), capacity);
     survey.zones[plan.into as usize] = written;
