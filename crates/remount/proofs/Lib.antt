@@ -30,4 +30,13 @@ pub mod ToEmptyLaws
 pub mod FinishLaws
 pub mod TornLaws
 pub mod PlanLaws
+pub mod CallLaws
+pub mod MoveBuildLaws
+pub mod TakingLaws
+pub mod MovePlanLaws
+pub mod MovingLaws
+pub mod MakingLaws
+pub mod SettleLaws
+pub mod NoteLaws
+pub mod BeginLaws
 pub mod StepLaws

@@ -3,6 +3,7 @@ pub mod Heads
 pub mod Scan
 pub mod Survey
 pub mod Known
+pub mod Moving
 pub mod Mount
 pub mod Resets
 pub mod KeptRecords

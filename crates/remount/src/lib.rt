@@ -18,14 +18,18 @@
 //!   command is refused.
 #![tactic(auto)]
 
+mod beside;
 mod clearing;
 mod empty;
 mod fault;
 mod heads;
 mod moved;
+mod moves;
+mod order;
 mod places;
 mod records;
 mod repair;
+mod settle;
 mod reported;
 mod rivals;
 mod roles;
@@ -40,6 +44,7 @@ pub use clearing::{Finding, clear_zones, examine_zone};
 pub use empty::{empty_zones, finish_zones, zones_to_empty};
 pub use fault::MountFault;
 pub use heads::{Head, ZoneHeads};
+pub use moves::MovePlan;
 pub use places::{mounted_tables, place_records};
 pub use repair::{Repair, repair_zone};
 pub use reported::ReportedZone;

@@ -9,7 +9,11 @@ ghost use Rattle.remount.specs.Known.{HasVacant};
 ghost use Rattle.remount.specs.Mount.{AreWhole, IsPlan};
 ghost use Rattle.remount.specs.Scan.{FailsBy};
 
+use crate::beside::{close_alone, finish_beside, lowest_empty};
 use crate::fault::MountFault;
+use crate::moves::make_moves;
+use crate::order::plan_moves;
+use crate::settle::{empty_torn, note_repair};
 use crate::survey::Survey;
 use drive_port::Device;
 use std::alloc::Global;
@@ -46,5 +50,14 @@ pub fn repair_zone<D: Device>(
     ensures err { IfErr result (FailsBy (λ _. ⊥) (D.drive device.new)) }
     ensures kept { KeepsMountable blocks (D.drive device.old) (D.drive device.new) }
 {
-    Err(MountFault::OutOfMemory)
+    finish_beside(alloc, device, survey, blocks, repair.zone)?;
+    let Some(into) = lowest_empty(&survey.zones) else {
+        unreachable!();
+    };
+    let plan = plan_moves(alloc, device, survey, blocks, repair, into)?;
+    close_alone(alloc, device, plan.torn, plan.reported)?;
+    let heads = make_moves(alloc, device, &plan, &repair.tables)?;
+    empty_torn(alloc, device, &plan)?;
+    note_repair(alloc, survey, &plan, heads, device.geometry().capacity);
+    Ok(())
 }

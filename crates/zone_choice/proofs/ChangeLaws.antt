@@ -103,12 +103,12 @@ keeps-room drive old new room agrees = record {
 pub large-block : (g : Geometry) → IsInRange g → 512 ≤ g.block
 large-block g range = elim range.block as (λ _. 512 ≤ g.block) [ inl e ↦ omega arith | inr e ↦ omega arith ]
 
-record IsSized (g : Geometry) (builder : BuilderView) : Type 0 where
-  long : length builder.bytes ≡ batch_size (built g.block builder) * g.block
-  count_is : block_count g builder.bytes ≡ batch_size (built g.block builder)
-  cut : cut_blocks g.block (block_count g builder.bytes) builder.bytes ≡ batch_blocks g.block (built g.block builder)
+pub record IsSized (g : Geometry) (builder : BuilderView) : Type 0 where
+  pub long : length builder.bytes ≡ batch_size (built g.block builder) * g.block
+  pub count_is : block_count g builder.bytes ≡ batch_size (built g.block builder)
+  pub cut : cut_blocks g.block (block_count g builder.bytes) builder.bytes ≡ batch_blocks g.block (built g.block builder)
 
-sized : (g : Geometry) (builder : BuilderView) → IsInRange g → IsHeading g.block builder.heading → IsBuilt g.block builder → IsSized g builder
+pub sized : (g : Geometry) (builder : BuilderView) → IsInRange g → IsHeading g.block builder.heading → IsBuilt g.block builder → IsSized g builder
 sized g builder range says is =
     let block = g.block in
     let count = data_count builder.heading.entries in

@@ -49,14 +49,14 @@ inactive-shut states.Full h = refl
 inactive-shut states.Offline h = refl
 
 -- a count of all elements but one
-count-remove : {X : Type 0} (p : X → Bool) (xs : List X) (i : ℕ) (d : X) → p d ≡ false → i < length xs → count_by p (remove xs i) ≡ count_by p (set xs i d)
+pub count-remove : {X : Type 0} (p : X → Bool) (xs : List X) (i : ℕ) (d : X) → p d ≡ false → i < length xs → count_by p (remove xs i) ≡ count_by p (set xs i d)
 count-remove p [] i d off lt = absurd (omega arith)
 count-remove {X} p (x ∷ xs) zero d off lt = let none : cond {A = ℕ} (p d) 1 0 ≡ 0 = rw off refl in omega (arith, sum_by-cons (λ (y : X). cond {A = ℕ} (p y) 1 0) d xs, none)
 count-remove {X} p (x ∷ xs) (suc i) d off lt =
     omega (arith, sum_by-cons (λ (y : X). cond {A = ℕ} (p y) 1 0) x (remove xs i), sum_by-cons (λ (y : X). cond {A = ℕ} (p y) 1 0) x (set xs i d), count-remove p xs i d off (omega arith))
 
 -- where one of the zones that are being filled is left out, fewer are counted
-count-others : {X : Type 0} (p : X → Bool) (xs : List X) (fs : List Filling) (i : ℕ) (d : X) → p d ≡ false → i < length xs → list_any (is_at i) fs ≡ true → length fs ≤ 2
+pub count-others : {X : Type 0} (p : X → Bool) (xs : List X) (fs : List Filling) (i : ℕ) (d : X) → p d ≡ false → i < length xs → list_any (is_at i) fs ≡ true → length fs ≤ 2
     → ((k : ℕ) → k < length xs → list_any (is_at k) fs ≡ false → p (get_or xs k d) ≡ false) → count_by p (remove xs i) + 1 ≤ length fs
 count-others p xs [] i d off lt here few none = absurd (cc)
 count-others p xs (f ∷ []) i d off lt here few none =

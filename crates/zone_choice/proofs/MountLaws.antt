@@ -92,7 +92,7 @@ torn_mounts geometry zones n zone some high sound few small only disk = record {
 
 -- ---- Resets
 
-logs-set : (geometry : Geometry) (zones : List Content) (zone : ℕ) → zone_logs geometry (set zones zone emptied) ≡ without (zone_logs geometry zones) zone
+pub logs-set : (geometry : Geometry) (zones : List Content) (zone : ℕ) → zone_logs geometry (set zones zone emptied) ≡ without (zone_logs geometry zones) zone
 unfolding zone_log
 logs-set geometry zones zone = map-set (zone_log geometry) zones zone emptied
 

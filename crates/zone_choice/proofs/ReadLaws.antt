@@ -84,13 +84,13 @@ zone_stands size zone is_full blocks log z is = log_stands size zone 0 [] log is
 -- ---- on the drive
 
 -- the data of a record stands in its zone's readable blocks
-record StandsOn (geometry : Geometry) (zones : List Content) (first : ℕ) (r : Record) : Type 0 where
-  in_range : r.zone < first + length zones
-  above : first ≤ r.zone
-  stands : (bytes : List ℕ) → r.content ≡ Some bytes
+pub record StandsOn (geometry : Geometry) (zones : List Content) (first : ℕ) (r : Record) : Type 0 where
+  pub in_range : r.zone < first + length zones
+  pub above : first ≤ r.zone
+  pub stands : (bytes : List ℕ) → r.content ≡ Some bytes
       → (r.offset < length (readable geometry (content_at zones (r.zone - first)))) × (get_or (readable geometry (content_at zones (r.zone - first))) r.offset (zero_block geometry.block) ≡ bytes)
 
-records_stand : (geometry : Geometry) (zones : List Content) (first : ℕ) → AllByRecursion (HasLog geometry) zones → AllByRecursion (StandsOn geometry zones first) (records first (zone_logs geometry zones))
+pub records_stand : (geometry : Geometry) (zones : List Content) (first : ℕ) → AllByRecursion (HasLog geometry) zones → AllByRecursion (StandsOn geometry zones first) (records first (zone_logs geometry zones))
 records_stand geometry [] first all = tt
 records_stand geometry (c ∷ cs) first all =
     all-append (StandsOn geometry (c ∷ cs) first) (log_records first 0 (zone_log geometry c)) (records (suc first) (zone_logs geometry cs))

@@ -125,7 +125,8 @@ impl BatchBuilder {
         &self.header.entries
     }
 
-    pub(crate) fn bytes(&self) -> &[u8]
+    /// The bytes of its blocks, the header block first.
+    pub fn bytes(&self) -> &[u8]
         ensures { result.now ≡ self.now.bytes }
     {
         &self.bytes

@@ -1,0 +1,446 @@
+-- What the commands of a repair keep, and which faults they end with.
+use Rattle.std.proofs.Common.{◌≡◌, ◌≢◌, ◌⊎◌, inl, inr, ℕ, zero, suc, ◌+◌, ◌-◌, ◌*◌, ◌/◌, ◌%◌, ◌<◌, ◌≤◌, ◌^◌, Bool, true, false, List, [], ◌∷◌, ◌++◌, length, set, get_or, replicate, Option, Some, None, Result, Ok, Err, refl, sym, ap, subst, ◌∙◌, arith}
+use Rattle.std.specs.Prelude.{IfErr, OnOk, slice_get}
+use Rattle.std.specs.List.{AllByRecursion}
+use Rattle.std.proofs.lemmas.Bool.{cases_eq}
+use Rattle.std.proofs.lemmas.List.{get_or-set_other, get_or-set_same, length-append, length-map, length-replicate, length-set}
+use Rattle.std.proofs.lemmas.Option.{slice_get-get_or, slice_get_within}
+use Rattle.nvme_wire.specs.declared.zone_state.ZoneState.{ZoneState}
+use Rattle.nvme_wire.specs.declared.zone_state.ZoneState.TheVariants as states
+use Rattle.zone_states.specs.declared.geometry.Geometry.{Geometry}
+use Rattle.zone_states.specs.Geometry.{IsInRange}
+use Rattle.zone_states.specs.Transition.{is_active, is_open}
+use Rattle.zone_states.specs.Zone.{Zone}
+use Rattle.drive_port.specs.Calls.{CanClose, CanFinish, CanReset, CloseLeaves, ClosedZone, Finished, FinishedContents, FinishKeeps, FinishLeaves, IsNotRefused, Obeys, ResetContents, ResetKeeps, ResetLeaves}
+use Rattle.drive_port.specs.Contents.{Content, Counts, Finishes, SameContents, content_at, content_of, contents, emptied, finished, full, is_active_usage, is_full, is_usable, is_writable, nothing, usage_of}
+use Rattle.drive_port.specs.Drive.{DriveState, IsLawful}
+use Rattle.drive_port.specs.Step.{nowhere, zone_at}
+use Rattle.drive_port.specs.declared.calls.PortFault.{PortFault}
+use Rattle.drive_port.specs.declared.calls.PortFault.TheVariants as port
+use Rattle.batch_log.specs.Log.{zero_block}
+use Rattle.zone_choice.specs.Agreement.{IsShut, drive_logs, spelled}
+use Rattle.zone_choice.specs.Changes.{IsHalt}
+use Rattle.zone_choice.specs.Mountable.{IsMountable}
+use Rattle.zone_choice.specs.ZoneLogs.{HasLog, has_torn_tail, log_at, readable, spelled_array, zone_logs, zone_tails}
+use Rattle.zone_choice.proofs.AgreementLaws.{spelled_same}
+use Rattle.zone_choice.proofs.AllLaws.{all-at}
+use Rattle.zone_choice.proofs.CommandLaws.{content-zone, start-below, zone-few, zone-start}
+use Rattle.zone_choice.proofs.MountLaws.{finish_mounts}
+use Rattle.zone_choice.proofs.OpenLaws.{close-opens, closing-opens, finish-opens, settled-shut}
+use Rattle.zone_choice.proofs.ZoneLogLaws.{finish_logs, tail-at}
+use Rattle.remount.specs.declared.fault.MountFault.{MountFault}
+use Rattle.remount.specs.declared.reported.ReportedZone.{ReportedZone}
+use Rattle.remount.specs.declared.survey.Survey.{Survey}
+use Rattle.remount.specs.Known.{AreVacantEmpty, KeepsMountable, Knows}
+use Rattle.remount.specs.Mount.{IsOnlyTorn}
+use Rattle.remount.specs.Moving.{AreSettled, FinishesZone, KeepsShut, SettlesZone}
+use Rattle.remount.specs.Reported.{IsKnown, KeepsZones}
+use Rattle.remount.specs.Scan.{AreKnown, FailsBy, mount_fault}
+use Rattle.remount.proofs.ReadLaws.{kept-contents}
+
+-- ---- lists
+
+pub get-set : {X : Type 0} (xs : List X) (i j : ℕ) (v x : X) → slice_get (set xs i v) j ≡ Some x → ((j ≡ i) × (x ≡ v)) ⊎ ((j ≢ i) × (slice_get xs j ≡ Some x))
+get-set [] i j v x is = absurd (cc)
+get-set (y ∷ ys) zero zero v x is = let same : Some v ≡ Some x = is in inl (refl, cc)
+get-set (y ∷ ys) zero (suc j) v x is = inr ((λ e. absurd (omega arith)), is)
+get-set (y ∷ ys) (suc i) zero v x is = inr ((λ e. absurd (omega arith)), is)
+get-set {X} (y ∷ ys) (suc i) (suc j) v x is = elim (get-set ys i j v x is) as (λ _. ((suc j ≡ suc i) × (x ≡ v)) ⊎ ((suc j ≢ suc i) × (slice_get ys j ≡ Some x))) [
+  | inl here ↦ inl (ap suc here.0, here.1)
+  | inr there ↦ inr ((λ e. there.0 (omega arith)), there.1)
+]
+
+pub in-get : {X : Type 0} (xs : List X) (i : ℕ) (d : X) → i < length xs → (x : X) × (slice_get xs i ≡ Some x)
+in-get xs i d lt = (get_or xs i d, slice_get-get_or xs i d lt)
+
+-- ---- the same drive, as a mount sees it
+
+pub mountable-both : (n : ℕ) (a b c : DriveState) → KeepsMountable n a b → KeepsMountable n b c → KeepsMountable n a c
+mountable-both n a b c k l = record {
+  geometry = l.geometry ∙ k.geometry;
+  lawful = l.lawful;
+  refused = l.refused ∙ k.refused;
+  mountable = λ m. l.mountable (k.mountable m);
+  array = λ m. l.array (k.mountable m) ∙ k.array m;
+}
+
+pub mountable-same : (n : ℕ) (old new : DriveState) → SameContents old new → IsLawful new → new.refused ≡ old.refused → KeepsMountable n old new
+mountable-same n old new same lawful refused = record {
+  geometry = same.geometry;
+  lawful = lawful;
+  refused = refused;
+  mountable = λ m. record { lawful = lawful; holds = rw (same.geometry, same.contents) m.holds };
+  array = λ m. spelled_same old new n same;
+}
+
+pub shut-mountable : (n : ℕ) (old new : DriveState) → KeepsShut old new → KeepsMountable n old new
+shut-mountable n old new k = mountable-same n old new (record { geometry = k.geometry; contents = k.contents_are }) k.lawful k.refused
+
+pub zones-shut : (old new : DriveState) → KeepsZones old new → KeepsShut old new
+zones-shut old new k = record { geometry = k.geometry; contents_are = kept-contents old new k; lawful = k.lawful; refused = k.refused; opens = closing-opens old.zones new.zones k.closing }
+
+pub shut-none : (drive : DriveState) → IsLawful drive → KeepsShut drive drive
+shut-none drive lawful = record { geometry = refl; contents_are = refl; lawful = lawful; refused = refl; opens = λ zone h. h }
+
+pub shut-both : (a b c : DriveState) → KeepsShut a b → KeepsShut b c → KeepsShut a c
+shut-both a b c k l = record { geometry = l.geometry ∙ k.geometry; contents_are = l.contents_are ∙ k.contents_are; lawful = l.lawful; refused = l.refused ∙ k.refused; opens = λ zone h. l.opens zone (k.opens zone h) }
+
+pub shut-count : (old new : DriveState) → contents new.zones ≡ contents old.zones → length new.zones ≡ length old.zones
+shut-count old new same = omega (arith, ap length same, length-map new.zones content_of, length-map old.zones content_of)
+
+pub shut-known : (old new : DriveState) (zone : ℕ) (reported : ReportedZone) → KeepsShut old new → IsKnown old zone reported → IsKnown new zone reported
+shut-known old new zone reported k known =
+    let same = k.contents_are in
+    record {
+      geometry = rw k.geometry known.geometry;
+      lawful = k.lawful;
+      in_range = omega (arith, shut-count old new same, known.in_range);
+      usage = rw same known.usage;
+      usable = known.usable;
+      blocks = rw (k.geometry, same) known.blocks;
+      shut = λ h. k.opens zone (known.shut h);
+    }
+
+pub shut-all : (old new : DriveState) (reported : List ReportedZone) → KeepsShut old new → AreKnown old reported → AreKnown new reported
+shut-all old new reported k known = record {
+  geometry = rw k.geometry known.geometry;
+  lawful = k.lawful;
+  count = known.count ∙ sym (shut-count old new k.contents_are);
+  each = λ zone r is. shut-known old new zone r k (known.each zone r is);
+}
+
+pub shut-logs : (old new : DriveState) → KeepsShut old new → drive_logs new ≡ drive_logs old
+shut-logs old new k = rw (k.geometry, k.contents_are) refl
+
+pub shut-knows : (n : ℕ) (old new : DriveState) (survey : Survey) → KeepsShut old new → Knows old n (drive_logs old) survey → Knows new n (drive_logs new) survey
+shut-knows n old new survey k known =
+    rw (shut-logs old new k) (record {
+      all_logs = rw (k.geometry, k.contents_are) known.all_logs;
+      count = known.count ∙ sym (shut-count old new k.contents_are);
+      part = rw (shut-logs old new k) known.part;
+      sound = known.sound;
+      reserve = rw k.geometry known.reserve;
+      size_is = known.size_is;
+      zones = shut-all old new survey.zones.items k known.zones;
+      heads = known.heads;
+      tails = rw k.contents_are known.tails;
+    })
+
+-- the array is that of the logs
+pub spelled-logs : (n : ℕ) (old new : DriveState) → new.geometry ≡ old.geometry → drive_logs new ≡ drive_logs old → spelled new n ≡ spelled old n
+unfolding spelled_array
+spelled-logs n old new geometry logs = rw (logs, geometry) refl
+
+-- ---- halts
+
+pub record Halted (new : DriveState) (fault : PortFault) : Type 0 where
+  pub halt : IsHalt fault
+  pub cause : FailsBy (λ _. ⊥) new (mount_fault fault)
+
+pub has-halted : {V : Type 0} (old new : DriveState) (fault : PortFault) → IsNotRefused {V = V} (Err fault) → Obeys {V = V} old (Err fault) new → Halted new fault
+has-halted {V} old new (port.Refused status) passed obeys = absurd passed
+has-halted {V} old new port.Memory passed obeys = record { halt = tt; cause = inl refl }
+has-halted {V} old new port.Stopped passed obeys = record { halt = tt; cause = inr (inl (refl, obeys.stops refl)) }
+
+-- a zone that can be used is in range
+pub active-in : (zones : List Content) (zone : ℕ) → is_active_usage (content_at zones zone).usage ≡ true → zone < length zones
+active-in [] zone is = absurd (cc)
+active-in (c ∷ cs) zero is = omega arith
+active-in (c ∷ cs) (suc zone) is = let lt = active-in cs zone is in omega (arith, lt)
+
+-- where a zone starts
+pub record StartsAt (drive : DriveState) (zone start : ℕ) : Type 0 where
+  pub index : start / drive.geometry.size ≡ zone
+  pub aligned : start % drive.geometry.size ≡ 0
+  pub below : start < drive.geometry.zones * drive.geometry.size
+
+pub starts-at : (drive : DriveState) (zone start : ℕ) → IsInRange drive.geometry → IsLawful drive → zone < length drive.zones → start ≡ zone * drive.geometry.size → StartsAt drive zone start
+starts-at drive zone start range lawful lt is =
+    let at = zone-start zone drive.geometry.size range.size.0 in
+    record { index = rw is at.0; aligned = rw is at.1; below = rw is (start-below zone drive.geometry.zones drive.geometry.size range.size.0 (omega (arith, lt, lawful.count))) }
+
+-- ---- a Finish
+
+pub can-finish : (drive : DriveState) (zone start : ℕ) → StartsAt drive zone start → is_usable (content_at (contents drive.zones) zone).usage ≡ true → CanFinish drive start
+can-finish drive zone start at usable = record {
+  aligned = at.aligned;
+  in_range = at.below;
+  usable = rw (at.index, ← ap (λ (c : Content). c.usage) (content-zone drive.zones zone)) usable;
+}
+
+pub can-reset : (drive : DriveState) (zone start : ℕ) → StartsAt drive zone start → is_usable (content_at (contents drive.zones) zone).usage ≡ true → CanReset drive start
+can-reset drive zone start at usable = record {
+  aligned = at.aligned;
+  in_range = at.below;
+  usable = rw (at.index, ← ap (λ (c : Content). c.usage) (content-zone drive.zones zone)) usable;
+}
+
+active-writable : (content : Content) → is_active_usage content.usage ≡ true → (is_writable content.usage ≡ true) × (is_usable content.usage ≡ true)
+active-writable content is = at content.usage is
+  where
+    at : (u : _) → is_active_usage u ≡ true → (is_writable u ≡ true) × (is_usable u ≡ true)
+    at Rattle.drive_port.specs.Contents.empty h = absurd (cc)
+    at Rattle.drive_port.specs.Contents.active h = (refl, refl)
+    at full h = absurd (cc)
+    at Rattle.drive_port.specs.Contents.unusable h = absurd (cc)
+
+pub active-usable : (content : Content) → is_active_usage content.usage ≡ true → is_usable content.usage ≡ true
+active-usable content is = (active-writable content is).1
+
+finish-mountable : (n : ℕ) (old new : DriveState) (zone : ℕ) → IsLawful old → AllByRecursion (HasLog old.geometry) (contents old.zones) → is_active_usage (content_at (contents old.zones) zone).usage ≡ true → has_torn_tail (content_at (contents old.zones) zone) ≡ false
+    → new.geometry ≡ old.geometry → IsLawful new → new.refused ≡ old.refused → Finishes (contents old.zones) (contents new.zones) zone → KeepsMountable n old new
+finish-mountable n old new zone was logs active whole geometry lawful refused finishes =
+    let zones = contents old.zones in
+    let g = old.geometry in
+    let writable = (active-writable (content_at zones zone) active).0 in
+    let same = finish_logs g zones (contents new.zones) zone was.geometry.block (all-at (HasLog g) zones zone nothing logs finishes.in_range) writable whole finishes in
+    let logs_are : drive_logs new ≡ drive_logs old = rw geometry same.logs in
+    record {
+      geometry = geometry;
+      lawful = lawful;
+      refused = refused;
+      mountable = λ m. record { lawful = lawful; holds = rw geometry (finish_mounts g zones (contents new.zones) n zone was.geometry.block m.holds writable whole finishes) };
+      array = λ m. spelled-logs n old new geometry logs_are;
+    }
+
+pub finish-halts : (old new : DriveState) (zone start : ℕ) (fault : PortFault) → IsLawful old → AllByRecursion (HasLog old.geometry) (contents old.zones) → is_active_usage (content_at (contents old.zones) zone).usage ≡ true → has_torn_tail (content_at (contents old.zones) zone) ≡ false
+    → StartsAt old zone start → FinishKeeps {V = Unit {0}} old start (Err fault) new → FinishLeaves {V = Unit {0}} old start (Err fault) new → Obeys {V = Unit {0}} old (Err fault) new → IsNotRefused {V = Unit {0}} (Err fault)
+    → (n : ℕ) → KeepsMountable n old new
+finish-halts old new zone start (port.Refused status) was logs active whole at kept leaves obeys passed n = absurd passed
+finish-halts old new zone start port.Memory was logs active whole at kept leaves obeys passed n = mountable-same n old new kept obeys.lawful (ap (λ (d : DriveState). d.refused) leaves)
+finish-halts old new zone start port.Stopped was logs active whole at kept leaves obeys passed n = by kept
+  where
+    by : SameContents old new ⊎ FinishedContents old new start → KeepsMountable n old new
+    by (inl same) = mountable-same n old new same obeys.lawful (obeys.counts refl).refused
+    by (inr done) = finish-mountable n old new zone was logs active whole done.geometry obeys.lawful (obeys.counts refl).refused (rw at.index at done.contents)
+
+pub finish-done : (n : ℕ) (old new : DriveState) (zone start : ℕ) → IsLawful old → AllByRecursion (HasLog old.geometry) (contents old.zones) → is_active_usage (content_at (contents old.zones) zone).usage ≡ true → has_torn_tail (content_at (contents old.zones) zone) ≡ false
+    → StartsAt old zone start → Finished old new start → Obeys {V = Unit {0}} old (Ok tt) new → KeepsMountable n old new
+finish-done n old new zone start was logs active whole at done obeys = finish-mountable n old new zone was logs active whole done.geometry obeys.lawful done.counts.refused (rw at.index at done.contents)
+
+-- ---- what is known after it
+
+length-full : (geometry : Geometry) (content : Content) → length content.blocks ≤ geometry.capacity → length (readable geometry (finished content)) ≡ geometry.capacity
+length-full geometry content le = omega (arith, le, length-append content.blocks (replicate (geometry.capacity - length content.blocks) (zero_block geometry.block)), length-replicate (geometry.capacity - length content.blocks) (zero_block geometry.block))
+
+full-known : (old new : DriveState) (zone : ℕ) → IsInRange old.geometry → IsLawful old → IsLawful new → new.geometry ≡ old.geometry → Finishes (contents old.zones) (contents new.zones) zone
+    → IsKnown new zone (record { state = states.Full; blocks = old.geometry.capacity })
+full-known old new zone range was lawful geometry finishes =
+    let zones = contents old.zones in
+    let lt : zone < length old.zones = omega (arith, finishes.in_range, length-map old.zones content_of) in
+    let there : content_at (contents new.zones) zone ≡ finished (content_at zones zone) = rw finishes.zones (get_or-set_same zones zone (finished (content_at zones zone)) nothing finishes.in_range) in
+    record {
+      geometry = rw geometry range;
+      lawful = lawful;
+      in_range = omega (arith, lt, was.count, lawful.count, ap (λ (g : Geometry). g.zones) geometry);
+      usage = ap (λ (c : Content). c.usage) there;
+      usable = refl;
+      blocks = rw (geometry, there) (sym (length-full old.geometry (content_at zones zone) (zone-few old zone was lt)));
+      shut = λ h. settled-shut new.zones zone (inr (ap (λ (c : Content). c.usage) there));
+    }
+
+pub other-known : (old new : DriveState) (zone : ℕ) (reported : ReportedZone) → IsLawful old → IsLawful new → new.geometry ≡ old.geometry → content_at (contents new.zones) zone ≡ content_at (contents old.zones) zone → (IsShut old.zones zone → IsShut new.zones zone)
+    → IsKnown old zone reported → IsKnown new zone reported
+other-known old new zone reported was lawful geometry same opens known = record {
+  geometry = rw geometry known.geometry;
+  lawful = lawful;
+  in_range = omega (arith, known.in_range, was.count, lawful.count, ap (λ (g : Geometry). g.zones) geometry);
+  usage = rw same known.usage;
+  usable = known.usable;
+  blocks = rw (geometry, same) known.blocks;
+  shut = λ h. opens (known.shut h);
+}
+
+-- a vacant zone is not active
+pub vacant-inactive : (drive : DriveState) (reported : List ReportedZone) (zone : ℕ) → AreKnown drive reported → AreVacantEmpty reported (drive_logs drive) → zone < length drive.zones → is_active_usage (content_at (contents drive.zones) zone).usage ≡ true → log_at (drive_logs drive) zone ≡ [] → ⊥
+vacant-inactive drive reported zone known vacant lt active none =
+    let there = in-get reported zone (record { state = states.Empty; blocks = 0 }) (omega (arith, lt, known.count)) in
+    let e : there.0.state ≡ states.Empty = vacant zone there.0 there.1 none in
+    let usage = (known.each zone there.0 there.1).usage in
+    let bad : false ≡ true = rw (usage, e) at active in
+    absurd (cc)
+
+pub finish-knows : (n : ℕ) (old new : DriveState) (before after : Survey) (zone start capacity : ℕ) → Knows old n (drive_logs old) before → is_active_usage (content_at (contents old.zones) zone).usage ≡ true → has_torn_tail (content_at (contents old.zones) zone) ≡ false
+    → StartsAt old zone start → Finished old new start → FinishLeaves {V = Unit {0}} old start (Ok tt) new → Obeys {V = Unit {0}} old (Ok tt) new → capacity ≡ old.geometry.capacity
+    → after.zones.items ≡ set before.zones.items zone (record { state = states.Full; blocks = capacity }) → after.scanned.items ≡ before.scanned.items → after.size ≡ before.size
+    → FinishesZone n old new before after zone
+finish-knows n old new before after zone start capacity known active whole at done leaves obeys cap zones-are scanned-are size-is =
+    let g = old.geometry in
+    let zones = contents old.zones in
+    let was = known.zones.lawful in
+    let finishes : Finishes zones (contents new.zones) zone = rw at.index at done.contents in
+    let geometry = done.geometry in
+    let same = finish_logs g zones (contents new.zones) zone was.geometry.block (all-at (HasLog g) zones zone nothing known.all_logs finishes.in_range) (active-writable (content_at zones zone) active).0 whole finishes in
+    let logs : drive_logs new ≡ drive_logs old = rw geometry same.logs in
+    let opens = finish-opens {V = Unit {0}} old new start (Ok tt) leaves in
+    let count : length new.zones ≡ length old.zones = omega (arith, was.count, obeys.lawful.count, ap (λ (x : Geometry). x.zones) geometry) in
+    let others : (other : ℕ) → other ≢ zone → content_at (contents new.zones) other ≡ content_at zones other = λ other ne. rw finishes.zones (get_or-set_other zones zone other (finished (content_at zones zone)) nothing ne) in
+    let settled : (content_at (contents new.zones) zone).usage ≡ full = rw finishes.zones (ap (λ (c : Content). c.usage) (get_or-set_same zones zone (finished (content_at zones zone)) nothing finishes.in_range)) in
+    let each : (other : ℕ) (r : ReportedZone) → slice_get after.zones.items other ≡ Some r → IsKnown new other r = λ other r is. elim (get-set before.zones.items zone other (record { state = states.Full; blocks = capacity }) r (rw zones-are at is)) as (λ _. IsKnown new other r) [
+      | inl here ↦ rw (here.0, here.1, cap) (full-known old new zone known.zones.geometry was obeys.lawful geometry finishes)
+      | inr there ↦ other-known old new other r was obeys.lawful geometry (others other there.0) (opens other) (known.zones.each other r there.1)
+    ] in
+    record {
+      known = rw logs (record {
+        all_logs = rw geometry (same.all_logs known.all_logs);
+        count = known.count ∙ sym count;
+        part = rw logs known.part;
+        sound = known.sound;
+        reserve = rw geometry known.reserve;
+        size_is = size-is ∙ known.size_is;
+        zones = record {
+          geometry = rw geometry known.zones.geometry;
+          lawful = obeys.lawful;
+          count = ap length zones-are ∙ length-set before.zones.items zone (record { state = states.Full; blocks = capacity }) ∙ known.zones.count ∙ sym count;
+          each = each;
+        };
+        heads = rw scanned-are known.heads;
+        tails = rw (scanned-are, same.tails_are) known.tails;
+      });
+      logs = logs;
+      tails = same.tails_are;
+      vacant = λ vacant other r is none. elim (get-set before.zones.items zone other (record { state = states.Full; blocks = capacity }) r (rw zones-are at is)) as (λ _. r.state ≡ states.Empty) [
+        | inl here ↦ absurd (vacant-inactive old before.zones.items zone known.zones vacant (omega (arith, finishes.in_range, length-map old.zones content_of)) active (rw (logs, here.0) at none))
+        | inr there ↦ vacant other r there.1 (rw logs at none)
+      ];
+      settled = rw settled refl;
+      others = others;
+    }
+
+-- ---- a zone is settled
+
+pub settles-same : (n : ℕ) (drive : DriveState) (survey : Survey) (torn zone : ℕ) → Knows drive n (drive_logs drive) survey → (zone ≢ torn → is_active_usage (content_at (contents drive.zones) zone).usage ≡ false) → SettlesZone n drive drive survey survey torn zone
+settles-same n drive survey torn zone known settled = record { known = known; logs = refl; tails = refl; vacant = λ v. v; settled = settled; others = λ other h. h; count = refl }
+
+pub settles-finished : (n : ℕ) (old new : DriveState) (before after : Survey) (torn zone : ℕ) → Knows old n (drive_logs old) before → FinishesZone n old new before after zone → SettlesZone n old new before after torn zone
+settles-finished n old new before after torn zone known f = record {
+  known = f.known;
+  logs = f.logs;
+  tails = f.tails;
+  vacant = f.vacant;
+  settled = λ ne. f.settled;
+  others = λ other h. elim (cases_eq other zone) as (λ _. is_active_usage (content_at (contents new.zones) other).usage ≡ false) [
+    | inl same ↦ rw same f.settled
+    | inr ne ↦ rw (f.others other ne) h
+  ];
+  count = f.known.zones.count ∙ count-same (f.known.zones.lawful) (known.zones.lawful) ∙ sym known.zones.count;
+}
+  where
+    count-same : IsLawful new → IsLawful old → length new.zones ≡ length old.zones
+    count-same a b = omega (arith, ap length f.logs, f.known.count, known.count)
+
+-- an active zone but the torn one has no torn tail
+pub active-whole : (drive : DriveState) (reported : List ReportedZone) (torn zone : ℕ) → AreKnown drive reported → AreVacantEmpty reported (drive_logs drive) → IsOnlyTorn (drive_logs drive) (zone_tails (contents drive.zones)) torn → zone ≢ torn → zone < length drive.zones
+    → is_active_usage (content_at (contents drive.zones) zone).usage ≡ true → has_torn_tail (content_at (contents drive.zones) zone) ≡ false
+active-whole drive reported torn zone known vacant only ne lt active = at (has_torn_tail (content_at (contents drive.zones) zone)) refl
+  where
+    at : (b : Bool) → has_torn_tail (content_at (contents drive.zones) zone) ≡ b → b ≡ false
+    at false e = refl
+    at true e =
+        let tail = tail-at (contents drive.zones) zone (omega (arith, lt, length-map drive.zones content_of)) ∙ e in
+        absurd (ne (only.only zone (record { batch = λ none. vacant-inactive drive reported zone known vacant lt active none; tail = tail })))
+
+-- ---- all zones are settled
+
+-- The zones below one are.
+pub record Settles (n torn : ℕ) (start now : DriveState) (before after : Survey) (limit : ℕ) : Type 0 where
+  pub known : Knows now n (drive_logs now) after
+  pub logs : drive_logs now ≡ drive_logs start
+  pub tails : zone_tails (contents now.zones) ≡ zone_tails (contents start.zones)
+  pub vacant : AreVacantEmpty after.zones.items (drive_logs now)
+  pub settled : AreSettled now torn limit
+  pub only : IsOnlyTorn (drive_logs now) (zone_tails (contents now.zones)) torn
+  pub kept : KeepsMountable n start now
+  pub count : length after.zones.items ≡ length before.zones.items
+
+pub settles-none : (n torn : ℕ) (start : DriveState) (before : Survey) → Knows start n (drive_logs start) before → AreVacantEmpty before.zones.items (drive_logs start) → IsOnlyTorn (drive_logs start) (zone_tails (contents start.zones)) torn → Settles n torn start start before before 0
+settles-none n torn start before known vacant only = record { known = known; logs = refl; tails = refl; vacant = vacant; settled = λ zone lt ne. absurd (omega arith); only = only; kept = mountable-same n start start (record { geometry = refl; contents = refl }) known.zones.lawful refl; count = refl }
+
+pub settles-more : (n torn : ℕ) (start now next : DriveState) (before middle after : Survey) (limit : ℕ) → Settles n torn start now before middle limit → SettlesZone n now next middle after torn limit → KeepsMountable n now next → Settles n torn start next before after (limit + 1)
+settles-more n torn start now next before middle after limit s z kept = record {
+  known = z.known;
+  logs = z.logs ∙ s.logs;
+  tails = z.tails ∙ s.tails;
+  vacant = z.vacant s.vacant;
+  settled = λ zone lt ne. elim (cases_eq zone limit) as (λ _. is_active_usage (content_at (contents next.zones) zone).usage ≡ false) [
+    | inl same ↦ rw same (z.settled (λ e. ne (same ∙ e)))
+    | inr other ↦ z.others zone (s.settled zone (omega (arith, lt, other)) ne)
+  ];
+  only = rw (z.logs, z.tails) s.only;
+  kept = mountable-both n start now next s.kept kept;
+  count = z.count ∙ s.count;
+}
+
+-- ---- a Close
+
+active-state : (state : ZoneState) → is_active_usage (usage_of state) ≡ true → is_active state ≡ true
+active-state states.Empty h = absurd (cc)
+active-state states.ImplicitlyOpened h = refl
+active-state states.ExplicitlyOpened h = refl
+active-state states.Closed h = refl
+active-state states.ReadOnly h = absurd (cc)
+active-state states.Full h = absurd (cc)
+active-state states.Offline h = absurd (cc)
+
+open-active : (state : ZoneState) → is_open state ≡ true → is_active_usage (usage_of state) ≡ true
+open-active states.Empty h = absurd (cc)
+open-active states.ImplicitlyOpened h = refl
+open-active states.ExplicitlyOpened h = refl
+open-active states.Closed h = refl
+open-active states.ReadOnly h = absurd (cc)
+open-active states.Full h = absurd (cc)
+open-active states.Offline h = absurd (cc)
+
+-- a zone that was reported open
+pub record CanSendClose (drive : DriveState) (zone start : ℕ) : Type 0 where
+  pub at : StartsAt drive zone start
+  pub can : CanClose drive start
+
+pub can-close : (drive : DriveState) (zone start : ℕ) (reported : ReportedZone) → IsKnown drive zone reported → is_open reported.state ≡ true → start ≡ zone * drive.geometry.size → CanSendClose drive zone start
+can-close drive zone start reported known opened is =
+    let at = starts-at drive zone start known.geometry known.lawful known.in_range is in
+    let content = content-zone drive.zones zone in
+    let usage : usage_of (zone_at drive.zones zone).state ≡ usage_of reported.state = sym (ap (λ (c : Content). c.usage) content) ∙ known.usage in
+    record {
+      at = at;
+      can = record { aligned = at.aligned; in_range = at.below; active = rw at.index (active-state (zone_at drive.zones zone).state (rw usage (open-active reported.state opened))) };
+    }
+
+pub close-halts : (old new : DriveState) (start : ℕ) (fault : PortFault) → SameContents old new → CloseLeaves {V = Unit {0}} old start (Err fault) new → Obeys {V = Unit {0}} old (Err fault) new → IsNotRefused {V = Unit {0}} (Err fault) → KeepsShut old new
+close-halts old new start (port.Refused status) same leaves obeys passed = absurd passed
+close-halts old new start port.Memory same leaves obeys passed = record { geometry = same.geometry; contents_are = same.contents; lawful = obeys.lawful; refused = ap (λ (d : DriveState). d.refused) leaves; opens = close-opens {V = Unit {0}} old new start (Err port.Memory) leaves }
+close-halts old new start port.Stopped same leaves obeys passed = record { geometry = same.geometry; contents_are = same.contents; lawful = obeys.lawful; refused = (obeys.counts refl).refused; opens = close-opens {V = Unit {0}} old new start (Err port.Stopped) leaves }
+
+pub close-done : (old new : DriveState) (start : ℕ) → SameContents old new → CloseLeaves {V = Unit {0}} old start (Ok tt) new → Obeys {V = Unit {0}} old (Ok tt) new → ClosedZone old new start → KeepsShut old new
+close-done old new start same leaves obeys done = record { geometry = same.geometry; contents_are = same.contents; lawful = obeys.lawful; refused = done.counts.refused; opens = close-opens {V = Unit {0}} old new start (Ok tt) leaves }
+
+pub close-shuts : (old new : DriveState) (zone start : ℕ) → StartsAt old zone start → zone < length old.zones → CloseLeaves {V = Unit {0}} old start (Ok tt) new → IsShut new.zones zone
+close-shuts old new zone start at lt leaves =
+    let index = start / old.geometry.size in
+    let made : Zone = record { state = states.Closed; blocks = (zone_at old.zones index).blocks } in
+    let there : IsShut (set old.zones index made) index = rw (get_or-set_same old.zones index made nowhere (omega (arith, at.index, lt))) refl in
+    subst (IsShut new.zones) at.index (closing-opens (set old.zones index made) new.zones leaves index there)
+
+-- it was not reported open
+pub reported-shut : (drive : DriveState) (zone : ℕ) (reported : ReportedZone) → IsKnown drive zone reported → is_open reported.state ≡ false → IsShut drive.zones zone
+reported-shut drive zone reported known h = known.shut h
+
+-- ---- a zone's report
+
+pub reported-active : (drive : DriveState) (reported : List ReportedZone) (zone : ℕ) (r : ReportedZone) → AreKnown drive reported → slice_get reported zone ≡ Some r → is_active_usage (content_at (contents drive.zones) zone).usage ≡ is_active_usage (usage_of r.state)
+reported-active drive reported zone r known is = ap is_active_usage (known.each zone r is).usage
+
+-- ---- answers
+
+pub on-two : {P Q R : Type 0} {V : Type 0} (result : Result V MountFault) → (P → Q → R) → OnOk result P → OnOk result Q → OnOk result R
+on-two (Ok value) step p q = step p q
+on-two (Err fault) step p q = tt
+
+-- what follows from success, and from failure
+pub on-either : {P Q R : Type 0} {V : Type 0} (result : Result V MountFault) → (P → R) → (Q → R) → OnOk result P → IfErr result (λ _. Q) → R
+on-either (Ok value) done failed p q = done p
+on-either (Err fault) done failed p q = failed q
+
+pub on-ok : {P Q : Type 0} {V : Type 0} (result : Result V MountFault) → (P → Q) → OnOk result P → OnOk result Q
+on-ok (Ok value) step p = step p
+on-ok (Err fault) step p = tt

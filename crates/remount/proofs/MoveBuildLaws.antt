@@ -1,0 +1,176 @@
+-- A Move as it is built: its entries, its data, and its header.
+use Rattle.std.proofs.Common.{◌≡◌, ◌≢◌, ◌⊎◌, inl, inr, ℕ, zero, suc, ◌+◌, ◌-◌, ◌*◌, ◌<◌, ◌≤◌, ◌^◌, Bool, true, false, cond, List, [], ◌∷◌, ◌++◌, length, map, take, drop, get_or, Option, Some, None, refl, sym, ap, ◌∙◌, arith, append_assoc, append-nil}
+use Rattle.std.specs.Prelude.{slice_index_or}
+use Rattle.std.specs.List.{AllByRecursion, concat, flat_map}
+use Rattle.std.proofs.lemmas.List.{drop_all, drop_at, drop_more, length-append, length-take-le, take_at}
+use Rattle.std.proofs.lemmas.List.Folds.{concat-append}
+use Rattle.std.proofs.lemmas.List.Concat.{flat_map-cons}
+use Rattle.std.proofs.Math.Nat.{add-mul}
+use Rattle.zone_states.specs.Zone.{cut_blocks}
+use Rattle.drive_port.specs.Drive.{DriveState}
+use Rattle.batch_log.specs.declared.header.Entry.{Entry}
+use Rattle.batch_log.specs.Causes.{header_fault}
+use Rattle.batch_log.specs.Header.{Heading, IsHeaderBlock, IsHeading, IsNoHeader, header_block}
+use Rattle.batch_log.specs.Log.{Batch, data_count}
+use Rattle.batch_log.specs.Reading.{heading_in}
+use Rattle.batch_log.proofs.HeaderLaws.{header_again, header_length}
+use Rattle.logical_map.specs.declared.place.Place.{Place}
+use Rattle.logical_map.specs.declared.place.Place.TheVariants as places
+use Rattle.zone_choice.specs.Builder.{BuilderView, IsBuilt, built}
+use Rattle.zone_choice.specs.Tables.{TablesView}
+use Rattle.zone_choice.proofs.AllLaws.{all-append}
+use Rattle.zone_choice.proofs.ChangeLaws.{large-block}
+use Rattle.zone_states.specs.Geometry.{IsInRange}
+use Rattle.batch_log.specs.declared.header.Kind.TheVariants.{Move}
+use Rattle.remount.specs.declared.reported.ReportedZone.{ReportedZone}
+use Rattle.remount.specs.declared.moves.MovePlan.{MovePlan}
+use Rattle.remount.specs.Moving.{IsBuiltAs, IsReadableAt, Source, listed, move_by, moved_data, moved_entries, named_by, placed_entry, said, said_at, size_by, source_of}
+use Rattle.remount.specs.Reported.{IsKnown, KeepsZones}
+use Rattle.remount.specs.Scan.{blocks_of}
+use Rattle.remount.proofs.ReadLaws.{kept-blocks, kept-known, keeps-both, keeps-none}
+
+abbrev pub AreWhole : ℕ → List (List ℕ) → Type 0
+AreWhole size blocks = AllByRecursion (λ block. length block ≡ size) blocks
+
+-- ---- the header of what was built
+
+pub record BeginsAs (block_bytes : ℕ) (builder : BuilderView) (front : List ℕ) : Type 0 where
+  pub long : length front ≡ block_bytes
+  pub is : front ≡ header_block block_bytes builder.heading
+  pub enough : block_bytes ≤ length builder.bytes
+
+pub begins-as : (block_bytes : ℕ) (builder : BuilderView) → 512 ≤ block_bytes → IsHeading block_bytes builder.heading → IsBuilt block_bytes builder → BeginsAs block_bytes builder (take block_bytes builder.bytes)
+begins-as block_bytes builder large says is =
+    let header = header_block block_bytes builder.heading in
+    let one : length header ≡ block_bytes = header_length block_bytes builder.heading (omega (arith, large)) says in
+    let front : take block_bytes builder.bytes ≡ header = ap (take block_bytes) is.header ∙ take_at header (drop block_bytes builder.bytes) block_bytes one in
+    record {
+      long = ap length front ∙ one;
+      is = front;
+      enough = omega (arith, ap length is.header, length-append header (drop block_bytes builder.bytes), one);
+    }
+
+pub header-block : (block_bytes : ℕ) (builder : BuilderView) (front : List ℕ) → IsHeading block_bytes builder.heading → BeginsAs block_bytes builder front → IsHeaderBlock (length front) front builder.heading
+header-block block_bytes builder front says b = rw b.long (record { says = says; spelled = b.is })
+
+pub read-again : (block_bytes : ℕ) (builder : BuilderView) (front : List ℕ) (heading : Heading) → block_bytes < 2 ^ 32 → IsHeading block_bytes builder.heading → BeginsAs block_bytes builder front → heading ≡ heading_in front → heading ≡ builder.heading
+read-again block_bytes builder front heading small says b is = is ∙ ap heading_in b.is ∙ header_again block_bytes builder.heading small says
+
+-- ---- its data
+
+cut-concat : (size : ℕ) (blocks : List (List ℕ)) → AreWhole size blocks → cut_blocks size (length blocks) (concat blocks) ≡ blocks
+cut-concat size [] whole = refl
+cut-concat size (b ∷ bs) whole =
+    let first : take size (b ++ concat bs) ≡ b = take_at b (concat bs) size whole.0 in
+    let rest : drop size (b ++ concat bs) ≡ concat bs = drop_at b (concat bs) size whole.0 in
+    rw (first, rest) (ap (λ (xs : List (List ℕ)). b ∷ xs) (cut-concat size bs whole.1))
+
+length-concat : (size : ℕ) (blocks : List (List ℕ)) → AreWhole size blocks → length (concat blocks) ≡ length blocks * size
+length-concat size [] whole = omega arith
+length-concat size (b ∷ bs) whole = omega (arith, length-append b (concat bs), whole.0, length-concat size bs whole.1, add-mul 1 (length bs) size)
+
+pub length-moved : (source : Source) (blocks : List ℕ) → length (moved_data source blocks) ≡ data_count (moved_entries source.places blocks)
+length-moved source [] = refl
+length-moved source (block ∷ blocks) = one (slice_index_or source.places block places.None) (length-moved source blocks)
+  where
+    one : (p : Place) → length (moved_data source blocks) ≡ data_count (moved_entries source.places blocks)
+        → length (listed (said_at source.blocks source.start p) ++ moved_data source blocks) ≡ data_count (placed_entry block p ∷ moved_entries source.places blocks)
+    one places.None rest = omega (arith, rest)
+    one (places.Trimmed address) rest = omega (arith, rest)
+    one (places.At address) rest = omega (arith, rest)
+
+abbrev batch_with : Heading → List (List ℕ) → Batch
+batch_with heading body = record { heading = heading; body = body }
+
+-- the bytes of a header and of whole blocks are those of the batch
+pub built-as : (block : ℕ) (builder : BuilderView) (batch : Batch) → 512 ≤ block → IsHeading block batch.heading → builder.heading ≡ batch.heading → builder.bytes ≡ header_block block batch.heading ++ concat batch.body → AreWhole block batch.body
+    → length batch.body ≡ data_count batch.heading.entries → IsBuiltAs block batch builder
+built-as block builder batch large says heading bytes whole count =
+    let header = header_block block batch.heading in
+    let long : length header ≡ block = header_length block batch.heading (omega (arith, large)) says in
+    let rest : drop block builder.bytes ≡ concat batch.body = ap (drop block) bytes ∙ drop_at header (concat batch.body) block long in
+    let number : data_count builder.heading.entries ≡ length batch.body = ap (λ (h : Heading). data_count h.entries) heading ∙ sym count in
+    let body : cut_blocks block (data_count builder.heading.entries) (drop block builder.bytes) ≡ batch.body = ap (λ (n : ℕ). cut_blocks block n (drop block builder.bytes)) number ∙ ap (cut_blocks block (length batch.body)) rest ∙ cut-concat block batch.body whole in
+    record {
+      whole = record {
+        header = bytes ∙ ap (λ (h : Heading). header_block block h ++ concat batch.body) (sym heading) ∙ ap (λ (xs : List ℕ). header_block block builder.heading ++ xs) (sym rest);
+        data_length = ap length rest ∙ length-concat block batch.body whole ∙ ap (λ (n : ℕ). n * block) (sym number);
+      };
+      is = ap (λ (h : Heading). batch_with h (cut_blocks block (data_count builder.heading.entries) (drop block builder.bytes))) heading ∙ ap (batch_with batch.heading) body;
+    }
+
+-- ---- the data is copied, record by record
+
+-- What is left to copy, from here, gives what all gives from the start.
+pub record Copying (start now : DriveState) (tables : TablesView) (zone : ℕ) (reported : ReportedZone) (old new : BuilderView) (blocks rest : List ℕ) : Type 0 where
+  pub kept : KeepsZones start now
+  pub heading : new.heading ≡ old.heading
+  pub bytes : new.bytes ++ concat (moved_data (source_of start tables zone) rest) ≡ old.bytes ++ concat (moved_data (source_of start tables zone) blocks)
+  pub whole : AreWhole start.geometry.block (moved_data (source_of start tables zone) rest) → AreWhole start.geometry.block (moved_data (source_of start tables zone) blocks)
+  pub places : AllByRecursion (IsReadableAt tables (zone * start.geometry.size) reported.blocks) rest
+
+pub copying-none : (start : DriveState) (tables : TablesView) (zone : ℕ) (reported : ReportedZone) (builder : BuilderView) (blocks : List ℕ) → IsKnown start zone reported → AllByRecursion (IsReadableAt tables (zone * start.geometry.size) reported.blocks) blocks
+    → Copying start start tables zone reported builder builder blocks blocks
+copying-none start tables zone reported builder blocks known places = record { kept = keeps-none start known.lawful; heading = refl; bytes = refl; whole = λ w. w; places = places }
+
+pub copying-more : (start now next : DriveState) (tables : TablesView) (zone : ℕ) (reported : ReportedZone) (old middle new : BuilderView) (blocks rest : List ℕ) (i block : ℕ) → drop i blocks ≡ block ∷ rest → Copying start now tables zone reported old middle blocks (drop i blocks) → KeepsZones now next
+    → new.heading ≡ middle.heading → new.bytes ≡ middle.bytes ++ concat (listed (said_at (blocks_of now zone) (zone * now.geometry.size) (slice_index_or tables.map.places block places.None)))
+    → AreWhole now.geometry.block (listed (said_at (blocks_of now zone) (zone * now.geometry.size) (slice_index_or tables.map.places block places.None))) → Copying start next tables zone reported old new blocks rest
+copying-more start now next tables zone reported old middle new blocks rest i block split was kept heading bytes whole =
+    let source = source_of start tables zone in
+    let one = listed (said source block) in
+    let before = rw split at was.bytes in
+    let whole_before : AreWhole start.geometry.block (moved_data source (block ∷ rest)) → AreWhole start.geometry.block (moved_data source blocks) = rw split at was.whole in
+    let places = rw split at was.places in
+    let bytes' : new.bytes ≡ middle.bytes ++ concat one = rw (kept-blocks start now zone was.kept, was.kept.geometry) at bytes in
+    let whole' : AreWhole start.geometry.block one = rw (kept-blocks start now zone was.kept, was.kept.geometry) at whole in
+    record {
+      kept = keeps-both start now next was.kept kept;
+      heading = heading ∙ was.heading;
+      bytes = rw bytes' (append_assoc middle.bytes (concat one) (concat (moved_data source rest)) ∙ ap (λ (xs : List ℕ). middle.bytes ++ xs) (sym (concat-append one (moved_data source rest))) ∙ before);
+      whole = λ w. whole_before (all-append (λ (b : List ℕ). length b ≡ start.geometry.block) one (moved_data source rest) whole' w);
+      places = places.1;
+    }
+
+pub record Copied (start now : DriveState) (tables : TablesView) (zone : ℕ) (old new : BuilderView) (blocks : List ℕ) : Type 0 where
+  pub bytes : new.bytes ≡ old.bytes ++ concat (moved_data (source_of start tables zone) blocks)
+  pub whole : AreWhole start.geometry.block (moved_data (source_of start tables zone) blocks)
+
+pub copying-all : (start now : DriveState) (tables : TablesView) (zone : ℕ) (reported : ReportedZone) (old new : BuilderView) (blocks : List ℕ) (i : ℕ) → length blocks ≤ i → Copying start now tables zone reported old new blocks (drop i blocks) → Copied start now tables zone old new blocks
+copying-all start now tables zone reported old new blocks i past was =
+    let none = drop_all i blocks past in
+    let bytes = rw none at was.bytes in
+    let whole : AreWhole start.geometry.block [] → AreWhole start.geometry.block (moved_data (source_of start tables zone) blocks) = rw none at was.whole in
+    record { bytes = sym (append-nil new.bytes) ∙ bytes; whole = whole tt }
+
+-- the next of some blocks
+pub turn : {X : Type 0} (xs : List X) (i : ℕ) (x d : X) → i < length xs → x ≡ get_or xs i d → drop i xs ≡ x ∷ drop (i + 1) xs
+turn xs i x d lt is = drop_more xs i d lt ∙ ap (λ y. y ∷ drop (i + 1) xs) (sym is)
+
+-- a trim has no data
+pub no-data : (blocks : List (List ℕ)) (start : ℕ) (p : Place) → ((address : ℕ) → p ≡ places.At address → ⊥) → listed (said_at blocks start p) ≡ []
+no-data blocks start places.None other = refl
+no-data blocks start (places.Trimmed address) other = refl
+no-data blocks start (places.At address) other = absurd (other address refl)
+
+-- ---- step by step
+
+abbrev heading_by : ℕ → ℕ → Option ℕ → List Entry → Heading
+heading_by sequence torn size entries = record { kind = Move; sequence = sequence; source = torn; size = size; entries = entries }
+
+pub build-done : (start : DriveState) (tables : TablesView) (plan : MovePlan) (k block sequence : ℕ) (size : Option ℕ) (blocks : List ℕ) (begun named encoded copied : BuilderView) → IsInRange start.geometry → IsHeading start.geometry.block (move_by (source_of start tables plan.torn) plan k).heading
+    → block ≡ start.geometry.block → blocks ≡ named_by plan k → size ≡ size_by plan k → sequence ≡ plan.next + k
+    → begun.heading ≡ record { kind = Move; sequence = sequence; source = plan.torn; size = size; entries = [] }
+    → named.heading ≡ record begun.heading { entries = begun.heading.entries ++ moved_entries tables.map.places blocks }
+    → encoded.heading ≡ named.heading → encoded.bytes ≡ header_block block named.heading → copied.heading ≡ encoded.heading
+    → copied.bytes ≡ encoded.bytes ++ concat (moved_data (source_of start tables plan.torn) blocks) → AreWhole start.geometry.block (moved_data (source_of start tables plan.torn) blocks)
+    → IsBuiltAs start.geometry.block (move_by (source_of start tables plan.torn) plan k) copied
+build-done start tables plan k block sequence size blocks begun named encoded copied range says block-is blocks-is size-is sequence-is begun-is named-is encoded-heading encoded-bytes copied-heading copied-bytes whole =
+    let source = source_of start tables plan.torn in
+    let batch = move_by source plan k in
+    let raw : named.heading ≡ heading_by sequence plan.torn size (moved_entries tables.map.places blocks) = named-is ∙ ap (λ (h : Heading). record h { entries = h.entries ++ moved_entries tables.map.places blocks }) begun-is in
+    let same : heading_by sequence plan.torn size (moved_entries tables.map.places blocks) ≡ batch.heading = rw (sequence-is, size-is, blocks-is) refl in
+    let heading : named.heading ≡ batch.heading = raw ∙ same in
+    built-as start.geometry.block copied batch (large-block start.geometry range) says (copied-heading ∙ encoded-heading ∙ heading)
+      (copied-bytes ∙ ap (λ (xs : List ℕ). xs ++ concat (moved_data source blocks)) (encoded-bytes ∙ ap (λ (s : ℕ). header_block s named.heading) block-is ∙ ap (header_block start.geometry.block) heading) ∙ ap (λ (bs : List ℕ). header_block start.geometry.block batch.heading ++ concat (moved_data source bs)) blocks-is)
+      (rw blocks-is at whole) (length-moved source (named_by plan k))

@@ -1,0 +1,107 @@
+ghost use Rattle.std.specs.Prelude.{◌≡◌, ◌<◌, ◌^◌, ◌++◌, [], ◌∷◌, List, length, map, IfErr, IfOk, OnOk};
+ghost use Rattle.batch_log.specs.Log.{Batch};
+ghost use Rattle.drive_port.specs.Contents.{contents};
+ghost use Rattle.zone_choice.specs.Agreement.{drive_logs};
+ghost use Rattle.zone_choice.specs.Spare.{NoneBelow};
+ghost use Rattle.zone_choice.specs.ZoneLogs.{sequences, zone_tails};
+ghost use Rattle.remount.specs.Heads.{greatest_sequence, heads_of};
+ghost use Rattle.remount.specs.Known.{Finds, Knows};
+ghost use Rattle.remount.specs.Mount.{IsPlan};
+ghost use Rattle.remount.specs.Moving.{IsMovePlan, early_size, others, ordered};
+ghost use Rattle.remount.specs.Reported.{KeepsZones};
+ghost use Rattle.remount.specs.Scan.{FailsBy, heads_in};
+
+use crate::clearing::{Finding, examine_zone};
+use crate::fault::MountFault;
+use crate::moves::MovePlan;
+use crate::repair::Repair;
+use crate::scan::ScannedZone;
+use crate::sequences;
+use crate::survey::Survey;
+use drive_port::Device;
+use std::alloc::{AllocError, Global};
+use zone_choice::batch_most;
+
+/// The greatest sequence of all batches, 0 where there is none.
+fn greatest_sequence(scanned: &[ScannedZone]) -> u64
+    ensures { (logs : List (List Batch)) → heads_in scanned.now ≡ map heads_of logs → result ≡ greatest_sequence (sequences logs) }
+{
+    sequences::greatest_sequence(scanned)
+}
+
+/// Why the torn zone is not half clean. Only a zone of Moves is looked at.
+fn why_needed<D: Device>(
+    alloc: Global,
+    device: &mut D,
+    survey: &Survey,
+    blocks: u32,
+    zone: u32,
+) -> Result<Finding, MountFault>
+    requires known { Knows (D.drive device.old) blocks (drive_logs (D.drive device.old)) survey.now }
+    requires zone { zone < length (D.drive device.old).zones }
+    ensures ok { IfOk result (Finds (D.drive device.old).geometry.block blocks (drive_logs (D.drive device.old)) zone) }
+    ensures err { IfErr result (FailsBy (λ _. ⊥) (D.drive device.new)) }
+    ensures kept { KeepsZones (D.drive device.old) (D.drive device.new) }
+{
+    if !survey.scanned[zone as usize].heads.are_moves() {
+        return Ok(Finding::NotMoves);
+    }
+    examine_zone(alloc, device, survey, blocks, zone)
+}
+
+/// All of these blocks but one.
+fn others(alloc: Global, blocks: &[u32], last: u32) -> Result<Vec<u32>, AllocError>
+    ensures { IfOk result (λ order. order.items ≡ others last blocks.now) }
+{
+    let mut order = Vec::new(alloc);
+    for block in blocks {
+        if *block != last {
+            order.push(*block)?;
+        }
+    }
+    Ok(order)
+}
+
+/// The order in which the blocks are moved: the one that the torn zone is needed for comes last.
+fn ordered(alloc: Global, blocks: &[u32], why: Finding) -> Result<Vec<u32>, AllocError>
+    ensures { IfOk result (λ order. order.items ≡ ordered blocks.now why) }
+{
+    let mut order = Vec::new(alloc);
+    match why {
+        Finding::NeedsBlock(last) => {
+            order = others(alloc, blocks, last)?;
+            order.push(last)?;
+        }
+        _ => order.extend_from_slice(blocks)?,
+    }
+    Ok(order)
+}
+
+/// The size that all Moves but the last one say: none if the torn zone is needed for the size.
+fn early_size(size: Option<u32>, why: Finding) -> Option<u32>
+    ensures { result ≡ early_size size why }
+{
+    match why {
+        Finding::NeedsSize => None,
+        _ => size,
+    }
+}
+
+/// The Moves that repair a torn zone, to a zone that is empty.
+pub(crate) fn plan_moves<D: Device>(
+    alloc: Global,
+    device: &mut D,
+    survey: &Survey,
+    blocks: u32,
+    repair: &Repair,
+    into: u32,
+) -> Result<MovePlan, MountFault>
+    requires known { Knows (D.drive device.old) blocks (drive_logs (D.drive device.old)) survey.now }
+    requires cleared { NoneBelow (D.drive device.old).geometry.block blocks (drive_logs (D.drive device.old)) (length (D.drive device.old).zones) }
+    requires plan { IsPlan (D.drive device.old).geometry blocks (drive_logs (D.drive device.old)) (zone_tails (contents (D.drive device.old).zones)) repair.now }
+    ensures ok { IfOk result (IsMovePlan (D.drive device.old) blocks survey.now repair.now into) }
+    ensures err { IfErr result (FailsBy (λ _. ⊥) (D.drive device.new)) }
+    ensures kept { KeepsZones (D.drive device.old) (D.drive device.new) }
+{
+    Err(MountFault::OutOfMemory)
+}
