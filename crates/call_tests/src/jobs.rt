@@ -9,7 +9,7 @@ use std::alloc::Global;
 use std::io;
 use std::process::Abort;
 use std::test::Fail;
-use zone_drive::Drive;
+use zone_drive::{Drive, Habit};
 use zone_states::GeometryFault;
 
 const FOUR_ZONES: Geometry = Geometry {
@@ -55,12 +55,14 @@ fn reads_the_words(rt: HostRuntime) -> Result<(), Fail> {
             report,
             statistics: rest.ends_with("--statistics"),
             stop: Stop::NEVER,
+            habit: Habit::Lazy,
         };
         assert_eq!(rt; job(&rt, rt.alloc(), &line).ok(), Some(want));
     }
     let line = FRESH.replace(rt.alloc(), "fresh", "fresh-raw")?;
     let want = Job::FreshRaw {
         geometry: FOUR_ZONES,
+        habit: Habit::Lazy,
     };
     assert_eq!(rt; job(&rt, rt.alloc(), &line).ok(), Some(want));
     let line = FRESH.replace(rt.alloc(), "fresh", "format --image a/b")?;
@@ -91,6 +93,7 @@ fn reads_the_words(rt: HostRuntime) -> Result<(), Fail> {
             blocks: 9,
             zones,
             stop,
+            habit: Habit::Lazy,
         };
         assert_eq!(rt; job(&rt, rt.alloc(), line).ok(), Some(want));
     }
@@ -99,7 +102,55 @@ fn reads_the_words(rt: HostRuntime) -> Result<(), Fail> {
     assert_eq!(rt; read, Some(Job::Report { image }));
     let image = String::from_str(rt.alloc(), "b")?;
     let read = job(&rt, rt.alloc(), "zonedisk nvme --image b").ok();
-    assert_eq!(rt; read, Some(Job::Nvme { image }));
+    let habit = Habit::Lazy;
+    assert_eq!(rt; read, Some(Job::Nvme { image, habit }));
+    Ok(())
+}
+
+// The habit that a job gives to its drive, if it gives one.
+fn habit_of(job: Job) -> Option<Habit> {
+    match job {
+        Job::Run { habit, .. }
+        | Job::Nvme { habit, .. }
+        | Job::Fresh { habit, .. }
+        | Job::FreshRaw { habit, .. } => Some(habit),
+        Job::Format { .. } | Job::Report { .. } => None,
+    }
+}
+
+#[test]
+fn reads_the_habit(rt: HostRuntime) -> Result<(), Fail> {
+    let raw = FRESH.replace(rt.alloc(), "fresh", "fresh-raw")?;
+    for (word, habit) in [
+        ("lazy", Habit::Lazy),
+        ("closing", Habit::Closing),
+        ("strict", Habit::Strict),
+    ] {
+        for line in [
+            format!(in rt.alloc(); "zonedisk run --image b --blocks 9 --habit {word}")?,
+            format!(in rt.alloc(); "zonedisk nvme --habit={word} --image b")?,
+            format!(in rt.alloc(); "{FRESH} --blocks 9 --habit {word}")?,
+            format!(in rt.alloc(); "{raw} --habit {word}")?,
+        ] {
+            let read = job(&rt, rt.alloc(), &line).ok();
+            assert_eq!(rt; read.and_then(habit_of), Some(habit));
+        }
+    }
+    for (line, kind) in [
+        ("zonedisk nvme --image b --habit Lazy", ErrorKind::InvalidValue),
+        ("zonedisk nvme --image b --habit", ErrorKind::InvalidValue),
+        (
+            "zonedisk nvme --image b --habit lazy --habit lazy",
+            ErrorKind::ArgumentConflict,
+        ),
+        (
+            "zonedisk report --image b --habit lazy",
+            ErrorKind::UnknownArgument,
+        ),
+    ] {
+        let refused = job(&rt, rt.alloc(), line).map_err(|error| error.kind());
+        assert_eq!(rt; refused, Err(kind));
+    }
     Ok(())
 }
 
@@ -167,6 +218,7 @@ start 24 state Empty pointer 24 capacity 6
         report,
         statistics: false,
         stop: Stop::NEVER,
+        habit: Habit::Lazy,
     };
     let wide = Geometry {
         capacity: 9,
@@ -174,6 +226,7 @@ start 24 state Empty pointer 24 capacity 6
     };
     let raw = Job::FreshRaw {
         geometry: FOUR_ZONES,
+        habit: Habit::Lazy,
     };
     let fault = ProgramFault::Run(RunFault::Geometry(GeometryFault::Capacity));
     let not_a_line = |line| ProgramFault::Run(RunFault::Line(line));
@@ -223,6 +276,7 @@ fn works_on_images(rt: HostRuntime) -> Result<(), Fail> {
         blocks: 9,
         zones: false,
         stop: Stop::NEVER,
+        habit: Habit::Lazy,
     };
     let stopped = Job::Run {
         image: path.clone()?,
@@ -232,6 +286,7 @@ fn works_on_images(rt: HostRuntime) -> Result<(), Fail> {
             commands: 0,
             tear: 0,
         },
+        habit: Habit::Lazy,
     };
     let torn = Job::Run {
         image: path.clone()?,
@@ -241,11 +296,22 @@ fn works_on_images(rt: HostRuntime) -> Result<(), Fail> {
             commands: 1,
             tear: 3,
         },
+        habit: Habit::Lazy,
     };
     let report = Job::Report {
         image: path.clone()?,
     };
-    let nvme = Job::Nvme { image: path };
+    let closing = Job::Run {
+        image: path.clone()?,
+        blocks: 9,
+        zones: true,
+        stop: Stop::NEVER,
+        habit: Habit::Closing,
+    };
+    let nvme = Job::Nvme {
+        image: path,
+        habit: Habit::Lazy,
+    };
     let before = b"zones 4
 start 0 state Full pointer - capacity 6
 start 8 state ImplicitlyOpened pointer 10 capacity 6
@@ -253,6 +319,13 @@ start 16 state Empty pointer 16 capacity 6
 start 24 state Empty pointer 24 capacity 6
 ";
     let after = b"zones 4
+start 0 state Full pointer - capacity 6
+start 8 state Closed pointer 10 capacity 6
+start 16 state Empty pointer 16 capacity 6
+start 24 state Empty pointer 24 capacity 6
+";
+    let closed = b"ok
+zones 4
 start 0 state Full pointer - capacity 6
 start 8 state Closed pointer 10 capacity 6
 start 16 state Empty pointer 16 capacity 6
@@ -280,6 +353,8 @@ start 24 state Empty pointer 24 capacity 6
         (&run, b"read 0 1\n", b"fault mount 12 NotFresh\n", 4192),
         (&report, b"", after, 0),
         (&nvme, b"none\n", b"fault line 1\n", 4192),
+        (&format, b"", b"ok\n", 96),
+        (&closing, b"fill 0 5 AA\n", closed, 4192),
     ] {
         let mut written = Vec::new(alloc);
         let (drive, ended) = run_job(alloc, job, &mut image.as_slice(), lines, &mut written);

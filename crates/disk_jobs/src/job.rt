@@ -2,6 +2,7 @@ use clap::builder::ValueParser;
 use clap::error::ErrorKind;
 use clap::{Arg, ArgAction, ArgMatches, Command, Error, value_parser};
 use std::alloc::{AllocError, Global};
+use zone_drive::Habit;
 use zone_states::Geometry;
 
 /// When the drive stops: after that many commands, the mount's included, and that many blocks into the Append after
@@ -28,12 +29,14 @@ pub enum Job {
         geometry: Geometry,
     },
     /// Reads a drive from the file, restarts it, mounts it as `blocks` logical blocks, answers the lines of a trace,
-    /// and saves it. With `zones` the zones of the drive are shown after the replies.
+    /// and saves it. With `zones` the zones of the drive are shown after the replies. The drive has this habit, here
+    /// and below, until it is saved.
     Run {
         image: String,
         blocks: u64,
         zones: bool,
         stop: Stop,
+        habit: Habit,
     },
     /// Shows the zones of the drive in the file, as they were saved.
     Report {
@@ -42,6 +45,7 @@ pub enum Job {
     /// Reads a drive from the file, restarts it, submits the entry of each raw line to it, and saves it.
     Nvme {
         image: String,
+        habit: Habit,
     },
     /// Makes a fresh drive in memory, mounts it as `blocks` logical blocks, and answers the lines of a
     /// trace. With `statistics` it is shown after the replies what was written and moved, and with `report`
@@ -52,10 +56,12 @@ pub enum Job {
         report: bool,
         statistics: bool,
         stop: Stop,
+        habit: Habit,
     },
     /// Makes a fresh drive in memory, and submits the entry of each raw line to it.
     FreshRaw {
         geometry: Geometry,
+        habit: Habit,
     },
 }
 
@@ -66,7 +72,7 @@ impl Job {
             Job::Format { image, .. }
             | Job::Run { image, .. }
             | Job::Report { image }
-            | Job::Nvme { image } => Some(image.as_str()),
+            | Job::Nvme { image, .. } => Some(image.as_str()),
             Job::Fresh { .. } | Job::FreshRaw { .. } => None,
         }
     }
@@ -169,6 +175,19 @@ fn stop_options<'a>(alloc: Global, command: Command<'a>) -> Result<Command<'a>, 
         .arg(stop_option(alloc, "tear", "J", tear))
 }
 
+/// The names of the habits of a drive.
+const HABITS: [&str; 3] = ["lazy", "closing", "strict"];
+
+fn habit_option<'a>(alloc: Global) -> Arg<'a> {
+    Arg::new(alloc, "habit")
+        .long("habit")
+        .value_name("H")
+        .help("Which zones the drive closes by itself")
+        .action(ArgAction::Set)
+        .value_parser(HABITS.as_slice())
+        .default_value("lazy")
+}
+
 fn format_command<'a>(alloc: Global) -> Result<Command<'a>, AllocError> {
     let command = Command::new(alloc, "format")
         .about("Makes a fresh drive in a file")
@@ -182,7 +201,8 @@ fn run_command<'a>(alloc: Global) -> Result<Command<'a>, AllocError> {
         .about("Answers the trace on standard input, over the drive in a file")
         .arg(image_option(alloc))?
         .arg(blocks_option(alloc))?
-        .arg(flag(alloc, "zones", zones))?;
+        .arg(flag(alloc, "zones", zones))?
+        .arg(habit_option(alloc))?;
     stop_options(alloc, command)
 }
 
@@ -195,7 +215,8 @@ fn report_command<'a>(alloc: Global) -> Result<Command<'a>, AllocError> {
 fn nvme_command<'a>(alloc: Global) -> Result<Command<'a>, AllocError> {
     Command::new(alloc, "nvme")
         .about("Submits the raw entries on standard input to the drive in a file")
-        .arg(image_option(alloc))
+        .arg(image_option(alloc))?
+        .arg(habit_option(alloc))
 }
 
 fn fresh_command<'a>(alloc: Global) -> Result<Command<'a>, AllocError> {
@@ -207,7 +228,8 @@ fn fresh_command<'a>(alloc: Global) -> Result<Command<'a>, AllocError> {
     let command = geometry_options(alloc, command)?
         .arg(blocks_option(alloc))?
         .arg(flag(alloc, "report", report))?
-        .arg(flag(alloc, "statistics", statistics))?;
+        .arg(flag(alloc, "statistics", statistics))?
+        .arg(habit_option(alloc))?;
     stop_options(alloc, command)
 }
 
@@ -215,7 +237,7 @@ fn fresh_raw_command<'a>(alloc: Global) -> Result<Command<'a>, AllocError> {
     let command = Command::new(alloc, "fresh-raw").about(
         "Submits the raw entries on standard input to a fresh drive in memory",
     );
-    geometry_options(alloc, command)
+    geometry_options(alloc, command)?.arg(habit_option(alloc))
 }
 
 /// The words that the program takes.
@@ -263,6 +285,15 @@ fn stop_of(matches: &ArgMatches<'_>) -> Result<Stop, WordFault> {
     })
 }
 
+/// The habit of the drive.
+fn habit_of(matches: &ArgMatches<'_>) -> Habit {
+    match matches.get_str("habit") {
+        Some("closing") => Habit::Closing,
+        Some("strict") => Habit::Strict,
+        _ => Habit::Lazy,
+    }
+}
+
 fn geometry(matches: &ArgMatches<'_>) -> Result<Geometry, WordFault> {
     Ok(Geometry {
         block: part_of(matches, "block")?,
@@ -292,12 +323,14 @@ fn subcommand_job(alloc: Global, name: &str, matches: &ArgMatches<'_>) -> Result
             blocks: number(matches, "blocks")?,
             zones: matches.get_flag("zones"),
             stop: stop_of(matches)?,
+            habit: habit_of(matches),
         }),
         "report" => Ok(Job::Report {
             image: image(alloc, matches)?,
         }),
         "nvme" => Ok(Job::Nvme {
             image: image(alloc, matches)?,
+            habit: habit_of(matches),
         }),
         "fresh" => Ok(Job::Fresh {
             geometry: geometry(matches)?,
@@ -305,9 +338,11 @@ fn subcommand_job(alloc: Global, name: &str, matches: &ArgMatches<'_>) -> Result
             report: matches.get_flag("report"),
             statistics: matches.get_flag("statistics"),
             stop: stop_of(matches)?,
+            habit: habit_of(matches),
         }),
         _ => Ok(Job::FreshRaw {
             geometry: geometry(matches)?,
+            habit: habit_of(matches),
         }),
     }
 }

@@ -8,13 +8,16 @@ use drive_port::{Device, StopAfter};
 use nvme_wire::ReportingOptions;
 use std::alloc::Global;
 use std::io::{Read, Write};
-use zone_drive::{Drive, DriveFault};
+use zone_drive::{Drive, DriveFault, Habit};
 use zone_report::{report_bytes, report_text};
 use zone_states::Geometry;
 
-fn fresh_drive(alloc: Global, geometry: Geometry) -> Result<Drive, RunFault> {
+fn fresh_drive(alloc: Global, geometry: Geometry, habit: Habit) -> Result<Drive, RunFault> {
     match Drive::new(alloc, geometry) {
-        Ok(drive) => Ok(drive),
+        Ok(mut drive) => {
+            drive.set_habit(habit);
+            Ok(drive)
+        }
         Err(DriveFault::Geometry(fault)) => Err(RunFault::Geometry(fault)),
         Err(_) => Err(RunFault::Memory),
     }
@@ -77,17 +80,22 @@ fn format<W: Write>(
     geometry: Geometry,
     output: &mut W,
 ) -> Result<Drive, ProgramFault> {
-    let drive = fresh_drive(alloc, geometry)?;
+    let drive = fresh_drive(alloc, geometry, Habit::Lazy)?;
     let mut reply = Vec::new(alloc);
     ok_reply(&mut reply)?;
     write_out(output, &reply)?;
     Ok(drive)
 }
 
-/// Reads a drive, and restarts it.
-fn restarted_drive<I: Read>(alloc: Global, image: &mut I) -> Result<Drive, ProgramFault> {
+/// Reads a drive, restarts it, and gives it a habit.
+fn restarted_drive<I: Read>(
+    alloc: Global,
+    image: &mut I,
+    habit: Habit,
+) -> Result<Drive, ProgramFault> {
     let mut drive = read_image(alloc, image)?;
     drive.restart();
+    drive.set_habit(habit);
     Ok(drive)
 }
 
@@ -130,13 +138,15 @@ fn drive_of<I: Read, W: Write>(
 ) -> Result<Option<Drive>, ProgramFault> {
     match job {
         Job::Format { geometry, .. } => Ok(Some(format(alloc, *geometry, output)?)),
-        Job::Run { .. } | Job::Nvme { .. } => Ok(Some(restarted_drive(alloc, image)?)),
+        Job::Run { habit, .. } | Job::Nvme { habit, .. } => {
+            Ok(Some(restarted_drive(alloc, image, *habit)?))
+        }
         Job::Report { .. } => {
             report(alloc, image, output)?;
             Ok(None)
         }
-        Job::Fresh { geometry, .. } | Job::FreshRaw { geometry } => {
-            Ok(Some(fresh_drive(alloc, *geometry)?))
+        Job::Fresh { geometry, habit, .. } | Job::FreshRaw { geometry, habit } => {
+            Ok(Some(fresh_drive(alloc, *geometry, *habit)?))
         }
     }
 }

@@ -18,7 +18,9 @@
 #![tactic(auto)]
 
 use clap::error::ErrorKind;
-pub use disk_jobs::{Job, ProgramFault, Stop, job_of, run_job, run_on_file, write_program_fault};
+pub use disk_jobs::{
+    Habit, Job, ProgramFault, Stop, job_of, run_job, run_on_file, write_program_fault,
+};
 pub use disk_runs::{RunFault, answer_trace, run_raw, run_trace, write_fault};
 use std::alloc::Global;
 use std::env::Env;
