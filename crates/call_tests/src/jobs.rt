@@ -137,7 +137,10 @@ fn reads_the_habit(rt: HostRuntime) -> Result<(), Fail> {
         }
     }
     for (line, kind) in [
-        ("zonedisk nvme --image b --habit Lazy", ErrorKind::InvalidValue),
+        (
+            "zonedisk nvme --image b --habit Lazy",
+            ErrorKind::InvalidValue,
+        ),
         ("zonedisk nvme --image b --habit", ErrorKind::InvalidValue),
         (
             "zonedisk nvme --image b --habit lazy --habit lazy",

@@ -145,9 +145,12 @@ fn drive_of<I: Read, W: Write>(
             report(alloc, image, output)?;
             Ok(None)
         }
-        Job::Fresh { geometry, habit, .. } | Job::FreshRaw { geometry, habit } => {
-            Ok(Some(fresh_drive(alloc, *geometry, *habit)?))
+        Job::Fresh {
+            geometry,
+            habit,
+            ..
         }
+        | Job::FreshRaw { geometry, habit } => { Ok(Some(fresh_drive(alloc, *geometry, *habit)?)) }
     }
 }
 
