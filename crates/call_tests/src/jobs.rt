@@ -1,7 +1,9 @@
 // The words of the command line, and what they ask for. The stored run of `zonedisk` shows the rest.
 
 use clap::error::ErrorKind;
-use disk_jobs::{Job, ProgramFault, Stop, job_of, run_job, write_program_fault};
+use disk_jobs::{
+    Job, ProgramFault, RecentInput, Stop, explain, job_of, run_job, write_program_fault,
+};
 use disk_runs::RunFault;
 use drive_images::write_image;
 use drive_port::Geometry;
@@ -187,6 +189,7 @@ fn refuses_other_words(rt: HostRuntime) -> Result<(), Fail> {
             ErrorKind::ValueValidation,
         ),
         ("zonedisk --help", ErrorKind::DisplayHelp),
+        ("zonedisk --version", ErrorKind::DisplayVersion),
         (
             "zonedisk fresh --block 4294967296",
             ErrorKind::ValueValidation,
@@ -253,6 +256,80 @@ start 24 state Empty pointer 24 capacity 6
         let mut written = Vec::new(rt.alloc());
         let (_, ended) = run_job(rt.alloc(), &job, &mut io::empty(), lines, &mut written);
         assert_eq!(rt; (written.as_slice(), ended), (output, result));
+    }
+}
+
+// What standard error says of the fault that ends a job; nothing where none does.
+fn explained(rt: &impl Abort, alloc: Global, job: &Job, lines: &[u8]) -> String {
+    let mut input = RecentInput::new(alloc, lines);
+    let mut written = Vec::new(alloc);
+    let (_, ended) = run_job(alloc, job, &mut io::empty(), &mut input, &mut written);
+    match ended {
+        Ok(()) => String::new(alloc),
+        Err(fault) => explain(alloc, job, fault, &input).expect(rt, "memory"),
+    }
+}
+
+#[test]
+fn explains_the_faults(rt: HostRuntime) {
+    let fresh = |blocks| Job::Fresh {
+        geometry: FOUR_ZONES,
+        blocks,
+        report: false,
+        statistics: false,
+        stop: Stop::NEVER,
+        habit: Habit::Lazy,
+    };
+    let raw = Job::FreshRaw {
+        geometry: FOUR_ZONES,
+        habit: Habit::Lazy,
+    };
+    for (job, lines, text) in [
+        (fresh(9), b"read 0 1\n".as_slice(), ""),
+        (
+            fresh(9),
+            b"\xef\xbb\xbfread 0 1\n",
+            "line 1: it begins with a byte order mark",
+        ),
+        (
+            fresh(9),
+            b"read 0 1\r\n",
+            "line 1: a carriage return stands before the line feed",
+        ),
+        (
+            fresh(9),
+            b"read 0\t1\n",
+            "line 1: it has a tab; words have one space between them",
+        ),
+        (
+            fresh(9),
+            b"# A comment.\n\nread 0  1\n",
+            "line 3: it has a second space between two words",
+        ),
+        (
+            fresh(9),
+            b"fill 0 1 aa\nfill 0 1 aaa\n",
+            "line 2: word 4 has to be two hexadecimal digits",
+        ),
+        (
+            fresh(9),
+            b"idle",
+            "line 1: word 2 is missing: a number below 2^32 in decimal digits",
+        ),
+        (fresh(9), b"trim 0 1 2\n", "line 1: word 4 is one too many"),
+        (
+            fresh(10),
+            b"",
+            "the drive has room for 1 to 9 logical blocks",
+        ),
+        (
+            raw,
+            b"00\n",
+            "line 1: word 1 has to be the 128 hexadecimal digits of an entry",
+        ),
+    ] {
+        let told = explained(&rt, rt.alloc(), &job, lines);
+        assert_eq!(rt; told.as_str(), text);
     }
 }
 

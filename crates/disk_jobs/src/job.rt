@@ -94,6 +94,27 @@ impl From<AllocError> for WordFault {
     }
 }
 
+/// What `--version` shows after the name of the program.
+const VERSION: &str = "0.1.0";
+
+const FORMAT_EXAMPLE: &str = "Example:
+  zonedisk format --image my.drive --block 512 --zones 4 --size 8 --capacity 6 --transfer 4 --active 2 --open 2";
+
+const RUN_EXAMPLE: &str = "Example:
+  printf 'fill 0 5 aa\\nread 4 1\\n' | zonedisk run --image my.drive --blocks 9";
+
+const REPORT_EXAMPLE: &str = "Example:
+  zonedisk report --image my.drive";
+
+const NVME_EXAMPLE: &str = "Example:
+  printf '0000010001000000%0112d\\n' 0 | zonedisk nvme --image my.drive";
+
+const FRESH_EXAMPLE: &str = "Example:
+  printf 'fill 0 5 aa\\nread 4 1\\n' | zonedisk fresh --block 512 --zones 4 --size 8 --capacity 6 --transfer 4 --active 2 --open 2 --blocks 9 --report";
+
+const FRESH_RAW_EXAMPLE: &str = "Example:
+  printf '0000010001000000%0112d\\n' 0 | zonedisk fresh-raw --block 512 --zones 4 --size 8 --capacity 6 --transfer 4 --active 2 --open 2";
+
 /// An option that takes a number, and has to be given.
 fn number_option<'a>(
     alloc: Global,
@@ -191,6 +212,7 @@ fn habit_option<'a>(alloc: Global) -> Arg<'a> {
 fn format_command<'a>(alloc: Global) -> Result<Command<'a>, AllocError> {
     let command = Command::new(alloc, "format")
         .about("Makes a fresh drive in a file")
+        .after_help(FORMAT_EXAMPLE)
         .arg(image_option(alloc))?;
     geometry_options(alloc, command)
 }
@@ -199,6 +221,7 @@ fn run_command<'a>(alloc: Global) -> Result<Command<'a>, AllocError> {
     let zones = "Shows the zones of the drive after the replies";
     let command = Command::new(alloc, "run")
         .about("Answers the trace on standard input, over the drive in a file")
+        .after_help(RUN_EXAMPLE)
         .arg(image_option(alloc))?
         .arg(blocks_option(alloc))?
         .arg(flag(alloc, "zones", zones))?
@@ -209,12 +232,14 @@ fn run_command<'a>(alloc: Global) -> Result<Command<'a>, AllocError> {
 fn report_command<'a>(alloc: Global) -> Result<Command<'a>, AllocError> {
     Command::new(alloc, "report")
         .about("Shows the zones of the drive in a file")
+        .after_help(REPORT_EXAMPLE)
         .arg(image_option(alloc))
 }
 
 fn nvme_command<'a>(alloc: Global) -> Result<Command<'a>, AllocError> {
     Command::new(alloc, "nvme")
         .about("Submits the raw entries on standard input to the drive in a file")
+        .after_help(NVME_EXAMPLE)
         .arg(image_option(alloc))?
         .arg(habit_option(alloc))
 }
@@ -222,9 +247,9 @@ fn nvme_command<'a>(alloc: Global) -> Result<Command<'a>, AllocError> {
 fn fresh_command<'a>(alloc: Global) -> Result<Command<'a>, AllocError> {
     let report = "Shows the zones of the drive after the replies";
     let statistics = "Shows what was written and moved after the replies";
-    let command = Command::new(alloc, "fresh").about(
-        "Answers the trace on standard input, over a fresh drive in memory",
-    );
+    let command = Command::new(alloc, "fresh")
+        .about("Answers the trace on standard input, over a fresh drive in memory")
+        .after_help(FRESH_EXAMPLE);
     let command = geometry_options(alloc, command)?
         .arg(blocks_option(alloc))?
         .arg(flag(alloc, "report", report))?
@@ -234,9 +259,9 @@ fn fresh_command<'a>(alloc: Global) -> Result<Command<'a>, AllocError> {
 }
 
 fn fresh_raw_command<'a>(alloc: Global) -> Result<Command<'a>, AllocError> {
-    let command = Command::new(alloc, "fresh-raw").about(
-        "Submits the raw entries on standard input to a fresh drive in memory",
-    );
+    let command = Command::new(alloc, "fresh-raw")
+        .about("Submits the raw entries on standard input to a fresh drive in memory")
+        .after_help(FRESH_RAW_EXAMPLE);
     geometry_options(alloc, command)?.arg(habit_option(alloc))
 }
 
@@ -244,6 +269,7 @@ fn fresh_raw_command<'a>(alloc: Global) -> Result<Command<'a>, AllocError> {
 fn program<'a>(alloc: Global) -> Result<Command<'a>, AllocError> {
     Command::new(alloc, "zonedisk")
         .about("An array of logical blocks above a zoned drive")
+        .version(VERSION)
         .subcommand_required(true)
         .subcommand(format_command(alloc)?)?
         .subcommand(run_command(alloc)?)?

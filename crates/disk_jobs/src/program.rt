@@ -8,9 +8,11 @@ use drive_port::{Device, StopAfter};
 use nvme_wire::ReportingOptions;
 use std::alloc::Global;
 use std::io::{Read, Write};
+use zone_choice::most_blocks;
 use zone_drive::{Drive, DriveFault, Habit};
 use zone_report::{report_bytes, report_text};
 use zone_states::Geometry;
+use zone_translator::MountFault;
 
 fn fresh_drive(alloc: Global, geometry: Geometry, habit: Habit) -> Result<Drive, RunFault> {
     match Drive::new(alloc, geometry) {
@@ -190,6 +192,16 @@ fn answer<R: Read + Drop, W: Write>(
     }
 }
 
+/// What the fault of a run over a drive of this shape is to the program.
+fn told(fault: RunFault, geometry: &Geometry) -> ProgramFault {
+    if fault != RunFault::Mount(MountFault::Reserve) || geometry.check().is_err() {
+        return ProgramFault::Run(fault);
+    }
+    ProgramFault::Reserve {
+        most: most_blocks(geometry),
+    }
+}
+
 /// Does a job, but for opening and saving its file: reads `image` and then the lines of `input`, and writes to
 /// `output`. The drive is handed back, also after a fault, where the job has one to save.
 pub fn run_job<I: Read, R: Read + Drop, W: Write>(
@@ -202,7 +214,8 @@ pub fn run_job<I: Read, R: Read + Drop, W: Write>(
     match drive_of(alloc, job, image, output) {
         Ok(Some(drive)) => {
             let (drive, result) = answer(alloc, job, drive, input, output);
-            (Some(drive), result.map_err(ProgramFault::Run))
+            let geometry = drive.geometry();
+            (Some(drive), result.map_err(|fault| told(fault, &geometry)))
         }
         Ok(None) => (None, Ok(())),
         Err(fault) => (None, Err(fault)),
