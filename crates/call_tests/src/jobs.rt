@@ -1,7 +1,9 @@
 // The words of the command line, and what they ask for. The stored run of `zonedisk` shows the rest.
 
 use clap::error::ErrorKind;
-use disk_jobs::{Job, ProgramFault, Stop, job_of, run_job, write_program_fault};
+use disk_jobs::{
+    Job, ProgramFault, RecentInput, Stop, explain, job_of, run_job, write_program_fault,
+};
 use disk_runs::RunFault;
 use drive_images::write_image;
 use drive_port::Geometry;
@@ -9,7 +11,7 @@ use std::alloc::Global;
 use std::io;
 use std::process::Abort;
 use std::test::Fail;
-use zone_drive::Drive;
+use zone_drive::{Drive, Habit};
 use zone_states::GeometryFault;
 
 const FOUR_ZONES: Geometry = Geometry {
@@ -55,12 +57,14 @@ fn reads_the_words(rt: HostRuntime) -> Result<(), Fail> {
             report,
             statistics: rest.ends_with("--statistics"),
             stop: Stop::NEVER,
+            habit: Habit::Lazy,
         };
         assert_eq!(rt; job(&rt, rt.alloc(), &line).ok(), Some(want));
     }
     let line = FRESH.replace(rt.alloc(), "fresh", "fresh-raw")?;
     let want = Job::FreshRaw {
         geometry: FOUR_ZONES,
+        habit: Habit::Lazy,
     };
     assert_eq!(rt; job(&rt, rt.alloc(), &line).ok(), Some(want));
     let line = FRESH.replace(rt.alloc(), "fresh", "format --image a/b")?;
@@ -91,6 +95,7 @@ fn reads_the_words(rt: HostRuntime) -> Result<(), Fail> {
             blocks: 9,
             zones,
             stop,
+            habit: Habit::Lazy,
         };
         assert_eq!(rt; job(&rt, rt.alloc(), line).ok(), Some(want));
     }
@@ -99,7 +104,58 @@ fn reads_the_words(rt: HostRuntime) -> Result<(), Fail> {
     assert_eq!(rt; read, Some(Job::Report { image }));
     let image = String::from_str(rt.alloc(), "b")?;
     let read = job(&rt, rt.alloc(), "zonedisk nvme --image b").ok();
-    assert_eq!(rt; read, Some(Job::Nvme { image }));
+    let habit = Habit::Lazy;
+    assert_eq!(rt; read, Some(Job::Nvme { image, habit }));
+    Ok(())
+}
+
+// The habit that a job gives to its drive, if it gives one.
+fn habit_of(job: Job) -> Option<Habit> {
+    match job {
+        Job::Run { habit, .. }
+        | Job::Nvme { habit, .. }
+        | Job::Fresh { habit, .. }
+        | Job::FreshRaw { habit, .. } => Some(habit),
+        Job::Format { .. } | Job::Report { .. } => None,
+    }
+}
+
+#[test]
+fn reads_the_habit(rt: HostRuntime) -> Result<(), Fail> {
+    let raw = FRESH.replace(rt.alloc(), "fresh", "fresh-raw")?;
+    for (word, habit) in [
+        ("lazy", Habit::Lazy),
+        ("closing", Habit::Closing),
+        ("strict", Habit::Strict),
+    ] {
+        for line in [
+            format!(in rt.alloc(); "zonedisk run --image b --blocks 9 --habit {word}")?,
+            format!(in rt.alloc(); "zonedisk nvme --habit={word} --image b")?,
+            format!(in rt.alloc(); "{FRESH} --blocks 9 --habit {word}")?,
+            format!(in rt.alloc(); "{raw} --habit {word}")?,
+        ] {
+            let read = job(&rt, rt.alloc(), &line).ok();
+            assert_eq!(rt; read.and_then(habit_of), Some(habit));
+        }
+    }
+    for (line, kind) in [
+        (
+            "zonedisk nvme --image b --habit Lazy",
+            ErrorKind::InvalidValue,
+        ),
+        ("zonedisk nvme --image b --habit", ErrorKind::InvalidValue),
+        (
+            "zonedisk nvme --image b --habit lazy --habit lazy",
+            ErrorKind::ArgumentConflict,
+        ),
+        (
+            "zonedisk report --image b --habit lazy",
+            ErrorKind::UnknownArgument,
+        ),
+    ] {
+        let refused = job(&rt, rt.alloc(), line).map_err(|error| error.kind());
+        assert_eq!(rt; refused, Err(kind));
+    }
     Ok(())
 }
 
@@ -133,6 +189,7 @@ fn refuses_other_words(rt: HostRuntime) -> Result<(), Fail> {
             ErrorKind::ValueValidation,
         ),
         ("zonedisk --help", ErrorKind::DisplayHelp),
+        ("zonedisk --version", ErrorKind::DisplayVersion),
         (
             "zonedisk fresh --block 4294967296",
             ErrorKind::ValueValidation,
@@ -167,6 +224,7 @@ start 24 state Empty pointer 24 capacity 6
         report,
         statistics: false,
         stop: Stop::NEVER,
+        habit: Habit::Lazy,
     };
     let wide = Geometry {
         capacity: 9,
@@ -174,6 +232,7 @@ start 24 state Empty pointer 24 capacity 6
     };
     let raw = Job::FreshRaw {
         geometry: FOUR_ZONES,
+        habit: Habit::Lazy,
     };
     let fault = ProgramFault::Run(RunFault::Geometry(GeometryFault::Capacity));
     let not_a_line = |line| ProgramFault::Run(RunFault::Line(line));
@@ -200,6 +259,80 @@ start 24 state Empty pointer 24 capacity 6
     }
 }
 
+// What standard error says of the fault that ends a job; nothing where none does.
+fn explained(rt: &impl Abort, alloc: Global, job: &Job, lines: &[u8]) -> String {
+    let mut input = RecentInput::new(alloc, lines);
+    let mut written = Vec::new(alloc);
+    let (_, ended) = run_job(alloc, job, &mut io::empty(), &mut input, &mut written);
+    match ended {
+        Ok(()) => String::new(alloc),
+        Err(fault) => explain(alloc, job, fault, &input).expect(rt, "memory"),
+    }
+}
+
+#[test]
+fn explains_the_faults(rt: HostRuntime) {
+    let fresh = |blocks| Job::Fresh {
+        geometry: FOUR_ZONES,
+        blocks,
+        report: false,
+        statistics: false,
+        stop: Stop::NEVER,
+        habit: Habit::Lazy,
+    };
+    let raw = Job::FreshRaw {
+        geometry: FOUR_ZONES,
+        habit: Habit::Lazy,
+    };
+    for (job, lines, text) in [
+        (fresh(9), b"read 0 1\n".as_slice(), ""),
+        (
+            fresh(9),
+            b"\xef\xbb\xbfread 0 1\n",
+            "line 1: it begins with a byte order mark",
+        ),
+        (
+            fresh(9),
+            b"read 0 1\r\n",
+            "line 1: a carriage return stands before the line feed",
+        ),
+        (
+            fresh(9),
+            b"read 0\t1\n",
+            "line 1: it has a tab; words have one space between them",
+        ),
+        (
+            fresh(9),
+            b"# A comment.\n\nread 0  1\n",
+            "line 3: it has a second space between two words",
+        ),
+        (
+            fresh(9),
+            b"fill 0 1 aa\nfill 0 1 aaa\n",
+            "line 2: word 4 has to be two hexadecimal digits",
+        ),
+        (
+            fresh(9),
+            b"idle",
+            "line 1: word 2 is missing: a number below 2^32 in decimal digits",
+        ),
+        (fresh(9), b"trim 0 1 2\n", "line 1: word 4 is one too many"),
+        (
+            fresh(10),
+            b"",
+            "the drive has room for 1 to 9 logical blocks",
+        ),
+        (
+            raw,
+            b"00\n",
+            "line 1: word 1 has to be the 128 hexadecimal digits of an entry",
+        ),
+    ] {
+        let told = explained(&rt, rt.alloc(), &job, lines);
+        assert_eq!(rt; told.as_str(), text);
+    }
+}
+
 // The image of the drive that a job leaves to be saved.
 fn image_of(rt: &impl Abort, alloc: Global, drive: Option<Drive>) -> Vec<u8> {
     let mut image = Vec::new(alloc);
@@ -223,6 +356,7 @@ fn works_on_images(rt: HostRuntime) -> Result<(), Fail> {
         blocks: 9,
         zones: false,
         stop: Stop::NEVER,
+        habit: Habit::Lazy,
     };
     let stopped = Job::Run {
         image: path.clone()?,
@@ -232,6 +366,7 @@ fn works_on_images(rt: HostRuntime) -> Result<(), Fail> {
             commands: 0,
             tear: 0,
         },
+        habit: Habit::Lazy,
     };
     let torn = Job::Run {
         image: path.clone()?,
@@ -241,11 +376,22 @@ fn works_on_images(rt: HostRuntime) -> Result<(), Fail> {
             commands: 1,
             tear: 3,
         },
+        habit: Habit::Lazy,
     };
     let report = Job::Report {
         image: path.clone()?,
     };
-    let nvme = Job::Nvme { image: path };
+    let closing = Job::Run {
+        image: path.clone()?,
+        blocks: 9,
+        zones: true,
+        stop: Stop::NEVER,
+        habit: Habit::Closing,
+    };
+    let nvme = Job::Nvme {
+        image: path,
+        habit: Habit::Lazy,
+    };
     let before = b"zones 4
 start 0 state Full pointer - capacity 6
 start 8 state ImplicitlyOpened pointer 10 capacity 6
@@ -253,6 +399,13 @@ start 16 state Empty pointer 16 capacity 6
 start 24 state Empty pointer 24 capacity 6
 ";
     let after = b"zones 4
+start 0 state Full pointer - capacity 6
+start 8 state Closed pointer 10 capacity 6
+start 16 state Empty pointer 16 capacity 6
+start 24 state Empty pointer 24 capacity 6
+";
+    let closed = b"ok
+zones 4
 start 0 state Full pointer - capacity 6
 start 8 state Closed pointer 10 capacity 6
 start 16 state Empty pointer 16 capacity 6
@@ -280,6 +433,8 @@ start 24 state Empty pointer 24 capacity 6
         (&run, b"read 0 1\n", b"fault mount 12 NotFresh\n", 4192),
         (&report, b"", after, 0),
         (&nvme, b"none\n", b"fault line 1\n", 4192),
+        (&format, b"", b"ok\n", 96),
+        (&closing, b"fill 0 5 AA\n", closed, 4192),
     ] {
         let mut written = Vec::new(alloc);
         let (drive, ended) = run_job(alloc, job, &mut image.as_slice(), lines, &mut written);

@@ -3,12 +3,15 @@ use disk_runs::{RunFault, write_fault};
 use drive_images::{ImageFault, image_fault_line};
 use std::alloc::{AllocError, Global};
 use std::io::Write;
+use zone_translator::MountFault;
 
 /// Why the program ends with status 1.
 #[derive(Clone, Copy, Debug, PartialEq, Eq)]
 pub enum ProgramFault {
     /// The run of the lines ended, or there is no drive to run them on.
     Run(RunFault),
+    /// The drive has not room for that many logical blocks, but for `most` of them.
+    Reserve { most: u64 },
     /// The file has no image of a drive.
     Image(ImageFault),
     /// The file cannot be opened or saved.
@@ -39,6 +42,8 @@ impl From<WriteFault> for ProgramFault {
     }
 }
 
+const RESERVE: RunFault = RunFault::Mount(MountFault::Reserve);
+
 /// Writes the line of a fault.
 pub fn write_program_fault<W: Write>(
     alloc: Global,
@@ -47,6 +52,7 @@ pub fn write_program_fault<W: Write>(
 ) -> Result<(), ProgramFault> {
     match fault {
         ProgramFault::Run(fault) => write_fault(alloc, fault, output)?,
+        ProgramFault::Reserve { .. } => write_fault(alloc, RESERVE, output)?,
         ProgramFault::Image(fault) => write_out(output, &image_fault_line(alloc, fault)?)?,
         ProgramFault::File => write_out(output, b"fault file\n")?,
     }

@@ -2,6 +2,7 @@ use clap::builder::ValueParser;
 use clap::error::ErrorKind;
 use clap::{Arg, ArgAction, ArgMatches, Command, Error, value_parser};
 use std::alloc::{AllocError, Global};
+use zone_drive::Habit;
 use zone_states::Geometry;
 
 /// When the drive stops: after that many commands, the mount's included, and that many blocks into the Append after
@@ -28,12 +29,14 @@ pub enum Job {
         geometry: Geometry,
     },
     /// Reads a drive from the file, restarts it, mounts it as `blocks` logical blocks, answers the lines of a trace,
-    /// and saves it. With `zones` the zones of the drive are shown after the replies.
+    /// and saves it. With `zones` the zones of the drive are shown after the replies. The drive has this habit, here
+    /// and below, until it is saved.
     Run {
         image: String,
         blocks: u64,
         zones: bool,
         stop: Stop,
+        habit: Habit,
     },
     /// Shows the zones of the drive in the file, as they were saved.
     Report {
@@ -42,6 +45,7 @@ pub enum Job {
     /// Reads a drive from the file, restarts it, submits the entry of each raw line to it, and saves it.
     Nvme {
         image: String,
+        habit: Habit,
     },
     /// Makes a fresh drive in memory, mounts it as `blocks` logical blocks, and answers the lines of a
     /// trace. With `statistics` it is shown after the replies what was written and moved, and with `report`
@@ -52,10 +56,12 @@ pub enum Job {
         report: bool,
         statistics: bool,
         stop: Stop,
+        habit: Habit,
     },
     /// Makes a fresh drive in memory, and submits the entry of each raw line to it.
     FreshRaw {
         geometry: Geometry,
+        habit: Habit,
     },
 }
 
@@ -66,7 +72,7 @@ impl Job {
             Job::Format { image, .. }
             | Job::Run { image, .. }
             | Job::Report { image }
-            | Job::Nvme { image } => Some(image.as_str()),
+            | Job::Nvme { image, .. } => Some(image.as_str()),
             Job::Fresh { .. } | Job::FreshRaw { .. } => None,
         }
     }
@@ -87,6 +93,27 @@ impl From<AllocError> for WordFault {
         WordFault::Memory
     }
 }
+
+/// What `--version` shows after the name of the program.
+const VERSION: &str = "0.1.0";
+
+const FORMAT_EXAMPLE: &str = "Example:
+  zonedisk format --image my.drive --block 512 --zones 4 --size 8 --capacity 6 --transfer 4 --active 2 --open 2";
+
+const RUN_EXAMPLE: &str = "Example:
+  printf 'fill 0 5 aa\\nread 4 1\\n' | zonedisk run --image my.drive --blocks 9";
+
+const REPORT_EXAMPLE: &str = "Example:
+  zonedisk report --image my.drive";
+
+const NVME_EXAMPLE: &str = "Example:
+  printf '0000010001000000%0112d\\n' 0 | zonedisk nvme --image my.drive";
+
+const FRESH_EXAMPLE: &str = "Example:
+  printf 'fill 0 5 aa\\nread 4 1\\n' | zonedisk fresh --block 512 --zones 4 --size 8 --capacity 6 --transfer 4 --active 2 --open 2 --blocks 9 --report";
+
+const FRESH_RAW_EXAMPLE: &str = "Example:
+  printf '0000010001000000%0112d\\n' 0 | zonedisk fresh-raw --block 512 --zones 4 --size 8 --capacity 6 --transfer 4 --active 2 --open 2";
 
 /// An option that takes a number, and has to be given.
 fn number_option<'a>(
@@ -169,9 +196,23 @@ fn stop_options<'a>(alloc: Global, command: Command<'a>) -> Result<Command<'a>, 
         .arg(stop_option(alloc, "tear", "J", tear))
 }
 
+/// The names of the habits of a drive.
+const HABITS: [&str; 3] = ["lazy", "closing", "strict"];
+
+fn habit_option<'a>(alloc: Global) -> Arg<'a> {
+    Arg::new(alloc, "habit")
+        .long("habit")
+        .value_name("H")
+        .help("Which zones the drive closes by itself")
+        .action(ArgAction::Set)
+        .value_parser(HABITS.as_slice())
+        .default_value("lazy")
+}
+
 fn format_command<'a>(alloc: Global) -> Result<Command<'a>, AllocError> {
     let command = Command::new(alloc, "format")
         .about("Makes a fresh drive in a file")
+        .after_help(FORMAT_EXAMPLE)
         .arg(image_option(alloc))?;
     geometry_options(alloc, command)
 }
@@ -180,48 +221,55 @@ fn run_command<'a>(alloc: Global) -> Result<Command<'a>, AllocError> {
     let zones = "Shows the zones of the drive after the replies";
     let command = Command::new(alloc, "run")
         .about("Answers the trace on standard input, over the drive in a file")
+        .after_help(RUN_EXAMPLE)
         .arg(image_option(alloc))?
         .arg(blocks_option(alloc))?
-        .arg(flag(alloc, "zones", zones))?;
+        .arg(flag(alloc, "zones", zones))?
+        .arg(habit_option(alloc))?;
     stop_options(alloc, command)
 }
 
 fn report_command<'a>(alloc: Global) -> Result<Command<'a>, AllocError> {
     Command::new(alloc, "report")
         .about("Shows the zones of the drive in a file")
+        .after_help(REPORT_EXAMPLE)
         .arg(image_option(alloc))
 }
 
 fn nvme_command<'a>(alloc: Global) -> Result<Command<'a>, AllocError> {
     Command::new(alloc, "nvme")
         .about("Submits the raw entries on standard input to the drive in a file")
-        .arg(image_option(alloc))
+        .after_help(NVME_EXAMPLE)
+        .arg(image_option(alloc))?
+        .arg(habit_option(alloc))
 }
 
 fn fresh_command<'a>(alloc: Global) -> Result<Command<'a>, AllocError> {
     let report = "Shows the zones of the drive after the replies";
     let statistics = "Shows what was written and moved after the replies";
-    let command = Command::new(alloc, "fresh").about(
-        "Answers the trace on standard input, over a fresh drive in memory",
-    );
+    let command = Command::new(alloc, "fresh")
+        .about("Answers the trace on standard input, over a fresh drive in memory")
+        .after_help(FRESH_EXAMPLE);
     let command = geometry_options(alloc, command)?
         .arg(blocks_option(alloc))?
         .arg(flag(alloc, "report", report))?
-        .arg(flag(alloc, "statistics", statistics))?;
+        .arg(flag(alloc, "statistics", statistics))?
+        .arg(habit_option(alloc))?;
     stop_options(alloc, command)
 }
 
 fn fresh_raw_command<'a>(alloc: Global) -> Result<Command<'a>, AllocError> {
-    let command = Command::new(alloc, "fresh-raw").about(
-        "Submits the raw entries on standard input to a fresh drive in memory",
-    );
-    geometry_options(alloc, command)
+    let command = Command::new(alloc, "fresh-raw")
+        .about("Submits the raw entries on standard input to a fresh drive in memory")
+        .after_help(FRESH_RAW_EXAMPLE);
+    geometry_options(alloc, command)?.arg(habit_option(alloc))
 }
 
 /// The words that the program takes.
 fn program<'a>(alloc: Global) -> Result<Command<'a>, AllocError> {
     Command::new(alloc, "zonedisk")
         .about("An array of logical blocks above a zoned drive")
+        .version(VERSION)
         .subcommand_required(true)
         .subcommand(format_command(alloc)?)?
         .subcommand(run_command(alloc)?)?
@@ -263,6 +311,15 @@ fn stop_of(matches: &ArgMatches<'_>) -> Result<Stop, WordFault> {
     })
 }
 
+/// The habit of the drive.
+fn habit_of(matches: &ArgMatches<'_>) -> Habit {
+    match matches.get_str("habit") {
+        Some("closing") => Habit::Closing,
+        Some("strict") => Habit::Strict,
+        _ => Habit::Lazy,
+    }
+}
+
 fn geometry(matches: &ArgMatches<'_>) -> Result<Geometry, WordFault> {
     Ok(Geometry {
         block: part_of(matches, "block")?,
@@ -292,12 +349,14 @@ fn subcommand_job(alloc: Global, name: &str, matches: &ArgMatches<'_>) -> Result
             blocks: number(matches, "blocks")?,
             zones: matches.get_flag("zones"),
             stop: stop_of(matches)?,
+            habit: habit_of(matches),
         }),
         "report" => Ok(Job::Report {
             image: image(alloc, matches)?,
         }),
         "nvme" => Ok(Job::Nvme {
             image: image(alloc, matches)?,
+            habit: habit_of(matches),
         }),
         "fresh" => Ok(Job::Fresh {
             geometry: geometry(matches)?,
@@ -305,9 +364,11 @@ fn subcommand_job(alloc: Global, name: &str, matches: &ArgMatches<'_>) -> Result
             report: matches.get_flag("report"),
             statistics: matches.get_flag("statistics"),
             stop: stop_of(matches)?,
+            habit: habit_of(matches),
         }),
         _ => Ok(Job::FreshRaw {
             geometry: geometry(matches)?,
+            habit: habit_of(matches),
         }),
     }
 }

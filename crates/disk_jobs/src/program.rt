@@ -8,13 +8,18 @@ use drive_port::{Device, StopAfter};
 use nvme_wire::ReportingOptions;
 use std::alloc::Global;
 use std::io::{Read, Write};
-use zone_drive::{Drive, DriveFault};
+use zone_choice::most_blocks;
+use zone_drive::{Drive, DriveFault, Habit};
 use zone_report::{report_bytes, report_text};
 use zone_states::Geometry;
+use zone_translator::MountFault;
 
-fn fresh_drive(alloc: Global, geometry: Geometry) -> Result<Drive, RunFault> {
+fn fresh_drive(alloc: Global, geometry: Geometry, habit: Habit) -> Result<Drive, RunFault> {
     match Drive::new(alloc, geometry) {
-        Ok(drive) => Ok(drive),
+        Ok(mut drive) => {
+            drive.set_habit(habit);
+            Ok(drive)
+        }
         Err(DriveFault::Geometry(fault)) => Err(RunFault::Geometry(fault)),
         Err(_) => Err(RunFault::Memory),
     }
@@ -77,17 +82,22 @@ fn format<W: Write>(
     geometry: Geometry,
     output: &mut W,
 ) -> Result<Drive, ProgramFault> {
-    let drive = fresh_drive(alloc, geometry)?;
+    let drive = fresh_drive(alloc, geometry, Habit::Lazy)?;
     let mut reply = Vec::new(alloc);
     ok_reply(&mut reply)?;
     write_out(output, &reply)?;
     Ok(drive)
 }
 
-/// Reads a drive, and restarts it.
-fn restarted_drive<I: Read>(alloc: Global, image: &mut I) -> Result<Drive, ProgramFault> {
+/// Reads a drive, restarts it, and gives it a habit.
+fn restarted_drive<I: Read>(
+    alloc: Global,
+    image: &mut I,
+    habit: Habit,
+) -> Result<Drive, ProgramFault> {
     let mut drive = read_image(alloc, image)?;
     drive.restart();
+    drive.set_habit(habit);
     Ok(drive)
 }
 
@@ -130,14 +140,19 @@ fn drive_of<I: Read, W: Write>(
 ) -> Result<Option<Drive>, ProgramFault> {
     match job {
         Job::Format { geometry, .. } => Ok(Some(format(alloc, *geometry, output)?)),
-        Job::Run { .. } | Job::Nvme { .. } => Ok(Some(restarted_drive(alloc, image)?)),
+        Job::Run { habit, .. } | Job::Nvme { habit, .. } => {
+            Ok(Some(restarted_drive(alloc, image, *habit)?))
+        }
         Job::Report { .. } => {
             report(alloc, image, output)?;
             Ok(None)
         }
-        Job::Fresh { geometry, .. } | Job::FreshRaw { geometry } => {
-            Ok(Some(fresh_drive(alloc, *geometry)?))
+        Job::Fresh {
+            geometry,
+            habit,
+            ..
         }
+        | Job::FreshRaw { geometry, habit } => { Ok(Some(fresh_drive(alloc, *geometry, *habit)?)) }
     }
 }
 
@@ -177,6 +192,16 @@ fn answer<R: Read + Drop, W: Write>(
     }
 }
 
+/// What the fault of a run over a drive of this shape is to the program.
+fn told(fault: RunFault, geometry: &Geometry) -> ProgramFault {
+    if fault != RunFault::Mount(MountFault::Reserve) || geometry.check().is_err() {
+        return ProgramFault::Run(fault);
+    }
+    ProgramFault::Reserve {
+        most: most_blocks(geometry),
+    }
+}
+
 /// Does a job, but for opening and saving its file: reads `image` and then the lines of `input`, and writes to
 /// `output`. The drive is handed back, also after a fault, where the job has one to save.
 pub fn run_job<I: Read, R: Read + Drop, W: Write>(
@@ -189,7 +214,8 @@ pub fn run_job<I: Read, R: Read + Drop, W: Write>(
     match drive_of(alloc, job, image, output) {
         Ok(Some(drive)) => {
             let (drive, result) = answer(alloc, job, drive, input, output);
-            (Some(drive), result.map_err(ProgramFault::Run))
+            let geometry = drive.geometry();
+            (Some(drive), result.map_err(|fault| told(fault, &geometry)))
         }
         Ok(None) => (None, Ok(())),
         Err(fault) => (None, Err(fault)),

@@ -1,19 +1,24 @@
-//! What holds of all images. Each function carries one law as its contract, and does nothing.
+//! What holds of all images. Each function carries one law as its contract, and changes nothing.
 
 ghost use Rattle.std.specs.Prelude.{◌≡◌, List, ℕ, true, false};
-ghost use Rattle.zone_states.specs.Geometry.{IsInRange};
 ghost use Rattle.zone_drive.specs.Stored.{unused};
-ghost use Rattle.drive_port.specs.Drive.{DriveState, IsLawful};
+ghost use Rattle.drive_port.specs.Drive.{DriveState};
 ghost use Rattle.drive_images.specs.Image.{IsImage, image_bytes};
 ghost use Rattle.drive_images.specs.Meaning.{is_of_bytes};
 ghost use Rattle.drive_images.specs.Reading.{IsImageFault};
 ghost use Rattle.drive_images.specs.declared.fault.ImageFault.{ImageFault};
 
+use drive_port::Device;
+use zone_drive::Drive;
+
 /// What is written is read again: the image of a drive is that of the same drive, which has completed no command.
-pub fn image_again()
-    ensures { (drive : DriveState) → IsInRange drive.geometry → IsLawful drive →
-        IsImage (image_bytes drive.geometry drive.zones) (unused drive.geometry drive.zones) }
-{}
+pub fn image_again(drive: &Drive)
+    ensures { IsImage (image_bytes drive.now.state.geometry drive.now.state.zones)
+        (unused drive.now.state.geometry drive.now.state.zones) }
+{
+    drive.geometry();
+    drive.zones();
+}
 
 /// Bytes are the image of one drive at most.
 pub fn one_drive()

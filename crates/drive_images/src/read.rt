@@ -56,7 +56,7 @@ fn expect_end<R: Read>(reader: &mut R) -> Result<(), ImageFault>
 ///
 /// Other bytes are refused by the first fault that is met. Each zone is read straight into its place.
 pub fn read_image<R: Read>(alloc: Global, reader: &mut R) -> Result<Drive, ImageFault>
-    ensures ok { IfOk result (λ drive. IfSome (R.remaining reader.old) (λ bytes. IsImage bytes drive)) }
+    ensures ok { IfOk result (λ drive. IfSome (R.remaining reader.old) (λ bytes. IsImage bytes drive.state)) }
     ensures end { OnOk result (IsAtEnd (R.remaining reader.new)) }
     ensures err { IfErr result (λ fault. IfSome (R.remaining reader.old) (λ bytes. IsImageFault bytes fault)) }
 {

@@ -31,9 +31,9 @@ fn write_zone<W: Write>(writer: &mut W, geometry: &Geometry, zone: &Zone) -> Res
 /// Writes the image of a drive. After a fault a beginning of it is written.
 pub fn write_image<W: Write>(drive: &Drive, writer: &mut W) -> Result<(), WriteFault>
     ensures ok { OnOk result (Appends (W.contents writer.old) (W.contents writer.new)
-        (image_bytes drive.now.geometry drive.now.zones)) }
+        (image_bytes drive.now.state.geometry drive.now.state.zones)) }
     ensures err { OnErr result (AppendsFront (W.contents writer.old) (W.contents writer.new)
-        (image_bytes drive.now.geometry drive.now.zones)) }
+        (image_bytes drive.now.state.geometry drive.now.state.zones)) }
 {
     let geometry = drive.geometry();
     write_out(writer, &head_bytes(&geometry))?;

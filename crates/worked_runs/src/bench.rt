@@ -5,7 +5,7 @@ use crate::fault::ScriptFault;
 use crate::world::World;
 use drive_port::{Device, Geometry, Halt, Recorder, StopAfter};
 use std::alloc::Global;
-use zone_drive::Drive;
+use zone_drive::{Drive, Habit};
 
 /// A device that has no memory for one submit, after `others` of them.
 #[derive(Drop)]
@@ -47,13 +47,14 @@ impl<D: Device + Drop> Device for OnceWithoutMemory<D> {
 
 /// How a run is made and shown: after how many commands the device stops or is out of memory, if ever;
 /// how many blocks of the Append after those commands are written before it stops; and whether the bytes
-/// of the entries are shown.
+/// of the entries are shown. The drive has this habit.
 #[derive(Clone, Copy)]
 pub struct Setting {
     pub stop_after: Option<u64>,
     pub tear: u32,
     pub no_memory_after: Option<u64>,
     pub shows_entries: bool,
+    pub habit: Habit,
 }
 
 impl Setting {
@@ -62,6 +63,7 @@ impl Setting {
         tear: 0,
         no_memory_after: None,
         shows_entries: false,
+        habit: Habit::Lazy,
     };
 }
 
@@ -69,9 +71,10 @@ pub type Bench = Recorder<StopAfter<OnceWithoutMemory<Drive>>>;
 
 /// A device over a drive that holds what `world` says.
 pub fn bench_of(alloc: Global, world: &World, setting: Setting) -> Result<Bench, ScriptFault> {
-    let Ok(drive) = world.drive(alloc)? else {
+    let Ok(mut drive) = world.drive(alloc)? else {
         return Err(ScriptFault::Words);
     };
+    drive.set_habit(setting.habit);
     let device = OnceWithoutMemory {
         device: drive,
         others: setting.no_memory_after.unwrap_or(u64::MAX),

@@ -15,7 +15,7 @@ use crate::runs::{Lines, show_run};
 use crate::show::show_answer_bytes;
 use crate::stops::{Halts, show_halts};
 use crate::survey::show_survey;
-use crate::words::{byte, bytes, meant, number, part, shape, state};
+use crate::words::{byte, bytes, habit, meant, number, part, shape, state};
 use crate::world::World;
 use std::alloc::Global;
 use zone_drive::Drive;
@@ -211,6 +211,14 @@ impl<'a> Session<'a> {
         Ok(())
     }
 
+    fn set_habit(&mut self, words: &[&str]) -> Result<(), ScriptFault> {
+        let [name] = words else {
+            return Err(ScriptFault::Words);
+        };
+        self.setting.habit = habit(name)?;
+        Ok(())
+    }
+
     fn set_halts(&mut self, words: &[&str]) -> Result<(), ScriptFault> {
         let ["every", words @ ..] = words else {
             return Err(ScriptFault::Words);
@@ -225,6 +233,7 @@ impl<'a> Session<'a> {
             "stop" => done(self.set_stop(words)),
             "out" => done(self.set_no_memory(words)),
             "with" => done(self.set_entries(words)),
+            "habit" => done(self.set_habit(words)),
             "at" => done(self.set_halts(words)),
             _ => Ok(false),
         }

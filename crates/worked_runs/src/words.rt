@@ -5,6 +5,7 @@ ghost use Rattle.std.specs.Prelude.{◌<◌, IfOk};
 use crate::fault::ScriptFault;
 use nvme_wire::ZoneState;
 use std::alloc::Global;
+use zone_drive::Habit;
 use zone_states::Geometry;
 
 pub fn number(word: &str) -> Result<u64, ScriptFault> {
@@ -50,6 +51,16 @@ pub fn state(name: &str) -> Result<ZoneState, ScriptFault> {
         "ReadOnly" => Ok(ZoneState::ReadOnly),
         "Full" => Ok(ZoneState::Full),
         "Offline" => Ok(ZoneState::Offline),
+        _ => Err(ScriptFault::Words),
+    }
+}
+
+/// The habit of a drive with this name.
+pub fn habit(name: &str) -> Result<Habit, ScriptFault> {
+    match name {
+        "lazy" => Ok(Habit::Lazy),
+        "closing" => Ok(Habit::Closing),
+        "strict" => Ok(Habit::Strict),
         _ => Err(ScriptFault::Words),
     }
 }

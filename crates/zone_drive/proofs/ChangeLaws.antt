@@ -16,6 +16,7 @@ use Rattle.zone_states.specs.Zone.{IsLawfulZone, Zone, opened_by_write}
 use Rattle.zone_states.proofs.Cutting.{stored_write-after}
 use Rattle.drive_port.specs.Drive.{active_count, open_count}
 use Rattle.drive_port.specs.Step.{end_of, one_if, resource_checks, write_effect, zone_at}
+use Rattle.zone_drive.specs.declared.habit.Habit.{Habit}
 use Rattle.zone_drive.specs.Choice.{RoomGives, with_room}
 use Rattle.zone_drive.specs.Sending.{sent_to}
 use Rattle.zone_drive.specs.Stored.{AreZones, zones_of}
@@ -68,10 +69,10 @@ record ClosesFirst (geometry : Geometry) (zones : List StoredZone) (index : ℕ)
   first : (new : StoredZone) → closed_in (set zones index new) closing ≡ set (closed_in zones closing) index new
   passed : None ≡ first_failing (resource_checks geometry (with_room (zones_of geometry.block zones) closing) (zone_at (zones_of geometry.block zones) index))
 
-closes-first : (geometry : Geometry) (zones : List StoredZone) (index : ℕ) (closing : Option ℕ) → IsInRange geometry → AreZones geometry zones
-    → RoomGives geometry (zones_of geometry.block zones) (zone_at (zones_of geometry.block zones) index) (Ok closing) → ClosesFirst geometry zones index closing
-closes-first geometry zones index None in_range are passed = record { are = are; in_blocks = refl; same = refl; first = λ new. refl; passed = passed }
-closes-first geometry zones index (Some low) in_range are (wants, lowest) =
+closes-first : (habit : Habit) (geometry : Geometry) (zones : List StoredZone) (index : ℕ) (closing : Option ℕ) → IsInRange geometry → AreZones geometry zones
+    → RoomGives habit geometry (zones_of geometry.block zones) (zone_at (zones_of geometry.block zones) index) (Ok closing) → ClosesFirst geometry zones index closing
+closes-first habit geometry zones index None in_range are passed = record { are = are; in_blocks = refl; same = refl; first = λ new. refl; passed = passed }
+closes-first habit geometry zones index (Some low) in_range are (wants, makes, lowest) =
     let b = geometry.block in
     let shown = zones_of b zones in
     let below : low < length zones = omega (arith, lowest.in_range, length-map zones (zone_of b)) in
@@ -115,18 +116,18 @@ same_zone geometry zones index closing are lt closes =
     let below : index < length (closed_in zones closing) = omega (arith, lt, are.count, closes.are.count) in
     rw (← closes.in_blocks) (zone_at-is b (closed_in zones closing) index below ∙ ap (zone_of b) closes.same)
 
-pub leaves-written : (geometry : Geometry) (zones : List StoredZone) (address : ℕ) (bytes : List ℕ) (closing : Option ℕ) → IsInRange geometry → AreZones geometry zones → address < end_of geometry
+pub leaves-written : (habit : Habit) (geometry : Geometry) (zones : List StoredZone) (address : ℕ) (bytes : List ℕ) (closing : Option ℕ) → IsInRange geometry → AreZones geometry zones → address < end_of geometry
     → None ≡ first_failing (append_bytes_checks geometry (zone_at (zones_of geometry.block zones) (address / geometry.size)) bytes)
-    → RoomGives geometry (zones_of geometry.block zones) (zone_at (zones_of geometry.block zones) (address / geometry.size)) (Ok closing)
+    → RoomGives habit geometry (zones_of geometry.block zones) (zone_at (zones_of geometry.block zones) (address / geometry.size)) (Ok closing)
     → Leaves geometry (closed_in (set zones (address / geometry.size) (stored_write geometry (stored_at zones (address / geometry.size)) bytes)) closing)
     (write_effect geometry (with_room (zones_of geometry.block zones) closing) (address / geometry.size) (length bytes / geometry.block) bytes)
-leaves-written geometry zones address bytes closing in_range are below checks gives =
+leaves-written habit geometry zones address bytes closing in_range are below checks gives =
     let b = geometry.block in
     let index = address / geometry.size in
     let zone = stored_at zones index in
     let lt = zone-in_range geometry zones address in_range are below in
     let here = zone_at-is b zones index lt in
-    let closes = closes-first geometry zones index closing in_range are gives in
+    let closes = closes-first habit geometry zones index closing in_range are gives in
     let passed = rw here at checks in
     let whole = whole-checked geometry (zone_of b zone) bytes passed in
     let after = stored_write-after geometry zone bytes (whole-at geometry zones index are lt) whole in
@@ -135,16 +136,16 @@ leaves-written geometry zones address bytes closing in_range are below checks gi
     rw (same_zone geometry zones index closing are lt closes, ← after.zone)
     (leaves-changed geometry zones index (stored_write geometry zone bytes) closing are lt closes after.whole lawful needs)
 
-pub leaves-opened : (geometry : Geometry) (zones : List StoredZone) (address : ℕ) (closing : Option ℕ) → IsInRange geometry → AreZones geometry zones → address < end_of geometry
-    → RoomGives geometry (zones_of geometry.block zones) (zone_at (zones_of geometry.block zones) (address / geometry.size)) (Ok closing)
+pub leaves-opened : (habit : Habit) (geometry : Geometry) (zones : List StoredZone) (address : ℕ) (closing : Option ℕ) → IsInRange geometry → AreZones geometry zones → address < end_of geometry
+    → RoomGives habit geometry (zones_of geometry.block zones) (zone_at (zones_of geometry.block zones) (address / geometry.size)) (Ok closing)
     → Leaves geometry (closed_in (sent_in zones (address / geometry.size) Open) closing) (sent_to (with_room (zones_of geometry.block zones) closing) (address / geometry.size) Open)
-leaves-opened geometry zones address closing in_range are below gives =
+leaves-opened habit geometry zones address closing in_range are below gives =
     let b = geometry.block in
     let index = address / geometry.size in
     let zone = stored_at zones index in
     let next = state_after zone.state Open in
     let lt = zone-in_range geometry zones address in_range are below in
-    let closes = closes-first geometry zones index closing in_range are gives in
+    let closes = closes-first habit geometry zones index closing in_range are gives in
     let after = zone_of-after b Open zone next in
     let was = rw (zone_at-is b zones index lt) at (lawful-at geometry zones index are lt) in
     let lawful : IsLawfulZone geometry (zone_of b (stored_after Open zone next)) = rw after (lawful-after geometry (zone_of b zone) Open in_range was) in

@@ -3,6 +3,7 @@ pub mod StoredLaws
 pub mod ReadLaws
 pub mod OutcomeLaws
 pub mod RoomLaws
+pub mod HabitLaws
 pub mod WriteLaws
 pub mod SendLaws
 pub mod OpeningLaws

@@ -12,6 +12,8 @@ use Rattle.zone_states.specs.Zone.{Zone}
 use Rattle.zone_states.proofs.CheckLaws.{first_failing-back, first_failing-front}
 use Rattle.drive_port.specs.Drive.{active_count, open_count}
 use Rattle.drive_port.specs.Step.{Outcome, one_if, resource_checks, unless_refused, zone_at}
+use Rattle.zone_drive.specs.declared.habit.Habit.{Habit}
+use Rattle.zone_drive.specs.Habits.{makes_room}
 use Rattle.zone_drive.specs.Choice.{IsLowest, RoomGives, close_lowest, wants_open_resource, with_room}
 use Rattle.zone_drive.proofs.CountLaws.{active-set, open-set}
 use Rattle.zone_drive.proofs.RoomLaws.{apart, zone_at-closing}
@@ -22,8 +24,8 @@ opening geometry first effect index zones =
     unless_refused (first_failing (first (zone_at zones index) ++ resource_checks geometry zones (zone_at zones index))) zones (effect zones)
 
 -- the command on the zones that the drive chooses
-abbrev pub by_choice : (List Zone → Outcome) → List Zone → Outcome
-by_choice gives zones = gives (cond (wants_open_resource (gives zones).status) (close_lowest zones) zones)
+abbrev pub by_choice : Habit → (List Zone → Outcome) → List Zone → Outcome
+by_choice habit gives zones = gives (cond (wants_open_resource (gives zones).status && makes_room habit) (close_lowest zones) zones)
 
 -- none of the checks has the status of the open resources
 abbrev pub AllOther : List (Bool × Status) → Type 0
@@ -37,31 +39,31 @@ other ((false, s) ∷ checks) status all e = other checks status all.1 e
 
 -- ---- refused
 
-same_choice : (gives : List Zone → Outcome) (zones : List Zone) (given : Outcome) → gives zones ≡ given → wants_open_resource given.status ≡ false → by_choice gives zones ≡ given
-same_choice gives zones given is none = rw (is, none) is
+same_choice : (habit : Habit) (gives : List Zone → Outcome) (zones : List Zone) (given : Outcome) → gives zones ≡ given → wants_open_resource given.status ≡ false → by_choice habit gives zones ≡ given
+same_choice habit gives zones given is none = rw (is, none) is
 
-pub opening-refused : (geometry : Geometry) (first : Zone → List (Bool × Status)) (effect : List Zone → Outcome) (index : ℕ) (zones : List Zone) (status : Status)
+pub opening-refused : (habit : Habit) (geometry : Geometry) (first : Zone → List (Bool × Status)) (effect : List Zone → Outcome) (index : ℕ) (zones : List Zone) (status : Status)
     → AllOther (first (zone_at zones index)) → Some status ≡ first_failing (first (zone_at zones index))
-    → by_choice (opening geometry first effect index) zones ≡ unless_refused (Some status) zones (effect zones)
-opening-refused geometry first effect index zones status all e =
+    → by_choice habit (opening geometry first effect index) zones ≡ unless_refused (Some status) zones (effect zones)
+opening-refused habit geometry first effect index zones status all e =
     let checks = first (zone_at zones index) in
     let front = first_failing-front checks (resource_checks geometry zones (zone_at zones index)) status e in
-    same_choice (opening geometry first effect index) zones (unless_refused (Some status) zones (effect zones)) (rw (← front) refl) (other checks status all e)
+    same_choice habit (opening geometry first effect index) zones (unless_refused (Some status) zones (effect zones)) (rw (← front) refl) (other checks status all e)
 
 no_closing : (wants : Bool) (closed zones : List Zone) → (wants ≡ true → closed ≡ zones) → cond wants closed zones ≡ zones
 no_closing true closed zones none = none refl
 no_closing false closed zones none = refl
 
-pub opening-no_room : (geometry : Geometry) (first : Zone → List (Bool × Status)) (effect : List Zone → Outcome) (index : ℕ) (zones : List Zone) (status : Status)
-    → None ≡ first_failing (first (zone_at zones index)) → RoomGives geometry zones (zone_at zones index) (Err status)
-    → by_choice (opening geometry first effect index) zones ≡ unless_refused (Some status) zones (effect zones)
-opening-no_room geometry first effect index zones status passed (needs, none) =
+pub opening-no_room : (habit : Habit) (geometry : Geometry) (first : Zone → List (Bool × Status)) (effect : List Zone → Outcome) (index : ℕ) (zones : List Zone) (status : Status)
+    → None ≡ first_failing (first (zone_at zones index)) → RoomGives habit geometry zones (zone_at zones index) (Err status)
+    → by_choice habit (opening geometry first effect index) zones ≡ unless_refused (Some status) zones (effect zones)
+opening-no_room habit geometry first effect index zones status passed (needs, none) =
     let checks = first (zone_at zones index) in
     let gives = opening geometry first effect index in
     let back = first_failing-back checks (resource_checks geometry zones (zone_at zones index)) (Some status) passed needs in
     let is : gives zones ≡ unless_refused (Some status) zones (effect zones) = rw (← back) refl in
     let wants : wants_open_resource (gives zones).status ≡ wants_open_resource status = ap (λ (o : Outcome). wants_open_resource o.status) is in
-    let choice : cond (wants_open_resource (gives zones).status) (close_lowest zones) zones ≡ zones = rw wants (no_closing (wants_open_resource status) _ zones none) in
+    let choice : cond (wants_open_resource (gives zones).status && makes_room habit) (close_lowest zones) zones ≡ zones = rw wants (no_closing (wants_open_resource status && makes_room habit) _ zones none) in
     rw choice is
 
 -- ---- done
@@ -90,14 +92,14 @@ closing-passes geometry zones zone low most needs lowest =
     let room : leb geometry.open (open_count (close_lowest zones)) ≡ false = lt-leb _ _ (omega (arith, fewer, most)) in
     no_failing _ _ (rw active_same (active_resource _ _ needs)) (and-false _ _ room)
 
-pub opening-done : (geometry : Geometry) (first : Zone → List (Bool × Status)) (effect : List Zone → Outcome) (index : ℕ) (zones : List Zone) (closing : Option ℕ)
+pub opening-done : (habit : Habit) (geometry : Geometry) (first : Zone → List (Bool × Status)) (effect : List Zone → Outcome) (index : ℕ) (zones : List Zone) (closing : Option ℕ)
     → ((middle : List Zone) → wants_open_resource (effect middle).status ≡ false) → open_count zones ≤ geometry.open
-    → None ≡ first_failing (first (zone_at zones index)) → RoomGives geometry zones (zone_at zones index) (Ok closing)
-    → by_choice (opening geometry first effect index) zones ≡ effect (with_room zones closing)
-opening-done geometry first effect index zones None succeeds most passed needs =
+    → None ≡ first_failing (first (zone_at zones index)) → RoomGives habit geometry zones (zone_at zones index) (Ok closing)
+    → by_choice habit (opening geometry first effect index) zones ≡ effect (with_room zones closing)
+opening-done habit geometry first effect index zones None succeeds most passed needs =
     let all = first_failing-back (first (zone_at zones index)) (resource_checks geometry zones (zone_at zones index)) None passed needs in
-    same_choice (opening geometry first effect index) zones (effect zones) (rw (← all) refl) (succeeds zones)
-opening-done geometry first effect index zones (Some low) succeeds most passed (needs, lowest) =
+    same_choice habit (opening geometry first effect index) zones (effect zones) (rw (← all) refl) (succeeds zones)
+opening-done habit geometry first effect index zones (Some low) succeeds most passed (needs, makes, lowest) =
     let gives = opening geometry first effect index in
     let wanting = first_failing-back (first (zone_at zones index)) (resource_checks geometry zones (zone_at zones index)) (Some TooManyOpenZones) passed needs in
     let is : gives zones ≡ unless_refused (Some TooManyOpenZones) zones (effect zones) = rw (← wanting) refl in
@@ -105,4 +107,4 @@ opening-done geometry first effect index zones (Some low) succeeds most passed (
     let zone : zone_at (close_lowest zones) index ≡ zone_at zones index = zone_at-closing zones index low (apart geometry zones index low needs lowest) lowest in
     let closed = closing-passes geometry zones (zone_at zones index) low most needs lowest in
     let all = first_failing-back (first (zone_at zones index)) (resource_checks geometry (close_lowest zones) (zone_at zones index)) None passed closed in
-    rw (wants, zone, ← all) refl
+    rw (wants, makes, zone, ← all) refl

@@ -12,9 +12,9 @@ use Rattle.zone_states.specs.Geometry.{IsInRange}
 use Rattle.zone_states.specs.Stored.{StoredZone, zone_of}
 use Rattle.zone_states.specs.Zone.{Zone}
 use Rattle.zone_report.specs.Report.{report}
-use Rattle.drive_port.specs.Drive.{DriveState}
 use Rattle.drive_port.specs.Step.{done, end_of, outcome, receive_checks, unless_refused}
 use Rattle.zone_drive.specs.Choice.{Gives}
+use Rattle.zone_drive.specs.Habits.{MemoryDrive}
 use Rattle.zone_drive.specs.Stored.{AreZones, zones_of}
 use Rattle.zone_drive.proofs.OutcomeLaws.{gives-same, performed-plain}
 use Rattle.zone_drive.proofs.WriteLaws.{lawful-at, may_hold-le, zone_at-stored}
@@ -38,19 +38,19 @@ outcome-Receive : (geometry : Geometry) (zones : List Zone) (slba dwords : ℕ) 
 unfolding outcome
 outcome-Receive geometry zones slba dwords options partial bytes refusal e = rw e refl
 
-pub receive-refused : (old : DriveState) (slba dwords : ℕ) (options : ReportingOptions) (partial : Bool) (bytes : List ℕ) → end_of old.geometry ≤ slba
+pub receive-refused : (old : MemoryDrive) (slba dwords : ℕ) (options : ReportingOptions) (partial : Bool) (bytes : List ℕ) → end_of old.state.geometry ≤ slba
     → Gives old (Ok (Receive slba dwords options partial)) bytes (record { status = LbaOutOfRange; value = 0 }) [] old
 receive-refused old slba dwords options partial bytes past =
-    let e : Some LbaOutOfRange ≡ first_failing (receive_checks old.geometry slba) = rw (le-leb _ _ past) refl in
+    let e : Some LbaOutOfRange ≡ first_failing (receive_checks old.state.geometry slba) = rw (le-leb _ _ past) refl in
     gives-same old (Ok (Receive slba dwords options partial)) bytes LbaOutOfRange
-    (performed-plain old.geometry old.zones (Ok (Receive slba dwords options partial)) bytes _ (outcome-Receive old.geometry old.zones slba dwords options partial bytes (Some LbaOutOfRange) e) refl)
+    (performed-plain old.habit old.state.geometry old.state.zones (Ok (Receive slba dwords options partial)) bytes _ (outcome-Receive old.state.geometry old.state.zones slba dwords options partial bytes (Some LbaOutOfRange) e) refl)
 
-pub receive-reported : (old : DriveState) (slba dwords : ℕ) (options : ReportingOptions) (partial : Bool) (bytes returned : List ℕ) → slba < end_of old.geometry
-    → returned ≡ report old.geometry old.zones slba options partial dwords
+pub receive-reported : (old : MemoryDrive) (slba dwords : ℕ) (options : ReportingOptions) (partial : Bool) (bytes returned : List ℕ) → slba < end_of old.state.geometry
+    → returned ≡ report old.state.geometry old.state.zones slba options partial dwords
     → Gives old (Ok (Receive slba dwords options partial)) bytes (record { status = Success; value = 0 }) returned old
 receive-reported old slba dwords options partial bytes returned below is =
-    let e : None ≡ first_failing (receive_checks old.geometry slba) = rw (lt-leb _ _ below) refl in
+    let e : None ≡ first_failing (receive_checks old.state.geometry slba) = rw (lt-leb _ _ below) refl in
     rw is (record {
-      outcome = performed-plain old.geometry old.zones (Ok (Receive slba dwords options partial)) bytes _ (outcome-Receive old.geometry old.zones slba dwords options partial bytes None e) refl;
+      outcome = performed-plain old.habit old.state.geometry old.state.zones (Ok (Receive slba dwords options partial)) bytes _ (outcome-Receive old.state.geometry old.state.zones slba dwords options partial bytes None e) refl;
       others = refl;
     })

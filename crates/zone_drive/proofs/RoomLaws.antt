@@ -1,5 +1,5 @@
 -- The lowest implicitly opened zone, and what it is to close it.
-use Rattle.std.proofs.Common.{◌≡◌, ◌≢◌, ℕ, suc, ◌+◌, ◌≤◌, Bool, true, false, cond, not, ltb, get_or, List, [], ◌∷◌, length, set, Some, None, refl, sym, ◌∙◌, arith}
+use Rattle.std.proofs.Common.{◌≡◌, ◌≢◌, ℕ, suc, ◌+◌, ◌≤◌, Bool, true, false, cond, not, ltb, get_or, List, [], ◌∷◌, length, set, Option, Some, None, IfSome, IfNone, refl, sym, ◌∙◌, arith}
 use Rattle.std.specs.List.{position, position_or_len}
 use Rattle.std.proofs.lemmas.Bool.{ltb-false}
 use Rattle.std.proofs.lemmas.List.{length-map, set_past, get_or-map, get_or-set_other}
@@ -15,11 +15,12 @@ use Rattle.zone_states.specs.Stored.{StoredZone, zone_of}
 use Rattle.zone_states.specs.Checks.{first_failing}
 use Rattle.zone_states.specs.Sending.{zone_after}
 use Rattle.drive_port.specs.Step.{nowhere, resource_checks, zone_at}
-use Rattle.zone_drive.specs.Choice.{IsLowest, close_lowest, closed}
+use Rattle.zone_drive.specs.Choice.{IsLowest, close_lowest}
 use Rattle.zone_drive.specs.Groups.{is_implicit}
+use Rattle.zone_drive.specs.Habits.{closed}
 use Rattle.zone_drive.specs.Stored.{zones_of}
 
-is_state-implicit : (state : ZoneState) → is_state ImplicitlyOpened state ≡ true → state ≡ ImplicitlyOpened
+pub is_state-implicit : (state : ZoneState) → is_state ImplicitlyOpened state ≡ true → state ≡ ImplicitlyOpened
 is_state-implicit ImplicitlyOpened e = refl
 is_state-implicit Empty e = absurd (cc e)
 is_state-implicit ExplicitlyOpened e = absurd (cc e)
@@ -44,7 +45,7 @@ some_found : (b : Bool) (n low : ℕ) → Some low ≡ cond b (Some n) None → 
 some_found true n low e = cc
 some_found false n low e = absurd (cc e)
 
-none_found : (b : Bool) (n : ℕ) → None ≡ cond b (Some n) None → b ≡ false
+pub none_found : (b : Bool) (n : ℕ) → None ≡ cond b (Some n) None → b ≡ false
 none_found true n e = absurd (cc e)
 none_found false n e = refl
 
@@ -64,6 +65,15 @@ pub lowest-None : (block : ℕ) (zones : List StoredZone) → None ≡ position 
 lowest-None block zones e =
     let past : length zones ≤ position_or_len is_implicit zones = ltb-false _ _ (none_found (ltb (position_or_len is_implicit zones) (length zones)) _ e) in
     closes-at block zones ∙ set_past (zones_of block zones) (position_or_len is_implicit zones) _ (omega (arith, past, length-map zones (zone_of block)))
+
+-- both, of the search as it is
+pub lowest-gives : (block : ℕ) (zones : List StoredZone) (found : Option ℕ) → found ≡ position is_implicit zones → IfSome found (λ low. IsLowest (zones_of block zones) low)
+lowest-gives block zones (Some low) e = lowest-Some block zones low e
+lowest-gives block zones None e = tt
+
+pub lowest-lacks : (block : ℕ) (zones : List StoredZone) (found : Option ℕ) → found ≡ position is_implicit zones → IfNone found (close_lowest (zones_of block zones) ≡ zones_of block zones)
+lowest-lacks block zones (Some low) e = tt
+lowest-lacks block zones None e = lowest-None block zones e
 
 -- ---- a zone that gets the resource of the one that is closed
 

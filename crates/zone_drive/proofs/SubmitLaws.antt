@@ -9,8 +9,11 @@ use Rattle.zone_states.specs.Zone.{Zone}
 use Rattle.drive_port.specs.Drive.{ClosesOne, DriveState, IsClosing}
 use Rattle.drive_port.specs.Step.{Completes, Outcome, is_append, is_success, one_if, outcome}
 use Rattle.zone_drive.specs.declared.reply.Reply.{Reply}
-use Rattle.zone_drive.specs.Choice.{Gives, chosen, close_lowest, closed, wants_open_resource}
+use Rattle.zone_drive.specs.declared.habit.Habit.{Habit}
+use Rattle.zone_drive.specs.declared.habit.Habit.TheVariants as habits
+use Rattle.zone_drive.specs.Choice.{Gives, chosen, close_lowest, wants_open_resource}
 use Rattle.zone_drive.specs.Counts.{counted}
+use Rattle.zone_drive.specs.Habits.{MemoryDrive, close_implicit, closed, makes_room, settled, with_zones}
 
 -- ---- the choice is a closing
 
@@ -42,14 +45,30 @@ closes-chosen : (wants : Bool) (zones : List Zone) → IsClosing zones (cond wan
 closes-chosen true zones = closes-lowest zones
 closes-chosen false zones = same_zones zones
 
+closes-implicit : (zones : List Zone) → IsClosing zones (close_implicit zones)
+closes-implicit [] = tt
+closes-implicit (zone ∷ zones) = (either (is_state ImplicitlyOpened zone.state) refl, closes-implicit zones)
+  where
+    either : (implicit : Bool) → is_state ImplicitlyOpened zone.state ≡ implicit → ClosesOne zone (cond implicit (closed zone) zone)
+    either true e = closes-one zone e
+    either false e = record { blocks = refl; state = inl refl }
+
+closes-settled : (habit : Habit) (zones : List Zone) → IsClosing zones (settled habit zones)
+closes-settled habits.Lazy zones = same_zones zones
+closes-settled habits.Closing zones = closes-implicit zones
+closes-settled habits.Strict zones = same_zones zones
+
 -- ---- the step
 
-pub completes : (old middle new : DriveState) (entry bytes returned completion : List ℕ) (reply : Reply) → Gives old (decode_of entry) bytes reply returned middle
-    → new ≡ counted middle (decode_of entry) reply.status → completion ≡ completion_bytes (record { result = reply.value; id = id_of entry; status = reply.status })
-    → reply.value < 2 ^ 64 → Completes old entry bytes completion returned new
-completes old middle new entry bytes returned completion reply gives counts encoded fits =
+pub completes : (old middle closing new : MemoryDrive) (entry bytes returned completion : List ℕ) (reply : Reply) → Gives old (decode_of entry) bytes reply returned middle
+    → closing ≡ with_zones middle (settled middle.habit middle.state.zones) → new ≡ record closing { state = counted closing.state (decode_of entry) reply.status } → completion ≡ completion_bytes (record { result = reply.value; id = id_of entry; status = reply.status })
+    → reply.value < 2 ^ 64 → Completes old.state entry bytes completion returned new.state
+completes old middle closing new entry bytes returned completion reply gives settles counts encoded fits =
     let command = decode_of entry in
-    let others = gives.others in
+    let geometry = old.state.geometry in
+    let zones = old.state.zones in
+    let others = ap (λ (d : MemoryDrive). d.state) gives.others in
+    let ends : new.state ≡ counted (record middle.state { zones = settled middle.habit middle.state.zones }) command reply.status = ap (λ (d : MemoryDrive). d.state) counts ∙ ap (λ (d : MemoryDrive). counted d.state command reply.status) settles in
     record {
       status = reply.status;
       value = reply.value;
@@ -57,16 +76,16 @@ completes old middle new entry bytes returned completion reply gives counts enco
       encoded = encoded;
       performs = record {
         effect = record {
-          middle = chosen old.geometry old.zones command bytes;
-          before = closes-chosen (wants_open_resource (outcome old.geometry old.zones command bytes).status) old.zones;
+          middle = chosen old.habit geometry zones command bytes;
+          before = closes-chosen (wants_open_resource (outcome geometry zones command bytes).status && makes_room old.habit) zones;
           status_is = sym (ap (λ (o : Outcome). o.status) gives.outcome);
           value_is = sym (ap (λ (o : Outcome). o.value) gives.outcome);
           returned_is = sym (ap (λ (o : Outcome). o.returned) gives.outcome);
-          after = rw (gives.outcome, counts) (same_zones middle.zones);
+          after = rw (gives.outcome, ends) (closes-settled middle.habit middle.state.zones);
         };
-        geometry = ap (λ (d : DriveState). d.geometry) counts ∙ ap (λ (d : DriveState). d.geometry) others;
-        completed = ap (λ (d : DriveState). d.completed) counts ∙ ap (λ (d : DriveState). d.completed + 1) others;
-        refused = ap (λ (d : DriveState). d.refused) counts ∙ ap (λ (d : DriveState). d.refused + one_if (not (is_success reply.status))) others;
-        appended = ap (λ (d : DriveState). d.appended) counts ∙ ap (λ (d : DriveState). d.appended + one_if (is_append command && is_success reply.status)) others;
+        geometry = ap (λ (d : DriveState). d.geometry) ends ∙ ap (λ (d : DriveState). d.geometry) others;
+        completed = ap (λ (d : DriveState). d.completed) ends ∙ ap (λ (d : DriveState). d.completed + 1) others;
+        refused = ap (λ (d : DriveState). d.refused) ends ∙ ap (λ (d : DriveState). d.refused + one_if (not (is_success reply.status))) others;
+        appended = ap (λ (d : DriveState). d.appended) ends ∙ ap (λ (d : DriveState). d.appended + one_if (is_append command && is_success reply.status)) others;
       };
     }

@@ -1,6 +1,7 @@
 pub mod Stored
 pub mod Groups
 pub mod Table
+pub mod Habits
 pub mod Choice
 pub mod Faults
 pub mod Writing

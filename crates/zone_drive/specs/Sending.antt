@@ -8,9 +8,9 @@ use Rattle.zone_states.specs.declared.geometry.Geometry.{Geometry}
 use Rattle.zone_states.specs.Sending.{zone_after}
 use Rattle.zone_states.specs.Transition.{state_after}
 use Rattle.zone_states.specs.Zone.{Zone}
-use Rattle.drive_port.specs.Drive.{DriveState}
 use Rattle.drive_port.specs.Step.{end_of, is_refusal, zone_at}
 use Rattle.zone_drive.specs.Choice.{RoomGives, with_room}
+use Rattle.zone_drive.specs.Habits.{MemoryDrive, with_zones}
 
 -- the checks of an action on one zone, those of its resources left out
 abbrev pub send_first : Geometry → Zone → ℕ → Action → List (Bool × Status)
@@ -27,9 +27,9 @@ sent_to zones index action =
     slice_set zones index (zone_after action zone (state_after zone.state action))
 
 -- The zone is opened, where it has the resources that it needs; else nothing changes.
-abbrev pub Opens : DriveState → ℕ → Option Status → DriveState → Type 0
-Opens old index (Some status) new = RoomGives old.geometry old.zones (zone_at old.zones index) (Err status) × (new ≡ old)
+abbrev pub Opens : MemoryDrive → ℕ → Option Status → MemoryDrive → Type 0
+Opens old index (Some status) new = RoomGives old.habit old.state.geometry old.state.zones (zone_at old.state.zones index) (Err status) × (new ≡ old)
 Opens old index None new =
     (closing : Option ℕ)
-    × RoomGives old.geometry old.zones (zone_at old.zones index) (Ok closing)
-    × (new ≡ record old { zones = sent_to (with_room old.zones closing) index Open })
+    × RoomGives old.habit old.state.geometry old.state.zones (zone_at old.state.zones index) (Ok closing)
+    × (new ≡ with_zones old (sent_to (with_room old.state.zones closing) index Open))

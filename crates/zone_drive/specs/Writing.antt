@@ -5,9 +5,9 @@ use Rattle.nvme_wire.specs.declared.status.Status.TheVariants.{InvalidField, Lba
 use Rattle.zone_states.specs.declared.geometry.Geometry.{Geometry}
 use Rattle.zone_states.specs.Writing.{data_checks, zone_append_checks, zone_write_checks}
 use Rattle.zone_states.specs.Zone.{Zone}
-use Rattle.drive_port.specs.Drive.{DriveState}
 use Rattle.drive_port.specs.Step.{end_of, write_effect, zone_at}
 use Rattle.zone_drive.specs.Choice.{RoomGives, with_room}
+use Rattle.zone_drive.specs.Habits.{MemoryDrive, with_zones}
 
 -- the checks of an Append, those of its resources left out
 abbrev pub append_first : Geometry → Zone → ℕ → ℕ → List ℕ → List (Bool × Status)
@@ -25,9 +25,9 @@ write_first geometry zone slba blocks bytes =
     ∷ zone_write_checks geometry zone (slba % geometry.size) blocks
 
 -- These blocks come after those of the zone, where there are resources for it; else nothing changes.
-abbrev pub WritesAfter : DriveState → ℕ → List ℕ → Option Status → DriveState → Type 0
-WritesAfter old index bytes (Some status) new = RoomGives old.geometry old.zones (zone_at old.zones index) (Err status) × (new ≡ old)
+abbrev pub WritesAfter : MemoryDrive → ℕ → List ℕ → Option Status → MemoryDrive → Type 0
+WritesAfter old index bytes (Some status) new = RoomGives old.habit old.state.geometry old.state.zones (zone_at old.state.zones index) (Err status) × (new ≡ old)
 WritesAfter old index bytes None new =
     (closing : Option ℕ)
-    × RoomGives old.geometry old.zones (zone_at old.zones index) (Ok closing)
-    × (new ≡ record old { zones = write_effect old.geometry (with_room old.zones closing) index (length bytes / old.geometry.block) bytes })
+    × RoomGives old.habit old.state.geometry old.state.zones (zone_at old.state.zones index) (Ok closing)
+    × (new ≡ with_zones old (write_effect old.state.geometry (with_room old.state.zones closing) index (length bytes / old.state.geometry.block) bytes))

@@ -73,9 +73,9 @@ impl Drive {
 
     // Counts a command that was completed.
     fn count(&mut self, command: Result<Command, DecodeFault>, status: Status)
-        requires { self.old.completed < 2 ^ 63 }
-        ensures counted { self.new ≡ counted self.old command status }
-        ensures lawful { IsLawful self.new }
+        requires { self.old.state.completed < 2 ^ 63 }
+        ensures counted { self.new ≡ record self.old { state = counted self.old.state command status } }
+        ensures lawful { IsLawful self.new.state }
     {
         self.completed += 1;
         if status != Status::Success {
@@ -89,7 +89,7 @@ impl Drive {
 }
 
 impl Device for Drive {
-    ghost drive = { λ d. d };
+    ghost drive = { λ d. d.state };
 
     fn geometry(&self) -> Geometry {
         self.geometry
@@ -100,9 +100,9 @@ impl Device for Drive {
     }
 
     fn stopped(&self) -> bool
-        ensures value { result ≡ self.now.stopped }
-        ensures lawful { IsLawful self.now }
-        ensures by_count { self.now.stopped ≡ nat_le (2 ^ 63) self.now.completed }
+        ensures value { result ≡ self.now.state.stopped }
+        ensures lawful { IsLawful self.now.state }
+        ensures by_count { self.now.state.stopped ≡ nat_le (2 ^ 63) self.now.state.completed }
     {
         self.completed >= 1 << 63
     }
@@ -113,17 +113,18 @@ impl Device for Drive {
         bytes: &[u8],
         into: &mut Vec<u8>,
     ) -> Result<[u8; 16], Halt>
-        ensures gives { SubmitGives self.old entry.now bytes.now result into.new.items self.new }
-        ensures was_lawful { IsLawful self.old }
-        ensures lawful { IsLawful self.new }
+        ensures gives { SubmitGives self.old.state entry.now bytes.now result into.new.items self.new.state }
+        ensures was_lawful { IsLawful self.old.state }
+        ensures lawful { IsLawful self.new.state }
 
         // Only a Read, a Write, an Append or a Receive may be out of memory.
         ensures memory { IsErrOf result Halt.Memory → may_allocate (decode_of entry.now) ≡ true }
 
-        // It closes a zone only where an open resource is missing, and stops only by its count.
+        // It closes what its habit says, and stops only by its count.
         ensures choice { IfOk result (λ completion.
             AnswersByChoice self.old entry.now bytes.now completion into.new.items self.new) }
-        ensures stops { self.new.stopped ≡ nat_le (2 ^ 63) self.new.completed }
+        ensures stops { self.new.state.stopped ≡ nat_le (2 ^ 63) self.new.state.completed }
+        ensures kept { OnErr result (self.new ≡ self.old) }
     {
         into.clear();
         if self.stopped() {
@@ -131,6 +132,7 @@ impl Device for Drive {
         }
         let command = Command::decode(entry);
         let reply = self.perform(command, bytes, into)?;
+        self.settle();
         self.count(command, reply.status);
         let completion = Completion {
             result: reply.value,

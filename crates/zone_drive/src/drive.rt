@@ -5,9 +5,11 @@ ghost use Rattle.zone_states.specs.Stored.{IsWhole, zone_of};
 ghost use Rattle.drive_port.specs.Run.{restarted};
 ghost use Rattle.drive_port.specs.Step.{zone_at};
 ghost use Rattle.zone_drive.specs.Faults.{IsFault, IsFreshFault};
+ghost use Rattle.zone_drive.specs.Habits.{made};
 ghost use Rattle.zone_drive.specs.Stored.{AreZones, fresh, is_lawful, unused, zones_of};
 ghost use Rattle.zone_drive.specs.declared.drive.DriveFault.TheVariants.{OutOfMemory};
 
+use crate::habit::Habit;
 use crate::zones::Zones;
 use std::alloc::{AllocError, Global};
 use std::marker::Model;
@@ -36,8 +38,7 @@ impl From<AllocError> for DriveFault {
     }
 }
 
-/// A zoned drive in memory. It closes a zone by itself only where a command needs an open resource and
-/// the limit on open zones is met: then it closes the lowest implicitly opened zone, if there is one.
+/// A zoned drive in memory. Its habit says which zones it closes by itself.
 #[derive(Drop)]
 pub struct Drive {
     pub(crate) geometry: Geometry,
@@ -46,25 +47,29 @@ pub struct Drive {
     // Of the completed commands, those that were refused, and the Appends that succeeded.
     pub(crate) refused: u64,
     pub(crate) appended: u64,
+    pub(crate) habit: Habit,
     pub(crate) alloc: Global,
 }
 
 impl Model for Drive {
     ghost use Rattle.std.specs.Prelude.{nat_le, ◌^◌, ◌≤◌};
-    ghost use Rattle.drive_port.specs.Drive.{DriveState};
+    ghost use Rattle.zone_drive.specs.Habits.{MemoryDrive};
 
-    ghost Value = { DriveState };
+    ghost Value = { MemoryDrive };
 
     ghost use Rattle.zone_states.specs.Geometry.{IsInRange};
     ghost use Rattle.zone_drive.specs.Stored.{AreZones, zones_of};
 
     ghost view = { λ d. record {
-      geometry = d.geometry;
-      zones = zones_of d.geometry.block d.zones;
-      completed = d.completed;
-      refused = d.refused;
-      appended = d.appended;
-      stopped = nat_le (2 ^ 63) d.completed;
+      state = record {
+        geometry = d.geometry;
+        zones = zones_of d.geometry.block d.zones;
+        completed = d.completed;
+        refused = d.refused;
+        appended = d.appended;
+        stopped = nat_le (2 ^ 63) d.completed;
+      };
+      habit = d.habit;
     } };
 
     ghost invariant = { λ d. IsInRange d.geometry × AreZones d.geometry d.zones
@@ -112,7 +117,7 @@ fn empty_zones(alloc: Global, count: u32) -> Result<Vec<Zone>, AllocError>
 fn unused(alloc: Global, geometry: Geometry, zones: Zones) -> Drive
     requires in_range { IsInRange geometry }
     requires zones { AreZones geometry zones }
-    ensures { result ≡ unused geometry (zones_of geometry.block zones) }
+    ensures { result ≡ made (unused geometry (zones_of geometry.block zones)) }
 {
     Drive {
         geometry,
@@ -120,14 +125,15 @@ fn unused(alloc: Global, geometry: Geometry, zones: Zones) -> Drive
         completed: 0,
         refused: 0,
         appended: 0,
+        habit: Habit::Lazy,
         alloc,
     }
 }
 
 impl Drive {
-    /// A drive of this shape, all of whose zones are Empty.
+    /// A drive of this shape, all of whose zones are Empty. Its habit is `Lazy`.
     pub fn new(alloc: Global, geometry: Geometry) -> Result<Drive, DriveFault>
-        ensures ok { IfOk result (λ drive. drive ≡ fresh geometry) }
+        ensures ok { IfOk result (λ drive. drive ≡ made (fresh geometry)) }
         ensures in_range { OnOk result (IsInRange geometry) }
         ensures err { IfErr result (λ fault. IsFreshFault geometry fault) }
     {
@@ -138,14 +144,15 @@ impl Drive {
         Ok(unused(alloc, geometry, Zones::new(zones)))
     }
 
-    /// A drive of this shape with these zones, which has completed no command. It allocates nothing.
+    /// A drive of this shape with these zones, which has completed no command. Its habit is `Lazy`. It
+    /// allocates nothing.
     pub fn from_zones(
         alloc: Global,
         geometry: Geometry,
         zones: Vec<Zone>,
     ) -> Result<Drive, DriveFault>
         ensures ok { IfOk result (λ drive.
-            drive ≡ unused geometry (zones_of geometry.block zones.items)) }
+            drive ≡ made (unused geometry (zones_of geometry.block zones.items))) }
         ensures lawful { OnOk result (IsInRange geometry × AreZones geometry zones.items) }
         ensures err { IfErr result (λ fault. IsFault geometry zones.items fault) }
     {
@@ -167,25 +174,26 @@ impl Drive {
 
     /// The zone with a number.
     pub fn zone(&self, index: usize) -> Option<&Zone>
-        ensures some { IfSome result (λ zone. zone_of self.now.geometry.block zone.now
-            ≡ zone_at self.now.zones index) }
-        ensures whole { IfSome result (λ zone. IsWhole self.now.geometry.block zone.now.bytes) }
-        ensures in_range { IsSome result ↔ (index < length self.now.zones) }
+        ensures some { IfSome result (λ zone. zone_of self.now.state.geometry.block zone.now
+            ≡ zone_at self.now.state.zones index) }
+        ensures whole { IfSome result (λ zone. IsWhole self.now.state.geometry.block zone.now.bytes) }
+        ensures in_range { IsSome result ↔ (index < length self.now.state.zones) }
     {
         self.zones.as_slice().get(index)
     }
 
     /// All zones, in ascending order.
     pub fn zones(&self) -> &[Zone]
-        ensures zones { zones_of self.now.geometry.block result.now ≡ self.now.zones }
-        ensures whole { AllByRecursion (λ zone. IsWhole self.now.geometry.block zone.bytes) result.now }
+        ensures zones { zones_of self.now.state.geometry.block result.now ≡ self.now.state.zones }
+        ensures whole { AllByRecursion (λ zone. IsWhole self.now.state.geometry.block zone.bytes) result.now }
+        ensures in_range { IsInRange self.now.state.geometry }
     {
         self.zones.as_slice()
     }
 
-    /// Makes open zones Closed, and begins all counts again. It allocates nothing.
+    /// Makes open zones Closed, and begins all counts again. The habit stays. It allocates nothing.
     pub fn restart(&mut self)
-        ensures { self.new ≡ restarted self.old }
+        ensures { self.new ≡ record self.old { state = restarted self.old.state } }
     {
         self.send_to_all(Action::Close);
         self.completed = 0;

@@ -13,9 +13,9 @@
 //! # What is promised
 //!
 //! * The drive is a `Device`: each command does what the step of `drive_port` says, and nothing else.
-//! * Where the step leaves a choice, the drive makes it: it closes the lowest implicitly opened zone
-//!   where a command needs an open resource and none is left, and no other zone ever
-//!   (`specs/Choice.antt`). It stops once it has completed 2^63 commands.
+//! * Where the step leaves a choice, the drive makes it by its habit (`specs/Choice.antt`). A drive is
+//!   made `Lazy`: it closes the lowest implicitly opened zone where a command needs an open resource and
+//!   none is left, and no other zone ever. It stops once it has completed 2^63 commands.
 //! * Only a Read, a Write, an Append and a Receive may be out of memory (`specs/Memory.antt`), and then
 //!   nothing changed.
 //! * A drive can be made of any zones that a drive of its geometry can have (`AreZones` in
@@ -26,6 +26,7 @@
 
 mod device;
 mod drive;
+mod habit;
 mod opening;
 mod read;
 mod receive;
@@ -37,3 +38,4 @@ mod write;
 mod zones;
 
 pub use drive::{Drive, DriveFault};
+pub use habit::Habit;

@@ -15,8 +15,8 @@ impl Drive {
     fn read_refusal(&self, slba: u64, blocks: u32) -> Option<Status>
         requires { 1 ≤ blocks }
         ensures { result ≡ first_failing
-            (read_checks self.now.geometry
-            (zone_at self.now.zones (slba / self.now.geometry.size)) slba blocks) }
+            (read_checks self.now.state.geometry
+            (zone_at self.now.state.zones (slba / self.now.state.geometry.size)) slba blocks) }
     {
         let size = u64::from(self.geometry.size);
         let end = slba.saturating_add(u64::from(blocks));

@@ -8,7 +8,7 @@ use nvme_wire::{Command, ReportingOptions, Status};
 use zone_report::{ReportFault, ReportedZones, ZoneStatus, report_bytes};
 
 impl ReportedZones for Drive {
-    ghost zones = { λ d. d.zones };
+    ghost zones = { λ d. d.state.zones };
 
     fn status(&self, number: u32) -> ZoneStatus {
         let zone = &self.zones.as_slice()[number as usize];

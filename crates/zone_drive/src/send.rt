@@ -3,6 +3,7 @@ ghost use Rattle.zone_states.specs.Checks.{first_failing};
 ghost use Rattle.drive_port.specs.Drive.{open_count};
 ghost use Rattle.drive_port.specs.Step.{end_of, sent_zone, zone_at};
 ghost use Rattle.zone_drive.specs.Choice.{Gives};
+ghost use Rattle.zone_drive.specs.Habits.{with_zones};
 ghost use Rattle.zone_drive.specs.Sending.{Opens, send_first, sent_to};
 
 use crate::drive::Drive;
@@ -13,8 +14,8 @@ use zone_states::next_state;
 impl Drive {
     // The status of the first check that an action on one zone fails, without those of the resources.
     fn send_refusal(&self, slba: u64, action: Action) -> Option<Status>
-        ensures { result ≡ first_failing (send_first self.now.geometry
-            (zone_at self.now.zones (slba / self.now.geometry.size)) slba action) }
+        ensures { result ≡ first_failing (send_first self.now.state.geometry
+            (zone_at self.now.state.zones (slba / self.now.state.geometry.size)) slba action) }
     {
         if slba % u64::from(self.geometry.size) != 0 {
             return Some(Status::InvalidField);
@@ -30,9 +31,9 @@ impl Drive {
 
     // Opens the zone that holds an address, which can be opened. A status says which resource is missing.
     fn open(&mut self, address: u64) -> Option<Status>
-        requires { address < end_of self.old.geometry }
-        ensures opens { Opens self.old (address / self.old.geometry.size) result self.new }
-        ensures limit { open_count self.old.zones ≤ self.old.geometry.open }
+        requires { address < end_of self.old.state.geometry }
+        ensures opens { Opens self.old (address / self.old.state.geometry.size) result self.new }
+        ensures limit { open_count self.old.state.zones ≤ self.old.state.geometry.open }
     {
         let closing = match self.room_for(address) {
             Ok(closing) => closing,
@@ -46,10 +47,10 @@ impl Drive {
 
     // Does an action that is no Open on the zone that holds an address.
     fn apply(&mut self, address: u64, action: Action)
-        requires in_range { address < end_of self.old.geometry }
+        requires in_range { address < end_of self.old.state.geometry }
         requires other { action ≢ Action.Open }
-        ensures { (let zones = sent_to self.old.zones (address / self.old.geometry.size) action in
-            self.new ≡ record self.old { zones = zones }) }
+        ensures { self.new ≡ with_zones self.old
+            (sent_to self.old.state.zones (address / self.old.state.geometry.size) action) }
     {
         let index = self.geometry.zone_of(address) as usize;
         self.zones.apply(index, action);
@@ -77,7 +78,7 @@ impl Drive {
 
     /// Does an action on all zones.
     pub(crate) fn send_to_all(&mut self, action: Action)
-        ensures { self.new ≡ record self.old { zones = map (sent_zone action) self.old.zones } }
+        ensures { self.new ≡ with_zones self.old (map (sent_zone action) self.old.state.zones) }
     {
         self.zones.apply_to_all(action);
     }

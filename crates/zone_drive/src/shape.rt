@@ -9,19 +9,19 @@ use zone_states::Zone;
 impl Drive {
     /// The zone itself.
     pub(crate) fn zone_holding(&self, address: u64) -> &Zone
-        requires { address < end_of self.now.geometry }
-        ensures zone { zone_of self.now.geometry.block result.now
-            ≡ zone_at self.now.zones (address / self.now.geometry.size) }
-        ensures whole { IsWhole self.now.geometry.block result.now.bytes }
+        requires { address < end_of self.now.state.geometry }
+        ensures zone { zone_of self.now.state.geometry.block result.now
+            ≡ zone_at self.now.state.zones (address / self.now.state.geometry.size) }
+        ensures whole { IsWhole self.now.state.geometry.block result.now.bytes }
     {
         &self.zones.as_slice()[self.geometry.zone_of(address) as usize]
     }
 
     /// How many of its blocks are written.
     pub(crate) fn written_in(&self, address: u64) -> u64
-        requires { address < end_of self.now.geometry }
+        requires { address < end_of self.now.state.geometry }
         ensures value { result ≡ length
-            (zone_at self.now.zones (address / self.now.geometry.size)).blocks }
+            (zone_at self.now.state.zones (address / self.now.state.geometry.size)).blocks }
         ensures range { address + result ≤ 2 ^ 37 }
     {
         self.zone_holding(address).blocks(&self.geometry) as u64

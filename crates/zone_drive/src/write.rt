@@ -14,8 +14,8 @@ use nvme_wire::{Command, Status};
 impl Drive {
     // The status where the data is not that many blocks, or is more than one transfer moves.
     fn data_refusal(&self, blocks: u32, bytes: &[u8]) -> Option<Status>
-        ensures checks { result ≡ first_failing (data_checks self.now.geometry blocks bytes.now) }
-        ensures count { IfNone result (length bytes.now / self.now.geometry.block ≡ blocks) }
+        ensures checks { result ≡ first_failing (data_checks self.now.state.geometry blocks bytes.now) }
+        ensures count { IfNone result (length bytes.now / self.now.state.geometry.block ≡ blocks) }
     {
         if blocks > self.geometry.transfer {
             return Some(Status::InvalidField);
@@ -28,9 +28,9 @@ impl Drive {
 
     // The status of the first check that an Append fails, without those of the resources.
     fn append_refusal(&self, zslba: u64, blocks: u32, bytes: &[u8]) -> Option<Status>
-        ensures checks { result ≡ first_failing (append_first self.now.geometry
-            (zone_at self.now.zones (zslba / self.now.geometry.size)) zslba blocks bytes.now) }
-        ensures count { IfNone result (length bytes.now / self.now.geometry.block ≡ blocks) }
+        ensures checks { result ≡ first_failing (append_first self.now.state.geometry
+            (zone_at self.now.state.zones (zslba / self.now.state.geometry.size)) zslba blocks bytes.now) }
+        ensures count { IfNone result (length bytes.now / self.now.state.geometry.block ≡ blocks) }
     {
         if let Some(status) = self.data_refusal(blocks, bytes) {
             return Some(status);
@@ -48,9 +48,9 @@ impl Drive {
     // The status of the first check that a Write fails, without those of the resources.
     fn write_refusal(&self, slba: u64, blocks: u32, bytes: &[u8]) -> Option<Status>
         requires { 1 ≤ blocks }
-        ensures checks { result ≡ first_failing (write_first self.now.geometry
-            (zone_at self.now.zones (slba / self.now.geometry.size)) slba blocks bytes.now) }
-        ensures count { IfNone result (length bytes.now / self.now.geometry.block ≡ blocks) }
+        ensures checks { result ≡ first_failing (write_first self.now.state.geometry
+            (zone_at self.now.state.zones (slba / self.now.state.geometry.size)) slba blocks bytes.now) }
+        ensures count { IfNone result (length bytes.now / self.now.state.geometry.block ≡ blocks) }
     {
         if let Some(status) = self.data_refusal(blocks, bytes) {
             return Some(status);
@@ -66,12 +66,12 @@ impl Drive {
     // Writes whole blocks after those of the zone that holds an address, which takes them. A status says
     // which resource is missing.
     fn write_after(&mut self, address: u64, bytes: &[u8]) -> Result<Option<Status>, Halt>
-        requires in_range { address < end_of self.old.geometry }
-        requires checks { None ≡ first_failing (append_bytes_checks self.old.geometry
-            (zone_at self.old.zones (address / self.old.geometry.size)) bytes.now) }
+        requires in_range { address < end_of self.old.state.geometry }
+        requires checks { None ≡ first_failing (append_bytes_checks self.old.state.geometry
+            (zone_at self.old.state.zones (address / self.old.state.geometry.size)) bytes.now) }
         ensures ok { IfOk result (λ refusal.
-            WritesAfter self.old (address / self.old.geometry.size) bytes.now refusal self.new) }
-        ensures limit { open_count self.old.zones ≤ self.old.geometry.open }
+            WritesAfter self.old (address / self.old.state.geometry.size) bytes.now refusal self.new) }
+        ensures limit { open_count self.old.state.zones ≤ self.old.state.geometry.open }
         ensures err { IfErr result (λ halt. halt ≡ Halt.Memory) }
         ensures kept { OnErr result (self.new ≡ self.old) }
     {

@@ -3,7 +3,7 @@ ghost use Rattle.zone_states.specs.Stored.{stored_write};
 ghost use Rattle.zone_states.specs.Transition.{is_active, is_open};
 ghost use Rattle.drive_port.specs.Step.{is_selected};
 ghost use Rattle.zone_drive.specs.Groups.{is_implicit};
-ghost use Rattle.zone_drive.specs.Table.{closed_in, sent_in, sent_stored, stored_at};
+ghost use Rattle.zone_drive.specs.Table.{closed_in, closed_stored, sent_in, sent_stored, stored_at};
 
 use crate::resources::Resources;
 use std::alloc::AllocError;
@@ -105,6 +105,16 @@ impl Zones {
         ensures { self.new ≡ closed_in self.old closing }
     {
         if let Some(low) = closing {
+            self.apply(low, Action::Close);
+        }
+    }
+
+    /// Closes all implicitly opened zones. It looks at the counts of the groups, and at the zones of the
+    /// groups that have such a zone.
+    pub fn close_implicit(&mut self)
+        ensures { self.new ≡ map closed_stored self.old }
+    {
+        while let Some(low) = self.lowest_implicit() {
             self.apply(low, Action::Close);
         }
     }

@@ -14,11 +14,14 @@
 //! [`job_of`] reads the words of the command line, [`run_job`] does what they ask for, and [`run_on_file`] does it on
 //! the drive of a file. What the replies are is promised by the runs below, [`run_trace`], [`answer_trace`] and
 //! [`run_raw`], and what the file holds by `drive_images`; the words, what `--zones`, `--report` and `--statistics` show,
-//! the order of faults and the exit status are tested.
+//! the order of faults and the exit status are tested. [`explain`] says on standard error what a fault is.
 #![tactic(auto)]
 
 use clap::error::ErrorKind;
-pub use disk_jobs::{Job, ProgramFault, Stop, job_of, run_job, run_on_file, write_program_fault};
+pub use disk_jobs::{
+    Habit, Job, ProgramFault, RecentInput, Stop, explain, job_of, run_job, run_on_file,
+    write_program_fault,
+};
 pub use disk_runs::{RunFault, answer_trace, run_raw, run_trace, write_fault};
 use std::alloc::Global;
 use std::env::Env;
@@ -66,12 +69,17 @@ fn main(rt: HostRuntime) -> io::Result<ExitCode> {
             return Ok(ExitCode::from(REFUSED));
         }
     };
+    let mut input = RecentInput::new(alloc, rt.reader());
     let result = match job.image() {
-        Some(path) => run_on_file(&rt, alloc, &job, path, rt.reader(), &mut output),
-        None => run_job(alloc, &job, &mut io::empty(), rt.reader(), &mut output).1,
+        Some(path) => run_on_file(&rt, alloc, &job, path, &mut input, &mut output),
+        None => run_job(alloc, &job, &mut io::empty(), &mut input, &mut output).1,
     };
-    match result {
-        Ok(()) => Ok(ExitCode::SUCCESS),
-        Err(fault) => Ok(fail(alloc, fault, &mut output)),
+    let Err(fault) = result else {
+        return Ok(ExitCode::SUCCESS);
+    };
+    let code = fail(alloc, fault, &mut output);
+    if let Ok(text) = explain(alloc, &job, fault, &input) {
+        eprintln!(rt; "zonedisk: {text}")?;
     }
+    Ok(code)
 }

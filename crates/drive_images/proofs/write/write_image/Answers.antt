@@ -11,11 +11,11 @@ use Rattle.drive_images.proofs.WritingLaws.{head_written, stored-less, zone_fail
 use Rattle.drive_images.proofs.write.write_image.Goals as goal
 
 pub loop-zone-init : goal.loop-zone-init
-loop-zone-init g c = head_written c.args.drive.now.geometry c.args.drive.now.zones _ _ (g.W.Write.contents c.args.writer.now) (rw (c.head_bytes.ensures, c.geometry-geometry.ensures.value) at c.in_ok-write_out.ensures.ok)
+loop-zone-init g c = head_written c.args.drive.now.state.geometry c.args.drive.now.state.zones _ _ (g.W.Write.contents c.args.writer.now) (rw (c.head_bytes.ensures, c.geometry-geometry.ensures.value) at c.in_ok-write_out.ensures.ok)
 
 pub write_zone-requires-clause-lawful : goal.write_zone-requires-clause-lawful
 write_zone-requires-clause-lawful g c =
-    let drive = c.args.drive.now in
+    let drive = c.args.drive.now.state in
     let i = c.loop-zone.zone-index in
     let zone = zone_of drive.geometry.block c.zone-item.result in
     let here = zone_here drive.geometry.block c.zones-zone-items.result.now drive.zones i c.zone-item.result c.zones-zone-items.ensures.zones c.zone-item.is (omega arith) in
@@ -24,7 +24,7 @@ write_zone-requires-clause-lawful g c =
 
 pub returns-in_err-write_zone-clause-err : goal.returns-in_err-write_zone-clause-err
 returns-in_err-write_zone-clause-err g c =
-    let drive = c.args.drive.now in
+    let drive = c.args.drive.now.state in
     let i = c.loop-zone.zone-index in
     let zone = zone_of drive.geometry.block c.zone-item.result in
     let here = zone_here drive.geometry.block c.zones-zone-items.result.now drive.zones i c.zone-item.result c.zones-zone-items.ensures.zones c.zone-item.is (omega arith) in
@@ -37,7 +37,7 @@ returns-in_err-write_zone-clause-err g c =
 
 pub loop-zone-preserved : goal.loop-zone-preserved
 loop-zone-preserved g c =
-    let drive = c.args.drive.now in
+    let drive = c.args.drive.now.state in
     let i = c.loop-zone.zone-index in
     let zone = zone_of drive.geometry.block c.zone-item.result in
     let here = zone_here drive.geometry.block c.zones-zone-items.result.now drive.zones i c.zone-item.result c.zones-zone-items.ensures.zones c.zone-item.is (omega arith) in
@@ -49,7 +49,7 @@ loop-zone-preserved g c =
 
 pub returns-clause-ok : goal.returns-clause-ok
 returns-clause-ok g c =
-    let drive = c.args.drive.now in
+    let drive = c.args.drive.now.state in
     let count = ap length c.zones-zone-items.ensures.zones in
     let done : length drive.zones ≤ c.loop-zone.zone-index = omega (arith, length-map c.zones-zone-items.result.now (zone_of drive.geometry.block)) in
     rw (take_all c.loop-zone.zone-index drive.zones done) at c.loop-zone.invariant

@@ -1,14 +1,14 @@
-use Rattle.zone_drive.proofs.RoomLaws.{lowest-Some, lowest-None}
 use Rattle.zone_drive.proofs.drive.Drive.room_for.Goals as goal
 
-pub returns-in-Some-lowest_implicit : goal.returns-in-Some-lowest_implicit
-returns-in-Some-lowest_implicit c = (
+pub returns-in-Some-zone_to_close : goal.returns-in-Some-zone_to_close
+returns-in-Some-zone_to_close c = (
   rw c.in-Some-TooManyOpenZones.field-0-is at c.in-Some-TooManyOpenZones.ensures,
-  rw (← c.self.view_is) (lowest-Some c.self.inside.geometry.block c.self.inside.zones c.in-Some-lowest_implicit.low c.in-Some-lowest_implicit.ensures),
+  c.in-Some-zone_to_close.ensures.makes,
+  c.in-Some-zone_to_close.ensures.lowest,
 )
 
-pub returns-in-None-lowest_implicit : goal.returns-in-None-lowest_implicit
-returns-in-None-lowest_implicit c = (
+pub returns-in-None-zone_to_close : goal.returns-in-None-zone_to_close
+returns-in-None-zone_to_close c = (
   rw c.in-Some-TooManyOpenZones.field-0-is at c.in-Some-TooManyOpenZones.ensures,
-  λ wants. rw (← c.self.view_is) (lowest-None c.self.inside.geometry.block c.self.inside.zones c.in-None-lowest_implicit.ensures),
+  λ makes. c.in-None-zone_to_close.ensures.none makes,
 )

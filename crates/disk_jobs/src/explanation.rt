@@ -1,0 +1,62 @@
+use crate::fault::ProgramFault;
+use crate::job::Job;
+use crate::line_problem::{raw_problem, trace_problem};
+use crate::recent::RecentInput;
+use disk_files::LONGEST_LINE;
+use disk_runs::RunFault;
+use std::alloc::{AllocError, Global};
+use std::io::Read;
+
+/// What is wrong with the line of this number.
+fn explain_line<R: Read + Drop>(
+    alloc: Global,
+    job: &Job,
+    number: u64,
+    input: &RecentInput<R>,
+) -> Result<String, AllocError> {
+    let Some(line) = input.line(number) else {
+        return format!(in alloc; "line {number} is none that can be answered");
+    };
+    let problem = match job {
+        Job::Nvme { .. } | Job::FreshRaw { .. } => raw_problem(line),
+        _ => trace_problem(line),
+    };
+    format!(in alloc; "line {number}: {problem}")
+}
+
+fn explain_run<R: Read + Drop>(
+    alloc: Global,
+    job: &Job,
+    fault: RunFault,
+    input: &RecentInput<R>,
+) -> Result<String, AllocError> {
+    match fault {
+        RunFault::Line(number) => explain_line(alloc, job, number, input),
+        RunFault::Long(number) => {
+            format!(in alloc; "line {number} has more than {LONGEST_LINE} bytes")
+        }
+        RunFault::Disk(fault) => format!(in alloc; "{fault}"),
+        RunFault::Mount(fault) => format!(in alloc; "{fault}"),
+        RunFault::Geometry(fault) => format!(in alloc; "{fault}"),
+        RunFault::Input => String::from_str(alloc, "standard input failed"),
+        RunFault::Output => String::from_str(alloc, "standard output failed"),
+        RunFault::Memory => String::from_str(alloc, "out of memory"),
+    }
+}
+
+/// One line for people that says what a fault is, without a line feed. `input` is what the job read its lines from.
+pub fn explain<R: Read + Drop>(
+    alloc: Global,
+    job: &Job,
+    fault: ProgramFault,
+    input: &RecentInput<R>,
+) -> Result<String, AllocError> {
+    match fault {
+        ProgramFault::Run(fault) => explain_run(alloc, job, fault, input),
+        ProgramFault::Reserve { most } => {
+            format!(in alloc; "the drive has room for 1 to {most} logical blocks")
+        }
+        ProgramFault::Image(fault) => format!(in alloc; "the image: {fault}"),
+        ProgramFault::File => String::from_str(alloc, "the file cannot be opened or saved"),
+    }
+}

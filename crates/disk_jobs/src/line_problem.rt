@@ -1,0 +1,191 @@
+// What is wrong with a line that is not in its grammar, told to people.
+
+use std::fmt;
+
+/// What a word of a line has to be.
+#[derive(Clone, Copy, Debug, PartialEq, Eq)]
+pub(crate) enum Wanted {
+    /// The name of a call.
+    Name,
+    /// Decimal digits, a number below 2^64.
+    Number,
+    /// Decimal digits, a number below 2^32.
+    Turns,
+    /// Two hexadecimal digits.
+    Byte,
+    /// Two hexadecimal digits for each byte of whole blocks.
+    Data,
+    /// The 128 hexadecimal digits of an entry.
+    Entry,
+}
+
+impl Wanted {
+    fn text(self) -> &'static str {
+        match self {
+            Wanted::Name => "read, fill, write, trim, idle or grow",
+            Wanted::Number => "a number below 2^64 in 1 to 20 decimal digits",
+            Wanted::Turns => "a number below 2^32 in decimal digits",
+            Wanted::Byte => "two hexadecimal digits",
+            Wanted::Data =>
+                "data: two hexadecimal digits for each byte, and whole blocks in a write",
+            Wanted::Entry => "the 128 hexadecimal digits of an entry",
+        }
+    }
+}
+
+/// The first thing that is wrong with a line. Words are counted from 1.
+#[derive(Clone, Copy, Debug, PartialEq, Eq)]
+pub(crate) enum LineProblem {
+    ByteOrderMark,
+    CarriageReturn,
+    Tab,
+    FirstSpace,
+    SecondSpace,
+    LastSpace,
+    /// This word is missing.
+    Missing(usize, Wanted),
+    /// This word is another.
+    Word(usize, Wanted),
+    /// This word is one too many.
+    TooMany(usize),
+}
+
+impl fmt::Display for LineProblem {
+    fn fmt<W: fmt::Write>(&self, f: &mut fmt::Formatter<W>) -> fmt::Result {
+        match self {
+            LineProblem::ByteOrderMark => write!(f, "it begins with a byte order mark"),
+            LineProblem::CarriageReturn => write!(
+                f,
+                "a carriage return stands before the line feed"
+            ),
+            LineProblem::Tab => write!(f, "it has a tab; words have one space between them"),
+            LineProblem::FirstSpace => write!(f, "it begins with a space"),
+            LineProblem::SecondSpace => write!(f, "it has a second space between two words"),
+            LineProblem::LastSpace => write!(f, "it ends with a space"),
+            LineProblem::Missing(place, wanted) => {
+                let wanted = wanted.text();
+                write!(f, "word {place} is missing: {wanted}")
+            }
+            LineProblem::Word(place, wanted) => {
+                let wanted = wanted.text();
+                write!(f, "word {place} has to be {wanted}")
+            }
+            LineProblem::TooMany(place) => write!(f, "word {place} is one too many"),
+        }
+    }
+}
+
+/// What is wrong between the words, if anything is.
+fn spacing_problem(line: &[u8]) -> Option<LineProblem> {
+    if line.starts_with(b"\xef\xbb\xbf") {
+        return Some(LineProblem::ByteOrderMark);
+    }
+    if line.ends_with(b"\r") {
+        return Some(LineProblem::CarriageReturn);
+    }
+    if line.contains(&b'\t') {
+        return Some(LineProblem::Tab);
+    }
+    if line.starts_with(b" ") {
+        return Some(LineProblem::FirstSpace);
+    }
+    if line.ends_with(b" ") {
+        return Some(LineProblem::LastSpace);
+    }
+    if line.split(|byte| *byte == b' ').any(|word| word.is_empty()) {
+        return Some(LineProblem::SecondSpace);
+    }
+    None
+}
+
+/// The number below 2^64 that decimal digits stand for.
+fn number(word: &[u8]) -> Option<u64> {
+    if word.is_empty() || word.len() > 20 {
+        return None;
+    }
+    let mut value: u64 = 0;
+    for byte in word {
+        if !byte.is_ascii_digit() {
+            return None;
+        }
+        value = value.checked_mul(10)?.checked_add(u64::from(*byte - b'0'))?;
+    }
+    Some(value)
+}
+
+fn are_hex(word: &[u8]) -> bool {
+    word.iter().all(|byte| byte.is_ascii_hexdigit())
+}
+
+/// What the words of a call have to be, by its name.
+fn wanted_of(name: &[u8]) -> &'static [Wanted] {
+    match name {
+        b"read" | b"trim" => &[Wanted::Name, Wanted::Number, Wanted::Number],
+        b"fill" => &[Wanted::Name, Wanted::Number, Wanted::Number, Wanted::Byte],
+        b"write" => &[Wanted::Name, Wanted::Number, Wanted::Data],
+        b"idle" => &[Wanted::Name, Wanted::Turns],
+        b"grow" => &[Wanted::Name, Wanted::Number],
+        _ => &[Wanted::Name],
+    }
+}
+
+impl Wanted {
+    /// Whether a word is what is wanted, as far as the word alone tells.
+    fn is(self, word: &[u8]) -> bool {
+        match self {
+            Wanted::Name => wanted_of(word).len() > 1,
+            Wanted::Number => number(word).is_some(),
+            Wanted::Turns => number(word).is_some_and(|turns| turns <= u64::from(u32::MAX)),
+            Wanted::Byte => word.len() == 2 && are_hex(word),
+            Wanted::Data => !word.is_empty() && word.len() % 2 == 0 && are_hex(word),
+            Wanted::Entry => word.len() == 128 && are_hex(word),
+        }
+    }
+}
+
+/// The first word that is not what is wanted, if there is one.
+fn word_problem(line: &[u8], wanted: &[Wanted]) -> Option<LineProblem> {
+    let mut place: usize = 1;
+    let mut words = line.split(|byte| *byte == b' ');
+    for want in wanted {
+        match words.next() {
+            Some(word) if want.is(word) => {}
+            Some(_) => return Some(LineProblem::Word(place, *want)),
+            None => return Some(LineProblem::Missing(place, *want)),
+        }
+        place = place.saturating_add(1);
+    }
+    match words.next() {
+        Some(_) => Some(LineProblem::TooMany(place)),
+        None => None,
+    }
+}
+
+/// What is wrong with a line that is none of a trace's.
+pub(crate) fn trace_problem(line: &[u8]) -> LineProblem {
+    if let Some(problem) = spacing_problem(line) {
+        return problem;
+    }
+    let name = line.split(|byte| *byte == b' ').next().unwrap_or(&[]);
+    match word_problem(line, wanted_of(name)) {
+        Some(problem) => problem,
+        // Only the data of a `write` can be wrong in another way: it is not whole blocks.
+        None => LineProblem::Word(3, Wanted::Data),
+    }
+}
+
+/// What is wrong with a line that is no raw line.
+pub(crate) fn raw_problem(line: &[u8]) -> LineProblem {
+    if let Some(problem) = spacing_problem(line) {
+        return problem;
+    }
+    let wanted: &[Wanted] = if line.contains(&b' ') {
+        &[Wanted::Entry, Wanted::Data]
+    } else {
+        &[Wanted::Entry]
+    };
+    match word_problem(line, wanted) {
+        Some(problem) => problem,
+        None => LineProblem::Word(1, Wanted::Entry),
+    }
+}
