@@ -1,5 +1,5 @@
 -- The sequence of a record is that of the last header before its place.
-use Rattle.std.proofs.Common.{◌≡◌, ◌≢◌, ℕ, zero, suc, ◌+◌, ◌-◌, ◌*◌, ◌/◌, ◌%◌, ◌^◌, ◌<◌, ◌≤◌, min, Bool, true, false, cond, leb, eqb, List, [], ◌∷◌, ◌++◌, length, map, get_or, Option, Some, None, refl, sym, ap, subst, ◌∙◌, arith}
+use Rattle.std.proofs.Common.{◌≡◌, ℕ, zero, suc, ◌+◌, ◌-◌, ◌*◌, ◌/◌, ◌%◌, ◌^◌, ◌<◌, ◌≤◌, min, Bool, true, false, eqb, List, [], ◌∷◌, length, map, get_or, Option, Some, None, refl, sym, ap, subst, ◌∙◌, arith}
 use Rattle.std.specs.List.{AllByRecursion}
 use Rattle.std.specs.List.Sorted.{IsNonDecreasingBy}
 use Rattle.std.proofs.lemmas.Bool.{le-leb, lt-leb, ne_eqb}
@@ -7,11 +7,11 @@ use Rattle.std.proofs.lemmas.Nat.{div-mul-add, mod-mul-add, mul-le}
 use Rattle.batch_log.specs.declared.header.Entry.{Entry}
 use Rattle.batch_log.specs.Log.{Batch, batch_size, data_count, log_size, one_unless}
 use Rattle.logical_map.specs.declared.place.Place.TheVariants as places
-use Rattle.zone_choice.specs.Records.{Record, batch_records, entry_offset, entry_records, log_records, place, record_of, records}
+use Rattle.zone_choice.specs.Records.{Record, batch_records, entry_offset, entry_records, log_records, place, records}
 use Rattle.zone_choice.specs.ZoneLogs.{log_at}
 use Rattle.zone_choice.proofs.AllLaws.{all-append, all-weaker}
 use Rattle.remount.specs.declared.heads.Head.{Head}
-use Rattle.remount.specs.Heads.{HeadsView, heads_of, no_heads}
+use Rattle.remount.specs.Heads.{HeadsView, heads_of}
 use Rattle.remount.specs.KeptRecords.{kept_record}
 use Rattle.remount.specs.Placing.{AreAscending, heads_at, kept_place, sequence_at, sequence_from, sequence_of}
 use Rattle.remount.proofs.HeadRecordLaws.{heads-are, heads_from}
@@ -54,11 +54,10 @@ record IsOfBatch (sequence zone header size : ℕ) (r : Record) : Type 0 where
 
 of-entries : (sequence : ℕ) (body : List (List ℕ)) (zone header k size : ℕ) (es : List Entry) → k + data_count es ≤ size → AllByRecursion (IsOfBatch sequence zone header size) (entry_records sequence body zone header k es)
 of-entries sequence body zone header k size [] le = tt
-of-entries sequence body zone header k size (e ∷ es) le =
-    (
-      record { sequence_is = refl; zone_is = refl; above = above e.trim; below = below e.trim (omega (arith, le)) },
-      of-entries sequence body zone header (k + one_unless e.trim) size es (omega (arith, le)),
-    )
+of-entries sequence body zone header k size (e ∷ es) le = (
+  record { sequence_is = refl; zone_is = refl; above = above e.trim; below = below e.trim (omega (arith, le)) },
+  of-entries sequence body zone header (k + one_unless e.trim) size es (omega (arith, le)),
+)
   where
     above : (t : Bool) → header ≤ entry_offset t header k
     above true = omega arith
@@ -101,10 +100,10 @@ log-found found zone offset from (b ∷ bs) =
     let behind = all-both (IsOfLog zone next bs) (IsFound (Some b.heading.sequence) next end bs) (log_records zone next bs) (of-log zone next bs) rest in
     all-append (IsFound found offset from (b ∷ bs)) (batch_records zone offset b) (log_records zone (offset + batch_size b) bs)
     (all-weaker (IsOfBatch b.heading.sequence zone offset (data_count b.heading.entries)) (IsFound found offset from (b ∷ bs)) (batch_records zone offset b)
-      (λ r is. rw (le-leb offset r.offset is.above) (from-past (Some b.heading.sequence) r.offset next end bs (omega (arith, is.below)) ∙ ap Some (sym is.sequence_is))) (of-batch zone offset b))
+    (λ r is. rw (le-leb offset r.offset is.above) (from-past (Some b.heading.sequence) r.offset next end bs (omega (arith, is.below)) ∙ ap Some (sym is.sequence_is))) (of-batch zone offset b))
     (subst (λ (o : ℕ). AllByRecursion (IsFound found offset from (b ∷ bs)) (log_records zone o bs)) same
-      (all-weaker (λ r. IsOfLog zone next bs r × IsFound (Some b.heading.sequence) next end bs r) (IsFound found offset from (b ∷ bs)) (log_records zone next bs)
-        (λ r is. rw (le-leb offset r.offset (omega (arith, is.0.above))) is.1) behind))
+    (all-weaker (λ r. IsOfLog zone next bs r × IsFound (Some b.heading.sequence) next end bs r) (IsFound found offset from (b ∷ bs)) (log_records zone next bs)
+    (λ r is. rw (le-leb offset r.offset (omega (arith, is.0.above))) is.1) behind))
 
 pub sequence-found : (zone : ℕ) (log : List Batch) → AllByRecursion (λ (r : Record). sequence_at (heads_of log).heads r.offset ≡ Some r.sequence) (log_records zone 0 log)
 sequence-found zone log = subst (λ (hs : List Head). AllByRecursion (λ (r : Record). sequence_at hs r.offset ≡ Some r.sequence) (log_records zone 0 log)) (sym (heads-are log)) (log-found None zone 0 0 log)
@@ -123,7 +122,7 @@ of-logs first [] = tt
 of-logs first (log ∷ logs) =
     all-append (IsOfLogs first (log ∷ logs)) (log_records first 0 log) (records (suc first) logs)
     (all-weaker (λ r. IsOfLog first 0 log r × (sequence_at (heads_of log).heads r.offset ≡ Some r.sequence)) (IsOfLogs first (log ∷ logs)) (log_records first 0 log) here
-      (all-both (IsOfLog first 0 log) (λ r. sequence_at (heads_of log).heads r.offset ≡ Some r.sequence) (log_records first 0 log) (of-log first 0 log) (sequence-found first log)))
+    (all-both (IsOfLog first 0 log) (λ r. sequence_at (heads_of log).heads r.offset ≡ Some r.sequence) (log_records first 0 log) (of-log first 0 log) (sequence-found first log)))
     (all-weaker (IsOfLogs (suc first) logs) (IsOfLogs first (log ∷ logs)) (records (suc first) logs) behind (of-logs (suc first) logs))
   where
     here : (r : Record) → IsOfLog first 0 log r × (sequence_at (heads_of log).heads r.offset ≡ Some r.sequence) → IsOfLogs first (log ∷ logs) r

@@ -1,5 +1,5 @@
 -- The tables of a repaired drive agree with it.
-use Rattle.std.proofs.Common.{◌≡◌, ◌≢◌, ◌⊎◌, inl, inr, ℕ, zero, suc, ◌+◌, ◌-◌, ◌<◌, ◌≤◌, ◌^◌, ◌&&◌, not, Bool, true, false, cond, eqb, List, [], ◌∷◌, ◌++◌, length, map, get_or, Option, Some, None, refl, sym, ap, subst, ◌∙◌, arith, append-nil}
+use Rattle.std.proofs.Common.{◌≡◌, ◌≢◌, inl, ℕ, zero, suc, ◌+◌, ◌-◌, ◌<◌, ◌≤◌, ◌^◌, ◌&&◌, not, Bool, true, false, eqb, List, [], ◌∷◌, length, map, get_or, Option, Some, refl, sym, ap, subst, ◌∙◌, arith, append-nil}
 use Rattle.std.specs.Prelude.{count_by, slice_get}
 use Rattle.std.specs.List.{AllByRecursion, flat_map}
 use Rattle.std.proofs.lemmas.Bool.{eqb-true}
@@ -8,7 +8,7 @@ use Rattle.nvme_wire.specs.declared.zone_state.ZoneState.{ZoneState}
 use Rattle.nvme_wire.specs.declared.zone_state.ZoneState.TheVariants as states
 use Rattle.zone_states.specs.declared.geometry.Geometry.{Geometry}
 use Rattle.zone_states.specs.Transition.{is_open, is_state}
-use Rattle.zone_states.specs.Zone.{IsLawfulZone, Zone}
+use Rattle.zone_states.specs.Zone.{IsLawfulZone}
 use Rattle.drive_port.specs.Contents.{Content, Usage, active, empty, full, unusable, content_at, content_of, contents, emptied, is_active_usage, is_full, is_usable, is_writable, nothing, usage_of}
 use Rattle.drive_port.specs.Drive.{DriveState, IsLawful}
 use Rattle.drive_port.specs.Step.{nowhere, zone_at}
@@ -17,14 +17,14 @@ use Rattle.batch_log.proofs.LogLaws.{spelled_length}
 use Rattle.logical_map.specs.Places.{MapView}
 use Rattle.zone_choice.specs.declared.roles.Filling.{Filling}
 use Rattle.zone_choice.specs.Agreement.{Agrees, HoldsFilling, IsSealed, RolesAgree, TellsOpen, drive_logs, mounted}
-use Rattle.zone_choice.specs.Mountable.{AreSound, is_partly_written}
+use Rattle.zone_choice.specs.Mountable.{is_partly_written}
 use Rattle.zone_choice.specs.Records.{place}
 use Rattle.zone_choice.specs.Repair.{HasAtMost}
 use Rattle.zone_choice.specs.Reserve.{FitsReserve, batch_most}
-use Rattle.zone_choice.specs.Roles.{RolesView, empty_count, fillings, is_empty_at, is_filling_at, mounted_as}
+use Rattle.zone_choice.specs.Roles.{RolesView, is_filling_at, mounted_as}
 use Rattle.zone_choice.specs.Sizes.{encoded_size, map_of}
-use Rattle.zone_choice.specs.Tables.{TablesView, size_of}
-use Rattle.zone_choice.specs.ZoneLogs.{HasLog, has_torn_tail, log_at, readable, sequences, zone_log, zone_tails}
+use Rattle.zone_choice.specs.Tables.{TablesView}
+use Rattle.zone_choice.specs.ZoneLogs.{HasLog, has_torn_tail, log_at, sequences, zone_log}
 use Rattle.zone_choice.proofs.AgreementLaws.{tables_with}
 use Rattle.zone_choice.proofs.AllLaws.{all-at}
 use Rattle.zone_choice.proofs.CommandLaws.{content-zone}
@@ -34,7 +34,7 @@ use Rattle.remount.specs.declared.reported.ReportedZone.{ReportedZone}
 use Rattle.remount.specs.declared.survey.Survey.{Survey}
 use Rattle.remount.specs.Known.{Knows}
 use Rattle.remount.specs.Mount.{AreMountedRoles, IsPlaced, IsRepaired}
-use Rattle.remount.specs.Mounting.{FindsNext, FindsPartly, IsLowestPartly, MountsRoles, empties, filling_in, is_partly_at, is_partly_found}
+use Rattle.remount.specs.Mounting.{FindsNext, FindsPartly, IsLowestPartly, MountsRoles, empties, is_partly_at, is_partly_found}
 use Rattle.remount.specs.Reported.{IsKnown}
 use Rattle.remount.specs.Scan.{AreKnown}
 use Rattle.remount.specs.Survey.{is_partly_reported}

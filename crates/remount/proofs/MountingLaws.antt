@@ -1,23 +1,22 @@
 -- The roles that a report gives the zones.
-use Rattle.std.proofs.Common.{◌≡◌, ◌≢◌, ◌⊎◌, inl, inr, ℕ, zero, suc, ◌+◌, ◌-◌, ◌<◌, ◌≤◌, ◌^◌, ◌&&◌, ◌||◌, not, Bool, true, false, cond, eqb, List, [], ◌∷◌, ◌++◌, length, map, get_or, Option, Some, None, refl, sym, ap, subst, ◌∙◌, arith}
+use Rattle.std.proofs.Common.{◌≡◌, ◌≢◌, ◌⊎◌, inl, inr, ℕ, zero, suc, ◌+◌, ◌-◌, ◌<◌, ◌≤◌, ◌&&◌, ◌||◌, not, Bool, true, false, cond, eqb, List, [], ◌∷◌, length, get_or, Option, Some, None, refl, sym, ap, ◌∙◌, arith}
 use Rattle.std.specs.Prelude.{count_by, slice_get}
-use Rattle.std.specs.List.{AllByRecursion, list_any, range_with_len}
+use Rattle.std.specs.List.{AllByRecursion}
 use Rattle.std.specs.Option.{option_map}
-use Rattle.std.proofs.lemmas.Bool.{cases_lt, eq-eqb, eqb-true}
+use Rattle.std.proofs.lemmas.Bool.{cases_lt, eq-eqb}
 use Rattle.std.proofs.lemmas.List.{get_or_past}
 use Rattle.std.proofs.lemmas.List.FromFn.{get_or-map-range_with_len, length-map-range_with_len}
 use Rattle.std.proofs.lemmas.List.Sums.{sum_by-cons}
 use Rattle.nvme_wire.specs.declared.zone_state.ZoneState.{ZoneState}
 use Rattle.nvme_wire.specs.declared.zone_state.ZoneState.TheVariants as states
 use Rattle.zone_states.specs.Transition.{is_state}
-use Rattle.drive_port.specs.Contents.{Usage, active, empty, full, unusable, is_active_usage, usage_of}
+use Rattle.drive_port.specs.Contents.{empty, is_active_usage, usage_of}
 use Rattle.zone_choice.specs.declared.roles.Filling.{Filling}
-use Rattle.zone_choice.specs.declared.roles.Second.{Second}
 use Rattle.zone_choice.specs.declared.roles.Second.TheVariants.{Next}
-use Rattle.zone_choice.specs.Roles.{AreApart, IsOccupied, fillings, is_at, is_filling_at, mounted_as}
+use Rattle.zone_choice.specs.Roles.{AreApart, IsOccupied, fillings, is_filling_at, mounted_as}
 use Rattle.remount.specs.declared.reported.ReportedZone.{ReportedZone}
 use Rattle.remount.specs.Mount.{AreInOrder}
-use Rattle.remount.specs.Mounting.{FindsNext, FindsPartly, IsLowestPartly, empties, filling_in, is_empty_reported, is_partly_at, is_partly_found}
+use Rattle.remount.specs.Mounting.{FindsNext, FindsPartly, IsLowestPartly, empties, is_empty_reported, is_partly_at}
 use Rattle.remount.specs.Survey.{is_partly_reported}
 
 -- ---- states
@@ -159,9 +158,6 @@ pub partly-filling : (reported : List ReportedZone) (zones zone : ℕ) (host nex
 partly-filling reported zones zone None next few first second lt is = let no = first zone (omega arith) lt in absurd (cc)
 partly-filling reported zones zone (Some h) next few first second lt is = by (cases-order zone h.zone)
   where
-    others : List Filling
-    others = fillings (mounted_as (empties reported zones) None next)
-
     there : eqb h.zone zone ≡ true → is_filling_at (mounted_as (empties reported zones) (Some h) next) zone ≡ true
     there same = rw same refl
 

@@ -1,5 +1,5 @@
 -- The headers that are kept of a known drive place the newest record of each block.
-use Rattle.std.proofs.Common.{◌≡◌, ◌⊎◌, inl, inr, ℕ, ◌+◌, ◌<◌, ◌≤◌, ◌^◌, min, ◌++◌, List, [], length, map, drop, get_or, replicate, refl, sym, ap, subst, ◌∙◌, arith}
+use Rattle.std.proofs.Common.{◌≡◌, ◌⊎◌, inl, inr, ℕ, ◌+◌, ◌<◌, ◌≤◌, ◌^◌, min, ◌++◌, List, [], length, map, drop, get_or, replicate, ap, subst, ◌∙◌, arith}
 use Rattle.std.specs.List.{AllByRecursion, flat_map}
 use Rattle.std.proofs.lemmas.Bool.{cases_lt}
 use Rattle.std.proofs.lemmas.List.{drop_all, get_or_past, length-append, length-map}
@@ -16,17 +16,15 @@ use Rattle.zone_choice.specs.Agreement.{drive_logs}
 use Rattle.zone_choice.specs.Mountable.{IsInside}
 use Rattle.zone_choice.specs.Records.{records}
 use Rattle.zone_choice.specs.Sizes.{encoded_size, map_of}
-use Rattle.zone_choice.specs.Tables.{TablesView}
-use Rattle.zone_choice.specs.ZoneLogs.{HasLog, log_at, readable, zone_log, zone_logs}
+use Rattle.zone_choice.specs.ZoneLogs.{HasLog, log_at, readable, zone_log}
 use Rattle.zone_choice.proofs.AllLaws.{all-at, all-weaker}
 use Rattle.zone_choice.proofs.SizeLaws.{inside-records}
 use Rattle.zone_choice.proofs.ZoneLogLaws.{log_at-zone}
 use Rattle.remount.specs.declared.reported.ReportedZone.{ReportedZone}
 use Rattle.remount.specs.declared.survey.Survey.{Survey}
-use Rattle.remount.specs.Heads.{HeadsView, heads_of}
+use Rattle.remount.specs.Heads.{heads_of}
 use Rattle.remount.specs.KeptRecords.{kept_records}
 use Rattle.remount.specs.Known.{Knows}
-use Rattle.remount.specs.Mount.{IsPlaced}
 use Rattle.remount.specs.Placing.{AreAscending, placed_all}
 use Rattle.remount.specs.Scan.{AreKnown, heads_in}
 use Rattle.remount.proofs.AllScanLaws.{there-is}

@@ -1,12 +1,10 @@
 -- Records are placed one after the other, and each block has the place of its newest one.
-use Rattle.std.proofs.Common.{◌≡◌, ◌≢◌, ◌⊎◌, inl, inr, ℕ, zero, suc, ◌+◌, ◌-◌, ◌*◌, ◌^◌, ◌<◌, ◌≤◌, min, Bool, true, false, cond, leb, ltb, eqb, List, [], ◌∷◌, ◌++◌, length, map, set, get_or, drop, take, replicate, Option, Some, None, refl, sym, ap, subst, ◌∙◌, arith, append_assoc, append-nil}
+use Rattle.std.proofs.Common.{◌≡◌, ◌≢◌, ◌⊎◌, inl, inr, ℕ, zero, suc, ◌+◌, ◌-◌, ◌<◌, ◌≤◌, min, Bool, true, false, cond, leb, ltb, eqb, List, [], ◌∷◌, ◌++◌, length, map, set, get_or, drop, take, replicate, Option, Some, None, refl, sym, ap, ◌∙◌, arith, append_assoc, append-nil}
 use Rattle.std.specs.List.{AllByRecursion, range_with_len}
-use Rattle.std.specs.List.Sorted.{IsNonDecreasingBy}
-use Rattle.std.proofs.lemmas.Bool.{cases_eq, cases_lt, eq-eqb, le-leb, le-ltb, lt-leb, lt-ltb, ltb-false, ne_eqb}
+use Rattle.std.proofs.lemmas.Bool.{cases_eq, cases_lt, eq-eqb, ne_eqb}
 use Rattle.std.proofs.lemmas.List.{drop_all, get_or_past, take_min}
 use Rattle.std.proofs.lemmas.List.FromFn.{get_or-map-range_with_len}
 use Rattle.std.proofs.Math.Seq.{drop-cons}
-use Rattle.batch_log.specs.Log.{Batch, one_unless}
 use Rattle.logical_map.specs.declared.place.Place.{Place}
 use Rattle.logical_map.specs.declared.place.Place.TheVariants as places
 use Rattle.zone_choice.specs.Records.{Record, newer, newest, place, records, told}
@@ -18,8 +16,8 @@ use Rattle.zone_choice.proofs.ReadLaws.{all-among}
 use Rattle.remount.specs.declared.heads.Head.{Head}
 use Rattle.remount.specs.declared.records.KeptRecord.{KeptRecord}
 use Rattle.remount.specs.Heads.{HeadsView, no_heads}
-use Rattle.remount.specs.KeptRecords.{entry_record, is_trim, kept_batches, kept_entries, kept_in, kept_record, kept_records}
-use Rattle.remount.specs.Placing.{SameButPlaces, heads_at, is_later, kept_place, placed_all, placed_one, sequence_at, sequence_from, sequence_of}
+use Rattle.remount.specs.KeptRecords.{kept_batches, kept_entries, kept_in, kept_record, kept_records}
+use Rattle.remount.specs.Placing.{SameButPlaces, heads_at, is_later, placed_all, placed_one, sequence_at, sequence_from, sequence_of}
 use Rattle.remount.proofs.HeadPlaceLaws.{IsRead}
 
 -- ---- the last header before a block

@@ -189,19 +189,6 @@ impl ZoneHeads {
         self.are_moves
     }
 
-    /// The sequence of the last batch that begins at this block of the zone or before it.
-    pub fn sequence_at(&self, offset: u64) -> Option<u64>
-        ensures { IsNonDecreasingBy (λ (head : Head). head.offset) self.now.heads → result ≡ sequence_at self.now.heads offset }
-    {
-        let after = self
-            .heads
-            .partition_point(|head| head.offset as u64 <= offset);
-        if after == 0 {
-            return None;
-        }
-        Some(self.heads[after - 1].sequence)
-    }
-
     fn source_with(&self, source: u32) -> u32
         ensures { result ≡ source_with self.now.heads self.now.source source }
     {
@@ -231,5 +218,18 @@ impl ZoneHeads {
         self.most = self.most.max(header.count() as u32);
         self.highest = highest_of(self.highest, header);
         Ok(())
+    }
+
+    /// The sequence of the last batch that begins at this block of the zone or before it.
+    pub fn sequence_at(&self, offset: u64) -> Option<u64>
+        ensures { IsNonDecreasingBy (λ (head : Head). head.offset) self.now.heads → result ≡ sequence_at self.now.heads offset }
+    {
+        let after = self
+            .heads
+            .partition_point(|head| head.offset as u64 <= offset);
+        if after == 0 {
+            return None;
+        }
+        Some(self.heads[after - 1].sequence)
     }
 }

@@ -62,11 +62,7 @@ fn partly_from(reported: &[ReportedZone], from: u32, end: u32) -> Option<Filling
 }
 
 /// The lowest one after the first, if there is a first.
-fn partly_after(
-    reported: &[ReportedZone],
-    first: Option<Filling>,
-    end: u32,
-) -> Option<Filling>
+fn partly_after(reported: &[ReportedZone], first: Option<Filling>, end: u32) -> Option<Filling>
     requires { FindsPartly reported.now 0 end first }
     ensures { FindsNext reported.now end first result }
 {

@@ -20,9 +20,10 @@
 //! the old array or that with the batch, and can be mounted (`AppendLeaves`). The drive refuses no such
 //! Append (`CanPlace` says what it needs). At an open limit of 1, the other zone that is being filled is
 //! closed before it (`ClosesBeside`), if it may be open. The tables know the sealed zone with the fewest
-//! live records (`least_sealed`), and take note of what a clean makes of the zones. While tables and
-//! drive agree (`Agrees` in specs/Agreement) and a zone is kept empty, the drive can be mounted
-//! (`IsMountable` in specs/Mountable). `laws` has what holds of all drives' contents.
+//! live records (`least_sealed`), and take note of what a clean makes of the zones. A mount places the
+//! records that it finds (`place`), and says what the zones are for (`begin`). While tables and drive
+//! agree (`Agrees` in specs/Agreement) and a zone is kept empty, the drive can be mounted (`IsMountable`
+//! in specs/Mountable). `laws` has what holds of all drives' contents.
 #![tactic(auto)]
 
 mod append;

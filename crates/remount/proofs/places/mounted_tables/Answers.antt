@@ -1,4 +1,4 @@
-use Rattle.std.proofs.Common.{◌≡◌, ◌∙◌, ap, length, sym}
+use Rattle.std.proofs.Common.{◌∙◌, ap, length, sym}
 use Rattle.zone_choice.specs.Roles.{RolesView}
 use Rattle.remount.proofs.MountedLaws.{mounted-agrees, roles-mounted}
 use Rattle.remount.proofs.MountingLaws.{length-empties}

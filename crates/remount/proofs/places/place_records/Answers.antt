@@ -1,4 +1,4 @@
-use Rattle.std.proofs.Common.{◌≡◌, ◌∙◌, arith}
+use Rattle.std.proofs.Common.{◌∙◌, arith}
 use Rattle.remount.proofs.PlacedLaws.{places-at}
 use Rattle.remount.proofs.PlacingLaws.{zone-placed}
 use Rattle.remount.proofs.places.place_records.Goals as goal

@@ -2,7 +2,7 @@ use Rattle.std.proofs.Common.{◌≡◌, drop, replicate}
 use Rattle.logical_map.specs.declared.place.Place.TheVariants as places
 use Rattle.zone_choice.specs.Tables.{size_of}
 use Rattle.remount.specs.KeptRecords.{kept_records}
-use Rattle.remount.specs.Placing.{AreAscending, SameButPlaces, placed_all}
+use Rattle.remount.specs.Placing.{AreAscending, placed_all}
 use Rattle.remount.specs.Scan.{heads_in}
 use Rattle.remount.proofs.places.place_records.Given as goal
 

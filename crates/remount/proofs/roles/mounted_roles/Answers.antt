@@ -1,6 +1,6 @@
-use Rattle.std.proofs.Common.{◌≡◌, ◌∙◌, Bool, List, sym, ap, subst, length, arith}
+use Rattle.std.proofs.Common.{Bool, List, sym, ap, subst, length, arith}
 use Rattle.zone_choice.specs.Roles.{AreApart, mounted_as}
-use Rattle.remount.proofs.MountingLaws.{apart-mounted, length-empties, partly-filling}
+use Rattle.remount.proofs.MountingLaws.{apart-mounted, length-empties}
 use Rattle.remount.proofs.roles.mounted_roles.Goals as goal
 
 pub mounted-requires-clause-few : goal.mounted-requires-clause-few

@@ -1,4 +1,4 @@
-use Rattle.std.proofs.Common.{◌≡◌, ◌∙◌, ap, Some, leb, arith, rules}
+use Rattle.std.proofs.Common.{◌∙◌, ap, Some, leb, arith, rules}
 use Rattle.std.proofs.lemmas.List.Sorted.{IsPartitionPoint-from_clause, IsPartitionedBy-leb}
 use Rattle.remount.specs.declared.heads.Head.{Head}
 use Rattle.remount.proofs.PlacingLaws.{sequence-last, sequence-none}
