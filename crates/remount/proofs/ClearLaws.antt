@@ -6,9 +6,8 @@ use Rattle.drive_port.specs.Drive.{DriveState}
 use Rattle.batch_log.specs.Log.{Batch}
 use Rattle.zone_choice.specs.Agreement.{drive_logs}
 use Rattle.zone_choice.specs.Records.{without}
-use Rattle.zone_choice.specs.Spare.{HasSpare, IsClearing, IsHalfClean, IsLowest, IsPart, cleared}
-use Rattle.zone_choice.specs.ZoneLogs.{log_at}
-use Rattle.zone_choice.proofs.ClearingLaws.{clearing-part, part-trans, fewer, has_batch, with_batch}
+use Rattle.zone_choice.specs.Spare.{HasSpare, IsClearing, IsHalfClean, IsLowest, cleared}
+use Rattle.zone_choice.proofs.ClearingLaws.{clearing-part, fewer, has_batch, part-trans, with_batch}
 use Rattle.zone_choice.proofs.SizeLaws.{empty_spare}
 use Rattle.remount.specs.declared.survey.Survey.{Survey}
 use Rattle.remount.specs.Clearing.{FindsLowest, HasVacant, forgotten}
