@@ -1,38 +1,23 @@
 -- Zones are cleared one after the other.
-use Rattle.std.proofs.Common.{◌≡◌, ◌≢◌, ◌⊎◌, inl, inr, ℕ, zero, suc, ◌+◌, ◌-◌, ◌^◌, ◌<◌, ◌≤◌, Bool, true, false, List, [], ◌∷◌, ◌++◌, length, map, get_or, set, Option, Some, None, Result, Ok, Err, refl, sym, ap, subst, ◌∙◌, arith, append_assoc, append-nil}
-use Rattle.std.specs.List.{AllByRecursion}
+use Rattle.std.proofs.Common.{◌≡◌, ◌⊎◌, inl, inr, ℕ, ◌^◌, ◌<◌, List, [], ◌∷◌, ◌++◌, Option, None, refl, sym, ap, subst, ◌∙◌, arith, append_assoc, append-nil}
 use Rattle.std.proofs.lemmas.List.{length-set}
 use Rattle.zone_states.specs.declared.geometry.Geometry.{Geometry}
 use Rattle.drive_port.specs.Drive.{DriveState}
 use Rattle.batch_log.specs.Log.{Batch}
 use Rattle.zone_choice.specs.Agreement.{drive_logs}
 use Rattle.zone_choice.specs.Records.{without}
-use Rattle.zone_choice.specs.Sizes.{encoded_size}
-use Rattle.zone_choice.specs.Spare.{HasSpare, IsClearing, IsHalfClean, IsLowest, IsPart, IsVacant, NoneBelow, cleared}
-use Rattle.zone_choice.specs.ZoneLogs.{log_at}
-use Rattle.zone_choice.proofs.ClearingLaws.{clearing-part, fewer, has_batch, with_batch}
+use Rattle.zone_choice.specs.Spare.{HasSpare, IsClearing, IsHalfClean, IsLowest, cleared}
+use Rattle.zone_choice.proofs.ClearingLaws.{clearing-part, fewer, has_batch, part-trans, with_batch}
 use Rattle.zone_choice.proofs.SizeLaws.{empty_spare}
-use Rattle.remount.specs.declared.fault.MountFault.{MountFault}
-use Rattle.remount.specs.declared.fault.MountFault.TheVariants.{NoSpare, OutOfMemory}
 use Rattle.remount.specs.declared.survey.Survey.{Survey}
 use Rattle.remount.specs.Known.{HasVacant}
-use Rattle.remount.specs.Clearing.{FindsLowest, Tells, forgotten}
+use Rattle.remount.specs.Clearing.{FindsLowest, forgotten}
 use Rattle.remount.specs.Known.{Knows}
 use Rattle.remount.specs.Reported.{KeepsZones}
-use Rattle.remount.specs.Scan.{FailsBy, heads_in, tails_in}
+use Rattle.remount.specs.Scan.{heads_in, tails_in}
 use Rattle.remount.proofs.MovedLaws.{forgotten-are}
-use Rattle.remount.proofs.ReadLaws.{keeps-both, keeps-none, kept-contents}
+use Rattle.remount.proofs.ReadLaws.{keeps-both, keeps-none}
 use Rattle.remount.proofs.SpareLaws.{knows-kept}
-
--- a part of a part
-part-of-part : (a b c : List (List Batch)) → IsPart a b → IsPart b c → IsPart a c
-part-of-part a b c ab bc zone = joined (ab zone) (bc zone)
-  where
-    joined : (log_at b zone ≡ log_at a zone) ⊎ (log_at b zone ≡ []) → (log_at c zone ≡ log_at b zone) ⊎ (log_at c zone ≡ []) → (log_at c zone ≡ log_at a zone) ⊎ (log_at c zone ≡ [])
-    joined (inl e) (inl f) = inl (f ∙ e)
-    joined (inr e) (inl f) = inr (f ∙ e)
-    joined (inl e) (inr f) = inr f
-    joined (inr e) (inr f) = inr f
 
 -- what is known without a half clean zone
 pub record Forgets (old new : Survey) (zone : ℕ) : Type 0 where
@@ -47,7 +32,7 @@ knows-less drive n logs old new zone known half forgets =
     record {
       all_logs = known.all_logs;
       count = length-set logs zone [] ∙ known.count;
-      part = part-of-part (drive_logs drive) logs (without logs zone) known.part (clearing-part logs (zone ∷ []));
+      part = part-trans (drive_logs drive) logs (without logs zone) known.part (clearing-part logs (zone ∷ []));
       sound = emptied.sound;
       reserve = rw emptied.size_is known.reserve;
       size_is = forgets.size ∙ known.size_is ∙ sym emptied.size_is;
@@ -121,4 +106,5 @@ pub no-spare : (first now : DriveState) (n : ℕ) (survey : Survey) (resets : Li
 no-spare first now n survey resets so_far none empty vacant has =
     let none' = rw empty at none in
     let vacant' = rw empty at vacant in
-    elim has.spare as (λ _. ⊥) [ inl is ↦ vacant' (record { zone = has.zone; in_range = has.in_range; vacant = is }) | inr half ↦ none' has.zone has.in_range half ]
+use Rattle.remount.specs.Known.{HasVacant}
+use Rattle.remount.specs.Clearing.{FindsLowest, forgotten}

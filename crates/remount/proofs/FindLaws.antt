@@ -1,18 +1,17 @@
 -- What is found of the zones.
-use Rattle.std.proofs.Common.{◌≡◌, ◌≢◌, ◌⊎◌, inl, inr, ℕ, zero, suc, ◌+◌, ◌-◌, ◌^◌, ◌<◌, ◌≤◌, Bool, true, false, cond, List, [], ◌∷◌, ◌++◌, length, map, get_or, set, Option, Some, None, Result, Ok, Err, refl, sym, ap, subst, ◌∙◌, arith}
+use Rattle.std.proofs.Common.{◌≡◌, ◌≢◌, inl, inr, ℕ, zero, suc, ◌+◌, ◌^◌, ◌<◌, ◌≤◌, List, [], ◌∷◌, length, get_or, set, Option, Some, None, Result, Ok, Err, refl, sym, ap, subst, ◌∙◌, arith}
 use Rattle.std.specs.Prelude.{IfOk, slice_get}
 use Rattle.std.specs.BTreeMap.{BTreeMap}
 use Rattle.std.specs.List.{AllByRecursion}
-use Rattle.std.specs.Option.{IsSome, option_map}
 use Rattle.std.proofs.lemmas.Bool.{cases_eq, cases_lt}
-use Rattle.std.proofs.lemmas.List.{length-map, length-set, map-set}
+use Rattle.std.proofs.lemmas.List.{length-map, map-set}
 use Rattle.std.proofs.Math.Seq.{map-set_same}
 use Rattle.drive_port.specs.Drive.{DriveState}
 use Rattle.batch_log.specs.Log.{Batch}
-use Rattle.zone_choice.specs.Mountable.{AreSound, IsInside}
-use Rattle.zone_choice.specs.Records.{Record, newest, records, shown, without}
+use Rattle.zone_choice.specs.Mountable.{IsInside}
+use Rattle.zone_choice.specs.Records.{without}
 use Rattle.zone_choice.specs.Sizes.{encoded_size, size_or}
-use Rattle.zone_choice.specs.Spare.{IsClearing, IsHalfClean, IsLowest, NoneBelow, cleared}
+use Rattle.zone_choice.specs.Spare.{IsHalfClean, NoneBelow}
 use Rattle.zone_choice.specs.ZoneLogs.{log_at}
 use Rattle.zone_choice.proofs.SizeLaws.{same-size}
 use Rattle.remount.specs.declared.rivals.Rivals.{Rivals}
@@ -196,7 +195,7 @@ examine-one drive n survey old table zone found items finding same there_is none
     let noted = rw same at taken (omega (arith, few-known drive n logs survey known, ap length same)) in
     tells logs known (holds-rivals logs survey.scanned.items old table known.heads (knows-small drive n logs survey known) none noted)
     (λ moved other other_is. let one : found ≡ other = (let e = sym there_is ∙ other_is in cc) in
-        subst (λ (z : ScannedZone). HoldsBlocks table z.heads.entries) one (blocks-more old table found.heads.entries (taken-more old table (kept_records 0 (heads_in survey.scanned.items)) noted) holds))
+    subst (λ (z : ScannedZone). HoldsBlocks table z.heads.entries) one (blocks-more old table found.heads.entries (taken-more old table (kept_records 0 (heads_in survey.scanned.items)) noted) holds))
 
 pub finding-ok : {E : Type 0} (P Q : Finding → Type 0) (result : Result Finding E) → ((finding : Finding) → P finding → Q finding) → IfOk result P → IfOk result Q
 finding-ok P Q (Ok finding) f p = f finding p
@@ -211,4 +210,3 @@ FindsOf drive n survey zone finding = (logs : List (List Batch)) → Knows drive
 
 abbrev pub LowestOf : DriveState → ℕ → Survey → Option ℕ → Type 0
 LowestOf drive n survey found = (logs : List (List Batch)) → Knows drive n logs survey → FindsLowest drive.geometry.block n logs found
-

@@ -1,8 +1,8 @@
 -- What the headers tell of the zones that Moves alone stand in.
-use Rattle.std.proofs.Common.{◌≡◌, ◌≢◌, ◌⊎◌, inl, inr, ℕ, zero, suc, ◌+◌, ◌-◌, ◌<◌, ◌≤◌, ◌&&◌, ◌==◌, not, Bool, true, false, cond, eqb, ltb, List, [], ◌∷◌, ◌++◌, length, map, drop, get_or, set, Option, Some, None, refl, sym, ap, subst, ◌∙◌, arith}
+use Rattle.std.proofs.Common.{◌≡◌, ◌≢◌, ◌⊎◌, inl, inr, ℕ, zero, suc, ◌+◌, ◌<◌, ◌≤◌, ◌&&◌, Bool, true, false, eqb, ltb, List, [], ◌∷◌, ◌++◌, length, map, drop, get_or, Option, Some, None, refl, sym, ap, subst, ◌∙◌, arith}
 use Rattle.std.specs.Prelude.{slice_get}
 use Rattle.std.specs.List.{AllByRecursion}
-use Rattle.std.proofs.lemmas.Bool.{cases_eq, cases_lt, eq-eqb, eqb-true, ltb-false, ltb-true, lt-ltb}
+use Rattle.std.proofs.lemmas.Bool.{cases_eq, cases_lt, eq-eqb, eqb-true, ltb-false, ltb-true}
 use Rattle.std.proofs.lemmas.List.{length-map, map-set, nil_from_length}
 use Rattle.std.proofs.Math.Seq.{drop-cons}
 use Rattle.zone_choice.proofs.SizeLaws.{larger-assoc}
@@ -12,7 +12,7 @@ use Rattle.batch_log.specs.declared.header.Kind.{Kind}
 use Rattle.batch_log.specs.declared.header.Kind.TheVariants.{Host, Move}
 use Rattle.batch_log.specs.Log.{Batch}
 use Rattle.zone_choice.specs.Records.{without}
-use Rattle.zone_choice.specs.Sizes.{encoded_size, greatest, larger, size_or}
+use Rattle.zone_choice.specs.Sizes.{encoded_size, larger, size_or}
 use Rattle.zone_choice.specs.Spare.{IsBefore, IsMoveFrom, first_sequence}
 use Rattle.zone_choice.specs.ZoneLogs.{log_at}
 use Rattle.remount.specs.declared.heads.Head.{Head}

@@ -1,8 +1,8 @@
 -- The newest record of a block, and the newest one outside its zone, record by record.
-use Rattle.std.proofs.Common.{◌≡◌, ◌≢◌, ◌⊎◌, inl, inr, ℕ, zero, suc, ◌+◌, ◌<◌, ◌≤◌, ◌==◌, ◌&&◌, not, Bool, true, false, cond, eqb, ltb, List, [], ◌∷◌, ◌++◌, length, map, set, get_or, Option, Some, None, refl, sym, ap, subst, ◌∙◌, arith, append_assoc, append-nil}
+use Rattle.std.proofs.Common.{◌≡◌, ◌≢◌, ◌⊎◌, inl, inr, ℕ, zero, suc, ◌+◌, ◌<◌, ◌≤◌, not, Bool, true, false, cond, eqb, ltb, List, [], ◌∷◌, ◌++◌, map, Option, Some, None, refl, sym, ap, subst, ◌∙◌, arith, append_assoc, append-nil}
 use Rattle.std.specs.List.{AllByRecursion, filter}
 use Rattle.std.specs.Option.{option_map}
-use Rattle.std.proofs.lemmas.Bool.{cases_eq, eq-eqb, eqb-true, le-ltb, ltb-false, ltb-true, ne_eqb}
+use Rattle.std.proofs.lemmas.Bool.{eq-eqb, eqb-true, le-ltb, ltb-false, ltb-true, ne_eqb}
 use Rattle.batch_log.specs.declared.header.Entry.{Entry}
 use Rattle.batch_log.specs.Log.{Batch, batch_size, one_unless}
 use Rattle.zone_choice.specs.Records.{Record, batch_records, entry_records, log_records, newer, newest, records, without}
@@ -11,7 +11,7 @@ use Rattle.zone_choice.proofs.NewestLaws.{newer-none, newest-append}
 use Rattle.remount.specs.declared.records.KeptRecord.{KeptRecord}
 use Rattle.remount.specs.declared.rivals.Rivals.{Rivals}
 use Rattle.remount.specs.KeptRecords.{kept_record}
-use Rattle.remount.specs.Rivals.{AreRivals, held_after, later, no_rivals, rivals_after, rivals_with}
+use Rattle.remount.specs.Rivals.{held_after, later, no_rivals, rivals_after, rivals_with}
 
 -- ---- records outside a zone
 
@@ -244,7 +244,7 @@ rivals-first rs block other r same none =
 -- a record of the block, in the newest one's zone, or in another
 rivals-more : (rs : List Record) (block : ℕ) (other : Option KeptRecord) (old r : Record) (t : Bool) → eqb r.block block ≡ true → newest block rs ≡ Some old → other ≡ option_map kept_record (newest block (outside old.zone rs)) → eqb old.zone r.zone ≡ t
     → IsRivals (rs ++ r ∷ []) block (cond t (record { newest = later (Some (kept_record old)) (kept_record r); other = other })
-        (cond (ltb old.sequence r.sequence) (record { newest = Some (kept_record r); other = Some (kept_record old) }) (record { newest = Some (kept_record old); other = later other (kept_record r) })))
+    (cond (ltb old.sequence r.sequence) (record { newest = Some (kept_record r); other = Some (kept_record old) }) (record { newest = Some (kept_record old); other = later other (kept_record r) })))
 rivals-more rs block other old r true same is other_is zones =
     let more : newest block (rs ++ r ∷ []) ≡ newer (Some old) (Some r) = newest-more block rs r same ∙ ap (λ (x : Option Record). newer x (Some r)) is in
     record {

@@ -1,5 +1,5 @@
 -- A table takes the records of all batches.
-use Rattle.std.proofs.Common.{◌≡◌, ◌⊎◌, inl, inr, ℕ, zero, suc, ◌+◌, ◌-◌, ◌<◌, ◌≤◌, min, Bool, true, false, cond, eqb, List, [], ◌∷◌, ◌++◌, length, map, take, drop, get_or, Option, Some, None, refl, sym, ap, subst, ◌∙◌, ◌^◌, arith}
+use Rattle.std.proofs.Common.{◌≡◌, ◌⊎◌, inl, inr, ℕ, suc, ◌-◌, ◌<◌, ◌≤◌, min, Bool, true, false, cond, eqb, List, [], ◌∷◌, ◌++◌, length, map, take, drop, get_or, Option, Some, None, refl, sym, ap, subst, ◌∙◌, ◌^◌, arith}
 use Rattle.std.specs.BTreeMap.{BTreeMap, is_at}
 use Rattle.std.specs.List.{AllByRecursion}
 use Rattle.std.specs.Option.{IsSome, option_map}
@@ -16,7 +16,6 @@ use Rattle.remount.specs.declared.records.KeptRecord.{KeptRecord}
 use Rattle.remount.specs.declared.rivals.Rivals.{Rivals}
 use Rattle.remount.specs.declared.scan.ScannedZone.{ScannedZone}
 use Rattle.remount.specs.Clearing.{AreOf}
-use Rattle.remount.specs.Heads.{HeadsView}
 use Rattle.remount.specs.KeptRecords.{block_in, kept_batches, kept_entries, kept_in, kept_record, kept_records}
 use Rattle.remount.specs.Rivals.{AreRivals, HasNoRecord, HoldsBlocks, HoldsMore, HoldsRivals, held_after, held_of, no_rivals, rivals_after}
 use Rattle.remount.specs.Scan.{heads_in}
@@ -95,8 +94,7 @@ holds-step first old new entries items i i' same lt next puts so_far =
     let entry = get_or items i 0 in
     let more = put-more (block_in entry) old new puts in
     let split : drop i entries ≡ entry ∷ drop (suc i) entries = rw same (drop-cons items i 0 (omega (arith, lt, ap length same))) in
-    let rest = rw split at so_far.2 in
-    (
+    let rest = rw split at so_far.2 in (
       put-none (block_in entry) old new puts so_far.0,
       λ q some. more q (so_far.1 q some),
       rw next (λ table larger holds. rest table (λ q some. larger q (more q some)) (larger (block_in entry) (put-holds (block_in entry) old new puts), holds)),

@@ -1,5 +1,5 @@
 -- What blocks show, as it is read.
-use Rattle.std.proofs.Common.{◌≡◌, ◌≢◌, ◌⊎◌, inl, inr, ℕ, zero, suc, ◌+◌, ◌<◌, ◌≤◌, Bool, true, false, cond, not, List, [], ◌∷◌, ◌++◌, length, map, drop, get_or, replicate, Option, Some, None, Result, Ok, Err, refl, sym, ap, subst, ◌∙◌, arith}
+use Rattle.std.proofs.Common.{◌≡◌, ◌≢◌, ℕ, suc, ◌<◌, ◌≤◌, Bool, true, false, cond, List, [], ◌∷◌, length, drop, get_or, Option, Some, None, Result, Ok, Err, refl, sym, ap, subst, ◌∙◌, arith}
 use Rattle.std.specs.Prelude.{IfOk}
 use Rattle.std.specs.BTreeMap.{BTreeMap}
 use Rattle.std.specs.List.{AllByRecursion}
@@ -17,7 +17,7 @@ use Rattle.remount.specs.declared.records.KeptRecord.{KeptRecord}
 use Rattle.remount.specs.declared.reported.ReportedZone.{ReportedZone}
 use Rattle.remount.specs.declared.rivals.Rivals.{Rivals}
 use Rattle.remount.specs.Clearing.{AllStand, FindsNeeded, IfStands, ShowsSame, StandsAt, Tells}
-use Rattle.remount.specs.KeptRecords.{block_in, is_absent, kept_record}
+use Rattle.remount.specs.KeptRecords.{block_in, kept_record}
 use Rattle.remount.specs.Reported.{IsKnown, KeepsZones}
 use Rattle.remount.specs.Rivals.{AreRivals, HoldsBlocks, HoldsRivals, held_of}
 use Rattle.remount.specs.Scan.{block_of, blocks_of}
@@ -38,8 +38,6 @@ if-kept old new (Some r) kept stands = stands-kept old new r kept stands
 
 pub all-kept : (old new : DriveState) (logs : List (List Batch)) → KeepsZones old new → AllStand old logs → AllStand new logs
 all-kept old new logs kept all = all-weaker (StandsAt old) (StandsAt new) (records 0 logs) (λ r stands. stands-kept old new r kept stands) all
-
--- ---- what a record shows
 
 -- ---- whether a block shows the same
 

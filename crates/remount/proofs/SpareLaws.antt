@@ -1,39 +1,34 @@
 -- When nothing is lost with a zone.
-use Rattle.std.proofs.Common.{◌≡◌, ◌≢◌, ◌⊎◌, inl, inr, ℕ, zero, suc, ◌+◌, ◌-◌, ◌^◌, ◌<◌, ◌≤◌, Bool, true, false, cond, List, [], ◌∷◌, ◌++◌, length, map, get_or, set, Option, Some, None, refl, sym, ap, subst, ◌∙◌, arith}
-use Rattle.std.specs.Prelude.{Contains, slice_get}
+use Rattle.std.proofs.Common.{◌≡◌, ◌≢◌, ◌⊎◌, inl, inr, ℕ, zero, suc, ◌+◌, ◌^◌, ◌<◌, ◌≤◌, List, [], ◌∷◌, length, map, get_or, Option, Some, None, refl, sym, ap, subst, ◌∙◌, arith}
 use Rattle.std.specs.List.{AllByRecursion, range_with_len}
-use Rattle.std.specs.Option.{IsSome, option_map}
-use Rattle.std.proofs.lemmas.Bool.{cases_eq, cases_lt}
-use Rattle.std.proofs.lemmas.List.{length-map, length-set, map-set}
+use Rattle.std.proofs.lemmas.Bool.{cases_eq}
+use Rattle.std.proofs.lemmas.List.{length-map}
 use Rattle.std.proofs.lemmas.List.FromFn.{get_or-map-range_with_len}
-use Rattle.zone_states.specs.declared.geometry.Geometry.{Geometry}
 use Rattle.drive_port.specs.Contents.{Content, content_at, content_of, contents, is_full, nothing}
 use Rattle.drive_port.specs.Drive.{DriveState}
 use Rattle.drive_port.proofs.ClosingLaws.{length-closing}
 use Rattle.batch_log.specs.declared.header.Entry.{Entry}
-use Rattle.batch_log.specs.Log.{Batch, batch_size, one_unless}
+use Rattle.batch_log.specs.Log.{Batch, batch_size}
 use Rattle.zone_choice.specs.Agreement.{drive_logs}
-use Rattle.zone_choice.specs.Mountable.{AreSound, IsInside}
+use Rattle.zone_choice.specs.Mountable.{IsInside}
 use Rattle.zone_choice.specs.Records.{IsNewest, Record, batch_records, log_records, newest, records, shown, without}
-use Rattle.zone_choice.specs.Reserve.{FitsReserve}
-use Rattle.zone_choice.specs.Sizes.{array_of, encoded_size}
-use Rattle.zone_choice.specs.Spare.{IsHalfClean, IsPart, IsSpare}
-use Rattle.zone_choice.specs.ZoneLogs.{HasLog, log_at, readable, zone_log, zone_logs}
+use Rattle.zone_choice.specs.Sizes.{encoded_size}
+use Rattle.zone_choice.specs.Spare.{IsSpare}
+use Rattle.zone_choice.specs.ZoneLogs.{HasLog, log_at, readable, zone_log}
 use Rattle.zone_choice.proofs.AllLaws.{all-append, all-at, all-parts, all-weaker}
 use Rattle.zone_choice.proofs.NewestLaws.{map_same, newest-is}
 use Rattle.zone_choice.proofs.ReadLaws.{StandsIn, all-among, zone_stands}
 use Rattle.zone_choice.proofs.SizeLaws.{inside-records}
 use Rattle.zone_choice.proofs.ZoneLogLaws.{log_at-zone}
 use Rattle.remount.specs.declared.survey.Survey.{Survey}
-use Rattle.remount.specs.Clearing.{AllStand, IfStands, ShowsSame, StandsAt}
-use Rattle.remount.specs.Heads.{heads_of, kept_entry}
+use Rattle.remount.specs.Clearing.{AllStand, ShowsSame, StandsAt}
+use Rattle.remount.specs.Heads.{kept_entry}
 use Rattle.remount.specs.KeptRecords.{block_in}
 use Rattle.remount.specs.Known.{Knows}
 use Rattle.remount.specs.Reported.{KeepsZones}
-use Rattle.remount.specs.Scan.{block_of, blocks_of}
-use Rattle.remount.proofs.HeadRecordLaws.{entries-are, entries-named, entries_of}
+use Rattle.remount.proofs.HeadRecordLaws.{entries-named, entries_of}
 use Rattle.remount.proofs.OutsideLaws.{log-zone, none-outside, outside-is, records-from, stays-outside}
-use Rattle.remount.proofs.ReadLaws.{kept-blocks, kept-contents}
+use Rattle.remount.proofs.ReadLaws.{kept-contents}
 use Rattle.remount.proofs.SurveyLaws.{known-kept}
 
 -- ---- what is known stays so
@@ -85,7 +80,7 @@ records-stand drive first (log ∷ logs) has le part =
         let log_is : log ≡ zone_log drive.geometry content = same ∙ ap (λ (i : ℕ). log_at (drive_logs drive) i) zero_more ∙ log_at-zone drive.geometry (contents drive.zones) first in
         let is_log = all-at (HasLog drive.geometry) (contents drive.zones) first nothing has (omega (arith, le, length-map drive.zones content_of)) in
         rw log_is (all-weaker (StandsIn (readable drive.geometry content) [] first) (StandsAt drive) (log_records first 0 (zone_log drive.geometry content)) one
-            (zone_stands drive.geometry.block first (is_full content.usage) (readable drive.geometry content) (zone_log drive.geometry content) [] is_log))
+        (zone_stands drive.geometry.block first (is_full content.usage) (readable drive.geometry content) (zone_log drive.geometry content) [] is_log))
 
 pub knows-stand : (drive : DriveState) (n : ℕ) (logs : List (List Batch)) (survey : Survey) → Knows drive n logs survey → AllStand drive logs
 knows-stand drive n logs survey known = records-stand drive 0 logs known.all_logs (omega (arith, known.count)) (λ k. let same : 0 + k ≡ k = omega arith in rw same (known.part k))

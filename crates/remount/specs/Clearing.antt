@@ -1,5 +1,5 @@
 -- What is found of the zones that a mount empties.
-use Rattle.std.specs.Prelude.{◌≡◌, ◌≢◌, ℕ, ◌<◌, Bool, true, false, List, [], ◌∷◌, length, map, slice_get, slice_index_or, slice_set, Option, Some, None}
+use Rattle.std.specs.Prelude.{◌≡◌, ℕ, ◌<◌, Bool, true, false, List, [], ◌∷◌, length, map, slice_get, slice_set, Option, Some, None}
 use Rattle.std.specs.BTreeMap.{BTreeMap}
 use Rattle.std.specs.List.{AllByRecursion}
 use Rattle.drive_port.specs.Drive.{DriveState}
@@ -20,7 +20,7 @@ abbrev pub Tells : Bool → Type 0 → Type 0
 Tells true P = P
 Tells false P = P → ⊥
 
--- the heads of all zones are those of these logs
+-- the headers that are kept of all zones are those of these logs
 abbrev pub AreOf : List ScannedZone → List (List Batch) → Type 0
 AreOf scanned logs = heads_in scanned ≡ map heads_of logs
 
@@ -30,14 +30,16 @@ AreOf scanned logs = heads_in scanned ≡ map heads_of logs
 abbrev pub StandsAt : DriveState → Record → Type 0
 StandsAt drive r = (bytes : List ℕ) → r.content ≡ Some bytes → (r.zone < length drive.zones) × (r.offset < length (blocks_of drive r.zone)) × (block_of drive r.zone r.offset ≡ bytes)
 
+-- and so does that of the record, if there is one
 abbrev pub IfStands : DriveState → Option Record → Type 0
 IfStands drive None = Unit {0}
 IfStands drive (Some r) = StandsAt drive r
 
+-- the data of all records stands at its place
 abbrev pub AllStand : DriveState → List (List Batch) → Type 0
 AllStand drive logs = AllByRecursion (StandsAt drive) (records 0 logs)
 
--- without a zone a block shows the same
+-- a block shows the same without a zone
 abbrev pub ShowsSame : ℕ → List (List Batch) → ℕ → ℕ → Type 0
 ShowsSame block_bytes logs zone block = shown block_bytes (newest block (records 0 (without logs zone))) ≡ shown block_bytes (newest block (records 0 logs))
 
@@ -56,6 +58,7 @@ CoversZone scanned table zone = (found : ScannedZone) → slice_get scanned zone
 abbrev pub CoversMoved : List (List Batch) → List ScannedZone → BTreeMap ℕ Rivals → Type 0
 CoversMoved logs scanned table = (zone : ℕ) → IsMoved logs zone → CoversZone scanned table zone
 
+-- the lowest half clean zone, or that there is none
 abbrev pub FindsLowest : ℕ → ℕ → List (List Batch) → Option ℕ → Type 0
 FindsLowest block_bytes n logs (Some zone) = IsLowest block_bytes n logs zone
 FindsLowest block_bytes n logs None = NoneBelow block_bytes n logs (length logs)

@@ -1,5 +1,5 @@
 -- The records of a zone's batches, read from the headers that are kept: all but their data.
-use Rattle.std.specs.Prelude.{◌≡◌, ℕ, suc, ◌+◌, ◌-◌, ◌^◌, nat_le, if◌then◌else◌, Bool, true, false, List, [], ◌∷◌, ◌++◌, take, drop, Option, Some, None}
+use Rattle.std.specs.Prelude.{ℕ, suc, ◌+◌, ◌-◌, ◌^◌, nat_le, if◌then◌else◌, Bool, true, false, List, [], ◌∷◌, ◌++◌, take, drop, Option, Some, None}
 use Rattle.batch_log.specs.Log.{one_unless}
 use Rattle.zone_choice.specs.Records.{Record, entry_offset}
 use Rattle.remount.specs.declared.heads.Head.{Head}

@@ -58,5 +58,6 @@ pub record AreRivals (logs : List (List Batch)) (block : ℕ) (rivals : Rivals) 
   pub newest_is : rivals.newest ≡ option_map kept_record (newest block (records 0 logs))
   pub other_is : (r : Record) → newest block (records 0 logs) ≡ Some r → rivals.other ≡ option_map kept_record (newest block (records 0 (without logs r.zone)))
 
+-- and a table has them of all blocks that it holds
 abbrev pub HoldsRivals : List (List Batch) → BTreeMap ℕ Rivals → Type 0
 HoldsRivals logs table = (block : ℕ) (rivals : Rivals) → held_of table block ≡ Some rivals → AreRivals logs block rivals

@@ -135,7 +135,15 @@ pub fn examine_zone<D: Device>(
     note_all(&mut table, &survey.scanned);
     let mut first = Vec::new(alloc);
     let mut second = Vec::new(alloc);
-    examine_by(device, survey, blocks, &table, zone, &mut first, &mut second)
+    examine_by(
+        device,
+        survey,
+        blocks,
+        &table,
+        zone,
+        &mut first,
+        &mut second,
+    )
 }
 
 /// Finds the zones that a mount has to empty before it repairs the drive: the lowest half clean one, again and

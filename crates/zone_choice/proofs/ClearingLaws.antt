@@ -38,7 +38,7 @@ without-part logs zone other = elim (cases_eq other zone) as (λ _. (log_at (wit
   | inr apart ↦ inl (get_or-set_other logs zone other [] [] apart)
 ]
 
-part-trans : (a b c : List (List Batch)) → IsPart a b → IsPart b c → IsPart a c
+pub part-trans : (a b c : List (List Batch)) → IsPart a b → IsPart b c → IsPart a c
 part-trans a b c ab bc zone = joined (ab zone) (bc zone)
   where
     joined : (log_at b zone ≡ log_at a zone) ⊎ (log_at b zone ≡ []) → (log_at c zone ≡ log_at b zone) ⊎ (log_at c zone ≡ []) → (log_at c zone ≡ log_at a zone) ⊎ (log_at c zone ≡ [])

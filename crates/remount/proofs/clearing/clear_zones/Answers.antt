@@ -1,4 +1,4 @@
-use Rattle.std.proofs.Common.{◌≡◌, [], Some, None, inl, inr, refl, sym, ap, ◌∙◌, arith}
+use Rattle.std.proofs.Common.{Some, None, inr, refl, sym, ◌∙◌}
 use Rattle.std.proofs.lemmas.Bool.{eqb-true}
 use Rattle.std.proofs.lemmas.List.{nil_from_length}
 use Rattle.zone_choice.specs.Agreement.{drive_logs}
@@ -25,8 +25,8 @@ loop-resets-smaller g c =
 pub loop-resets-preserved : goal.loop-resets-preserved
 loop-resets-preserved g c = (
   clears-more (g.D.Device.drive c.args.device.now) (g.D.Device.drive c.loop-resets.device) (g.D.Device.drive c.lowest_half_clean.new.device) c.args.blocks c.loop-resets.survey _ c.loop-resets.resets.items c.push.new.self.items c.in-Some.zone c.loop-resets.invariant.0 c.lowest_half_clean.ensures.kept
-  (lowest-known (g.D.Device.drive c.args.device.now) (g.D.Device.drive c.loop-resets.device) (g.D.Device.drive c.lowest_half_clean.new.device) c.args.blocks c.loop-resets.survey c.loop-resets.resets.items (Some c.in-Some.zone) c.loop-resets.invariant.0 (rw c.in-Some.is at c.in_ok-zone.ensures.ok))
-  (record { heads = c.forget.ensures.heads; tails = c.forget.ensures.tails; zones = refl; size = refl }) (rw c.if-is_err.ensures.negation at c.push.ensures.items),
+      (lowest-known (g.D.Device.drive c.args.device.now) (g.D.Device.drive c.loop-resets.device) (g.D.Device.drive c.lowest_half_clean.new.device) c.args.blocks c.loop-resets.survey c.loop-resets.resets.items (Some c.in-Some.zone) c.loop-resets.invariant.0 (rw c.in-Some.is at c.in_ok-zone.ensures.ok))
+      (record { heads = c.forget.ensures.heads; tails = c.forget.ensures.tails; zones = refl; size = refl }) (rw c.if-is_err.ensures.negation at c.push.ensures.items),
   c.loop-resets.invariant.1,
 )
 
@@ -53,11 +53,13 @@ pub returns-then-has_vacant-clause-kept : goal.returns-then-has_vacant-clause-ke
 returns-then-has_vacant-clause-kept g c = keeps-both _ _ _ c.loop-resets.invariant.0.kept c.lowest_half_clean.ensures.kept
 
 pub returns-clause-err : goal.returns-clause-err
-returns-clause-err g c = inr (inr (refl,
-    no-spare (g.D.Device.drive c.args.device.now) (g.D.Device.drive c.loop-resets.device) c.args.blocks c.loop-resets.survey c.loop-resets.resets.items c.loop-resets.invariant.0
-    (lowest-known (g.D.Device.drive c.args.device.now) (g.D.Device.drive c.loop-resets.device) (g.D.Device.drive c.lowest_half_clean.new.device) c.args.blocks c.loop-resets.survey c.loop-resets.resets.items None c.loop-resets.invariant.0 (rw c.in_default.is at c.in_ok-zone.ensures.ok))
-    (nil_from_length c.loop-resets.resets.items (sym c.loop-resets.resets.ok.0 ∙ eqb-true _ 0 (sym c.is_empty.ensures ∙ c.if-not-is_empty.false)))
-    ((rw (c.deref.ensures.value, c.if-has_vacant.false) at c.has_vacant.ensures) _ c.loop-resets.invariant.0.known.heads)))
+returns-clause-err g c = inr (inr (
+  refl,
+  no-spare (g.D.Device.drive c.args.device.now) (g.D.Device.drive c.loop-resets.device) c.args.blocks c.loop-resets.survey c.loop-resets.resets.items c.loop-resets.invariant.0
+      (lowest-known (g.D.Device.drive c.args.device.now) (g.D.Device.drive c.loop-resets.device) (g.D.Device.drive c.lowest_half_clean.new.device) c.args.blocks c.loop-resets.survey c.loop-resets.resets.items None c.loop-resets.invariant.0 (rw c.in_default.is at c.in_ok-zone.ensures.ok))
+      (nil_from_length c.loop-resets.resets.items (sym c.loop-resets.resets.ok.0 ∙ eqb-true _ 0 (sym c.is_empty.ensures ∙ c.if-not-is_empty.false)))
+      ((rw (c.deref.ensures.value, c.if-has_vacant.false) at c.has_vacant.ensures) _ c.loop-resets.invariant.0.known.heads),
+))
 
 pub returns-clause-kept : goal.returns-clause-kept
 returns-clause-kept g c = keeps-both _ _ _ c.loop-resets.invariant.0.kept c.lowest_half_clean.ensures.kept

@@ -1,4 +1,3 @@
-use Rattle.std.proofs.Common.{◌≡◌, sym, ap, ◌∙◌}
 use Rattle.remount.proofs.FindLaws.{examine-half, examine-needs, examine-size, found-in}
 use Rattle.remount.proofs.ReadLaws.{keeps-none}
 use Rattle.remount.proofs.clearing.examine_by.Goals as goal

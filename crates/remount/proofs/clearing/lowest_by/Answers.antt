@@ -1,4 +1,4 @@
-use Rattle.std.proofs.Common.{◌≡◌, ◌<◌, length, sym, ap, ◌∙◌, arith}
+use Rattle.std.proofs.Common.{arith}
 use Rattle.remount.proofs.FindLaws.{lowest-here, lowest-none, none-more}
 use Rattle.remount.proofs.ReadLaws.{keeps-both, keeps-none}
 use Rattle.remount.proofs.SurveyLaws.{known-kept}

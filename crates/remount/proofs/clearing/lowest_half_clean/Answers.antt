@@ -1,5 +1,4 @@
-use Rattle.std.proofs.Common.{◌≡◌, sym, ap, ◌∙◌}
-use Rattle.remount.proofs.FindLaws.{LowestOf, TellsLowest, lowest-by, lowest-ok, lowest-unmoved}
+use Rattle.remount.proofs.FindLaws.{LowestOf, TellsLowest, lowest-by, lowest-ok}
 use Rattle.remount.proofs.ReadLaws.{keeps-none}
 use Rattle.remount.proofs.clearing.lowest_half_clean.Goals as goal
 

@@ -1,4 +1,4 @@
-use Rattle.std.proofs.Common.{◌≡◌, refl}
+use Rattle.std.proofs.Common.{refl}
 use Rattle.remount.proofs.FindLaws.{forgets-heads, forgets-tails}
 use Rattle.remount.proofs.moved.forget.Goals as goal
 

@@ -1,4 +1,4 @@
-use Rattle.std.proofs.Common.{◌≡◌, sym, ◌∙◌, arith}
+use Rattle.std.proofs.Common.{sym, ◌∙◌}
 use Rattle.std.proofs.lemmas.Bool.{eqb-true, eq-eqb}
 use Rattle.remount.proofs.MovedLaws.{none-vacant, not-vacant, vacant-here}
 use Rattle.remount.proofs.moved.has_vacant.Goals as goal

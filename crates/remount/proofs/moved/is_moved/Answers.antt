@@ -1,4 +1,4 @@
-use Rattle.std.proofs.Common.{◌≡◌, inl, inr, true, false, sym, ap, ◌∙◌, refl}
+use Rattle.std.proofs.Common.{inl, inr, sym, ◌∙◌}
 use Rattle.remount.proofs.MovedLaws.{first-missing, not-there, not-told, tells-older, there, victim-missing}
 use Rattle.remount.proofs.moved.is_moved.Goals as goal
 

@@ -1,4 +1,4 @@
-use Rattle.std.proofs.Common.{◌≡◌, ℕ, ◌<◌, List}
+use Rattle.std.proofs.Common.{ℕ, ◌<◌, List}
 use Rattle.batch_log.specs.Log.{Batch}
 use Rattle.remount.specs.Clearing.{AreOf, CoversZone}
 use Rattle.zone_choice.specs.Repairing.{IsMoved}

@@ -1,4 +1,4 @@
-use Rattle.std.proofs.Common.{◌≡◌, ℕ, ◌-◌, ◌<◌, drop}
+use Rattle.std.proofs.Common.{◌≡◌, drop}
 use Rattle.zone_choice.specs.Sizes.{larger}
 use Rattle.remount.specs.Clearing.{forgotten}
 use Rattle.remount.specs.Scan.{heads_in}

@@ -1,6 +1,4 @@
-use Rattle.std.proofs.Common.{◌≡◌, length, drop, refl, sym, ap, ◌∙◌, arith}
-use Rattle.std.proofs.lemmas.List.{drop_all}
-use Rattle.remount.specs.Rivals.{HoldsBlocks}
+use Rattle.std.proofs.Common.{sym, arith}
 use Rattle.remount.proofs.RivalLaws.{holds-step, holds-all}
 use Rattle.remount.proofs.rivals.hold_blocks.Goals as goal
 

@@ -1,4 +1,4 @@
-use Rattle.std.proofs.Common.{◌≡◌, arith}
+use Rattle.std.proofs.Common.{arith}
 use Rattle.remount.proofs.RivalLaws.{zone-step}
 use Rattle.remount.proofs.rivals.note_all.Goals as goal
 

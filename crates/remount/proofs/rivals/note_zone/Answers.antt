@@ -1,4 +1,4 @@
-use Rattle.std.proofs.Common.{◌≡◌, get_or, refl, arith}
+use Rattle.std.proofs.Common.{get_or, refl, arith}
 use Rattle.remount.specs.declared.heads.Head.{Head}
 use Rattle.remount.proofs.RivalLaws.{batch-step}
 use Rattle.remount.proofs.rivals.note_zone.Goals as goal

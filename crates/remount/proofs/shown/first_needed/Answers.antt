@@ -1,4 +1,4 @@
-use Rattle.std.proofs.Common.{◌≡◌, arith}
+use Rattle.std.proofs.Common.{arith}
 use Rattle.remount.proofs.ReadLaws.{keeps-both, keeps-none}
 use Rattle.remount.proofs.SurveyLaws.{known-kept}
 use Rattle.remount.proofs.ShowLaws.{needed-here, none-needed, same-more}

@@ -1,4 +1,3 @@
-use Rattle.std.proofs.Common.{◌≡◌, length, arith}
 use Rattle.remount.proofs.ReadLaws.{keeps-none}
 use Rattle.remount.proofs.shown.read_shown.Goals as goal
 

@@ -1,4 +1,3 @@
-use Rattle.std.proofs.Common.{◌≡◌, sym, ap}
 use Rattle.std.specs.Cmp.Lexicographic.{other_text, same_text}
 use Rattle.remount.proofs.ReadLaws.{keeps-both}
 use Rattle.remount.proofs.SurveyLaws.{known-kept}

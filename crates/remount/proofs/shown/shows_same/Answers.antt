@@ -1,4 +1,4 @@
-use Rattle.std.proofs.Common.{◌≡◌, sym, ap, ◌∙◌}
+use Rattle.std.proofs.Common.{sym}
 use Rattle.remount.proofs.ReadLaws.{keeps-none}
 use Rattle.remount.proofs.ShowLaws.{TellsBlock, TellsRivals, same-absent, same-apart, same-told, told-ok}
 use Rattle.remount.proofs.shown.shows_same.Goals as goal
