@@ -16,4 +16,4 @@ pub mod EmptyLaws
 pub mod ToEmptyLaws
 pub mod FinishLaws
 pub mod TornLaws
-pub mod PlanLaws
+pub mod TornPlanLaws
