@@ -106,5 +106,4 @@ pub no-spare : (first now : DriveState) (n : ℕ) (survey : Survey) (resets : Li
 no-spare first now n survey resets so_far none empty vacant has =
     let none' = rw empty at none in
     let vacant' = rw empty at vacant in
-use Rattle.remount.specs.Known.{HasVacant}
-use Rattle.remount.specs.Clearing.{FindsLowest, forgotten}
+    elim has.spare as (λ _. ⊥) [ inl is ↦ vacant' (record { zone = has.zone; in_range = has.in_range; vacant = is }) | inr half ↦ none' has.zone has.in_range half ]

@@ -29,7 +29,7 @@ pub mod EmptyLaws
 pub mod ToEmptyLaws
 pub mod FinishLaws
 pub mod TornLaws
-pub mod PlanLaws
+pub mod TornPlanLaws
 pub mod CallLaws
 pub mod MoveBuildLaws
 pub mod TakingLaws

@@ -38,7 +38,7 @@ use Rattle.zone_choice.proofs.ClearingLaws.{clearing_keeps, one_clearing}
 use Rattle.remount.proofs.AllScanLaws.{there-is}
 use Rattle.remount.proofs.KeepLaws.{keeps-mountable-both}
 use Rattle.remount.proofs.NextLaws.{fails-more}
-use Rattle.remount.proofs.PlanLaws.{sequences-kept}
+use Rattle.remount.proofs.TornPlanLaws.{sequences-kept}
 use Rattle.remount.proofs.ReadLaws.{keeps-both, kept-contents}
 
 -- ---- what is kept

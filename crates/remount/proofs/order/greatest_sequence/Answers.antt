@@ -1,7 +1,7 @@
 use Rattle.std.proofs.Common.{List, ◌≡◌, ap, ◌∙◌}
 use Rattle.remount.specs.Heads.{HeadsView, greatest_sequence}
 use Rattle.remount.specs.Torn.{sequences_in}
-use Rattle.remount.proofs.PlanLaws.{sequences-kept}
+use Rattle.remount.proofs.TornPlanLaws.{sequences-kept}
 use Rattle.remount.proofs.order.greatest_sequence.Goals as goal
 
 pub returns : goal.returns

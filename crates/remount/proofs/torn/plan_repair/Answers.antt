@@ -5,7 +5,7 @@ use Rattle.remount.specs.declared.scan.ScannedZone.{ScannedZone}
 use Rattle.remount.specs.Heads.{greatest_sequence}
 use Rattle.remount.specs.Scan.{heads_in}
 use Rattle.remount.specs.Torn.{IsNextTorn, is_torn_in, sequences_in}
-use Rattle.remount.proofs.PlanLaws.{IsReady, answer-past, answer-plan, answer-spent, answer-two, can-count, can-plan, none-of, none-torn, some-of}
+use Rattle.remount.proofs.TornPlanLaws.{IsReady, answer-past, answer-plan, answer-spent, answer-two, can-count, can-plan, none-of, none-torn, some-of}
 use Rattle.remount.proofs.torn.plan_repair.Goals as goal
 
 pub returns-in_default-clause-ok : goal.returns-in_default-clause-ok
