@@ -38,7 +38,7 @@ after-blocks : (view : HeadsView) (log : List Batch) → (heads_after view log).
 after-blocks view [] = omega arith
 after-blocks view (b ∷ bs) = omega (arith, after-blocks (with_heading view b.heading) bs)
 
-heads-blocks : (log : List Batch) → (heads_of log).blocks ≡ log_size log
+pub heads-blocks : (log : List Batch) → (heads_of log).blocks ≡ log_size log
 heads-blocks log = omega (arith, after-blocks no_heads log)
 
 pub logs-emptied : (n : ℕ) (start new : DriveState) (plan : MovePlan) (made : List Batch) → EmptiesTorn n start new plan made → drive_logs new ≡ set (set (drive_logs start) plan.into made) plan.torn []
