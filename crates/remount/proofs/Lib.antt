@@ -12,7 +12,7 @@ pub mod SurveyLaws
 pub mod CallLaws
 pub mod MoveBuildLaws
 pub mod TakingLaws
-pub mod PlanLaws
+pub mod MovePlanLaws
 pub mod MovingLaws
 pub mod MakingLaws
 pub mod SettleLaws

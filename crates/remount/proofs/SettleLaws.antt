@@ -41,7 +41,7 @@ use Rattle.remount.specs.Moving.{CanMove, EmptiesTorn, IsAtMove, IsMoving, Sourc
 use Rattle.remount.proofs.CallLaws.{StartsAt, can-reset, mountable-both, mountable-same, starts-at}
 use Rattle.remount.proofs.MakingLaws.{at-most, count-before}
 use Rattle.remount.proofs.MovingLaws.{moving-mounts, moving-known, moving-other, moving-small, torn-apart}
-use Rattle.remount.proofs.PlanLaws.{named-blocks, size-either, within-by}
+use Rattle.remount.proofs.MovePlanLaws.{named-blocks, size-either, within-by}
 
 -- ---- all blocks are named
 

@@ -69,11 +69,3 @@ heads_after view (batch ∷ log) = heads_after (with_heading view batch.heading)
 
 abbrev pub heads_of : List Batch → HeadsView
 heads_of log = heads_after no_heads log
-
-abbrev pub sequence_of : Head → ℕ
-sequence_of head = head.sequence
-
--- the greatest sequence, 0 where there is none
-abbrev pub greatest_sequence : List ℕ → ℕ
-greatest_sequence [] = 0
-greatest_sequence (sequence ∷ others) = max sequence (greatest_sequence others)

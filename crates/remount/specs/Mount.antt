@@ -25,7 +25,6 @@ use Rattle.remount.specs.declared.fault.MountFault.TheVariants.{NoSpare, Spent, 
 use Rattle.remount.specs.declared.reported.ReportedZone.{ReportedZone}
 use Rattle.remount.specs.declared.repair.Repair.{Repair}
 use Rattle.remount.specs.declared.survey.Survey.{Survey}
-use Rattle.remount.specs.Heads.{greatest_sequence}
 use Rattle.remount.specs.Known.{AreVacantEmpty}
 use Rattle.remount.specs.Survey.{AreInside, CanScan, HoldLogs, SurveyFails, drive_size}
 
@@ -105,6 +104,11 @@ pub record IsRepaired (drive : DriveState) (survey : Survey) : Type 0 where
   pub vacant : HasVacant (drive_logs drive)
 
 -- ---- the mount
+
+-- the greatest sequence, 0 where there is none
+abbrev pub greatest_sequence : List ℕ → ℕ
+greatest_sequence [] = 0
+greatest_sequence (sequence ∷ others) = max sequence (greatest_sequence others)
 
 -- of two zones that are partly written the lower is the host zone, and the other the next one
 abbrev pub AreInOrder : Option Filling → Option Second → Type 0

@@ -1,6 +1,6 @@
 ghost use Rattle.std.specs.Prelude.{◌≡◌, ◌+◌, ◌<◌, ◌^◌, ◌++◌, length, map, OnOk};
 ghost use Rattle.batch_log.specs.Log.{data_count};
-ghost use Rattle.remount.specs.Heads.{greatest_sequence, highest_of, is_move, kept_bit, kept_block, kept_entry, no_heads, sequence_of, source_with, with_heading};
+ghost use Rattle.remount.specs.Heads.{highest_of, is_move, kept_bit, kept_block, kept_entry, no_heads, source_with, with_heading};
 ghost use Rattle.zone_choice.specs.Sizes.{larger};
 
 use batch_log::{Entry, HeaderView, Kind};
@@ -149,24 +149,6 @@ impl ZoneHeads {
         ensures { result ≡ self.now.highest }
     {
         self.highest
-    }
-
-    /// The greatest sequence of the batches, 0 where there is none.
-    pub fn greatest_sequence(&self) -> u64
-        ensures { result ≡ greatest_sequence (map sequence_of self.now.heads) }
-    {
-        let mut greatest = 0;
-        for head in &self.heads {
-            greatest = greatest.max(head.sequence);
-        }
-        greatest
-    }
-
-    /// Whether all batches are Moves from that zone.
-    pub fn are_moves(&self) -> bool
-        ensures { result ≡ self.now.are_moves }
-    {
-        self.are_moves
     }
 
     fn source_with(&self, source: u32) -> u32

@@ -27,9 +27,9 @@ mod moves;
 mod order;
 mod places;
 mod repair;
-mod settle;
 mod reported;
 mod scan;
+mod settle;
 mod steps;
 mod survey;
 

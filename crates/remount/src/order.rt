@@ -1,56 +1,21 @@
-ghost use Rattle.std.specs.Prelude.{◌≡◌, ◌<◌, ◌^◌, ◌++◌, [], ◌∷◌, List, length, map, IfErr, IfOk, OnOk};
-ghost use Rattle.batch_log.specs.Log.{Batch};
+ghost use Rattle.std.specs.Prelude.{◌≡◌, length, IfErr, IfOk};
 ghost use Rattle.drive_port.specs.Contents.{contents};
 ghost use Rattle.zone_choice.specs.Agreement.{drive_logs};
 ghost use Rattle.zone_choice.specs.Spare.{NoneBelow};
-ghost use Rattle.zone_choice.specs.ZoneLogs.{sequences, zone_tails};
-ghost use Rattle.remount.specs.Heads.{greatest_sequence, heads_of};
-ghost use Rattle.remount.specs.Known.{Finds, Knows};
+ghost use Rattle.zone_choice.specs.ZoneLogs.{zone_tails};
+ghost use Rattle.remount.specs.Known.{Knows};
 ghost use Rattle.remount.specs.Mount.{IsPlan};
 ghost use Rattle.remount.specs.Moving.{IsMovePlan, early_size, others, ordered};
 ghost use Rattle.remount.specs.Reported.{KeepsZones};
-ghost use Rattle.remount.specs.Scan.{FailsBy, heads_in};
+ghost use Rattle.remount.specs.Scan.{FailsBy};
 
-use crate::clearing::{Finding, examine_zone};
+use crate::clearing::Finding;
 use crate::fault::MountFault;
 use crate::moves::MovePlan;
 use crate::repair::Repair;
-use crate::scan::ScannedZone;
 use crate::survey::Survey;
 use drive_port::Device;
 use std::alloc::{AllocError, Global};
-use zone_choice::batch_most;
-
-/// The greatest sequence of all batches, 0 where there is none.
-fn greatest_sequence(scanned: &[ScannedZone]) -> u64
-    ensures { (logs : List (List Batch)) → heads_in scanned.now ≡ map heads_of logs → result ≡ greatest_sequence (sequences logs) }
-{
-    let mut greatest = 0;
-    for zone in scanned {
-        greatest = zone.heads.greatest_sequence().max(greatest);
-    }
-    greatest
-}
-
-/// Why the torn zone is not half clean. Only a zone of Moves is looked at.
-fn why_needed<D: Device>(
-    alloc: Global,
-    device: &mut D,
-    survey: &Survey,
-    blocks: u32,
-    zone: u32,
-) -> Result<Finding, MountFault>
-    requires known { Knows (D.drive device.old) blocks (drive_logs (D.drive device.old)) survey.now }
-    requires zone { zone < length (D.drive device.old).zones }
-    ensures ok { IfOk result (Finds (D.drive device.old).geometry.block blocks (drive_logs (D.drive device.old)) zone) }
-    ensures err { IfErr result (FailsBy (λ _. ⊥) (D.drive device.new)) }
-    ensures kept { KeepsZones (D.drive device.old) (D.drive device.new) }
-{
-    if !survey.scanned[zone as usize].heads.are_moves() {
-        return Ok(Finding::NotMoves);
-    }
-    examine_zone(alloc, device, survey, blocks, zone)
-}
 
 /// All of these blocks but one.
 fn others(alloc: Global, blocks: &[u32], last: u32) -> Result<Vec<u32>, AllocError>
@@ -66,7 +31,7 @@ fn others(alloc: Global, blocks: &[u32], last: u32) -> Result<Vec<u32>, AllocErr
 }
 
 /// The order in which the blocks are moved: the one that the torn zone is needed for comes last.
-fn ordered(alloc: Global, blocks: &[u32], why: Finding) -> Result<Vec<u32>, AllocError>
+pub(crate) fn ordered(alloc: Global, blocks: &[u32], why: Finding) -> Result<Vec<u32>, AllocError>
     ensures { IfOk result (λ order. order.items ≡ ordered blocks.now why) }
 {
     let mut order = Vec::new(alloc);
@@ -81,7 +46,7 @@ fn ordered(alloc: Global, blocks: &[u32], why: Finding) -> Result<Vec<u32>, Allo
 }
 
 /// The size that all Moves but the last one say: none if the torn zone is needed for the size.
-fn early_size(size: Option<u32>, why: Finding) -> Option<u32>
+pub(crate) fn early_size(size: Option<u32>, why: Finding) -> Option<u32>
     ensures { result ≡ early_size size why }
 {
     match why {
