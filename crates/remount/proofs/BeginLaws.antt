@@ -28,13 +28,16 @@ use Rattle.remount.specs.declared.moves.MovePlan.{MovePlan}
 use Rattle.remount.specs.declared.repair.Repair.{Repair}
 use Rattle.remount.specs.declared.reported.ReportedZone.{ReportedZone}
 use Rattle.remount.specs.declared.survey.Survey.{Survey}
-use Rattle.remount.specs.Heads.{no_heads}
+use Rattle.remount.specs.declared.scan.ScannedZone.{ScannedZone}
+use Rattle.remount.specs.Heads.{HeadsView, heads_of, no_heads}
 use Rattle.remount.specs.Known.{AreVacantEmpty, KeepsMountable, Knows}
 use Rattle.remount.specs.Mount.{AreWhole, HasVacant, IsOnlyTorn}
-use Rattle.remount.specs.Moving.{AreSettled, EmptiesTorn, IsAtMove, IsMovePlan, IsMoving, KeepsShut, source_of}
+use Rattle.remount.specs.Moving.{AreSettled, EmptiesTorn, IsAtMove, IsMovePlan, IsMoving, KeepsShut, move_count, moves_before, source_of}
+use Rattle.remount.specs.Reported.{KeepsZones}
 use Rattle.remount.specs.Scan.{AreKnown}
-use Rattle.remount.proofs.CallLaws.{in-get, shut-count, shut-known, shut-knows, shut-logs, shut-mountable, vacant-inactive}
-use Rattle.remount.proofs.NoteLaws.{logs-emptied, tails-emptied, untorn-emptied}
+use Rattle.remount.proofs.CallLaws.{in-get, shut-both, shut-count, shut-known, shut-knows, shut-logs, shut-mountable, vacant-inactive, zones-shut}
+use Rattle.remount.proofs.MakingLaws.{count-before}
+use Rattle.remount.proofs.NoteLaws.{heads-blocks, logs-emptied, tails-emptied, untorn-emptied}
 
 -- ---- a zone that was reported Empty
 
@@ -97,7 +100,7 @@ begins n drive survey torn into mountable none_left known vacant only settled th
       refused = refl;
       count = refl;
       repair = repair_begins g n torn into zones known.zones.lawful.geometry.block mountable.holds (λ zone below half. none_left zone (omega (arith, below, length-map drive.zones content_of)) half) (λ zone ne. settled-alone drive torn zone settled ne)
-        (λ zone tail. tails-only drive survey.zones.items torn zone known.zones vacant only tail) only.torn.batch (omega (arith, lt, length-map drive.zones content_of)) there;
+          (λ zone tail. tails-only drive survey.zones.items torn zone known.zones vacant only tail) only.torn.batch (omega (arith, lt, length-map drive.zones content_of)) there;
       log = ap (zone_log g) there ∙ zone_log-emptied g;
       written = ap (λ (c : Content). length c.blocks) there;
       usage = ap (λ (c : Content). c.usage) there;
@@ -197,3 +200,74 @@ has-empty n drive survey mountable none_left known vacant none =
     by : (zone : ℕ) → zone < length drive.zones → (r : ReportedZone) → slice_get survey.zones.items zone ≡ Some r → IsVacant (drive_logs drive) zone ⊎ IsHalfClean drive.geometry.block n (drive_logs drive) zone → ⊥
     by zone lt r is (inl empty_log) = none zone r is (vacant zone r is empty_log)
     by zone lt r is (inr half) = none_left zone lt half
+
+-- ---- step by step
+
+cleared-kept : (n : ℕ) (old new : DriveState) → IsLawful old → KeepsMountable n old new → drive_logs new ≡ drive_logs old → NoneBelow old.geometry.block n (drive_logs old) (length old.zones) → NoneBelow new.geometry.block n (drive_logs new) (length new.zones)
+cleared-kept n old new was k logs none zone lt half =
+    none zone (omega (arith, lt, was.count, k.lawful.count, ap (λ (g : Geometry). g.zones) k.geometry)) (subst (λ (g : Geometry). IsHalfClean g.block n (drive_logs old) zone) k.geometry (subst (λ (l : List (List Batch)). IsHalfClean new.geometry.block n l zone) logs half))
+
+-- What is left of the drive once no zone but the torn one is open or Closed.
+pub record IsFinished (n : ℕ) (drive : DriveState) (survey : Survey) (torn : ℕ) : Type 0 where
+  pub mountable : IsMountable drive n
+  pub none_left : NoneBelow drive.geometry.block n (drive_logs drive) (length drive.zones)
+  pub known : Knows drive n (drive_logs drive) survey
+  pub vacant : AreVacantEmpty survey.zones.items (drive_logs drive)
+  pub only : IsOnlyTorn (drive_logs drive) (zone_tails (contents drive.zones)) torn
+  pub settled : AreSettled drive torn (length drive.zones)
+
+pub is-finished : (n : ℕ) (old new : DriveState) (survey : Survey) (torn : ℕ) → IsMountable old n → NoneBelow old.geometry.block n (drive_logs old) (length old.zones) → IsOnlyTorn (drive_logs old) (zone_tails (contents old.zones)) torn → KeepsMountable n old new → drive_logs new ≡ drive_logs old
+    → zone_tails (contents new.zones) ≡ zone_tails (contents old.zones) → Knows new n (drive_logs new) survey → AreVacantEmpty survey.zones.items (drive_logs new) → AreSettled new torn (length new.zones) → IsFinished n new survey torn
+is-finished n old new survey torn mountable none only kept logs tails known vacant settled = record {
+  mountable = kept.mountable mountable;
+  none_left = cleared-kept n old new mountable.lawful kept logs none;
+  known = known;
+  vacant = vacant;
+  only = subst (λ (l : List (List Batch)). IsOnlyTorn l (zone_tails (contents new.zones)) torn) (sym logs) (subst (λ (t : List Bool). IsOnlyTorn (drive_logs old) t torn) (sym tails) only);
+  settled = settled;
+}
+
+pub is-prepared : (n : ℕ) (drive : DriveState) (survey : Survey) (torn into : ℕ) (zones : List ReportedZone) → IsFinished n drive survey torn → zones ≡ survey.zones.items → into < length zones → ((r : ReportedZone) → slice_get zones into ≡ Some r → r.state ≡ states.Empty) → IsPrepared n drive survey torn into
+is-prepared n drive survey torn into zones f is lt found =
+    let below : into < length survey.zones.items = omega (arith, lt, ap length is) in
+    let there = in-get survey.zones.items into (record { state = states.Empty; blocks = 0 }) below in
+    record {
+      mountable = f.mountable;
+      none_left = f.none_left;
+      known = f.known;
+      vacant = f.vacant;
+      only = f.only;
+      settled = f.settled;
+      there = reported-emptied drive survey.zones.items into there.0 f.known.zones there.1 (found there.0 (subst (λ (zs : List ReportedZone). slice_get zs into ≡ Some there.0) (sym is) there.1));
+      in_range = omega (arith, below, f.known.zones.count);
+    }
+
+-- The drive after the Close, where the Moves begin.
+pub record IsStarted (n : ℕ) (drive start : DriveState) (survey : Survey) (repair : Repair) (into : ℕ) (plan : MovePlan) : Type 0 where
+  pub kept : KeepsMountable n drive start
+  pub prepared : IsPrepared n start survey repair.zone into
+  pub at : IsAtMove n start start repair.tables plan 0 no_heads
+  pub torn : plan.torn ≡ repair.zone
+
+pub is-started : (n : ℕ) (drive middle start : DriveState) (survey : Survey) (repair : Repair) (into : ℕ) (plan : MovePlan) → IsPrepared n drive survey repair.zone into → KeepsZones drive middle → IsMovePlan drive n survey repair into plan → KeepsShut middle start
+    → (middle.geometry.open < 2 → IsShut start.zones plan.torn) → IsStarted n drive start survey repair into plan
+is-started n drive middle start survey repair into plan p looked is closed shut =
+    let k = shut-both drive middle start (zones-shut drive middle looked) closed in
+    let prepared = prepared-kept n drive start survey repair.zone into k p in
+    let is' = plan-kept n drive start survey repair into plan k is in
+    record {
+      kept = shut-mountable n drive start k;
+      prepared = prepared;
+      at = at-first n start survey repair into plan prepared is' (λ few. shut (subst (λ (g : Geometry). g.open < 2) closed.geometry few));
+      torn = is.torn;
+    }
+
+pub survey-count : (n : ℕ) (drive : DriveState) (survey : Survey) → Knows drive n (drive_logs drive) survey → length survey.scanned.items ≡ length survey.zones.items
+survey-count n drive survey known =
+    omega (arith, ap length known.heads, length-map survey.scanned.items (λ (z : ScannedZone). z.heads), length-map (drive_logs drive) heads_of, known.count, known.zones.count)
+
+pub heads-some : (n : ℕ) (start now : DriveState) (tables : TablesView) (plan : MovePlan) (heads : HeadsView) → IsAtMove n start now tables plan (move_count plan) heads → 1 ≤ heads.blocks
+heads-some n start now tables plan heads a =
+    let source = source_of start tables plan.torn in
+    let made = moves_before source plan (move_count plan) in
+    omega (arith, ap (λ (h : HeadsView). h.blocks) a.heads_are, heads-blocks made, count-before source plan (move_count plan))

@@ -90,7 +90,7 @@ entries-before source plan (suc k) =
     let b = move_by source plan k in
     let rest = entries-before source plan k in
     let more : length (heads_of (moves_before source plan (suc k))).entries ≡ length (heads_of (moves_before source plan k)).entries + length b.heading.entries =
-      ap (λ (h : HeadsView). length h.entries) (heads-more (moves_before source plan k) b) ∙ length-append (heads_of (moves_before source plan k)).entries (map kept_entry b.heading.entries) ∙ ap (λ (x : ℕ). length (heads_of (moves_before source plan k)).entries + x) (length-map b.heading.entries kept_entry) in
+    ap (λ (h : HeadsView). length h.entries) (heads-more (moves_before source plan k) b) ∙ length-append (heads_of (moves_before source plan k)).entries (map kept_entry b.heading.entries) ∙ ap (λ (x : ℕ). length (heads_of (moves_before source plan k)).entries + x) (length-map b.heading.entries kept_entry) in
     omega (arith, rest, more, few-named plan k, length-map (named_by plan k) (λ x. placed_entry x (slice_index_or source.places x places.None)), add-mul k 1 plan.most)
 
 blocks-before : (source : Source) (plan : MovePlan) (k : ℕ) → (heads_of (moves_before source plan k)).blocks ≡ log_size (moves_before source plan k)

@@ -172,5 +172,5 @@ build-done start tables plan k block sequence size blocks begun named encoded co
     let same : heading_by sequence plan.torn size (moved_entries tables.map.places blocks) ≡ batch.heading = rw (sequence-is, size-is, blocks-is) refl in
     let heading : named.heading ≡ batch.heading = raw ∙ same in
     built-as start.geometry.block copied batch (large-block start.geometry range) says (copied-heading ∙ encoded-heading ∙ heading)
-      (copied-bytes ∙ ap (λ (xs : List ℕ). xs ++ concat (moved_data source blocks)) (encoded-bytes ∙ ap (λ (s : ℕ). header_block s named.heading) block-is ∙ ap (header_block start.geometry.block) heading) ∙ ap (λ (bs : List ℕ). header_block start.geometry.block batch.heading ++ concat (moved_data source bs)) blocks-is)
-      (rw blocks-is at whole) (length-moved source (named_by plan k))
+    (copied-bytes ∙ ap (λ (xs : List ℕ). xs ++ concat (moved_data source blocks)) (encoded-bytes ∙ ap (λ (s : ℕ). header_block s named.heading) block-is ∙ ap (header_block start.geometry.block) heading) ∙ ap (λ (bs : List ℕ). header_block start.geometry.block batch.heading ++ concat (moved_data source bs)) blocks-is)
+    (rw blocks-is at whole) (length-moved source (named_by plan k))

@@ -125,9 +125,10 @@ copies n logs source torn sequence zone header k done body (b ∷ bs) at is all 
         let bytes = slice_index_or source.blocks (address - source.start) [] in
         let e : said source b ≡ Some bytes = ap (said_at source.blocks source.start) here in
         let whole : body ≡ done ++ (bytes ∷ moved_data source bs) = rw e at is in
-        let there : get_or body k [] ≡ bytes = rw whole (get-after done (moved_data source bs) bytes k at) in
-        (rw all.0.is (all.0.zone, ap Some there ∙ sym (all.0.content ∙ e)),
-        again (k + 1) (done ++ bytes ∷ []) (omega (arith, at, length-append done (bytes ∷ []))) (whole ∙ sym (append_assoc done (bytes ∷ []) (moved_data source bs))))
+        let there : get_or body k [] ≡ bytes = rw whole (get-after done (moved_data source bs) bytes k at) in (
+          rw all.0.is (all.0.zone, ap Some there ∙ sym (all.0.content ∙ e)),
+          again (k + 1) (done ++ bytes ∷ []) (omega (arith, at, length-append done (bytes ∷ []))) (whole ∙ sym (append_assoc done (bytes ∷ []) (moved_data source bs))),
+        )
 
 -- ---- the header
 
@@ -206,7 +207,6 @@ after-more view (x ∷ xs) b = after-more (with_heading view x.heading) xs b
 
 pub heads-more : (log : List Batch) (b : Batch) → heads_of (log ++ b ∷ []) ≡ with_heading (heads_of log) b.heading
 heads-more log b = after-more no_heads log b
-
 
 pub named-blocks : (P : ℕ → Type 0) (all : List Place) (blocks : List ℕ) → AllByRecursion (λ (e : Entry). P e.block) (moved_entries all blocks) → AllByRecursion P blocks
 named-blocks P all [] each = tt

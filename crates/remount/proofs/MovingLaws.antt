@@ -269,7 +269,7 @@ at-moved n start now next tables plan k heads a lt t =
     let m = a.moving in
     let is = at-batch n start now tables plan k heads a lt in
     let done = move_repairs g n plan.torn plan.into (contents start.zones) (contents now.zones) (contents next.zones) b (moving-small n start now plan.torn plan.into made m) m.repair is (rw m.log (repair-move g n k (drive_logs start) source plan a.can lt)) m.whole
-      (whole-appends n start now next plan.torn plan.into made b m is t) in
+    (whole-appends n start now next plan.torn plan.into made b m is t) in
     moved-more n start now next plan.torn plan.into made b m is t done
 
 pub at-next : (n : ℕ) (start now next : DriveState) (tables : TablesView) (plan : MovePlan) (k : ℕ) (heads more : HeadsView) → IsAtMove n start now tables plan k heads → k < move_count plan → TakesFront now next plan.into (move_by (source_of start tables plan.torn) plan k) (batch_size (move_by (source_of start tables plan.torn) plan k))
@@ -315,16 +315,16 @@ at-stop n start now next tables plan k heads a lt some = by some
     by (inr (j, t)) = elim (cases_eq j (batch_size (move_by (source_of start tables plan.torn) plan k))) as (λ _. KeepsMountable n start next) [
       | inl all ↦ moving-mounts n start next plan.torn plan.into (moves_before (source_of start tables plan.torn) plan (suc k)) (at-moved n start now next tables plan k heads a lt (rw all at t))
       | inr less ↦ (
-        let g = start.geometry in
-        let source = source_of start tables plan.torn in
-        let b = move_by source plan k in
-        let moves = moves_before source plan k in
-        let m = a.moving in
-        let is = at-batch n start now tables plan k heads a lt in
-        let long : length (batch_blocks g.block b) ≡ batch_size b = omega (arith, is.body) in
-        let few : j < length (batch_blocks g.block b) = omega (arith, less, t.few, long) in
-        let small = moving-small n start now plan.torn plan.into moves m in
-        let tears = torn_move_repairs g n plan.torn plan.into j (contents start.zones) (contents now.zones) (contents next.zones) b small m.repair is m.whole few (omega (arith, few, long, m.written, move-room g n k (drive_logs start) source plan a.can lt)) (rw m.geometry at t.appends) in
-        mounts-by n start next plan.torn plan.into small tears.repair (λ tail half. torn-half n start now next tables plan k heads a lt tears half) (t.geometry ∙ m.geometry) t.lawful (t.refused ∙ m.refused)
-      )
+          let g = start.geometry in
+          let source = source_of start tables plan.torn in
+          let b = move_by source plan k in
+          let moves = moves_before source plan k in
+          let m = a.moving in
+          let is = at-batch n start now tables plan k heads a lt in
+          let long : length (batch_blocks g.block b) ≡ batch_size b = omega (arith, is.body) in
+          let few : j < length (batch_blocks g.block b) = omega (arith, less, t.few, long) in
+          let small = moving-small n start now plan.torn plan.into moves m in
+          let tears = torn_move_repairs g n plan.torn plan.into j (contents start.zones) (contents now.zones) (contents next.zones) b small m.repair is m.whole few (omega (arith, few, long, m.written, move-room g n k (drive_logs start) source plan a.can lt)) (rw m.geometry at t.appends) in
+          mounts-by n start next plan.torn plan.into small tears.repair (λ tail half. torn-half n start now next tables plan k heads a lt tears half) (t.geometry ∙ m.geometry) t.lawful (t.refused ∙ m.refused)
+          )
     ]

@@ -38,7 +38,7 @@ after-blocks : (view : HeadsView) (log : List Batch) → (heads_after view log).
 after-blocks view [] = omega arith
 after-blocks view (b ∷ bs) = omega (arith, after-blocks (with_heading view b.heading) bs)
 
-heads-blocks : (log : List Batch) → (heads_of log).blocks ≡ log_size log
+pub heads-blocks : (log : List Batch) → (heads_of log).blocks ≡ log_size log
 heads-blocks log = omega (arith, after-blocks no_heads log)
 
 pub logs-emptied : (n : ℕ) (start new : DriveState) (plan : MovePlan) (made : List Batch) → EmptiesTorn n start new plan made → drive_logs new ≡ set (set (drive_logs start) plan.into made) plan.torn []
@@ -168,9 +168,9 @@ noted-knows n start new plan made heads written before after e heads-are noted k
     let one : ScannedZone = record { heads = heads; is_torn = false } in
     let two : ScannedZone = record { heads = no_heads; is_torn = false } in
     let spelled_heads : heads_in after.scanned.items ≡ set (set (map heads_of (drive_logs start)) plan.into (heads_of made)) plan.torn (heads_of []) =
-      ap heads_in scanned-are ∙ heads-set (set before.scanned.items plan.into one) plan.torn two ∙ ap (λ (hs : List HeadsView). set hs plan.torn no_heads) (heads-set before.scanned.items plan.into one ∙ ap (λ (hs : List HeadsView). set hs plan.into heads) known.heads ∙ ap (λ (h : HeadsView). set (map heads_of (drive_logs start)) plan.into h) heads-are) in
+    ap heads_in scanned-are ∙ heads-set (set before.scanned.items plan.into one) plan.torn two ∙ ap (λ (hs : List HeadsView). set hs plan.torn no_heads) (heads-set before.scanned.items plan.into one ∙ ap (λ (hs : List HeadsView). set hs plan.into heads) known.heads ∙ ap (λ (h : HeadsView). set (map heads_of (drive_logs start)) plan.into h) heads-are) in
     let spelled_tails : tails_in after.scanned.items ≡ set (set (zone_tails (contents start.zones)) plan.into false) plan.torn false =
-      ap tails_in scanned-are ∙ tails-set' (set before.scanned.items plan.into one) plan.torn two ∙ ap (λ (ts : List Bool). set ts plan.torn false) (tails-set' before.scanned.items plan.into one ∙ ap (λ (ts : List Bool). set ts plan.into false) known.tails) in
+    ap tails_in scanned-are ∙ tails-set' (set before.scanned.items plan.into one) plan.torn two ∙ ap (λ (ts : List Bool). set ts plan.torn false) (tails-set' before.scanned.items plan.into one ∙ ap (λ (ts : List Bool). set ts plan.into false) known.tails) in
     record {
       all_logs = disk.logs;
       count = length-map (contents new.zones) (zone_log new.geometry) ∙ length-map new.zones content_of;

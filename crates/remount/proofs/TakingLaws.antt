@@ -77,11 +77,14 @@ takes-some old new zone start builder bytes port.Stopped bytes-are is can kept l
         let s = sized g builder can.range can.heading can.whole in
         let index = starts old zone start builder is can in
         let few : some.j ≤ length (batch_blocks g.block b) = rw (bytes-are, s.cut) at some.few in
-        inr (some.j, record {
-          geometry = some.geometry;
-          lawful = obeys.lawful;
-          refused = (obeys.counts refl).refused;
-          few = omega (arith, few, size-blocks g.block builder);
-          appends = rw (bytes-are, index, s.cut) at some.contents;
-          opens = rw index at (append-opens old new start bytes (Err port.Stopped) leaves);
-        })
+        inr (
+          some.j,
+          record {
+            geometry = some.geometry;
+            lawful = obeys.lawful;
+            refused = (obeys.counts refl).refused;
+            few = omega (arith, few, size-blocks g.block builder);
+            appends = rw (bytes-are, index, s.cut) at some.contents;
+            opens = rw index at (append-opens old new start bytes (Err port.Stopped) leaves);
+          },
+        )

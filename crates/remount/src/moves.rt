@@ -55,11 +55,7 @@ fn name_record(batch: &mut BatchBuilder, block: u32, place: Place) -> Result<(),
 }
 
 /// Names these blocks, each as what lies at its place.
-fn name_records(
-    batch: &mut BatchBuilder,
-    tables: &Tables,
-    blocks: &[u32],
-) -> Result<(), AllocError>
+fn name_records(batch: &mut BatchBuilder, tables: &Tables, blocks: &[u32]) -> Result<(), AllocError>
     requires { AllByRecursion (λ block. (block < size_of tables.now) × (block + 1 < 2 ^ 32)) blocks.now }
     ensures { OnOk result (batch.new.heading ≡ record batch.old.heading { entries = batch.old.heading.entries ++ moved_entries tables.now.map.places blocks.now }) }
 {
@@ -114,7 +110,14 @@ fn copy_records<D: Device>(
     ensures kept { KeepsZones (D.drive device.old) (D.drive device.new) }
 {
     for block in blocks {
-        copy_record(device, batch, zone, reported, tables.place_of(*block), buffer)?;
+        copy_record(
+            device,
+            batch,
+            zone,
+            reported,
+            tables.place_of(*block),
+            buffer,
+        )?;
     }
     Ok(())
 }
@@ -155,7 +158,11 @@ impl MovePlan {
         requires few { number < move_count self.now }
         ensures { result.now ≡ named_by self.now number }
     {
-        part(&self.blocks, number * self.most as usize, self.most as usize)
+        part(
+            &self.blocks,
+            number * self.most as usize,
+            self.most as usize,
+        )
     }
 }
 
@@ -183,7 +190,15 @@ fn build_move<D: Device>(
     batch.start(Kind::Move, sequence, plan.torn, plan.size_of(number));
     name_records(batch, tables, blocks)?;
     batch.encode(device.geometry().block)?;
-    copy_records(device, batch, plan.torn, plan.reported, tables, blocks, buffer)
+    copy_records(
+        device,
+        batch,
+        plan.torn,
+        plan.reported,
+        tables,
+        blocks,
+        buffer,
+    )
 }
 
 /// Adds the header of a batch that was built.

@@ -1,4 +1,4 @@
-use Rattle.std.proofs.Common.{◌≡◌, ◌*◌, arith, refl, sym, ap, ◌∙◌}
+use Rattle.std.proofs.Common.{◌*◌, sym, ap}
 use Rattle.zone_states.specs.declared.geometry.Geometry.{Geometry}
 use Rattle.remount.proofs.CallLaws.{can-close, close-done, close-halts, close-shuts, has-halted}
 use Rattle.remount.proofs.beside.close_alone.Goals as goal

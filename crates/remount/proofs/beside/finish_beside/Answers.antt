@@ -1,4 +1,3 @@
-use Rattle.std.proofs.Common.{◌≡◌, ◌<◌, length, true, false, Some, arith, refl, sym, ap, ◌∙◌}
 use Rattle.remount.proofs.CallLaws.{mountable-both, settles-more}
 use Rattle.remount.proofs.beside.finish_beside.Goals as goal
 

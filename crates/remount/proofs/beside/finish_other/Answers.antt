@@ -1,4 +1,4 @@
-use Rattle.std.proofs.Common.{◌≡◌, ◌<◌, length, true, false, Some, arith, refl, sym, ap, ◌∙◌}
+use Rattle.std.proofs.Common.{arith, refl, sym, ◌∙◌}
 use Rattle.std.proofs.lemmas.Option.{slice_get_read}
 use Rattle.remount.proofs.CallLaws.{active-whole, on-ok, reported-active, settles-finished, settles-same}
 use Rattle.remount.proofs.beside.finish_other.Goals as goal

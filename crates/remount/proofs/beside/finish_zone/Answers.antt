@@ -1,8 +1,8 @@
-use Rattle.std.proofs.Common.{◌≡◌, ◌*◌, ◌+◌, ◌<◌, length, arith, refl, sym, ap, subst, ◌∙◌, true, false}
+use Rattle.std.proofs.Common.{◌*◌, arith, refl, ap}
 use Rattle.std.proofs.lemmas.List.{length-map}
 use Rattle.zone_states.specs.declared.geometry.Geometry.{Geometry}
 use Rattle.drive_port.specs.Contents.{content_at, content_of, contents}
-use Rattle.remount.proofs.CallLaws.{StartsAt, active-in, active-usable, can-finish, finish-done, finish-halts, finish-knows, has-halted, starts-at}
+use Rattle.remount.proofs.CallLaws.{active-in, active-usable, can-finish, finish-done, finish-halts, finish-knows, has-halted, starts-at}
 use Rattle.remount.proofs.beside.finish_zone.Goals as goal
 
 pub fault_of-requires : goal.fault_of-requires

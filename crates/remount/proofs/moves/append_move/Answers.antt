@@ -1,6 +1,5 @@
-use Rattle.std.proofs.Common.{◌≡◌, ◌*◌, arith, refl, sym, ap, ◌∙◌, ℕ}
+use Rattle.std.proofs.Common.{◌*◌, ap}
 use Rattle.zone_states.specs.declared.geometry.Geometry.{Geometry}
-use Rattle.remount.proofs.CallLaws.{has-halted}
 use Rattle.remount.proofs.TakingLaws.{take-can, take-whole, takes-all, takes-some}
 use Rattle.remount.proofs.moves.append_move.Goals as goal
 

@@ -1,4 +1,4 @@
-use Rattle.std.proofs.Common.{◌≡◌, ◌+◌, refl, sym, ap, ◌∙◌}
+use Rattle.std.proofs.Common.{refl, ap}
 use Rattle.zone_states.specs.declared.geometry.Geometry.{Geometry}
 use Rattle.remount.proofs.CallLaws.{on-two}
 use Rattle.remount.proofs.MoveBuildLaws.{build-done}

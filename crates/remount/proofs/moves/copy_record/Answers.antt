@@ -1,4 +1,4 @@
-use Rattle.std.proofs.Common.{◌≡◌, ◌++◌, ◌*◌, refl, sym, append-nil}
+use Rattle.std.proofs.Common.{◌*◌, refl, sym, append-nil}
 use Rattle.remount.specs.Scan.{blocks_of}
 use Rattle.remount.proofs.MoveBuildLaws.{no-data}
 use Rattle.remount.proofs.ReadLaws.{keeps-none}

@@ -1,8 +1,5 @@
-use Rattle.std.proofs.Common.{◌≡◌, ◌++◌, ◌*◌, ◌+◌, ◌≤◌, length, get_or, take, drop, arith, refl, sym, ℕ, List}
-use Rattle.std.specs.List.{AllByRecursion, concat}
-use Rattle.remount.specs.Moving.{listed, said_at}
-use Rattle.remount.specs.Scan.{blocks_of}
-use Rattle.remount.proofs.MoveBuildLaws.{copying-all, copying-more, copying-none, turn}
+use Rattle.std.proofs.Common.{◌+◌, get_or, drop, refl}
+use Rattle.remount.proofs.MoveBuildLaws.{copying-more, copying-none, turn}
 use Rattle.remount.proofs.ReadLaws.{kept-known, keeps-both}
 use Rattle.remount.proofs.moves.copy_records.Goals as goal
 

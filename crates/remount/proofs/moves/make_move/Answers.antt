@@ -1,6 +1,5 @@
-use Rattle.std.proofs.Common.{◌≡◌, ◌+◌, ◌≤◌, refl, sym, ap, subst, ◌∙◌, ℕ}
+use Rattle.std.proofs.Common.{ap, subst, ◌∙◌}
 use Rattle.zone_states.specs.declared.geometry.Geometry.{Geometry}
-use Rattle.batch_log.specs.Header.{Heading}
 use Rattle.batch_log.specs.Log.{Batch, batch_size}
 use Rattle.remount.specs.Heads.{with_heading}
 use Rattle.remount.specs.Moving.{TakesFront, TakesSome}
@@ -42,9 +41,9 @@ returns-clause-ok g c =
     let next = g.D.Device.drive c.append_move.new.device in
     on-ok c.append_move.result
     (λ taken n start a.
-      let ready = move-ready n start (g.D.Device.drive c.args.device.now) now c.args.tables.now c.args.plan.now c.args.number c.args.heads.now c.build_move.new.batch a c.requires.few c.build_move.ensures.kept c.in_ok-build_move.ensures.built in
-      at-next n start now next c.args.tables.now c.args.plan.now c.args.number c.args.heads.now c.push_built.new.heads ready.at c.requires.few (subst (λ (b : Batch). TakesFront now next c.args.plan.now.into b (batch_size b)) ready.is taken)
-      (c.in_ok-push_built.ensures ∙ ap (with_heading c.args.heads.now) ready.heading))
+    let ready = move-ready n start (g.D.Device.drive c.args.device.now) now c.args.tables.now c.args.plan.now c.args.number c.args.heads.now c.build_move.new.batch a c.requires.few c.build_move.ensures.kept c.in_ok-build_move.ensures.built in
+    at-next n start now next c.args.tables.now c.args.plan.now c.args.number c.args.heads.now c.push_built.new.heads ready.at c.requires.few (subst (λ (b : Batch). TakesFront now next c.args.plan.now.into b (batch_size b)) ready.is taken)
+    (c.in_ok-push_built.ensures ∙ ap (with_heading c.args.heads.now) ready.heading))
     c.append_move.ensures.ok
 
 pub returns-clause-kept : goal.returns-clause-kept
@@ -52,9 +51,9 @@ returns-clause-kept g c =
     let now = g.D.Device.drive c.build_move.new.device in
     let next = g.D.Device.drive c.append_move.new.device in
     λ n start a.
-      let ready = move-ready n start (g.D.Device.drive c.args.device.now) now c.args.tables.now c.args.plan.now c.args.number c.args.heads.now c.build_move.new.batch a c.requires.few c.build_move.ensures.kept c.in_ok-build_move.ensures.built in
-      on-either c.append_move.result
-      (λ taken. moving-mounts n start next _ _ _ (at-next n start now next c.args.tables.now c.args.plan.now c.args.number c.args.heads.now c.push_built.new.heads ready.at c.requires.few (subst (λ (b : Batch). TakesFront now next c.args.plan.now.into b (batch_size b)) ready.is taken)
-        (c.in_ok-push_built.ensures ∙ ap (with_heading c.args.heads.now) ready.heading)).moving)
-      (λ some. at-stop n start now next c.args.tables.now c.args.plan.now c.args.number c.args.heads.now ready.at c.requires.few (subst (λ (b : Batch). TakesSome now next c.args.plan.now.into b) ready.is some))
-      c.append_move.ensures.ok c.append_move.ensures.left
+    let ready = move-ready n start (g.D.Device.drive c.args.device.now) now c.args.tables.now c.args.plan.now c.args.number c.args.heads.now c.build_move.new.batch a c.requires.few c.build_move.ensures.kept c.in_ok-build_move.ensures.built in
+    on-either c.append_move.result
+    (λ taken. moving-mounts n start next _ _ _ (at-next n start now next c.args.tables.now c.args.plan.now c.args.number c.args.heads.now c.push_built.new.heads ready.at c.requires.few (subst (λ (b : Batch). TakesFront now next c.args.plan.now.into b (batch_size b)) ready.is taken)
+    (c.in_ok-push_built.ensures ∙ ap (with_heading c.args.heads.now) ready.heading)).moving)
+    (λ some. at-stop n start now next c.args.tables.now c.args.plan.now c.args.number c.args.heads.now ready.at c.requires.few (subst (λ (b : Batch). TakesSome now next c.args.plan.now.into b) ready.is some))
+    c.append_move.ensures.ok c.append_move.ensures.left

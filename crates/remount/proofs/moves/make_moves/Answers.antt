@@ -1,6 +1,5 @@
-use Rattle.std.proofs.Common.{◌≡◌, ◌+◌, ◌<◌, ◌≤◌, refl, sym, ap, subst, ◌∙◌, ℕ, arith}
+use Rattle.std.proofs.Common.{◌≡◌, subst, ℕ, arith}
 use Rattle.remount.specs.Moving.{IsAtMove, move_count}
-use Rattle.remount.proofs.MakingLaws.{at-most}
 use Rattle.remount.proofs.MovingLaws.{moving-mounts}
 use Rattle.remount.proofs.moves.make_moves.Goals as goal
 

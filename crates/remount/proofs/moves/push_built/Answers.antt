@@ -1,8 +1,4 @@
-use Rattle.std.proofs.Common.{◌≡◌, ◌+◌, ◌<◌, ◌≤◌, ◌^◌, length, take, arith, refl, sym, ap, ◌∙◌, List, ℕ}
-use Rattle.batch_log.specs.Header.{Heading}
-use Rattle.batch_log.specs.Log.{data_count}
-use Rattle.std.specs.Prelude.{OnOk}
-use Rattle.remount.specs.Heads.{with_heading}
+use Rattle.std.proofs.Common.{take, arith, sym}
 use Rattle.remount.proofs.MoveBuildLaws.{BeginsAs, begins-as, header-block, read-again}
 use Rattle.remount.proofs.moves.push_built.Goals as goal
 

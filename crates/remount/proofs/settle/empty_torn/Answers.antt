@@ -1,4 +1,4 @@
-use Rattle.std.proofs.Common.{◌≡◌, ◌*◌, refl, sym, ap, ◌∙◌, ℕ}
+use Rattle.std.proofs.Common.{◌*◌, ap}
 use Rattle.zone_states.specs.declared.geometry.Geometry.{Geometry}
 use Rattle.remount.specs.Moving.{move_count}
 use Rattle.remount.proofs.CallLaws.{can-reset, has-halted}

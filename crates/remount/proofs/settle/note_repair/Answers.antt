@@ -1,8 +1,8 @@
-use Rattle.std.proofs.Common.{◌≡◌, ℕ, List, false, set, refl, sym, ap, ◌∙◌, length}
+use Rattle.std.proofs.Common.{ℕ, false, set, refl, sym, ap, ◌∙◌}
 use Rattle.remount.specs.declared.scan.ScannedZone.{ScannedZone}
 use Rattle.remount.specs.Heads.{HeadsView}
 use Rattle.remount.specs.Moving.{usage_with}
-use Rattle.remount.proofs.NoteLaws.{IsNoted, noted-knows, noted-vacant}
+use Rattle.remount.proofs.NoteLaws.{noted-knows, noted-vacant}
 use Rattle.remount.proofs.settle.note_repair.Goals as goal
 
 pub returns-clause-known : goal.returns-clause-known
