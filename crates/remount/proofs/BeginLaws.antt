@@ -31,7 +31,8 @@ use Rattle.remount.specs.declared.survey.Survey.{Survey}
 use Rattle.remount.specs.declared.scan.ScannedZone.{ScannedZone}
 use Rattle.remount.specs.Heads.{HeadsView, heads_of, no_heads}
 use Rattle.remount.specs.Known.{AreVacantEmpty, KeepsMountable, Knows}
-use Rattle.remount.specs.Mount.{AreWhole, HasVacant, IsOnlyTorn}
+use Rattle.remount.specs.Known.{HasVacant}
+use Rattle.remount.specs.Mount.{AreWhole, IsOnlyTorn}
 use Rattle.remount.specs.Moving.{AreSettled, EmptiesTorn, IsAtMove, IsMovePlan, IsMoving, KeepsShut, move_count, moves_before, source_of}
 use Rattle.remount.specs.Reported.{KeepsZones}
 use Rattle.remount.specs.Scan.{AreKnown}

@@ -101,11 +101,6 @@ pub record IsRepaired (drive : DriveState) (survey : Survey) : Type 0 where
 
 -- ---- the mount
 
--- the greatest sequence, 0 where there is none
-abbrev pub greatest_sequence : List ℕ → ℕ
-greatest_sequence [] = 0
-greatest_sequence (sequence ∷ others) = max sequence (greatest_sequence others)
-
 -- of two zones that are partly written the lower is the host zone, and the other the next one
 abbrev pub AreInOrder : Option Filling → Option Second → Type 0
 AreInOrder host None = Unit {0}
