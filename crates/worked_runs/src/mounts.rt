@@ -166,7 +166,8 @@ fn push_settings(
         }
         return Ok(());
     }
-    settings.push(halts.setting(commands, 0))
+    settings.push(halts.setting(commands, 0))?;
+    Ok(())
 }
 
 /// Mounts a drive once with each halt, and says whether each time it can be mounted and holds its array, and so
