@@ -18,3 +18,5 @@ pub mod MakingLaws
 pub mod SettleLaws
 pub mod NoteLaws
 pub mod BeginLaws
+pub mod OrderLaws
+pub mod OrderedLaws

@@ -1,5 +1,2 @@
-use Rattle.remount.proofs.ReadLaws.{keeps-none}
+use Rattle.remount.proofs.OrderedLaws.{is-order}
 use Rattle.remount.proofs.order.plan_moves.Goals as goal
-
-pub returns-clause-kept : goal.returns-clause-kept
-returns-clause-kept g c = keeps-none (g.D.Device.drive c.args.device.now) c.requires.known.zones.lawful
