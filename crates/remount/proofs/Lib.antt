@@ -20,3 +20,5 @@ pub mod NoteLaws
 pub mod BeginLaws
 pub mod OrderLaws
 pub mod OrderedLaws
+pub mod LiveLaws
+pub mod PlannedLaws

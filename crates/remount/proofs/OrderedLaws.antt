@@ -25,8 +25,8 @@ In b (x ∷ xs) = (x ≡ b) ⊎ In b xs
 
 pub in-contains : (b : ℕ) (xs : List ℕ) → In b xs → Contains xs b
 in-contains b [] is = absurd is
-in-contains b (x ∷ xs) (inl same) = (0, (omega arith, same))
-in-contains b (x ∷ xs) (inr more) = let rest = in-contains b xs more in (suc rest.0, (omega (arith, rest.1), rest.2))
+in-contains b (x ∷ xs) (inl same) = (0, omega arith, same)
+in-contains b (x ∷ xs) (inr more) = let rest = in-contains b xs more in (suc rest.0, omega (arith, rest.1), rest.2)
 
 pub all-in : (P : ℕ → Type 0) (b : ℕ) (xs : List ℕ) → AllByRecursion P xs → In b xs → P b
 all-in P b [] all is = absurd is
@@ -94,11 +94,11 @@ total-append f (x ∷ xs) ys = omega (arith, total-append f xs ys)
 
 others-none : (last : ℕ) (xs : List ℕ) → AllByRecursion (λ y. eqb last y ≡ false) xs → others last xs ≡ xs
 others-none last [] all = refl
-others-none last (x ∷ xs) all = by (cases_eq x last)
+others-none last (x ∷ xs) all = by (cases_eq x last) (others-none last xs all.1)
   where
-    by : (x ≡ last) ⊎ (x ≢ last) → others last (x ∷ xs) ≡ x ∷ xs
-    by (inl same) = let bad : true ≡ false = sym (eq-eqb last x (sym same)) ∙ all.0 in absurd (cc)
-    by (inr other) = rw (ne_eqb x last other) (ap (λ (ys : List ℕ). x ∷ ys) (others-none last xs all.1))
+    by : (x ≡ last) ⊎ (x ≢ last) → others last xs ≡ xs → others last (x ∷ xs) ≡ x ∷ xs
+    by (inl same) rest = let bad : true ≡ false = sym (eq-eqb last x (sym same)) ∙ all.0 in absurd (cc)
+    by (inr other) rest = rw (ne_eqb x last other) (ap (λ (ys : List ℕ). x ∷ ys) rest)
 
 others-total : (f : ℕ → ℕ) (last : ℕ) (xs : List ℕ) → IsDistinct nat_eq xs → In last xs → total f (others last xs) + f last ≡ total f xs
 unfolding IsDistinct
@@ -122,14 +122,12 @@ IsLastIn blocks (NeedsBlock last) = In last blocks
 IsLastIn blocks why = Unit {0}
 
 pub record IsOrder (blocks order : List ℕ) : Type 0 where
-  pub all : (P : ℕ → Type 0) → AllByRecursion P blocks → AllByRecursion P order
   pub has : (b : ℕ) → In b blocks → In b order
   pub distinct : IsDistinct nat_eq order
   pub totals : (f : ℕ → ℕ) → total f order ≡ total f blocks
 
 last-order : (blocks : List ℕ) (last : ℕ) → IsDistinct nat_eq blocks → In last blocks → IsOrder blocks (others last blocks ++ last ∷ [])
 last-order blocks last d is = record {
-  all = λ P all. all-append P (others last blocks) (last ∷ []) (others-all P last blocks all) (all-in P last blocks all is, tt);
   has = λ b there. elim (cases_eq b last) as (λ _. In b (others last blocks ++ last ∷ [])) [
     | inl same ↦ in-behind b (others last blocks) (last ∷ []) (inl (sym same))
     | inr other ↦ in-front b (others last blocks) (last ∷ []) (others-in last b blocks other there)
@@ -139,13 +137,19 @@ last-order blocks last d is = record {
 }
 
 same-order : (blocks : List ℕ) → IsDistinct nat_eq blocks → IsOrder blocks blocks
-same-order blocks d = record { all = λ P all. all; has = λ b there. there; distinct = d; totals = λ f. refl }
+same-order blocks d = record { has = λ b there. there; distinct = d; totals = λ f. refl }
 
 pub is-order : (blocks : List ℕ) (why : Finding) → IsDistinct nat_eq blocks → IsLastIn blocks why → IsOrder blocks (ordered blocks why)
 is-order blocks (NeedsBlock last) d is = last-order blocks last d is
 is-order blocks HalfClean d is = same-order blocks d
 is-order blocks NotMoves d is = same-order blocks d
 is-order blocks NeedsSize d is = same-order blocks d
+
+pub order-all : (P : ℕ → Type 0) (blocks : List ℕ) (why : Finding) → IsLastIn blocks why → AllByRecursion P blocks → AllByRecursion P (ordered blocks why)
+order-all P blocks (NeedsBlock last) is all = all-append P (others last blocks) (last ∷ []) (others-all P last blocks all) (all-in P last blocks all is, tt)
+order-all P blocks HalfClean is all = all
+order-all P blocks NotMoves is all = all
+order-all P blocks NeedsSize is all = all
 
 pub length-total : (xs : List ℕ) → length xs ≡ total (λ x. 1) xs
 length-total [] = refl
