@@ -285,17 +285,19 @@ plan-made drive n survey repair into why plan p =
       torn = p.torn;
       into_is = p.into_is;
       known = rw p.torn p.known;
-      can = rw p.torn (record {
+      can = record {
         most = p.most;
-        movable = rw p.torn (all-weaker (IsLiveIn drive n zone) (IsMovable n logs source zone) plan.blocks.items (λ b live. live-movable drive n survey repair b known p.is live) live_all);
-        all = rw p.torn (λ block lies. in-contains block plan.blocks.items (order.has block (live-block drive n survey repair block known p.is (lies-below drive n survey zone block known lies, lies))));
+        movable = subst (λ (z : ℕ). AllByRecursion (IsMovable n logs (source_of drive repair.tables z) z) plan.blocks.items) (sym p.torn)
+          (all-weaker (IsLiveIn drive n zone) (IsMovable n logs source zone) plan.blocks.items (λ b live. live-movable drive n survey repair b known p.is live) live_all);
+        all = subst (λ (z : ℕ). (block : ℕ) → LiesIn z (newest block rs) → Contains plan.blocks.items block) (sym p.torn)
+          (λ block lies. in-contains block plan.blocks.items (order.has block (live-block drive n survey repair block known p.is (lies-below drive n survey zone block known lies, lies))));
         distinct = order.distinct;
         later = all-weaker (λ s. s + 0 < plan.next) (λ s. s < plan.next) (sequences logs) (λ s lt. omega (arith, lt)) (all-greatest plan.next 0 (sequences logs) (omega (arith, p.next)));
         last = omega (arith, greatest, count, p.next);
-        room = omega (arith, room, count, size, counts.with_data);
-        size = rw p.torn p.size;
+        room = subst (λ (z : ℕ). log_size (moves_before (source_of drive repair.tables z) plan (move_count plan)) ≤ g.capacity) (sym p.torn) (omega (arith, room, count, size, counts.with_data));
+        size = subst (λ (z : ℕ). plan.size ≡ log_greatest (log_at logs z)) (sym p.torn) p.size;
         early = early-either plan.size plan.early why p.early;
-        needed = rw p.torn (λ k lt. still-needed drive n survey repair into why plan k source p order some lt);
-      });
+        needed = λ k lt. subst (λ (z : ℕ). IsStillNeeded g.block n logs z plan.into (moves_before (source_of drive repair.tables z) plan k)) (sym p.torn) (still-needed drive n survey repair into why plan k source p order some lt);
+      };
       readable_blocks = rw p.torn (all-weaker (IsLiveIn drive n zone) (IsReadableAt repair.tables (zone * g.size) plan.reported.blocks) plan.blocks.items (λ b live. live-readable drive n survey repair plan.reported.blocks b known p.is p.known.blocks live) live_all);
     }
