@@ -39,4 +39,8 @@ pub mod MakingLaws
 pub mod SettleLaws
 pub mod NoteLaws
 pub mod BeginLaws
+pub mod OrderLaws
+pub mod OrderedLaws
+pub mod LiveLaws
+pub mod PlannedLaws
 pub mod StepLaws

@@ -103,5 +103,17 @@ pub(crate) fn plan_moves<D: Device>(
     ensures err { IfErr result (FailsBy (λ _. ⊥) (D.drive device.new)) }
     ensures kept { KeepsZones (D.drive device.old) (D.drive device.new) }
 {
-    Err(MountFault::OutOfMemory)
+    let why = why_needed(alloc, device, survey, blocks, repair.zone)?;
+    let size = survey.scanned[repair.zone as usize].heads.size();
+    let order = ordered(alloc, &repair.blocks, why)?;
+    Ok(MovePlan {
+        torn: repair.zone,
+        reported: survey.zones[repair.zone as usize],
+        into,
+        blocks: order,
+        most: batch_most(&device.geometry()),
+        next: greatest_sequence(&survey.scanned) + 1,
+        early: early_size(size, why),
+        size,
+    })
 }

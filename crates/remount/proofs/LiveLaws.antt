@@ -1,0 +1,246 @@
+-- Where the newest records of blocks lie, and what is said there.
+use Rattle.std.proofs.Common.{◌≡◌, ◌≢◌, inl, inr, ℕ, zero, suc, ◌+◌, ◌-◌, ◌*◌, ◌/◌, ◌<◌, ◌≤◌, ◌^◌, Bool, true, false, cond, eqb, ◌&&◌, List, [], ◌∷◌, ◌++◌, map, length, get_or, Option, Some, None, is_some, refl, sym, ap, subst, ◌∙◌, arith}
+use Rattle.std.specs.List.{AllByRecursion, count_by, flat_map, range_with_len}
+use Rattle.std.proofs.lemmas.Bool.{cases_lt, eq-eqb, eqb-true}
+use Rattle.std.proofs.lemmas.List.{get_or_default, get_or_past, length-append, length-map}
+use Rattle.std.proofs.lemmas.List.FromFn.{get_or-map-range_with_len, length-range_with_len}
+use Rattle.std.proofs.lemmas.List.Sums.{sum_by-cons}
+use Rattle.std.proofs.lemmas.Nat.{div-mul-add}
+use Rattle.std.proofs.lemmas.Option.{slice_get-get_or}
+use Rattle.std.proofs.Math.ListN.{get_or-map}
+use Rattle.zone_states.specs.declared.geometry.Geometry.{Geometry}
+use Rattle.drive_port.specs.Contents.{content_at, content_of, contents, nothing}
+use Rattle.drive_port.specs.Drive.{DriveState}
+use Rattle.nvme_wire.specs.declared.zone_state.ZoneState.TheVariants as states
+use Rattle.batch_log.specs.declared.header.Entry.{Entry}
+use Rattle.batch_log.specs.Log.{Batch, batch_blocks, batch_size, data_count, log_size, one_unless, zero_block}
+use Rattle.batch_log.proofs.LogLaws.{spelled_length}
+use Rattle.logical_map.specs.Live.{blocks_in, lies_in}
+use Rattle.logical_map.specs.declared.place.Place.{Place}
+use Rattle.logical_map.specs.declared.place.Place.TheVariants as places
+use Rattle.zone_choice.specs.Agreement.{drive_logs}
+use Rattle.zone_choice.specs.Records.{IsNewest, Record, batch_records, entry_offset, entry_records, log_records, newest, place, records}
+use Rattle.zone_choice.specs.Repair.{is_any, is_data, kept_in, live, live_data}
+use Rattle.zone_choice.specs.Repairing.{LiesIn}
+use Rattle.zone_choice.specs.Sizes.{encoded_size, map_of}
+use Rattle.zone_choice.specs.Tables.{TablesView, size_of}
+use Rattle.zone_choice.specs.ZoneLogs.{HasLog, log_at, readable, zone_log}
+use Rattle.zone_choice.proofs.AllLaws.{all-append, all-at, all-weaker}
+use Rattle.zone_choice.proofs.NewestLaws.{newest-is}
+use Rattle.zone_choice.proofs.ReadLaws.{StandsOn, all-among, records_stand}
+use Rattle.remount.specs.declared.reported.ReportedZone.{ReportedZone}
+use Rattle.remount.specs.declared.survey.Survey.{Survey}
+use Rattle.remount.specs.Known.{Knows}
+use Rattle.remount.specs.Mount.{IsPlaced}
+use Rattle.remount.specs.Moving.{IsBlockAt, IsMovable, IsReadableAt, Source, moved_entries, placed_entry, said, said_at, source_of}
+use Rattle.remount.specs.Reported.{IsKnown}
+use Rattle.remount.specs.Scan.{blocks_of}
+use Rattle.remount.proofs.ReadLaws.{known-few}
+use Rattle.remount.proofs.OrderedLaws.{total}
+
+-- ---- records lie within their zone
+
+entries-below : (limit sequence zone header k : ℕ) (body : List (List ℕ)) (es : List Entry) → header + 1 + k + data_count es ≤ limit → AllByRecursion (λ (r : Record). r.offset < limit) (entry_records sequence body zone header k es)
+entries-below limit sequence zone header k body [] le = tt
+entries-below limit sequence zone header k body (e ∷ es) le = (one e.trim le, entries-below limit sequence zone header (k + one_unless e.trim) body es (omega (arith, le)))
+  where
+    one : (t : Bool) → header + 1 + k + (one_unless t + data_count es) ≤ limit → entry_offset t header k < limit
+    one true le = omega (arith, le)
+    one false le = omega (arith, le)
+
+log-below : (limit zone offset : ℕ) (log : List Batch) → offset + log_size log ≤ limit → AllByRecursion (λ (r : Record). r.offset < limit) (log_records zone offset log)
+log-below limit zone offset [] le = tt
+log-below limit zone offset (b ∷ bs) le =
+    all-append (λ (r : Record). r.offset < limit) (batch_records zone offset b) (log_records zone (offset + batch_size b) bs)
+    (entries-below limit b.heading.sequence zone offset 0 b.body b.heading.entries (omega (arith, le)))
+    (log-below limit zone (offset + batch_size b) bs (omega (arith, le)))
+
+records-below : (limit first : ℕ) (logs : List (List Batch)) → ((zone : ℕ) → log_size (log_at logs zone) ≤ limit) → AllByRecursion (λ (r : Record). r.offset < limit) (records first logs)
+records-below limit first [] few = tt
+records-below limit first (log ∷ logs) few =
+    all-append (λ (r : Record). r.offset < limit) (log_records first 0 log) (records (suc first) logs) (log-below limit first 0 log (omega (arith, few 0))) (records-below limit (suc first) logs (λ zone. few (suc zone)))
+
+abbrev none_reported : ReportedZone
+none_reported = record { state = states.Empty; blocks = 0 }
+
+-- a log takes no more than its zone's capacity
+drive-few : (drive : DriveState) (n : ℕ) (logs : List (List Batch)) (survey : Survey) (zone : ℕ) → Knows drive n logs survey → zone < length drive.zones → log_size (log_at (drive_logs drive) zone) ≤ drive.geometry.capacity
+unfolding zone_log
+drive-few drive n logs survey zone known lt =
+    let g = drive.geometry in
+    let content = content_at (contents drive.zones) zone in
+    let has = all-at (HasLog g) (contents drive.zones) zone nothing known.all_logs (omega (arith, lt, length-map drive.zones content_of)) in
+    let r = get_or survey.zones.items zone none_reported in
+    let one = known.zones.each zone r (slice_get-get_or survey.zones.items zone none_reported (omega (arith, lt, known.zones.count))) in
+    let few = known-few drive zone r one in
+    let same : log_at (drive_logs drive) zone ≡ zone_log g content = get_or-map (zone_log g) (contents drive.zones) zone nothing in
+    let total : length (readable g content) ≡ log_size (zone_log g content) + length has.tail = ap length has.front.spelled ∙ omega (arith, length-append (flat_map (batch_blocks g.block) (zone_log g content)) has.tail, spelled_length g.block (zone_log g content) has.front.batches) in
+    omega (arith, total, few, one.blocks, ap log_size same)
+
+known-below : (drive : DriveState) (n : ℕ) (logs : List (List Batch)) (survey : Survey) → Knows drive n logs survey → AllByRecursion (λ (r : Record). r.offset < drive.geometry.size) (records 0 logs)
+known-below drive n logs survey known =
+    all-weaker (λ (r : Record). r.offset < drive.geometry.capacity) (λ (r : Record). r.offset < drive.geometry.size) (records 0 logs) (λ r lt. omega (arith, lt, known.zones.geometry.capacity)) (records-below drive.geometry.capacity 0 logs few)
+  where
+    few : (zone : ℕ) → log_size (log_at logs zone) ≤ drive.geometry.capacity
+    few zone = elim (cases_lt zone (length drive.zones)) as (λ _. log_size (log_at logs zone) ≤ drive.geometry.capacity) [
+      | inl lt ↦ (elim (known.part zone) as (λ _. log_size (log_at logs zone) ≤ drive.geometry.capacity) [
+        | inl same ↦ omega (arith, ap log_size same, drive-few drive n logs survey zone known lt)
+        | inr gone ↦ omega (arith, ap log_size gone)
+      ])
+      | inr past ↦ omega (arith, ap log_size (get_or_past logs zone [] (omega (arith, past, known.count))))
+    ]
+
+-- ---- live records, by their places
+
+abbrev Within : ℕ → Option Record → Type 0
+Within size None = Unit {0}
+Within size (Some r) = r.offset < size
+
+newest-within : (size block : ℕ) (rs : List Record) (o : Option Record) → AllByRecursion (λ (r : Record). r.offset < size) rs → IsNewest rs block o → Within size o
+newest-within size block rs None all is = tt
+newest-within size block rs (Some r) all is = all-among (λ (x : Record). x.offset < size) rs r all is.1.among
+
+lies-kept : (size zone : ℕ) (o : Option Record) → Within size o → lies_in size zone (place size o) ≡ kept_in is_any zone o
+lies-kept size zone None within = refl
+lies-kept size zone (Some r) within = by (is_some r.content)
+  where
+    at : (r.zone * size + r.offset) / size ≡ r.zone
+    at = div-mul-add r.zone size r.offset within
+
+    and-true : (b : Bool) → b ≡ (b && true)
+    and-true true = refl
+    and-true false = refl
+
+    by : (b : Bool) → lies_in size zone (cond b (places.At (r.zone * size + r.offset)) (places.Trimmed (r.zone * size + r.offset))) ≡ (eqb r.zone zone && true)
+    by true = ap (λ (k : ℕ). eqb k zone) at ∙ and-true (eqb r.zone zone)
+    by false = ap (λ (k : ℕ). eqb k zone) at ∙ and-true (eqb r.zone zone)
+
+-- whether a record there has data
+abbrev pub data_blocks : Place → ℕ
+data_blocks places.None = 0
+data_blocks (places.Trimmed address) = 0
+data_blocks (places.At address) = 1
+
+data-kept : (size zone : ℕ) (o : Option Record) → Within size o → cond (lies_in size zone (place size o)) (data_blocks (place size o)) 0 ≡ cond {A = ℕ} (kept_in is_data zone o) 1 0
+data-kept size zone None within = refl
+data-kept size zone (Some r) within = by (is_some r.content)
+  where
+    at : (r.zone * size + r.offset) / size ≡ r.zone
+    at = div-mul-add r.zone size r.offset within
+
+    zero-either : (b : Bool) → cond {A = ℕ} b 0 0 ≡ cond {A = ℕ} (b && false) 1 0
+    zero-either true = refl
+    zero-either false = refl
+
+    one-if : (b : Bool) → cond {A = ℕ} b 1 0 ≡ cond {A = ℕ} (b && true) 1 0
+    one-if true = refl
+    one-if false = refl
+
+    by : (b : Bool) → cond {A = ℕ} (lies_in size zone (cond b (places.At (r.zone * size + r.offset)) (places.Trimmed (r.zone * size + r.offset)))) (data_blocks (cond b (places.At (r.zone * size + r.offset)) (places.Trimmed (r.zone * size + r.offset)))) 0 ≡ cond {A = ℕ} (eqb r.zone zone && b) 1 0
+    by true = ap (λ (k : ℕ). cond {A = ℕ} (eqb k zone) 1 0) at ∙ one-if (eqb r.zone zone)
+    by false = ap (λ (k : ℕ). cond {A = ℕ} (eqb k zone) 0 0) at ∙ zero-either (eqb r.zone zone)
+
+-- ---- how many there are
+
+-- what is added up over the places that lie in a zone
+abbrev total_in : (Place → ℕ) → ℕ → ℕ → List Place → ℕ
+total_in f size zone [] = 0
+total_in f size zone (p ∷ ps) = cond (lies_in size zone p) (f p) 0 + total_in f size zone ps
+
+blocks-total : (f : Place → ℕ) (size zone first : ℕ) (all ps : List Place) → ((k : ℕ) → get_or all (first + k) places.None ≡ get_or ps k places.None) → total (λ b. f (get_or all b places.None)) (blocks_in size zone first ps) ≡ total_in f size zone ps
+blocks-total f size zone first all [] same = refl
+blocks-total f size zone first all (p ∷ ps) same = by (lies_in size zone p) (blocks-total f size zone (first + 1) all ps (λ k. ap (λ (i : ℕ). get_or all i places.None) (omega arith) ∙ same (suc k)))
+  where
+    here : f (get_or all first places.None) ≡ f p
+    here = ap f (ap (λ (i : ℕ). get_or all i places.None) (omega arith) ∙ same 0)
+
+    by : (b : Bool) → total (λ b. f (get_or all b places.None)) (blocks_in size zone (first + 1) ps) ≡ total_in f size zone ps
+        → total (λ b. f (get_or all b places.None)) (cond b (first ∷ blocks_in size zone (first + 1) ps) (blocks_in size zone (first + 1) ps)) ≡ cond b (f p) 0 + total_in f size zone ps
+    by true rest = omega (arith, rest, here)
+    by false rest = omega (arith, rest)
+
+total-told : (f : Place → ℕ) (size zone : ℕ) (g : ℕ → Place) (q : ℕ → Bool) (xs : List ℕ) → ((x : ℕ) → cond (lies_in size zone (g x)) (f (g x)) 0 ≡ cond {A = ℕ} (q x) 1 0) → total_in f size zone (map g xs) ≡ count_by q xs
+total-told f size zone g q [] same = refl
+total-told f size zone g q (x ∷ xs) same = omega (arith, same x, total-told f size zone g q xs same, sum_by-cons (λ (y : ℕ). cond {A = ℕ} (q y) 1 0) x xs)
+
+pub record CountsLive (drive : DriveState) (n : ℕ) (logs : List (List Batch)) (zone : ℕ) : Type 0 where
+  pub count : total (λ b. 1) (blocks_in drive.geometry.size zone 0 (map_of drive.geometry.size n logs)) ≡ live (encoded_size n logs) logs zone
+  pub with_data : total (λ b. data_blocks (get_or (map_of drive.geometry.size n logs) b places.None)) (blocks_in drive.geometry.size zone 0 (map_of drive.geometry.size n logs)) ≡ live_data (encoded_size n logs) logs zone
+
+pub counts-live : (drive : DriveState) (n : ℕ) (logs : List (List Batch)) (survey : Survey) (zone : ℕ) → Knows drive n logs survey → CountsLive drive n logs zone
+counts-live drive n logs survey zone known =
+    let size = drive.geometry.size in
+    let rs = records 0 logs in
+    let map_is = map_of size n logs in
+    let all = known-below drive n logs survey known in
+    let f : ℕ → Place = λ block. place size (newest block rs) in
+    let start : (k : ℕ) → get_or map_is (0 + k) places.None ≡ get_or map_is k places.None = λ k. ap (λ (i : ℕ). get_or map_is i places.None) (omega arith) in
+    record {
+      count = blocks-total (λ p. 1) size zone 0 map_is map_is start
+        ∙ total-told (λ p. 1) size zone f (λ block. kept_in is_any zone (newest block rs)) (range_with_len 0 (encoded_size n logs)) (λ block. ap (λ (b : Bool). cond {A = ℕ} b 1 0) (lies-kept size zone (newest block rs) (newest-within size block rs (newest block rs) all (newest-is block rs))));
+      with_data = blocks-total data_blocks size zone 0 map_is map_is start
+        ∙ total-told data_blocks size zone f (λ block. kept_in is_data zone (newest block rs)) (range_with_len 0 (encoded_size n logs)) (λ block. data-kept size zone (newest block rs) (newest-within size block rs (newest block rs) all (newest-is block rs)));
+    }
+
+-- ---- a block's place
+
+pub place-at : (size n block : ℕ) (logs : List (List Batch)) → block < encoded_size n logs → get_or (map_of size n logs) block places.None ≡ place size (newest block (records 0 logs))
+place-at size n block logs lt = get_or-map-range_with_len (λ (l : ℕ). place size (newest l (records 0 logs))) 0 (encoded_size n logs) block block places.None lt (omega arith)
+
+pub map-length : (size n : ℕ) (logs : List (List Batch)) → length (map_of size n logs) ≡ encoded_size n logs
+map-length size n logs = omega (arith, length-map (range_with_len 0 (encoded_size n logs)) (λ block. place size (newest block (records 0 logs))), length-range_with_len 0 (encoded_size n logs))
+
+both-and : (a b : Bool) → (a && b) ≡ true → (a ≡ true) × (b ≡ true)
+both-and true b e = (refl, e)
+both-and false b e = absurd (cc)
+
+kept-lies : (zone : ℕ) (o : Option Record) → kept_in is_any zone o ≡ true → LiesIn zone o
+kept-lies zone None e = absurd (cc)
+kept-lies zone (Some r) e = eqb-true r.zone zone (both-and (eqb r.zone zone) true e).0
+
+lies-any : (zone : ℕ) (o : Option Record) → LiesIn zone o → kept_in is_any zone o ≡ true
+lies-any zone None is = absurd is
+lies-any zone (Some r) is = rw (eq-eqb r.zone zone is) refl
+
+-- a block lies in a zone where its newest record does
+pub lies-there : (drive : DriveState) (n : ℕ) (logs : List (List Batch)) (survey : Survey) (zone block : ℕ) → Knows drive n logs survey → LiesIn zone (newest block (records 0 logs)) → lies_in drive.geometry.size zone (place drive.geometry.size (newest block (records 0 logs))) ≡ true
+lies-there drive n logs survey zone block known is =
+    let rs = records 0 logs in
+    let size = drive.geometry.size in
+    lies-kept size zone (newest block rs) (newest-within size block rs (newest block rs) (known-below drive n logs survey known) (newest-is block rs)) ∙ lies-any zone (newest block rs) is
+
+pub there-lies : (drive : DriveState) (n : ℕ) (logs : List (List Batch)) (survey : Survey) (zone block : ℕ) → Knows drive n logs survey → lies_in drive.geometry.size zone (place drive.geometry.size (newest block (records 0 logs))) ≡ true → LiesIn zone (newest block (records 0 logs))
+there-lies drive n logs survey zone block known is =
+    let rs = records 0 logs in
+    let size = drive.geometry.size in
+    kept-lies zone (newest block rs) (sym (lies-kept size zone (newest block rs) (newest-within size block rs (newest block rs) (known-below drive n logs survey known) (newest-is block rs))) ∙ is)
+
+-- ---- what is said of it there
+
+-- the data of a record stands at its place
+pub record IsSaid (drive : DriveState) (zone : ℕ) (r : Record) : Type 0 where
+  pub content : r.content ≡ said_at (blocks_of drive zone) (zone * drive.geometry.size) (place drive.geometry.size (Some r))
+  pub block : IsBlockAt (zone * drive.geometry.size) (length (blocks_of drive zone)) (place drive.geometry.size (Some r))
+
+is-said : (drive : DriveState) (zone : ℕ) (r : Record) → r.zone ≡ zone → StandsOn drive.geometry (contents drive.zones) 0 r → IsSaid drive zone r
+is-said drive zone r is stands = at r.content refl
+  where
+    at : (o : Option (List ℕ)) → r.content ≡ o → IsSaid drive zone r
+    at None e = record { content = rw e refl; block = rw e tt }
+    at (Some bytes) e =
+        let g = drive.geometry in
+        let blocks = blocks_of drive zone in
+        let same : r.zone - 0 ≡ zone = omega (arith, is) in
+        let there = rw same at (stands.stands bytes e) in
+        let less : zone * g.size + r.offset - zone * g.size ≡ r.offset = omega arith in
+        let shown : get_or blocks r.offset [] ≡ bytes = get_or_default blocks r.offset [] (zero_block g.block) there.0 ∙ there.1 in
+        record {
+          content = rw (e, is, less) (ap Some (sym shown));
+          block = rw (e, is) (omega arith, omega (arith, there.0));
+        }
+
+pub newest-said : (drive : DriveState) (n : ℕ) (survey : Survey) (zone block : ℕ) (r : Record) → Knows drive n (drive_logs drive) survey → newest block (records 0 (drive_logs drive)) ≡ Some r → r.zone ≡ zone → IsSaid drive zone r
+newest-said drive n survey zone block r known e is =
+    let rs = records 0 (drive_logs drive) in
+    let newest_is : IsNewest rs block (Some r) = subst (IsNewest rs block) e (newest-is block rs) in
+    is-said drive zone r is (all-among (StandsOn drive.geometry (contents drive.zones) 0) rs r (records_stand drive.geometry (contents drive.zones) 0 known.all_logs) newest_is.1.among)

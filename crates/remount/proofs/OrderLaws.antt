@@ -1,0 +1,84 @@
+-- What the headers of a cleared drive tell of the Moves to be made.
+use Rattle.std.proofs.Common.{◌≡◌, ◌≢◌, ℕ, suc, ◌+◌, ◌<◌, ◌≤◌, max, Bool, true, false, eqb, List, [], ◌∷◌, ◌++◌, length, map, drop, get_or, refl, sym, ap, ◌∙◌, arith, append-nil, append_assoc}
+use Rattle.std.specs.List.{AllByRecursion, flat_map}
+use Rattle.std.proofs.lemmas.Bool.{eq-eqb}
+use Rattle.std.proofs.lemmas.List.{drop_more, get_or_default, length-map, map-append}
+use Rattle.std.proofs.Math.ListN.{get_or-map}
+use Rattle.batch_log.specs.Log.{Batch}
+use Rattle.drive_port.specs.Drive.{DriveState}
+use Rattle.zone_choice.specs.Repairing.{IsMoved}
+use Rattle.zone_choice.specs.Spare.{IsMoveFrom}
+use Rattle.zone_choice.specs.ZoneLogs.{log_at, log_sequences, sequences}
+use Rattle.remount.specs.declared.heads.Head.{Head}
+use Rattle.remount.specs.declared.scan.ScannedZone.{ScannedZone}
+use Rattle.remount.specs.Heads.{HeadsView, greatest_sequence, heads_after, heads_of, no_heads, sequence_of, source_with, with_heading}
+use Rattle.remount.specs.declared.survey.Survey.{Survey}
+use Rattle.remount.specs.Known.{Knows}
+use Rattle.remount.specs.Scan.{heads_in}
+
+-- ---- sequences
+
+abbrev pub sequences_in : List HeadsView → List ℕ
+sequences_in views = flat_map (λ (view : HeadsView). map sequence_of view.heads) views
+
+pub greatest-append : (xs ys : List ℕ) → greatest_sequence (xs ++ ys) ≡ max (greatest_sequence xs) (greatest_sequence ys)
+greatest-append [] ys = omega arith
+greatest-append (x ∷ xs) ys = omega (arith, greatest-append xs ys)
+
+pub greatest-step : (scanned : List ScannedZone) (i now more all own : ℕ) (zone : ScannedZone) → i < length scanned → zone ≡ get_or scanned i zone → own ≡ greatest_sequence (map sequence_of zone.heads.heads) → more ≡ max own now
+    → max now (greatest_sequence (sequences_in (heads_in (drop i scanned)))) ≡ all → max more (greatest_sequence (sequences_in (heads_in (drop (i + 1) scanned)))) ≡ all
+greatest-step scanned i now more all own zone lt is own-is grown before =
+    let next : drop i scanned ≡ zone ∷ drop (i + 1) scanned = drop_more scanned i zone lt ∙ ap (λ (z : ScannedZone). z ∷ drop (i + 1) scanned) (sym is) in
+    let rest = sequences_in (heads_in (drop (i + 1) scanned)) in
+    let split : greatest_sequence (sequences_in (heads_in (drop i scanned))) ≡ max (greatest_sequence (map sequence_of zone.heads.heads)) (greatest_sequence rest) =
+      ap (λ (zs : List ScannedZone). greatest_sequence (sequences_in (heads_in zs))) next ∙ greatest-append (map sequence_of zone.heads.heads) rest in
+    omega (arith, own-is, grown, before, split)
+
+after-sequences : (view : HeadsView) (log : List Batch) → map sequence_of (heads_after view log).heads ≡ map sequence_of view.heads ++ log_sequences log
+after-sequences view [] = sym (append-nil (map sequence_of view.heads))
+after-sequences view (b ∷ bs) =
+    let head : Head = record { sequence = b.heading.sequence; offset = view.blocks; end = length view.entries + length b.heading.entries } in
+    after-sequences (with_heading view b.heading) bs ∙ ap (λ (ss : List ℕ). ss ++ log_sequences bs) (map-append sequence_of view.heads (head ∷ [])) ∙ append_assoc (map sequence_of view.heads) (b.heading.sequence ∷ []) (log_sequences bs)
+
+pub sequences-kept : (logs : List (List Batch)) → sequences_in (map heads_of logs) ≡ sequences logs
+sequences-kept [] = refl
+sequences-kept (log ∷ logs) = rw (after-sequences no_heads log, sequences-kept logs) refl
+
+pub all-greatest : (limit count : ℕ) (ss : List ℕ) → greatest_sequence ss + count < limit → AllByRecursion (λ s. s + count < limit) ss
+all-greatest limit count [] lt = tt
+all-greatest limit count (s ∷ ss) lt = (omega (arith, lt), all-greatest limit count ss (omega (arith, lt)))
+
+pub greatest-all : (limit count : ℕ) (ss : List ℕ) → count < limit → AllByRecursion (λ s. s + count < limit) ss → greatest_sequence ss + count < limit
+greatest-all limit count [] few all = omega (arith, few)
+greatest-all limit count (s ∷ ss) few all = let rest = greatest-all limit count ss few all.1 in omega (arith, all.0, rest)
+
+-- ---- the headers of one zone
+
+pub scanned-in : (drive : DriveState) (n : ℕ) (logs : List (List Batch)) (survey : Survey) (zone : ℕ) → Knows drive n logs survey → zone < length drive.zones → zone < length survey.scanned.items
+scanned-in drive n logs survey zone known lt = omega (arith, lt, known.count, ap length known.heads, length-map survey.scanned.items (λ (z : ScannedZone). z.heads), length-map logs heads_of)
+
+pub found-heads : (scanned : List ScannedZone) (logs : List (List Batch)) (zone : ℕ) (found : ScannedZone) → heads_in scanned ≡ map heads_of logs → zone < length scanned → found ≡ get_or scanned zone found → found.heads ≡ heads_of (log_at logs zone)
+found-heads scanned logs zone found are lt is =
+    let view : get_or (heads_in scanned) zone found.heads ≡ found.heads = get_or-map (λ (z : ScannedZone). z.heads) scanned zone found ∙ ap (λ (z : ScannedZone). z.heads) (sym is) in
+    let long : zone < length (map heads_of logs) = omega (arith, lt, ap length are, length-map scanned (λ (z : ScannedZone). z.heads)) in
+    sym view ∙ ap (λ (hs : List HeadsView). get_or hs zone found.heads) are ∙ get_or_default (map heads_of logs) zone found.heads no_heads long ∙ get_or-map heads_of logs zone []
+
+source-stays : (heads : List Head) (head : Head) (source other : ℕ) → source_with (heads ++ head ∷ []) source other ≡ source
+source-stays [] head source other = refl
+source-stays (h ∷ hs) head source other = refl
+
+after-moves : (view : HeadsView) (log : List Batch) (victim : ℕ) → view.are_moves ≡ true → ((other : ℕ) → other ≡ victim → source_with view.heads view.source other ≡ victim) → AllByRecursion (IsMoveFrom victim) log → (heads_after view log).are_moves ≡ true
+after-moves view [] victim moves source all = moves
+after-moves view (b ∷ bs) victim moves source all =
+    let from : source_with view.heads view.source b.heading.source ≡ victim = source b.heading.source all.0.1 in
+    after-moves (with_heading view b.heading) bs victim
+    (rw (moves, all.0.0) (eq-eqb b.heading.source (source_with view.heads view.source b.heading.source) (all.0.1 ∙ sym from)))
+    (λ other same. source-stays view.heads _ (source_with view.heads view.source b.heading.source) other ∙ from)
+    all.1
+
+-- a zone with a batch that is no Move from one zone alone
+pub not-moved : (scanned : List ScannedZone) (logs : List (List Batch)) (zone : ℕ) (found : ScannedZone) → heads_in scanned ≡ map heads_of logs → zone < length scanned → found ≡ get_or scanned zone found → found.heads.are_moves ≡ false → IsMoved logs zone → ⊥
+not-moved scanned logs zone found are lt is no_moves moved =
+    let all : (heads_of (log_at logs zone)).are_moves ≡ true = after-moves no_heads (log_at logs zone) moved.victim refl (λ other same. same) moved.moves in
+    let bad : false ≡ true = sym no_moves ∙ ap (λ (h : HeadsView). h.are_moves) (found-heads scanned logs zone found are lt is) ∙ all in
+    absurd (cc)

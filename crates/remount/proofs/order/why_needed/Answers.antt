@@ -1,0 +1,16 @@
+use Rattle.std.proofs.Common.{◌∙◌, ℕ, length, ap, sym, arith, map}
+use Rattle.std.proofs.lemmas.List.{length-map}
+use Rattle.zone_choice.specs.Agreement.{drive_logs}
+use Rattle.remount.specs.declared.scan.ScannedZone.{ScannedZone}
+use Rattle.remount.specs.Heads.{heads_of}
+use Rattle.remount.proofs.OrderLaws.{not-moved, scanned-in}
+use Rattle.remount.proofs.ReadLaws.{keeps-none}
+use Rattle.remount.proofs.order.why_needed.Goals as goal
+
+pub returns-then-not-are_moves-clause-ok : goal.returns-then-not-are_moves-clause-ok
+returns-then-not-are_moves-clause-ok g c =
+    not-moved c.args.survey.now.scanned.items (drive_logs (g.D.Device.drive c.args.device.now)) c.args.zone c.index.result.now c.requires.known.heads
+    (scanned-in (g.D.Device.drive c.args.device.now) c.args.blocks (drive_logs (g.D.Device.drive c.args.device.now)) c.args.survey.now c.args.zone c.requires.known c.requires.zone) c.index.ensures (sym c.are_moves.ensures ∙ c.if-not-are_moves.true)
+
+pub returns-then-not-are_moves-clause-kept : goal.returns-then-not-are_moves-clause-kept
+returns-then-not-are_moves-clause-kept g c = keeps-none (g.D.Device.drive c.args.device.now) c.requires.known.zones.lawful
