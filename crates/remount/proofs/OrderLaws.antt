@@ -11,46 +11,10 @@ use Rattle.zone_choice.specs.Spare.{IsMoveFrom}
 use Rattle.zone_choice.specs.ZoneLogs.{log_at, log_sequences, sequences}
 use Rattle.remount.specs.declared.heads.Head.{Head}
 use Rattle.remount.specs.declared.scan.ScannedZone.{ScannedZone}
-use Rattle.remount.specs.Heads.{HeadsView, greatest_sequence, heads_after, heads_of, no_heads, sequence_of, source_with, with_heading}
+use Rattle.remount.specs.Heads.{HeadsView, heads_after, heads_of, no_heads, source_with, with_heading}
 use Rattle.remount.specs.declared.survey.Survey.{Survey}
 use Rattle.remount.specs.Known.{Knows}
 use Rattle.remount.specs.Scan.{heads_in}
-
--- ---- sequences
-
-abbrev pub sequences_in : List HeadsView → List ℕ
-sequences_in views = flat_map (λ (view : HeadsView). map sequence_of view.heads) views
-
-pub greatest-append : (xs ys : List ℕ) → greatest_sequence (xs ++ ys) ≡ max (greatest_sequence xs) (greatest_sequence ys)
-greatest-append [] ys = omega arith
-greatest-append (x ∷ xs) ys = omega (arith, greatest-append xs ys)
-
-pub greatest-step : (scanned : List ScannedZone) (i now more all own : ℕ) (zone : ScannedZone) → i < length scanned → zone ≡ get_or scanned i zone → own ≡ greatest_sequence (map sequence_of zone.heads.heads) → more ≡ max own now
-    → max now (greatest_sequence (sequences_in (heads_in (drop i scanned)))) ≡ all → max more (greatest_sequence (sequences_in (heads_in (drop (i + 1) scanned)))) ≡ all
-greatest-step scanned i now more all own zone lt is own-is grown before =
-    let next : drop i scanned ≡ zone ∷ drop (i + 1) scanned = drop_more scanned i zone lt ∙ ap (λ (z : ScannedZone). z ∷ drop (i + 1) scanned) (sym is) in
-    let rest = sequences_in (heads_in (drop (i + 1) scanned)) in
-    let split : greatest_sequence (sequences_in (heads_in (drop i scanned))) ≡ max (greatest_sequence (map sequence_of zone.heads.heads)) (greatest_sequence rest) =
-      ap (λ (zs : List ScannedZone). greatest_sequence (sequences_in (heads_in zs))) next ∙ greatest-append (map sequence_of zone.heads.heads) rest in
-    omega (arith, own-is, grown, before, split)
-
-after-sequences : (view : HeadsView) (log : List Batch) → map sequence_of (heads_after view log).heads ≡ map sequence_of view.heads ++ log_sequences log
-after-sequences view [] = sym (append-nil (map sequence_of view.heads))
-after-sequences view (b ∷ bs) =
-    let head : Head = record { sequence = b.heading.sequence; offset = view.blocks; end = length view.entries + length b.heading.entries } in
-    after-sequences (with_heading view b.heading) bs ∙ ap (λ (ss : List ℕ). ss ++ log_sequences bs) (map-append sequence_of view.heads (head ∷ [])) ∙ append_assoc (map sequence_of view.heads) (b.heading.sequence ∷ []) (log_sequences bs)
-
-pub sequences-kept : (logs : List (List Batch)) → sequences_in (map heads_of logs) ≡ sequences logs
-sequences-kept [] = refl
-sequences-kept (log ∷ logs) = rw (after-sequences no_heads log, sequences-kept logs) refl
-
-pub all-greatest : (limit count : ℕ) (ss : List ℕ) → greatest_sequence ss + count < limit → AllByRecursion (λ s. s + count < limit) ss
-all-greatest limit count [] lt = tt
-all-greatest limit count (s ∷ ss) lt = (omega (arith, lt), all-greatest limit count ss (omega (arith, lt)))
-
-pub greatest-all : (limit count : ℕ) (ss : List ℕ) → count < limit → AllByRecursion (λ s. s + count < limit) ss → greatest_sequence ss + count < limit
-greatest-all limit count [] few all = omega (arith, few)
-greatest-all limit count (s ∷ ss) few all = let rest = greatest-all limit count ss few all.1 in omega (arith, all.0, rest)
 
 -- ---- the headers of one zone
 

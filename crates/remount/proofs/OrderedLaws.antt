@@ -15,7 +15,7 @@ use Rattle.zone_choice.proofs.ReserveLaws.{div_ceil-le}
 use Rattle.remount.specs.declared.clearing.Finding.{Finding}
 use Rattle.remount.specs.declared.clearing.Finding.TheVariants.{HalfClean, NotMoves, NeedsBlock, NeedsSize}
 use Rattle.remount.specs.Moving.{ordered, others}
-use Rattle.remount.proofs.PlanLaws.{all-take}
+use Rattle.remount.proofs.MovePlanLaws.{all-take}
 
 -- ---- elements
 

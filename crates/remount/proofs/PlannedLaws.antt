@@ -44,7 +44,7 @@ use Rattle.remount.specs.Moving.{CanMove, IsBlockAt, IsMovable, IsMovePlan, IsRe
 use Rattle.remount.specs.Reported.{IsKnown}
 use Rattle.remount.specs.Scan.{blocks_of}
 use Rattle.remount.proofs.LiveLaws.{counts-live, data_blocks, lies-there, map-length, newest-said, place-at, there-lies}
-use Rattle.remount.proofs.OrderLaws.{all-greatest, greatest-all}
+use Rattle.remount.proofs.TornPlanLaws.{all-greatest, greatest-all}
 use Rattle.remount.proofs.OrderedLaws.{In, IsLastIn, IsOrder, LiesAt, blocks-distinct, blocks-lie, front-few, front-not, in-contains, is-order, length-total, lying-in, order-all, order-length, total, total-append}
 
 -- ---- what the Moves name

@@ -258,11 +258,11 @@ pub sequences-kept : (logs : List (List Batch)) → sequences_in (map heads_of l
 sequences-kept [] = refl
 sequences-kept (log ∷ logs) = rw (after-sequences no_heads log, sequences-kept logs) refl
 
-all-greatest : (limit count : ℕ) (ss : List ℕ) → greatest_sequence ss + count < limit → AllByRecursion (λ s. s + count < limit) ss
+pub all-greatest : (limit count : ℕ) (ss : List ℕ) → greatest_sequence ss + count < limit → AllByRecursion (λ s. s + count < limit) ss
 all-greatest limit count [] lt = tt
 all-greatest limit count (s ∷ ss) lt = (omega (arith, lt), all-greatest limit count ss (omega (arith, lt)))
 
-greatest-all : (limit count : ℕ) (ss : List ℕ) → count < limit → AllByRecursion (λ s. s + count < limit) ss → greatest_sequence ss + count < limit
+pub greatest-all : (limit count : ℕ) (ss : List ℕ) → count < limit → AllByRecursion (λ s. s + count < limit) ss → greatest_sequence ss + count < limit
 greatest-all limit count [] few all = omega (arith, few)
 greatest-all limit count (s ∷ ss) few all = let rest = greatest-all limit count ss few all.1 in omega (arith, all.0, rest)
 
