@@ -1,24 +1,21 @@
 -- The drive before the first Move of a repair, and after the whole repair.
-use Rattle.std.proofs.Common.{◌≡◌, ◌≢◌, ◌⊎◌, inl, inr, ℕ, zero, suc, ◌+◌, ◌<◌, ◌≤◌, ◌^◌, Bool, true, false, List, [], ◌∷◌, length, map, set, get_or, Option, Some, None, refl, sym, ap, subst, ◌∙◌, arith}
+use Rattle.std.proofs.Common.{◌≡◌, ◌≢◌, ◌⊎◌, inl, inr, ℕ, zero, suc, ◌<◌, ◌≤◌, Bool, true, false, List, [], ◌∷◌, length, set, get_or, Some, refl, sym, ap, subst, ◌∙◌, arith}
 use Rattle.std.specs.Prelude.{slice_get}
-use Rattle.std.specs.List.{AllByRecursion}
 use Rattle.std.proofs.lemmas.Bool.{cases_eq, cases_lt}
 use Rattle.std.proofs.lemmas.List.{get_or-set_other, get_or-set_same, get_or_past, length-map, length-set}
-use Rattle.std.proofs.lemmas.Option.{slice_get_within}
 use Rattle.nvme_wire.specs.declared.zone_state.ZoneState.{ZoneState}
 use Rattle.nvme_wire.specs.declared.zone_state.ZoneState.TheVariants as states
 use Rattle.zone_states.specs.declared.geometry.Geometry.{Geometry}
-use Rattle.zone_states.specs.Zone.{IsLawfulZone, Zone}
-use Rattle.drive_port.specs.Contents.{Content, content_at, content_of, contents, empty, emptied, is_active_usage, nothing, usage_of}
+use Rattle.zone_states.specs.Zone.{IsLawfulZone}
+use Rattle.drive_port.specs.Contents.{Content, content_at, content_of, contents, empty, emptied, nothing, usage_of}
 use Rattle.drive_port.specs.Drive.{DriveState, IsLawful}
 use Rattle.drive_port.specs.Step.{nowhere, zone_at}
 use Rattle.batch_log.specs.Log.{Batch}
 use Rattle.zone_choice.specs.Agreement.{IsShut, drive_logs}
 use Rattle.zone_choice.specs.Mountable.{IsMountable, is_partly_written}
-use Rattle.zone_choice.specs.Repairing.{IsOnRepair}
 use Rattle.zone_choice.specs.Spare.{IsHalfClean, IsVacant, NoneBelow}
 use Rattle.zone_choice.specs.Tables.{TablesView}
-use Rattle.zone_choice.specs.ZoneLogs.{has_torn_tail, log_at, zone_log, zone_logs, zone_tails}
+use Rattle.zone_choice.specs.ZoneLogs.{has_torn_tail, log_at, zone_log, zone_tails}
 use Rattle.zone_choice.proofs.AgreementLaws.{zone_log-emptied}
 use Rattle.zone_choice.proofs.AllLaws.{all-at}
 use Rattle.zone_choice.proofs.CommandLaws.{content-zone}
@@ -36,7 +33,7 @@ use Rattle.remount.specs.Mount.{AreWhole, IsOnlyTorn}
 use Rattle.remount.specs.Moving.{AreSettled, EmptiesTorn, IsAtMove, IsMovePlan, IsMoving, KeepsShut, move_count, moves_before, source_of}
 use Rattle.remount.specs.Reported.{KeepsZones}
 use Rattle.remount.specs.Scan.{AreKnown}
-use Rattle.remount.proofs.CallLaws.{in-get, shut-both, shut-count, shut-known, shut-knows, shut-logs, shut-mountable, vacant-inactive, zones-shut}
+use Rattle.remount.proofs.CallLaws.{in-get, shut-both, shut-count, shut-known, shut-knows, shut-mountable, zones-shut}
 use Rattle.remount.proofs.MakingLaws.{count-before}
 use Rattle.remount.proofs.NoteLaws.{heads-blocks, logs-emptied, tails-emptied, untorn-emptied}
 

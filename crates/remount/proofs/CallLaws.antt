@@ -1,17 +1,17 @@
 -- What the commands of a repair keep, and which faults they end with.
-use Rattle.std.proofs.Common.{◌≡◌, ◌≢◌, ◌⊎◌, inl, inr, ℕ, zero, suc, ◌+◌, ◌-◌, ◌*◌, ◌/◌, ◌%◌, ◌<◌, ◌≤◌, ◌^◌, Bool, true, false, List, [], ◌∷◌, ◌++◌, length, set, get_or, replicate, Option, Some, None, Result, Ok, Err, refl, sym, ap, subst, ◌∙◌, arith}
+use Rattle.std.proofs.Common.{◌≡◌, ◌≢◌, ◌⊎◌, inl, inr, ℕ, zero, suc, ◌+◌, ◌-◌, ◌*◌, ◌/◌, ◌%◌, ◌<◌, ◌≤◌, Bool, true, false, List, [], ◌∷◌, length, set, get_or, replicate, Some, Result, Ok, Err, refl, sym, ap, subst, ◌∙◌, arith}
 use Rattle.std.specs.Prelude.{IfErr, OnOk, slice_get}
 use Rattle.std.specs.List.{AllByRecursion}
 use Rattle.std.proofs.lemmas.Bool.{cases_eq}
 use Rattle.std.proofs.lemmas.List.{get_or-set_other, get_or-set_same, length-append, length-map, length-replicate, length-set}
-use Rattle.std.proofs.lemmas.Option.{slice_get-get_or, slice_get_within}
+use Rattle.std.proofs.lemmas.Option.{slice_get-get_or}
 use Rattle.nvme_wire.specs.declared.zone_state.ZoneState.{ZoneState}
 use Rattle.nvme_wire.specs.declared.zone_state.ZoneState.TheVariants as states
 use Rattle.zone_states.specs.declared.geometry.Geometry.{Geometry}
 use Rattle.zone_states.specs.Geometry.{IsInRange}
 use Rattle.zone_states.specs.Transition.{is_active, is_open}
 use Rattle.zone_states.specs.Zone.{Zone}
-use Rattle.drive_port.specs.Calls.{CanClose, CanFinish, CanReset, CloseLeaves, ClosedZone, Finished, FinishedContents, FinishKeeps, FinishLeaves, IsNotRefused, Obeys, ResetContents, ResetKeeps, ResetLeaves}
+use Rattle.drive_port.specs.Calls.{CanClose, CanFinish, CanReset, CloseLeaves, ClosedZone, Finished, FinishedContents, FinishKeeps, FinishLeaves, IsNotRefused, Obeys}
 use Rattle.drive_port.specs.Contents.{Content, Counts, Finishes, SameContents, content_at, content_of, contents, emptied, finished, full, is_active_usage, is_full, is_usable, is_writable, nothing, usage_of}
 use Rattle.drive_port.specs.Drive.{DriveState, IsLawful}
 use Rattle.drive_port.specs.Step.{nowhere, zone_at}
@@ -20,8 +20,7 @@ use Rattle.drive_port.specs.declared.calls.PortFault.TheVariants as port
 use Rattle.batch_log.specs.Log.{zero_block}
 use Rattle.zone_choice.specs.Agreement.{IsShut, drive_logs, spelled}
 use Rattle.zone_choice.specs.Changes.{IsHalt}
-use Rattle.zone_choice.specs.Mountable.{IsMountable}
-use Rattle.zone_choice.specs.ZoneLogs.{HasLog, has_torn_tail, log_at, readable, spelled_array, zone_logs, zone_tails}
+use Rattle.zone_choice.specs.ZoneLogs.{HasLog, has_torn_tail, log_at, readable, spelled_array, zone_tails}
 use Rattle.zone_choice.proofs.AgreementLaws.{spelled_same}
 use Rattle.zone_choice.proofs.AllLaws.{all-at}
 use Rattle.zone_choice.proofs.CommandLaws.{content-zone, start-below, zone-few, zone-start}

@@ -1,10 +1,10 @@
 -- What the headers of a zone tell of its log.
-use Rattle.std.proofs.Common.{◌≡◌, ℕ, ◌+◌, ◌<◌, ◌≤◌, max, List, [], ◌∷◌, map, Option, refl, sym, ap, ◌∙◌, arith}
+use Rattle.std.proofs.Common.{◌≡◌, ℕ, ◌<◌, ◌≤◌, max, List, [], ◌∷◌, sym, ◌∙◌, arith}
 use Rattle.std.specs.List.{AllByRecursion}
 use Rattle.batch_log.specs.declared.header.Entry.{Entry}
 use Rattle.batch_log.specs.Log.{Batch}
 use Rattle.zone_choice.specs.Mountable.{IsInside}
-use Rattle.zone_choice.specs.Sizes.{greatest, larger, log_greatest}
+use Rattle.zone_choice.specs.Sizes.{larger, log_greatest}
 use Rattle.zone_choice.proofs.SizeLaws.{larger-assoc, larger-none}
 use Rattle.remount.specs.Heads.{HeadsView, heads_after, heads_of, highest_of, no_heads, with_heading}
 

@@ -1,5 +1,5 @@
 -- Where the newest records of blocks lie, and what is said there.
-use Rattle.std.proofs.Common.{◌≡◌, ◌≢◌, inl, inr, ℕ, zero, suc, ◌+◌, ◌-◌, ◌*◌, ◌/◌, ◌<◌, ◌≤◌, ◌^◌, Bool, true, false, cond, eqb, ◌&&◌, List, [], ◌∷◌, ◌++◌, map, length, get_or, Option, Some, None, is_some, refl, sym, ap, subst, ◌∙◌, arith}
+use Rattle.std.proofs.Common.{◌≡◌, inl, inr, ℕ, suc, ◌+◌, ◌-◌, ◌*◌, ◌/◌, ◌<◌, ◌≤◌, Bool, true, false, cond, eqb, ◌&&◌, List, [], ◌∷◌, map, length, get_or, Option, Some, None, is_some, refl, sym, ap, subst, ◌∙◌, arith}
 use Rattle.std.specs.List.{AllByRecursion, count_by, flat_map, range_with_len}
 use Rattle.std.proofs.lemmas.Bool.{cases_lt, eq-eqb, eqb-true}
 use Rattle.std.proofs.lemmas.List.{get_or_default, get_or_past, length-append, length-map}
@@ -8,7 +8,6 @@ use Rattle.std.proofs.lemmas.List.Sums.{sum_by-cons}
 use Rattle.std.proofs.lemmas.Nat.{div-mul-add}
 use Rattle.std.proofs.lemmas.Option.{slice_get-get_or}
 use Rattle.std.proofs.Math.ListN.{get_or-map}
-use Rattle.zone_states.specs.declared.geometry.Geometry.{Geometry}
 use Rattle.drive_port.specs.Contents.{content_at, content_of, contents, nothing}
 use Rattle.drive_port.specs.Drive.{DriveState}
 use Rattle.nvme_wire.specs.declared.zone_state.ZoneState.TheVariants as states
@@ -23,7 +22,6 @@ use Rattle.zone_choice.specs.Records.{IsNewest, Record, batch_records, entry_off
 use Rattle.zone_choice.specs.Repair.{is_any, is_data, kept_in, live, live_data}
 use Rattle.zone_choice.specs.Repairing.{LiesIn}
 use Rattle.zone_choice.specs.Sizes.{encoded_size, map_of}
-use Rattle.zone_choice.specs.Tables.{TablesView, size_of}
 use Rattle.zone_choice.specs.ZoneLogs.{HasLog, log_at, readable, zone_log}
 use Rattle.zone_choice.proofs.AllLaws.{all-append, all-at, all-weaker}
 use Rattle.zone_choice.proofs.NewestLaws.{newest-is}
@@ -31,9 +29,7 @@ use Rattle.zone_choice.proofs.ReadLaws.{StandsOn, all-among, records_stand}
 use Rattle.remount.specs.declared.reported.ReportedZone.{ReportedZone}
 use Rattle.remount.specs.declared.survey.Survey.{Survey}
 use Rattle.remount.specs.Known.{Knows}
-use Rattle.remount.specs.Mount.{IsPlaced}
-use Rattle.remount.specs.Moving.{IsBlockAt, IsMovable, IsReadableAt, Source, moved_entries, placed_entry, said, said_at, source_of}
-use Rattle.remount.specs.Reported.{IsKnown}
+use Rattle.remount.specs.Moving.{IsBlockAt, said_at}
 use Rattle.remount.specs.Scan.{blocks_of}
 use Rattle.remount.proofs.ReadLaws.{known-few}
 use Rattle.remount.proofs.OrderedLaws.{total}
@@ -177,9 +173,9 @@ counts-live drive n logs survey zone known =
     let start : (k : ℕ) → get_or map_is (0 + k) places.None ≡ get_or map_is k places.None = λ k. ap (λ (i : ℕ). get_or map_is i places.None) (omega arith) in
     record {
       count = blocks-total (λ p. 1) size zone 0 map_is map_is start
-        ∙ total-told (λ p. 1) size zone f (λ block. kept_in is_any zone (newest block rs)) (range_with_len 0 (encoded_size n logs)) (λ block. ap (λ (b : Bool). cond {A = ℕ} b 1 0) (lies-kept size zone (newest block rs) (newest-within size block rs (newest block rs) all (newest-is block rs))));
+          ∙ total-told (λ p. 1) size zone f (λ block. kept_in is_any zone (newest block rs)) (range_with_len 0 (encoded_size n logs)) (λ block. ap (λ (b : Bool). cond {A = ℕ} b 1 0) (lies-kept size zone (newest block rs) (newest-within size block rs (newest block rs) all (newest-is block rs))));
       with_data = blocks-total data_blocks size zone 0 map_is map_is start
-        ∙ total-told data_blocks size zone f (λ block. kept_in is_data zone (newest block rs)) (range_with_len 0 (encoded_size n logs)) (λ block. data-kept size zone (newest block rs) (newest-within size block rs (newest block rs) all (newest-is block rs)));
+          ∙ total-told data_blocks size zone f (λ block. kept_in is_data zone (newest block rs)) (range_with_len 0 (encoded_size n logs)) (λ block. data-kept size zone (newest block rs) (newest-within size block rs (newest block rs) all (newest-is block rs)));
     }
 
 -- ---- a block's place

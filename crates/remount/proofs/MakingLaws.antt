@@ -1,33 +1,28 @@
 -- One Move of a repair is made.
-use Rattle.std.proofs.Common.{◌≡◌, ℕ, zero, suc, ◌+◌, ◌*◌, ◌<◌, ◌≤◌, ◌^◌, List, [], ◌∷◌, ◌++◌, length, map, refl, sym, ap, subst, ◌∙◌, arith}
+use Rattle.std.proofs.Common.{◌≡◌, ℕ, zero, suc, ◌+◌, ◌*◌, ◌<◌, ◌≤◌, ◌^◌, length, map, refl, sym, ap, subst, ◌∙◌, arith}
 use Rattle.std.specs.List.{AllByRecursion}
-use Rattle.std.proofs.lemmas.List.{length-append, length-map, length-take}
+use Rattle.std.proofs.lemmas.List.{length-append, length-map}
 use Rattle.std.proofs.lemmas.Nat.{mul-le}
 use Rattle.std.proofs.Math.Nat.{add-mul}
-use Rattle.std.specs.Prelude.{drop, slice_index_or}
-use Rattle.zone_states.specs.declared.geometry.Geometry.{Geometry}
-use Rattle.zone_states.specs.Geometry.{IsInRange}
+use Rattle.std.specs.Prelude.{slice_index_or}
 use Rattle.drive_port.specs.Calls.{CanAppend}
 use Rattle.drive_port.specs.Drive.{DriveState}
-use Rattle.batch_log.specs.declared.header.Entry.{Entry}
-use Rattle.batch_log.specs.Header.{Heading, IsHeading}
+use Rattle.batch_log.specs.Header.{IsHeading}
 use Rattle.batch_log.specs.Log.{Batch, batch_size, data_count, log_size}
 use Rattle.logical_map.specs.declared.place.Place.TheVariants as places
 use Rattle.zone_choice.specs.Agreement.{drive_logs}
 use Rattle.zone_choice.specs.Builder.{BuilderView, IsBuilt, built}
-use Rattle.zone_choice.specs.Reserve.{batch_most}
 use Rattle.zone_choice.specs.Tables.{TablesView}
-use Rattle.zone_choice.proofs.BuilderLaws.{data_count-few}
 use Rattle.zone_choice.proofs.ChangeLaws.{large-block}
 use Rattle.zone_choice.proofs.ContentLaws.{log_size-append}
 use Rattle.zone_choice.proofs.ReserveLaws.{positive-most}
 use Rattle.remount.specs.declared.moves.MovePlan.{MovePlan}
-use Rattle.remount.specs.Heads.{HeadsView, heads_of, kept_entry, with_heading}
+use Rattle.remount.specs.Heads.{HeadsView, heads_of, kept_entry}
 use Rattle.remount.specs.Moving.{CanTake, IsAtMove, IsBuiltAs, IsReadableAt, Source, move_by, move_count, moves_before, named_by, placed_entry, source_of}
 use Rattle.remount.specs.Reported.{IsKnown, KeepsZones}
 use Rattle.remount.proofs.CallLaws.{zones-shut}
 use Rattle.remount.proofs.MovingLaws.{at-can, at-heading, at-kept, moving-known, moving-source}
-use Rattle.remount.proofs.MovePlanLaws.{all-named, few-named, heads-more, move-few, move-room}
+use Rattle.remount.proofs.MovePlanLaws.{all-named, few-named, heads-more, move-room}
 
 -- ---- what building it needs
 

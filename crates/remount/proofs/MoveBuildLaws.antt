@@ -1,22 +1,20 @@
 -- A Move as it is built: its entries, its data, and its header.
-use Rattle.std.proofs.Common.{◌≡◌, ◌≢◌, ◌⊎◌, inl, inr, ℕ, zero, suc, ◌+◌, ◌-◌, ◌*◌, ◌<◌, ◌≤◌, ◌^◌, Bool, true, false, cond, List, [], ◌∷◌, ◌++◌, length, map, take, drop, get_or, Option, Some, None, refl, sym, ap, ◌∙◌, arith, append_assoc, append-nil}
+use Rattle.std.proofs.Common.{◌≡◌, ℕ, ◌+◌, ◌*◌, ◌<◌, ◌≤◌, ◌^◌, List, [], ◌∷◌, ◌++◌, length, take, drop, get_or, Option, refl, sym, ap, ◌∙◌, arith, append_assoc, append-nil}
 use Rattle.std.specs.Prelude.{slice_index_or}
-use Rattle.std.specs.List.{AllByRecursion, concat, flat_map}
-use Rattle.std.proofs.lemmas.List.{drop_all, drop_at, drop_more, length-append, length-take-le, take_at}
+use Rattle.std.specs.List.{AllByRecursion, concat}
+use Rattle.std.proofs.lemmas.List.{drop_all, drop_at, drop_more, length-append, take_at}
 use Rattle.std.proofs.lemmas.List.Folds.{concat-append}
-use Rattle.std.proofs.lemmas.List.Concat.{flat_map-cons}
 use Rattle.std.proofs.Math.Nat.{add-mul}
 use Rattle.zone_states.specs.Zone.{cut_blocks}
 use Rattle.drive_port.specs.Drive.{DriveState}
 use Rattle.batch_log.specs.declared.header.Entry.{Entry}
-use Rattle.batch_log.specs.Causes.{header_fault}
-use Rattle.batch_log.specs.Header.{Heading, IsHeaderBlock, IsHeading, IsNoHeader, header_block}
+use Rattle.batch_log.specs.Header.{Heading, IsHeaderBlock, IsHeading, header_block}
 use Rattle.batch_log.specs.Log.{Batch, data_count}
 use Rattle.batch_log.specs.Reading.{heading_in}
 use Rattle.batch_log.proofs.HeaderLaws.{header_again, header_length}
 use Rattle.logical_map.specs.declared.place.Place.{Place}
 use Rattle.logical_map.specs.declared.place.Place.TheVariants as places
-use Rattle.zone_choice.specs.Builder.{BuilderView, IsBuilt, built}
+use Rattle.zone_choice.specs.Builder.{BuilderView, IsBuilt}
 use Rattle.zone_choice.specs.Tables.{TablesView}
 use Rattle.zone_choice.proofs.AllLaws.{all-append}
 use Rattle.zone_choice.proofs.ChangeLaws.{large-block}
@@ -27,7 +25,7 @@ use Rattle.remount.specs.declared.moves.MovePlan.{MovePlan}
 use Rattle.remount.specs.Moving.{IsBuiltAs, IsReadableAt, Source, listed, move_by, moved_data, moved_entries, named_by, placed_entry, said, said_at, size_by, source_of}
 use Rattle.remount.specs.Reported.{IsKnown, KeepsZones}
 use Rattle.remount.specs.Scan.{blocks_of}
-use Rattle.remount.proofs.ReadLaws.{kept-blocks, kept-known, keeps-both, keeps-none}
+use Rattle.remount.proofs.ReadLaws.{kept-blocks, keeps-both, keeps-none}
 
 abbrev pub AreWhole : ℕ → List (List ℕ) → Type 0
 AreWhole size blocks = AllByRecursion (λ block. length block ≡ size) blocks

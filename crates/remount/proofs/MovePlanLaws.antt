@@ -1,20 +1,19 @@
 -- What holds of each Move of a plan.
-use Rattle.std.proofs.Common.{◌≡◌, ◌≢◌, ◌⊎◌, inl, inr, ℕ, zero, suc, ◌+◌, ◌-◌, ◌*◌, ◌<◌, ◌≤◌, ◌^◌, max, min, Bool, true, false, cond, eqb, List, [], ◌∷◌, ◌++◌, length, map, take, drop, get_or, set, Option, Some, None, refl, sym, ap, subst, ◌∙◌, arith, append_assoc, append-nil}
+use Rattle.std.proofs.Common.{◌≡◌, ◌≢◌, ◌⊎◌, inl, inr, ℕ, zero, suc, ◌+◌, ◌-◌, ◌*◌, ◌<◌, ◌≤◌, ◌^◌, Bool, true, false, cond, eqb, List, [], ◌∷◌, ◌++◌, length, map, take, drop, get_or, set, Option, Some, None, refl, sym, ap, subst, ◌∙◌, arith, append_assoc}
 use Rattle.std.specs.Prelude.{nat_eq, IfSome, slice_index_or}
-use Rattle.std.specs.List.{AllByRecursion, IsDistinct, flat_map}
+use Rattle.std.specs.List.{AllByRecursion, IsDistinct}
 use Rattle.std.proofs.lemmas.Bool.{eq-eqb, eqb-true}
-use Rattle.std.proofs.lemmas.List.{get_or-append-add, length-append, length-drop, length-map, length-take, map-append}
+use Rattle.std.proofs.lemmas.List.{get_or-append-add, length-append, length-map, length-take, map-append}
 use Rattle.zone_states.specs.declared.geometry.Geometry.{Geometry}
 use Rattle.zone_states.specs.Geometry.{IsInRange}
 use Rattle.batch_log.specs.declared.header.Entry.{Entry}
 use Rattle.batch_log.specs.declared.header.Kind.TheVariants.{Host, Move}
 use Rattle.batch_log.specs.Header.{IsHeading, IsSize}
-use Rattle.batch_log.specs.Log.{Batch, IsBatch, batch_size, data_count, log_size, one_unless}
+use Rattle.batch_log.specs.Log.{Batch, IsBatch, batch_size, log_size}
 use Rattle.logical_map.specs.declared.place.Place.{Place}
 use Rattle.logical_map.specs.declared.place.Place.TheVariants as places
-use Rattle.zone_choice.specs.Records.{Record, batch_records, entry_records, newest, records}
+use Rattle.zone_choice.specs.Records.{Record, entry_records, newest, records}
 use Rattle.zone_choice.specs.Repairing.{IsCopyFrom, IsRepairMove, IsWithin}
-use Rattle.zone_choice.specs.Reserve.{batch_most}
 use Rattle.zone_choice.specs.Sizes.{encoded_size, larger, log_greatest}
 use Rattle.zone_choice.specs.ZoneLogs.{log_at, log_sequences, sequences}
 use Rattle.zone_choice.proofs.AllLaws.{all-append, all-parts, all-weaker}
@@ -22,7 +21,7 @@ use Rattle.zone_choice.proofs.BuilderLaws.{data_count-few}
 use Rattle.zone_choice.proofs.ContentLaws.{log_size-append}
 use Rattle.remount.specs.declared.moves.MovePlan.{MovePlan}
 use Rattle.remount.specs.Heads.{HeadsView, heads_after, heads_of, no_heads, with_heading}
-use Rattle.remount.specs.Moving.{CanMove, IsMovable, Source, listed, move_by, move_count, move_of, moved_data, moved_entries, moves_before, named_by, placed_entry, said, said_at, size_by}
+use Rattle.remount.specs.Moving.{CanMove, IsMovable, Source, move_by, move_count, moved_data, moved_entries, moves_before, named_by, placed_entry, said, said_at, size_by}
 use Rattle.remount.proofs.MoveBuildLaws.{length-moved}
 
 -- ---- lists

@@ -1,26 +1,23 @@
 -- The drive between two Moves of a repair.
-use Rattle.std.proofs.Common.{◌≡◌, ◌≢◌, ◌⊎◌, inl, inr, ℕ, zero, suc, ◌+◌, ◌-◌, ◌*◌, ◌/◌, ◌<◌, ◌≤◌, ◌^◌, Bool, true, false, ◌||◌, cond, eqb, nat_lt, List, [], ◌∷◌, ◌++◌, length, take, set, get_or, Some, None, refl, sym, ap, subst, ◌∙◌, arith}
-use Rattle.std.specs.List.{AllByRecursion, count_by, list_any, remove}
-use Rattle.std.proofs.lemmas.Bool.{cases_eq, cases_lt, eq-eqb, eqb-true, ne_eqb}
+use Rattle.std.proofs.Common.{◌≡◌, ◌≢◌, ◌⊎◌, inl, inr, ℕ, zero, suc, ◌+◌, ◌*◌, ◌<◌, ◌≤◌, ◌^◌, Bool, true, false, ◌||◌, eqb, List, [], ◌∷◌, ◌++◌, length, take, set, get_or, refl, sym, ap, ◌∙◌, arith}
+use Rattle.std.specs.List.{AllByRecursion, list_any, remove}
+use Rattle.std.proofs.lemmas.Bool.{cases_eq, cases_lt, eq-eqb, ne_eqb}
 use Rattle.std.proofs.lemmas.List.{get_or-set_other, get_or-set_same, get_or_past, length-append, length-map, length-set, take_all}
 use Rattle.nvme_wire.specs.declared.zone_state.ZoneState.{ZoneState}
 use Rattle.nvme_wire.specs.declared.zone_state.ZoneState.TheVariants as states
 use Rattle.zone_states.specs.declared.geometry.Geometry.{Geometry}
-use Rattle.zone_states.specs.Geometry.{IsInRange}
 use Rattle.zone_states.specs.Transition.{is_active, is_open}
 use Rattle.zone_states.specs.Zone.{Zone}
 use Rattle.drive_port.specs.Calls.{CanAppend}
-use Rattle.drive_port.specs.Contents.{Appends, Content, Usage, active, content_at, content_of, contents, empty, emptied, filled, full, is_active_usage, is_writable, nothing, usage_of}
+use Rattle.drive_port.specs.Contents.{Appends, Content, content_at, content_of, contents, filled, is_active_usage, is_writable, nothing, usage_of}
 use Rattle.drive_port.specs.Drive.{DriveState, IsLawful, active_count, open_count}
 use Rattle.drive_port.specs.Step.{nowhere, zone_at}
 use Rattle.batch_log.specs.Header.{IsHeading}
 use Rattle.batch_log.specs.Log.{Batch, IsBatch, batch_blocks, batch_size, log_size}
 use Rattle.zone_choice.specs.declared.roles.Filling.{Filling}
-use Rattle.zone_choice.specs.Agreement.{IsShut, drive_logs}
-use Rattle.zone_choice.specs.Mountable.{IsMountable}
-use Rattle.zone_choice.specs.Repairing.{AppendsMove, IsOnRepair, RepairKeeps, TearsMove}
+use Rattle.zone_choice.specs.Agreement.{drive_logs}
+use Rattle.zone_choice.specs.Repairing.{AppendsMove, IsOnRepair, TearsMove}
 use Rattle.zone_choice.specs.Roles.{is_at}
-use Rattle.zone_choice.specs.Sizes.{encoded_size}
 use Rattle.zone_choice.specs.Spare.{IsHalfClean}
 use Rattle.zone_choice.specs.Tables.{TablesView}
 use Rattle.zone_choice.specs.ZoneLogs.{HasLog, has_torn_tail, log_at, zone_log, zone_logs}
@@ -33,12 +30,11 @@ use Rattle.zone_choice.proofs.RepairingMoves.{move_repairs, torn_move_repairs}
 use Rattle.zone_choice.proofs.ZoneLogLaws.{log_at-zone}
 use Rattle.remount.specs.declared.moves.MovePlan.{MovePlan}
 use Rattle.remount.specs.declared.reported.ReportedZone.{ReportedZone}
-use Rattle.remount.specs.Heads.{HeadsView, heads_of, no_heads, with_heading}
+use Rattle.remount.specs.Heads.{HeadsView, with_heading}
 use Rattle.remount.specs.Known.{KeepsMountable}
-use Rattle.remount.specs.Moving.{CanMove, CanTake, IsAtMove, IsMoving, KeepsShut, Source, TakesFront, TakesSome, move_by, move_count, moves_before, source_of, usage_with}
-use Rattle.remount.specs.Reported.{IsKnown, KeepsZones}
-use Rattle.remount.specs.Scan.{blocks_of}
-use Rattle.remount.proofs.CallLaws.{StartsAt, mountable-both, shut-count, shut-known, starts-at, zones-shut}
+use Rattle.remount.specs.Moving.{IsAtMove, IsMoving, KeepsShut, TakesFront, TakesSome, move_by, move_count, moves_before, source_of, usage_with}
+use Rattle.remount.specs.Reported.{IsKnown}
+use Rattle.remount.proofs.CallLaws.{mountable-both, shut-count, starts-at}
 use Rattle.remount.proofs.MovePlanLaws.{heads-more, move-batch, move-few, move-heading, move-room, repair-move}
 
 -- ---- it can be mounted

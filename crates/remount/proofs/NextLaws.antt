@@ -1,5 +1,5 @@
 -- What stands at the block where the next batch of a zone may begin.
-use Rattle.std.proofs.Common.{◌≡◌, ℕ, suc, ◌+◌, ◌-◌, ◌*◌, ◌/◌, ◌<◌, ◌≤◌, ◌^◌, ◌⊎◌, inl, inr, not, ◌&&◌, nat_lt, Bool, true, false, List, [], ◌∷◌, ◌++◌, length, drop, get_or, map, Option, Some, None, Result, Ok, Err, refl, sym, ap, subst, ◌∙◌, arith}
+use Rattle.std.proofs.Common.{◌≡◌, ℕ, ◌+◌, ◌*◌, ◌<◌, ◌≤◌, ◌^◌, ◌⊎◌, inl, inr, not, ◌&&◌, nat_lt, Bool, true, false, List, [], ◌∷◌, length, drop, map, Option, Some, None, Result, Ok, Err, refl, sym, ap, subst, ◌∙◌, arith}
 use Rattle.std.specs.Prelude.{IfErr, IfOk, OnOk}
 use Rattle.std.specs.Result.{IsErrAnd}
 use Rattle.std.proofs.lemmas.Bool.{lt-ltb}
@@ -9,13 +9,13 @@ use Rattle.zone_states.specs.declared.geometry.Geometry.{Geometry}
 use Rattle.drive_port.specs.Contents.{Content, content_at, contents, is_full, usage_of}
 use Rattle.drive_port.specs.Drive.{DriveState}
 use Rattle.batch_log.specs.declared.fault.LogFault.{LogFault}
-use Rattle.batch_log.specs.declared.fault.LogFault.TheVariants.{ForeignTail, Torn}
+use Rattle.batch_log.specs.declared.fault.LogFault.TheVariants.{Torn}
 use Rattle.batch_log.specs.Causes.{header_fault, is_zero}
 use Rattle.batch_log.specs.Header.{Heading, IsHeaderBlock, IsNoHeader}
-use Rattle.batch_log.specs.Ending.{Ending, ended, torn, failed, ending_of, foreign_ending}
+use Rattle.batch_log.specs.Ending.{Ending, failed, ending_of, foreign_ending}
 use Rattle.batch_log.specs.Log.{BeginsWithNoBatch, IsTail, data_count}
 use Rattle.remount.specs.declared.fault.MountFault.{MountFault}
-use Rattle.remount.specs.declared.fault.MountFault.TheVariants.{Log, OutOfMemory}
+use Rattle.remount.specs.declared.fault.MountFault.TheVariants.{Log}
 use Rattle.remount.specs.declared.reported.ReportedZone.{ReportedZone}
 use Rattle.remount.specs.Heads.{HeadsView, kept_entry, with_heading}
 use Rattle.remount.specs.Reported.{IsKnown, KeepsZones}

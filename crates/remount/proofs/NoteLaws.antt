@@ -1,22 +1,19 @@
 -- What a survey knows once the torn zone is repaired.
-use Rattle.std.proofs.Common.{◌≡◌, ◌≢◌, ◌⊎◌, inl, inr, ℕ, zero, suc, ◌+◌, ◌-◌, ◌*◌, ◌<◌, ◌≤◌, ◌^◌, Bool, true, false, cond, eqb, List, [], ◌∷◌, ◌++◌, length, map, set, get_or, replicate, Option, Some, None, refl, sym, ap, subst, ◌∙◌, arith, append-nil}
+use Rattle.std.proofs.Common.{◌≡◌, ◌≢◌, ◌⊎◌, inl, inr, ℕ, zero, suc, ◌+◌, ◌-◌, ◌<◌, Bool, true, false, cond, eqb, List, [], ◌∷◌, ◌++◌, length, map, set, replicate, Some, refl, sym, ap, subst, ◌∙◌, arith, append-nil}
 use Rattle.std.specs.Prelude.{slice_get}
-use Rattle.std.specs.List.{AllByRecursion}
-use Rattle.std.proofs.lemmas.Bool.{cases_eq, cases_lt, eqb-true}
-use Rattle.std.proofs.lemmas.List.{get_or-set_other, get_or-set_same, get_or_past, length-append, length-map, length-replicate, length-set, map-set}
+use Rattle.std.proofs.lemmas.Bool.{eqb-true}
+use Rattle.std.proofs.lemmas.List.{get_or-set_other, get_or-set_same, length-append, length-map, length-replicate, length-set, map-set}
 use Rattle.std.proofs.lemmas.Option.{slice_get_within}
 use Rattle.nvme_wire.specs.declared.zone_state.ZoneState.TheVariants as states
 use Rattle.zone_states.specs.declared.geometry.Geometry.{Geometry}
 use Rattle.zone_states.specs.Transition.{is_open}
-use Rattle.drive_port.specs.Contents.{Content, Usage, active, content_at, content_of, contents, empty, emptied, full, is_full, is_usable, nothing, usage_of}
-use Rattle.drive_port.specs.Drive.{DriveState, IsLawful}
+use Rattle.drive_port.specs.Contents.{Content, Usage, active, content_at, content_of, contents, emptied, full, is_full, is_usable, nothing, usage_of}
+use Rattle.drive_port.specs.Drive.{DriveState}
 use Rattle.batch_log.specs.Log.{Batch, log_size, zero_block}
-use Rattle.zone_choice.specs.Agreement.{IsShut, drive_logs, spelled}
-use Rattle.zone_choice.specs.Sizes.{encoded_size}
-use Rattle.zone_choice.specs.ZoneLogs.{has_torn_tail, log_at, padding, readable, zone_log, zone_logs, zone_tails}
+use Rattle.zone_choice.specs.Agreement.{drive_logs}
+use Rattle.zone_choice.specs.ZoneLogs.{has_torn_tail, log_at, padding, readable, zone_log, zone_tails}
 use Rattle.zone_choice.proofs.AgreementLaws.{length-spelled, zone_log-emptied}
 use Rattle.zone_choice.proofs.OpenLaws.{emptied-shut, settled-shut}
-use Rattle.zone_choice.proofs.ZoneLogLaws.{full-untorn}
 use Rattle.remount.specs.declared.moves.MovePlan.{MovePlan}
 use Rattle.remount.specs.declared.reported.ReportedZone.{ReportedZone}
 use Rattle.remount.specs.declared.scan.ScannedZone.{ScannedZone}

@@ -1,14 +1,14 @@
 -- What the headers of a cleared drive tell of the Moves to be made.
-use Rattle.std.proofs.Common.{◌≡◌, ◌≢◌, ℕ, suc, ◌+◌, ◌<◌, ◌≤◌, max, Bool, true, false, eqb, List, [], ◌∷◌, ◌++◌, length, map, drop, get_or, refl, sym, ap, ◌∙◌, arith, append-nil, append_assoc}
-use Rattle.std.specs.List.{AllByRecursion, flat_map}
+use Rattle.std.proofs.Common.{◌≡◌, ℕ, ◌<◌, true, false, List, [], ◌∷◌, ◌++◌, length, map, get_or, refl, sym, ap, ◌∙◌, arith}
+use Rattle.std.specs.List.{AllByRecursion}
 use Rattle.std.proofs.lemmas.Bool.{eq-eqb}
-use Rattle.std.proofs.lemmas.List.{drop_more, get_or_default, length-map, map-append}
+use Rattle.std.proofs.lemmas.List.{get_or_default, length-map}
 use Rattle.std.proofs.Math.ListN.{get_or-map}
 use Rattle.batch_log.specs.Log.{Batch}
 use Rattle.drive_port.specs.Drive.{DriveState}
 use Rattle.zone_choice.specs.Repairing.{IsMoved}
 use Rattle.zone_choice.specs.Spare.{IsMoveFrom}
-use Rattle.zone_choice.specs.ZoneLogs.{log_at, log_sequences, sequences}
+use Rattle.zone_choice.specs.ZoneLogs.{log_at}
 use Rattle.remount.specs.declared.heads.Head.{Head}
 use Rattle.remount.specs.declared.scan.ScannedZone.{ScannedZone}
 use Rattle.remount.specs.Heads.{HeadsView, heads_after, heads_of, no_heads, source_with, with_heading}

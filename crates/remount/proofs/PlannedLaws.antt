@@ -1,29 +1,27 @@
 -- The Moves that are planned repair the torn zone.
-use Rattle.std.proofs.Common.{◌≡◌, ◌≢◌, ◌⊎◌, inl, inr, ℕ, zero, suc, ◌+◌, ◌-◌, ◌*◌, ◌<◌, ◌≤◌, ◌^◌, max, Bool, true, false, cond, eqb, List, [], ◌∷◌, ◌++◌, length, map, take, drop, get_or, Option, Some, None, refl, sym, ap, subst, ◌∙◌, arith}
+use Rattle.std.proofs.Common.{◌≡◌, ◌≢◌, ◌⊎◌, inl, inr, ℕ, zero, suc, ◌+◌, ◌*◌, ◌<◌, ◌≤◌, ◌^◌, Bool, cond, List, [], ◌∷◌, ◌++◌, length, take, get_or, Option, Some, None, refl, sym, ap, subst, ◌∙◌, arith}
 use Rattle.std.specs.Prelude.{Contains, nat_eq, slice_index_or}
 use Rattle.std.specs.Int.{div_ceil}
 use Rattle.std.specs.List.{AllByRecursion, IsDistinct}
 use Rattle.std.proofs.lemmas.Bool.{cases_eq, cases_lt, ne_eqb}
-use Rattle.std.proofs.lemmas.List.{get_or_past, length-append, length-map, map-append, take_all}
+use Rattle.std.proofs.lemmas.List.{get_or_past, length-append, take_all}
 use Rattle.std.proofs.lemmas.Nat.{mul-le}
 use Rattle.std.proofs.Math.Nat.{add-mul}
 use Rattle.std.proofs.Math.Seq.{take-add}
 use Rattle.zone_states.specs.declared.geometry.Geometry.{Geometry}
-use Rattle.drive_port.specs.Contents.{content_of, contents}
+use Rattle.drive_port.specs.Contents.{contents}
 use Rattle.drive_port.specs.Drive.{DriveState}
-use Rattle.batch_log.specs.declared.header.Entry.{Entry}
-use Rattle.batch_log.specs.Log.{Batch, batch_size, data_count, log_size, one_unless}
+use Rattle.batch_log.specs.Log.{Batch, data_count, log_size, one_unless}
 use Rattle.logical_map.specs.Live.{blocks_in, lies_in}
 use Rattle.logical_map.specs.declared.place.Place.{Place}
 use Rattle.logical_map.specs.declared.place.Place.TheVariants as places
 use Rattle.zone_choice.specs.Agreement.{drive_logs}
-use Rattle.zone_choice.specs.Records.{IsNewest, Record, batch_records, entry_records, log_records, newest, place, records, shown, without}
+use Rattle.zone_choice.specs.Records.{IsNewest, Record, batch_records, entry_records, log_records, newest, place, records, shown}
 use Rattle.zone_choice.specs.Repair.{live, live_data, moves}
 use Rattle.zone_choice.specs.Repairing.{IsStillNeeded, LiesIn, NeedsItsBlock}
 use Rattle.zone_choice.specs.Reserve.{batch_most}
 use Rattle.zone_choice.specs.Sizes.{encoded_size, larger, log_greatest, map_of}
 use Rattle.zone_choice.specs.Spare.{NoneBelow}
-use Rattle.zone_choice.specs.Tables.{size_of}
 use Rattle.zone_choice.specs.ZoneLogs.{log_at, sequences, zone_tails}
 use Rattle.zone_choice.proofs.AllLaws.{all-append, all-parts, all-weaker}
 use Rattle.zone_choice.proofs.ContentLaws.{log_size-append}
@@ -40,7 +38,7 @@ use Rattle.remount.specs.declared.survey.Survey.{Survey}
 use Rattle.remount.specs.Heads.{greatest_sequence}
 use Rattle.remount.specs.Known.{Finds, Knows}
 use Rattle.remount.specs.Mount.{IsPlan}
-use Rattle.remount.specs.Moving.{CanMove, IsBlockAt, IsMovable, IsMovePlan, IsReadableAt, Source, early_size, move_by, move_count, moved_entries, moves_before, named_by, ordered, others, placed_entry, said_at, size_by, source_of}
+use Rattle.remount.specs.Moving.{IsBlockAt, IsMovable, IsMovePlan, IsReadableAt, Source, early_size, move_by, move_count, moved_entries, moves_before, named_by, ordered, others, placed_entry, said_at, size_by, source_of}
 use Rattle.remount.specs.Reported.{IsKnown}
 use Rattle.remount.specs.Scan.{blocks_of}
 use Rattle.remount.proofs.LiveLaws.{counts-live, data_blocks, lies-there, map-length, newest-said, place-at, there-lies}
@@ -159,9 +157,9 @@ blocks-live drive n survey repair known is =
     let size = drive.geometry.size in
     let map_is = map_of size n logs in
     subst (AllByRecursion (IsLiveIn drive n repair.zone)) (sym is.blocks) (all-weaker (LiesAt size repair.zone 0 map_is) (IsLiveIn drive n repair.zone) (blocks_in size repair.zone 0 map_is) (λ b at.
-      let lt : b < encoded_size n logs = omega (arith, at.is, at.in_range, map-length size n logs) in
-      let same : at.k ≡ b = omega (arith, at.is) in
-      (lt, there-lies drive n logs survey repair.zone b known (sym (ap (λ (p : Place). lies_in size repair.zone p) (ap (λ (k : ℕ). get_or map_is k places.None) same ∙ place-at size n b logs lt)) ∙ at.lies))) (blocks-lie size repair.zone 0 map_is))
+    let lt : b < encoded_size n logs = omega (arith, at.is, at.in_range, map-length size n logs) in
+    let same : at.k ≡ b = omega (arith, at.is) in
+    (lt, there-lies drive n logs survey repair.zone b known (sym (ap (λ (p : Place). lies_in size repair.zone p) (ap (λ (k : ℕ). get_or map_is k places.None) same ∙ place-at size n b logs lt)) ∙ at.lies))) (blocks-lie size repair.zone 0 map_is))
 
 live-block : (drive : DriveState) (n : ℕ) (survey : Survey) (repair : Repair) (b : ℕ) → Knows drive n (drive_logs drive) survey → IsPlan drive.geometry n (drive_logs drive) (zone_tails (contents drive.zones)) repair → IsLiveIn drive n repair.zone b → In b repair.blocks.items
 live-block drive n survey repair b known is live =
@@ -169,7 +167,7 @@ live-block drive n survey repair b known is live =
     let size = drive.geometry.size in
     let map_is = map_of size n logs in
     subst (In b) (sym is.blocks) (lying-in size repair.zone 0 b b map_is (omega arith) (omega (arith, live.0, map-length size n logs))
-      (ap (λ (p : Place). lies_in size repair.zone p) (place-at size n b logs live.0) ∙ lies-there drive n logs survey repair.zone b known live.1))
+    (ap (λ (p : Place). lies_in size repair.zone p) (place-at size n b logs live.0) ∙ lies-there drive n logs survey repair.zone b known live.1))
 
 -- a record of a block below the size
 lies-below : (drive : DriveState) (n : ℕ) (survey : Survey) (zone b : ℕ) → Knows drive n (drive_logs drive) survey → LiesIn zone (newest b (records 0 (drive_logs drive))) → b < encoded_size n (drive_logs drive)
@@ -248,7 +246,7 @@ planned-counts drive n survey repair into why plan p order =
     record {
       count = order-length repair.blocks.items plan.blocks.items order ∙ length-total repair.blocks.items ∙ ap (total (λ b. 1)) p.is.blocks ∙ lives.count;
       with_data = order.totals (data_at source) ∙ ap (total (data_at source)) p.is.blocks
-        ∙ ap (λ (ps : List Place). total (λ b. data_blocks (get_or ps b places.None)) (blocks_in drive.geometry.size repair.zone 0 (map_of drive.geometry.size n logs))) p.is.placed.places ∙ lives.with_data;
+          ∙ ap (λ (ps : List Place). total (λ b. data_blocks (get_or ps b places.None)) (blocks_in drive.geometry.size repair.zone 0 (map_of drive.geometry.size n logs))) p.is.placed.places ∙ lives.with_data;
     }
 
 still-needed : (drive : DriveState) (n : ℕ) (survey : Survey) (repair : Repair) (into : ℕ) (why : Finding) (plan : MovePlan) (k : ℕ) (source : Source) → IsPlanned drive n survey repair into why plan → IsOrder repair.blocks.items plan.blocks.items → 1 ≤ plan.most → k < move_count plan
@@ -288,9 +286,9 @@ plan-made drive n survey repair into why plan p =
       can = record {
         most = p.most;
         movable = subst (λ (z : ℕ). AllByRecursion (IsMovable n logs (source_of drive repair.tables z) z) plan.blocks.items) (sym p.torn)
-          (all-weaker (IsLiveIn drive n zone) (IsMovable n logs source zone) plan.blocks.items (λ b live. live-movable drive n survey repair b known p.is live) live_all);
+            (all-weaker (IsLiveIn drive n zone) (IsMovable n logs source zone) plan.blocks.items (λ b live. live-movable drive n survey repair b known p.is live) live_all);
         all = subst (λ (z : ℕ). (block : ℕ) → LiesIn z (newest block rs) → Contains plan.blocks.items block) (sym p.torn)
-          (λ block lies. in-contains block plan.blocks.items (order.has block (live-block drive n survey repair block known p.is (lies-below drive n survey zone block known lies, lies))));
+            (λ block lies. in-contains block plan.blocks.items (order.has block (live-block drive n survey repair block known p.is (lies-below drive n survey zone block known lies, lies))));
         distinct = order.distinct;
         later = all-weaker (λ s. s + 0 < plan.next) (λ s. s < plan.next) (sequences logs) (λ s lt. omega (arith, lt)) (all-greatest plan.next 0 (sequences logs) (omega (arith, p.next)));
         last = omega (arith, greatest, count, p.next);

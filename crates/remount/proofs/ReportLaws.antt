@@ -1,7 +1,7 @@
 -- What a report of all zones tells.
-use Rattle.std.proofs.Common.{◌≡◌, ℕ, zero, suc, ◌+◌, ◌-◌, ◌*◌, ◌/◌, ◌<◌, ◌≤◌, ◌^◌, inl, inr, true, false, List, [], ◌∷◌, ◌++◌, length, take, drop, map, min, replicate, Option, Some, None, Err, ◌⊎◌, refl, sym, ap, subst, ◌∙◌, arith, append_assoc, append-nil}
+use Rattle.std.proofs.Common.{◌≡◌, ℕ, zero, suc, ◌+◌, ◌-◌, ◌*◌, ◌/◌, ◌<◌, ◌≤◌, ◌^◌, inl, inr, false, List, [], ◌∷◌, ◌++◌, length, take, drop, Some, Err, ◌⊎◌, refl, sym, ap, ◌∙◌, arith, append_assoc, append-nil}
 use Rattle.std.specs.List.{AllByRecursion, flat_map}
-use Rattle.std.proofs.lemmas.List.{length-append, length-replicate, take_all}
+use Rattle.std.proofs.lemmas.List.{length-append, take_all}
 use Rattle.std.proofs.lemmas.Nat.{mul-le}
 use Rattle.nvme_wire.specs.declared.descriptor.Descriptor.{Descriptor}
 use Rattle.nvme_wire.specs.declared.zone_state.ZoneState.{ZoneState}
@@ -14,15 +14,13 @@ use Rattle.zone_states.specs.Zone.{IsLawfulZone, MayHold, Zone}
 use Rattle.zone_report.specs.Report.{descriptor_of, descriptor_room, matching, pointer_of, report, status_of}
 use Rattle.zone_report.proofs.ReportLaws.{length-descriptors}
 use Rattle.drive_port.specs.Calls.{IsNotRefused, Obeys, ReportGives, Reported}
-use Rattle.drive_port.specs.Contents.{content_of, is_full, is_usable, usage_of}
 use Rattle.drive_port.specs.Drive.{ClosesOne, DriveState, IsClosing, IsLawful}
 use Rattle.drive_port.specs.Step.{end_of}
 use Rattle.drive_port.specs.declared.calls.PortFault.{PortFault}
 use Rattle.drive_port.specs.declared.calls.PortFault.TheVariants as port
 use Rattle.drive_port.proofs.ClosingLaws.{length-closing}
-use Rattle.zone_choice.specs.ZoneLogs.{readable}
 use Rattle.remount.specs.declared.reported.ReportedZone.{ReportedZone}
-use Rattle.remount.specs.Reported.{AreReported, DescribesZone, IsReported, KeepsZones, ReportsZones, TellsZones}
+use Rattle.remount.specs.Reported.{AreReported, DescribesZone, IsReported, ReportsZones, TellsZones}
 use Rattle.remount.proofs.ReadLaws.{Halts, keeps-none}
 
 -- ---- one zone

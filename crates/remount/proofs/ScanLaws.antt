@@ -1,11 +1,11 @@
 -- The headers of a whole zone.
-use Rattle.std.proofs.Common.{◌≡◌, ℕ, ◌-◌, ◌<◌, ◌≤◌, Bool, List, Option, Some, None, Result, Ok, Err, refl, arith}
+use Rattle.std.proofs.Common.{◌≡◌, ℕ, ◌<◌, Bool, List, Option, Some, None, refl}
 use Rattle.drive_port.specs.Contents.{content_at, contents}
 use Rattle.drive_port.specs.Drive.{DriveState}
 use Rattle.remount.specs.declared.fault.MountFault.{MountFault}
 use Rattle.remount.specs.Heads.{HeadsView}
 use Rattle.remount.specs.Reported.{KeepsZones}
-use Rattle.remount.specs.Scan.{FailsBy, FailsIn, Scans, Takes, TakesNext}
+use Rattle.remount.specs.Scan.{FailsBy, FailsIn, Takes, TakesNext}
 use Rattle.remount.proofs.ReadLaws.{kept-contents}
 use Rattle.remount.proofs.NextLaws.{fails-more}
 

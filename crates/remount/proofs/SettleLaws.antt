@@ -1,26 +1,25 @@
 -- After the last Move the torn zone is emptied.
-use Rattle.std.proofs.Common.{◌≡◌, ◌≢◌, ◌⊎◌, inl, inr, ℕ, zero, suc, ◌+◌, ◌*◌, ◌/◌, ◌<◌, ◌≤◌, ◌^◌, max, Bool, true, false, cond, eqb, List, [], ◌∷◌, ◌++◌, length, map, take, drop, set, get_or, Option, Some, None, Ok, Err, refl, sym, ap, subst, ◌∙◌, arith}
+use Rattle.std.proofs.Common.{◌≡◌, ◌≢◌, ◌⊎◌, inl, inr, ℕ, zero, suc, ◌+◌, ◌*◌, ◌<◌, ◌≤◌, true, false, List, [], ◌∷◌, ◌++◌, length, take, drop, set, Option, None, Ok, Err, refl, sym, ap, ◌∙◌, arith}
 use Rattle.std.specs.Prelude.{Contains}
 use Rattle.std.specs.Int.{div_ceil}
 use Rattle.std.specs.List.{AllByRecursion}
 use Rattle.std.proofs.lemmas.Bool.{cases_eq, cases_lt, eq-eqb}
-use Rattle.std.proofs.lemmas.List.{get_or-set_other, get_or-set_same, get_or_past, length-map, length-set, take_all}
+use Rattle.std.proofs.lemmas.List.{get_or_past, length-map, take_all}
 use Rattle.std.proofs.lemmas.Nat.{mul-le}
 use Rattle.std.proofs.Math.Nat.{add-mul}
 use Rattle.zone_states.specs.declared.geometry.Geometry.{Geometry}
 use Rattle.drive_port.specs.Calls.{IsNotRefused, Obeys, ResetContents, ResetKeeps, ResetLeaves, ResetZone}
-use Rattle.drive_port.specs.Contents.{Content, Resets, SameContents, content_at, content_of, contents, emptied, is_usable, nothing}
+use Rattle.drive_port.specs.Contents.{Content, Resets, SameContents, content_at, content_of, contents, emptied, is_usable}
 use Rattle.drive_port.specs.Drive.{DriveState, IsLawful}
 use Rattle.drive_port.specs.declared.calls.PortFault.{PortFault}
 use Rattle.drive_port.specs.declared.calls.PortFault.TheVariants as port
 use Rattle.batch_log.specs.declared.header.Entry.{Entry}
 use Rattle.batch_log.specs.Log.{Batch, log_size, one_unless}
-use Rattle.zone_choice.specs.Agreement.{IsShut, drive_logs, spelled}
-use Rattle.zone_choice.specs.Laws.{OnlyTorn, ResetMounts}
+use Rattle.zone_choice.specs.Agreement.{drive_logs, spelled}
+use Rattle.zone_choice.specs.Laws.{OnlyTorn}
 use Rattle.zone_choice.specs.Mountable.{IsMountable}
-use Rattle.zone_choice.specs.Records.{IsNewest, Record, batch_records, entry_records, log_records, newest, records}
-use Rattle.zone_choice.specs.Repair.{IsTornAt}
-use Rattle.zone_choice.specs.Repairing.{IsWithin, LiesIn}
+use Rattle.zone_choice.specs.Records.{IsNewest, Record, batch_records, entry_records, log_records, newest}
+use Rattle.zone_choice.specs.Repairing.{IsWithin}
 use Rattle.zone_choice.specs.Sizes.{larger, log_greatest}
 use Rattle.zone_choice.specs.Spare.{IsSpare}
 use Rattle.zone_choice.specs.Tables.{TablesView}
@@ -37,10 +36,10 @@ use Rattle.zone_choice.proofs.ZoneLogLaws.{tail-at}
 use Rattle.remount.specs.declared.moves.MovePlan.{MovePlan}
 use Rattle.remount.specs.Heads.{HeadsView}
 use Rattle.remount.specs.Known.{KeepsMountable}
-use Rattle.remount.specs.Moving.{CanMove, EmptiesTorn, IsAtMove, IsMoving, Source, move_by, move_count, moved_entries, moves_before, named_by, size_by, source_of}
-use Rattle.remount.proofs.CallLaws.{StartsAt, can-reset, mountable-both, mountable-same, starts-at}
+use Rattle.remount.specs.Moving.{CanMove, EmptiesTorn, IsAtMove, IsMoving, Source, move_by, move_count, moves_before, named_by, size_by, source_of}
+use Rattle.remount.proofs.CallLaws.{StartsAt, mountable-both, mountable-same, starts-at}
 use Rattle.remount.proofs.MakingLaws.{at-most, count-before}
-use Rattle.remount.proofs.MovingLaws.{moving-mounts, moving-known, moving-other, moving-small, torn-apart}
+use Rattle.remount.proofs.MovingLaws.{moving-mounts, moving-known, moving-other, moving-small}
 use Rattle.remount.proofs.MovePlanLaws.{named-blocks, size-either, within-by}
 
 -- ---- all blocks are named

@@ -1,25 +1,23 @@
 -- The steps of a mount, one after the other.
-use Rattle.std.proofs.Common.{◌≡◌, ◌≢◌, ◌⊎◌, inl, inr, ℕ, zero, suc, ◌+◌, ◌<◌, ◌≤◌, ◌^◌, ◌-◌, max, min, Bool, true, false, List, [], ◌∷◌, ◌++◌, length, map, get_or, Option, Some, None, refl, sym, ap, subst, ◌∙◌, arith, append-nil}
-use Rattle.std.specs.Prelude.{OnOk, Result, Ok, Err, slice_get}
+use Rattle.std.proofs.Common.{◌≡◌, ◌≢◌, ◌⊎◌, inl, inr, ℕ, zero, suc, ◌+◌, ◌<◌, ◌≤◌, ◌^◌, ◌-◌, max, min, Bool, true, false, List, [], ◌∷◌, length, map, get_or, Option, Some, None, refl, sym, ap, subst, ◌∙◌, arith}
+use Rattle.std.specs.Prelude.{OnOk, Result, Ok, Err}
 use Rattle.std.specs.List.{AllByRecursion}
-use Rattle.std.proofs.lemmas.Bool.{cases_eq}
-use Rattle.std.proofs.lemmas.List.{append_assoc, length-map, map-append, nil_from_length}
+use Rattle.std.proofs.lemmas.List.{length-map, nil_from_length}
 use Rattle.nvme_wire.specs.declared.zone_state.ZoneState.{ZoneState}
 use Rattle.nvme_wire.specs.declared.zone_state.ZoneState.TheVariants as states
-use Rattle.zone_states.specs.Geometry.{IsInRange}
 use Rattle.zone_states.specs.declared.geometry.Geometry.{Geometry}
 use Rattle.zone_states.specs.Zone.{IsLawfulZone, MayHold, Zone}
-use Rattle.drive_port.specs.Contents.{Content, content_at, content_of, contents, empty, nothing, usage_of}
+use Rattle.drive_port.specs.Contents.{Content, content_at, content_of, contents, empty, usage_of}
 use Rattle.drive_port.specs.Drive.{DriveState, IsLawful}
 use Rattle.batch_log.specs.Log.{Batch}
-use Rattle.zone_choice.specs.Agreement.{Agrees, drive_logs, mounted, spelled}
-use Rattle.zone_choice.specs.Mountable.{AreMountable, AreSound, HoldDisk, IsMountable}
+use Rattle.zone_choice.specs.Agreement.{Agrees, drive_logs, mounted}
+use Rattle.zone_choice.specs.Mountable.{AreMountable, AreSound, HoldDisk}
 use Rattle.zone_choice.specs.Repair.{CanRepair, IsTornAt}
 use Rattle.zone_choice.specs.Reserve.{FitsReserve}
 use Rattle.zone_choice.specs.Sizes.{encoded_size}
 use Rattle.zone_choice.specs.Spare.{HasSpare, IsClearing, IsHalfClean, IsVacant, NoneBelow, cleared}
 use Rattle.zone_choice.specs.Tables.{TablesView}
-use Rattle.zone_choice.specs.ZoneLogs.{HasLog, has_torn_tail, log_at, log_sequences, sequences, spelled_array, zone_logs, zone_tails}
+use Rattle.zone_choice.specs.ZoneLogs.{HasLog, has_torn_tail, log_at, sequences, zone_tails}
 use Rattle.remount.specs.declared.fault.MountFault.{MountFault}
 use Rattle.remount.specs.declared.fault.MountFault.TheVariants as faults
 use Rattle.remount.specs.declared.repair.Repair.{Repair}
@@ -29,11 +27,11 @@ use Rattle.remount.specs.declared.survey.Survey.{Survey}
 use Rattle.remount.specs.Heads.{HeadsView, greatest_sequence, heads_of}
 use Rattle.remount.specs.Known.{AreVacantEmpty, KeepsMountable, Knows}
 use Rattle.remount.specs.Known.{HasVacant}
-use Rattle.remount.specs.Mount.{AreMountedRoles, AreToEmpty, AreWhole, CannotClear, CannotRepair, IsCleared, IsPlan, IsPlanned, IsRepaired, IsToMount, IsUntorn, LeavesCleared, MountFails, Mounts, NoneIsTorn, PlanFails, Plans}
+use Rattle.remount.specs.Mount.{AreMountedRoles, AreToEmpty, AreWhole, CannotRepair, IsCleared, IsPlan, IsPlanned, IsRepaired, IsToMount, IsUntorn, LeavesCleared, MountFails, Mounts, NoneIsTorn, PlanFails, Plans}
 use Rattle.remount.specs.Reported.{KeepsZones}
-use Rattle.remount.specs.Scan.{AreKnown, FailsBy, ScansAll, heads_in, tails_in}
-use Rattle.remount.specs.Torn.{WasSurveyed, sequences_in}
-use Rattle.remount.specs.Survey.{AreInside, CanScan, HoldLogs, SurveyFails, Surveys, drive_size}
+use Rattle.remount.specs.Scan.{FailsBy, heads_in}
+use Rattle.remount.specs.Torn.{sequences_in}
+use Rattle.remount.specs.Survey.{CanScan, HoldLogs, SurveyFails, Surveys, drive_size}
 use Rattle.zone_choice.proofs.ClearingLaws.{clearing_keeps, one_clearing}
 use Rattle.remount.proofs.AllScanLaws.{there-is}
 use Rattle.remount.proofs.KeepLaws.{keeps-mountable-both}

@@ -1,5 +1,5 @@
 -- What a report and the headers tell of a drive.
-use Rattle.std.proofs.Common.{◌≡◌, ◌⊎◌, inl, inr, ℕ, zero, suc, ◌+◌, ◌<◌, ◌≤◌, ◌^◌, ◌==◌, ◌&&◌, not, if◌then◌else◌, cond, Bool, true, false, List, [], ◌∷◌, length, map, take, get_or, Option, Some, None, refl, sym, ap, subst, ◌∙◌, arith, append-nil}
+use Rattle.std.proofs.Common.{◌≡◌, ◌⊎◌, inl, inr, ℕ, zero, suc, ◌<◌, ◌≤◌, ◌^◌, if◌then◌else◌, cond, Bool, true, false, List, [], ◌∷◌, length, map, take, get_or, Option, Some, None, refl, sym, ap, subst, ◌∙◌, arith, append-nil}
 use Rattle.std.specs.Prelude.{count_by, nat_le, slice_get}
 use Rattle.std.specs.List.{AllByRecursion, list_any}
 use Rattle.std.specs.Ordering.{nat_cmp}
@@ -16,14 +16,14 @@ use Rattle.zone_states.specs.Zone.{Zone}
 use Rattle.batch_log.specs.declared.fault.LogFault.{LogFault}
 use Rattle.batch_log.specs.Ending.{Ending, ended, torn, failed, ending_of}
 use Rattle.batch_log.specs.Log.{Batch, BeginsWithNoBatch, log_size}
-use Rattle.drive_port.specs.Contents.{Content, content_at, content_of, contents, is_active_usage, is_full, is_usable, nothing, usage_of}
+use Rattle.drive_port.specs.Contents.{Content, content_at, content_of, contents, is_active_usage, is_full, is_usable, usage_of}
 use Rattle.drive_port.specs.Drive.{DriveState, IsLawful}
 use Rattle.drive_port.specs.Step.{zone_at}
 use Rattle.drive_port.proofs.ClosingLaws.{contents-closing, length-closing}
 use Rattle.zone_choice.proofs.OpenLaws.{closing-opens}
 use Rattle.zone_choice.specs.Mountable.{AreSound, IsInside, is_partly_written}
 use Rattle.zone_choice.specs.Reserve.{FitsReserve}
-use Rattle.zone_choice.specs.Sizes.{encoded_size, greatest, larger, size_or}
+use Rattle.zone_choice.specs.Sizes.{encoded_size, greatest, size_or}
 use Rattle.zone_choice.specs.ZoneLogs.{readable, zone_logs}
 use Rattle.remount.specs.declared.fault.MountFault.{MountFault}
 use Rattle.remount.specs.declared.fault.MountFault.TheVariants as faults
@@ -31,8 +31,8 @@ use Rattle.remount.specs.declared.reported.ReportedZone.{ReportedZone}
 use Rattle.remount.specs.declared.scan.ScannedZone.{ScannedZone}
 use Rattle.remount.specs.Heads.{HeadsView, heads_of}
 use Rattle.remount.specs.Reported.{AreReported, IsKnown, IsReported, KeepsZones, ReportsZones}
-use Rattle.remount.specs.Scan.{AreKnown, FailsBy, FailsFirst, FailsIn, ScansAll, ending_fault, heading_fault, heads_in, log_fault, or_else, seen_after}
-use Rattle.remount.specs.Survey.{AreBelow, AreInside, AreReportedUsable, AreUsable, CanScan, HoldLogs, IsLowestReported, IsLowestUnusable, SurveyFails, drive_size, greatest_in, is_partly_reported}
+use Rattle.remount.specs.Scan.{AreKnown, FailsBy, FailsFirst, ScansAll, ending_fault, heading_fault, heads_in, log_fault, or_else, seen_after}
+use Rattle.remount.specs.Survey.{AreBelow, AreReportedUsable, AreUsable, CanScan, HoldLogs, IsLowestReported, IsLowestUnusable, SurveyFails, drive_size, greatest_in, is_partly_reported}
 use Rattle.remount.proofs.ReadLaws.{kept-contents, kept-known}
 use Rattle.remount.proofs.AllScanLaws.{there-is}
 use Rattle.remount.proofs.HeadLaws.{highest-inside, inside-highest, size-is}

@@ -1,15 +1,15 @@
 -- The headers of a zone are taken, one after the other.
-use Rattle.std.proofs.Common.{◌≡◌, ℕ, zero, suc, ◌+◌, ◌-◌, ◌<◌, ◌≤◌, ◌^◌, ◌⊎◌, inl, inr, not, ◌&&◌, nat_lt, Bool, true, false, List, [], ◌∷◌, ◌++◌, length, take, drop, get_or, Option, Some, None, refl, sym, ap, subst, ◌∙◌, arith, append_assoc, append-nil}
-use Rattle.std.proofs.lemmas.List.{drop_more, length-append, length-drop, length-take}
-use Rattle.std.specs.List.{AllByRecursion, flat_map}
+use Rattle.std.proofs.Common.{◌≡◌, ℕ, zero, suc, ◌+◌, ◌<◌, ◌≤◌, ◌^◌, inl, inr, not, ◌&&◌, nat_lt, Bool, true, false, List, [], ◌∷◌, ◌++◌, length, take, drop, get_or, Option, Some, None, refl, sym, ap, ◌∙◌, arith, append_assoc, append-nil}
+use Rattle.std.proofs.lemmas.List.{length-append, length-take}
+use Rattle.std.specs.List.{flat_map}
 use Rattle.std.proofs.lemmas.Bool.{le-ltb, lt-ltb}
 use Rattle.std.specs.Ordering.{nat_cmp}
 use Rattle.std.specs.BTreeSet.{insert_key}
 use Rattle.zone_states.specs.declared.geometry.Geometry.{Geometry}
 use Rattle.drive_port.specs.Contents.{Content, is_full}
-use Rattle.batch_log.specs.Header.{Heading, IsHeaderBlock, IsHeading, header_block}
+use Rattle.batch_log.specs.Header.{Heading, IsHeaderBlock, header_block}
 use Rattle.batch_log.specs.Ending.{Ending, ending_of}
-use Rattle.batch_log.specs.Log.{Batch, BeginsWith, BeginsWithNoBatch, IsBatch, IsLog, IsTail, batch_blocks, batch_size, data_count, log_of, log_size}
+use Rattle.batch_log.specs.Log.{Batch, BeginsWith, BeginsWithNoBatch, IsBatch, IsLog, IsTail, batch_blocks, data_count, log_of, log_size}
 use Rattle.batch_log.proofs.HeaderLaws.{one_header}
 use Rattle.batch_log.proofs.LogLaws.{count_tail, one_log, spelled_length}
 use Rattle.zone_choice.proofs.AllLaws.{all-append}

@@ -1,19 +1,17 @@
 -- A zone takes a batch, or a front of it.
-use Rattle.std.proofs.Common.{◌≡◌, ◌≢◌, ◌⊎◌, inl, inr, ℕ, zero, suc, ◌+◌, ◌*◌, ◌/◌, ◌<◌, ◌≤◌, List, [], ◌∷◌, length, take, drop, Ok, Err, refl, sym, ap, subst, ◌∙◌, arith}
+use Rattle.std.proofs.Common.{◌≡◌, ◌⊎◌, inl, inr, ℕ, zero, suc, ◌*◌, ◌/◌, ◌≤◌, List, length, take, drop, Ok, Err, refl, sym, ap, ◌∙◌, arith}
 use Rattle.std.proofs.lemmas.List.{take_all}
-use Rattle.zone_states.specs.declared.geometry.Geometry.{Geometry}
 use Rattle.zone_states.specs.Zone.{cut_blocks}
 use Rattle.drive_port.specs.Calls.{Appended, AppendedFront, AppendKeeps, AppendLeaves, CanAppend, IsNotRefused, IsWholeBlocks, Obeys, block_count}
-use Rattle.drive_port.specs.Contents.{Appends, SameContents, content_at, contents}
+use Rattle.drive_port.specs.Contents.{SameContents}
 use Rattle.drive_port.specs.Drive.{DriveState, IsLawful}
 use Rattle.drive_port.specs.declared.calls.PortFault.{PortFault}
 use Rattle.drive_port.specs.declared.calls.PortFault.TheVariants as port
-use Rattle.batch_log.specs.Log.{Batch, batch_blocks, batch_size, data_count}
+use Rattle.batch_log.specs.Log.{batch_blocks, batch_size, data_count}
 use Rattle.zone_choice.specs.Builder.{BuilderView, built}
 use Rattle.zone_choice.proofs.ChangeLaws.{sized}
 use Rattle.zone_choice.proofs.CommandLaws.{zone-start}
 use Rattle.zone_choice.proofs.OpenLaws.{append-opens}
-use Rattle.remount.specs.Known.{KeepsMountable}
 use Rattle.remount.specs.Moving.{CanTake, TakesFront, TakesSome}
 use Rattle.remount.proofs.CallLaws.{mountable-same}
 

@@ -5,7 +5,7 @@ use Rattle.std.specs.List.{AllByRecursion}
 use Rattle.drive_port.specs.Drive.{DriveState}
 use Rattle.batch_log.specs.Log.{Batch}
 use Rattle.zone_choice.specs.Records.{Record, newest, records, shown, without}
-use Rattle.zone_choice.specs.Spare.{IsLowest, IsVacant, NoneBelow}
+use Rattle.zone_choice.specs.Spare.{IsLowest, NoneBelow}
 use Rattle.remount.specs.declared.heads.Head.{Head}
 use Rattle.remount.specs.declared.rivals.Rivals.{Rivals}
 use Rattle.remount.specs.declared.scan.ScannedZone.{ScannedZone}

@@ -1,5 +1,5 @@
 -- What a mount knows of a drive on its way.
-use Rattle.std.specs.Prelude.{◌≡◌, ◌≢◌, ◌⊎◌, ℕ, ◌+◌, ◌<◌, ◌^◌, max, List, [], ◌∷◌, Contains, length, map, slice_get, Option, Some, None}
+use Rattle.std.specs.Prelude.{◌≡◌, ◌≢◌, ℕ, ◌<◌, ◌^◌, List, [], length, map, slice_get, Some}
 use Rattle.std.specs.List.{AllByRecursion}
 use Rattle.nvme_wire.specs.declared.zone_state.ZoneState.TheVariants.{Empty}
 use Rattle.drive_port.specs.Contents.{contents}

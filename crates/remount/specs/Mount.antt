@@ -1,5 +1,5 @@
 -- Which drives are mounted, and why others are refused.
-use Rattle.std.specs.Prelude.{◌≡◌, ◌≢◌, ◌⊎◌, ℕ, ◌+◌, ◌<◌, ◌≤◌, ◌^◌, max, Bool, true, false, List, [], ◌∷◌, length, map, slice_get, slice_index_or, Contains, Option, Some, None, count_by}
+use Rattle.std.specs.Prelude.{◌≡◌, ◌⊎◌, ℕ, ◌+◌, ◌<◌, ◌≤◌, ◌^◌, max, Bool, true, false, List, length, slice_get, slice_index_or, Contains, Option, Some, None, count_by}
 use Rattle.std.specs.List.{AllByRecursion}
 use Rattle.nvme_wire.specs.declared.zone_state.ZoneState.TheVariants.{Empty}
 use Rattle.zone_states.specs.declared.geometry.Geometry.{Geometry}
@@ -10,18 +10,18 @@ use Rattle.logical_map.specs.Live.{blocks_in}
 use Rattle.batch_log.specs.Log.{Batch}
 use Rattle.zone_choice.specs.declared.roles.Filling.{Filling}
 use Rattle.zone_choice.specs.declared.roles.Second.{Second}
-use Rattle.zone_choice.specs.declared.roles.Second.TheVariants.{Next, Destination}
+use Rattle.zone_choice.specs.declared.roles.Second.TheVariants.{Next}
 use Rattle.zone_choice.specs.Agreement.{Agrees, drive_logs, mounted, spelled}
-use Rattle.zone_choice.specs.Mountable.{AreSound, HoldDisk, IsMountable, is_partly_written}
+use Rattle.zone_choice.specs.Mountable.{HoldDisk, IsMountable, is_partly_written}
 use Rattle.zone_choice.specs.Repair.{Fits, HasAtMost, IsTornAt, live, live_data, moves}
 use Rattle.zone_choice.specs.Reserve.{FitsReserve, batch_most}
 use Rattle.zone_choice.specs.Roles.{RolesView, empty_count, fillings}
 use Rattle.zone_choice.specs.Sizes.{encoded_size, map_of}
 use Rattle.zone_choice.specs.Spare.{HasSpare, IsClearing, IsVacant, NoneBelow, cleared}
 use Rattle.zone_choice.specs.Tables.{TablesView}
-use Rattle.zone_choice.specs.ZoneLogs.{log_at, sequences, zone_logs, zone_tails}
+use Rattle.zone_choice.specs.ZoneLogs.{log_at, sequences, zone_tails}
 use Rattle.remount.specs.declared.fault.MountFault.{MountFault}
-use Rattle.remount.specs.declared.fault.MountFault.TheVariants.{NoSpare, Spent, TornZone, Halted, OutOfMemory}
+use Rattle.remount.specs.declared.fault.MountFault.TheVariants.{NoSpare, Spent, TornZone}
 use Rattle.remount.specs.declared.reported.ReportedZone.{ReportedZone}
 use Rattle.remount.specs.declared.repair.Repair.{Repair}
 use Rattle.remount.specs.declared.survey.Survey.{Survey}

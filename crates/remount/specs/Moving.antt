@@ -1,5 +1,5 @@
 -- The Moves that repair a torn zone, and what the drive holds between two of them.
-use Rattle.std.specs.Prelude.{◌≡◌, ◌≢◌, ◌⊎◌, ℕ, zero, suc, ◌+◌, ◌-◌, ◌*◌, ◌<◌, ◌≤◌, ◌^◌, ◌==◌, nat_eq, not, if◌then◌else◌, Bool, true, false, List, [], ◌∷◌, ◌++◌, Contains, length, map, take, drop, slice_index_or, slice_set, Option, Some, None, is_some}
+use Rattle.std.specs.Prelude.{◌≡◌, ◌≢◌, ◌⊎◌, ℕ, zero, suc, ◌+◌, ◌-◌, ◌*◌, ◌<◌, ◌≤◌, ◌^◌, ◌==◌, nat_eq, if◌then◌else◌, true, false, List, [], ◌∷◌, ◌++◌, Contains, length, map, take, drop, slice_index_or, slice_set, Option, Some, None}
 use Rattle.std.specs.List.{AllByRecursion, IsDistinct, flat_map}
 use Rattle.zone_states.specs.declared.geometry.Geometry.{Geometry}
 use Rattle.zone_states.specs.Geometry.{IsInRange}
@@ -26,7 +26,6 @@ use Rattle.remount.specs.declared.clearing.Finding.{Finding}
 use Rattle.remount.specs.declared.clearing.Finding.TheVariants.{NeedsBlock, NeedsSize}
 use Rattle.remount.specs.declared.moves.MovePlan.{MovePlan}
 use Rattle.remount.specs.declared.repair.Repair.{Repair}
-use Rattle.remount.specs.declared.reported.ReportedZone.{ReportedZone}
 use Rattle.remount.specs.declared.survey.Survey.{Survey}
 use Rattle.remount.specs.Heads.{HeadsView, heads_of}
 use Rattle.remount.specs.Known.{AreVacantEmpty, KeepsMountable, Knows}

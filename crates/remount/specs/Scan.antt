@@ -1,5 +1,5 @@
 -- What a mount reads of a drive, zone by zone and batch by batch, and the first fault that it meets.
-use Rattle.std.specs.Prelude.{◌≡◌, ◌⊎◌, ℕ, suc, ◌+◌, ◌<◌, ◌≤◌, ◌^◌, nat_le, if◌then◌else◌, true, List, [], ◌∷◌, length, map, take, drop, slice_get, slice_index_or, Bool, false, Option, Some, None, Result, Ok, Err}
+use Rattle.std.specs.Prelude.{◌≡◌, ◌⊎◌, ℕ, ◌+◌, ◌<◌, ◌≤◌, ◌^◌, nat_le, if◌then◌else◌, true, List, [], ◌∷◌, length, map, take, drop, slice_get, slice_index_or, Bool, false, Option, Some, None, Result, Ok, Err}
 use Rattle.std.specs.List.{AllByRecursion, list_any}
 use Rattle.std.specs.Ordering.{nat_cmp}
 use Rattle.std.specs.BTreeSet.{insert_key}
@@ -11,7 +11,7 @@ use Rattle.drive_port.specs.declared.calls.PortFault.{PortFault}
 use Rattle.drive_port.specs.declared.calls.PortFault.TheVariants as port
 use Rattle.batch_log.specs.Header.{Heading}
 use Rattle.batch_log.specs.Ending.{Ending, ended, torn, failed, ending_of}
-use Rattle.batch_log.specs.Log.{Batch, BeginsWith, BeginsWithNoBatch, batch_size, data_count, log_size}
+use Rattle.batch_log.specs.Log.{Batch, BeginsWith, BeginsWithNoBatch, data_count, log_size}
 use Rattle.zone_choice.specs.ZoneLogs.{HasLog, has_torn_tail, readable, zone_log, zone_logs, zone_tails}
 use Rattle.remount.specs.declared.fault.MountFault.{MountFault}
 use Rattle.remount.specs.declared.fault.MountFault.TheVariants.{Log, SequenceRepeated, Spent, Halted, OutOfMemory}

@@ -20,7 +20,10 @@ fn show_filling(name: &str, filling: Option<Filling>, out: &mut String) -> Resul
         may_open,
     } = filling;
     let state = if may_open { ", may be open" } else { "" };
-    writeln!(out, "    {name} zone {zone}, {written} blocks written{state}")
+    writeln!(
+        out,
+        "    {name} zone {zone}, {written} blocks written{state}"
+    )
 }
 
 fn show_place(place: Place, out: &mut String) -> Result<(), AllocError> {
@@ -50,7 +53,10 @@ fn show_tables(tables: &Tables, out: &mut String) -> Result<(), AllocError> {
     let size = tables.blocks();
     let next = tables.next();
     let empty = tables.empty_count();
-    writeln!(out, "    {size} blocks, next sequence {next}, empty zones: {empty}")?;
+    writeln!(
+        out,
+        "    {size} blocks, next sequence {next}, empty zones: {empty}"
+    )?;
     show_filling("host", tables.host(), out)?;
     show_filling("next", next_zone(tables.second()), out)?;
     show_places(tables, out)
@@ -142,11 +148,7 @@ fn show_right(count: u64, out: &mut String) -> Result<(), AllocError> {
 }
 
 // How a mount is halted at each of these commands.
-fn settings(
-    alloc: Global,
-    halts: Halts,
-    entries: &[[u8; 64]],
-) -> Result<Vec<Setting>, AllocError> {
+fn settings(alloc: Global, halts: Halts, entries: &[[u8; 64]]) -> Result<Vec<Setting>, AllocError> {
     let mut settings = Vec::new(alloc);
     for (commands, entry) in entries.iter().enumerate() {
         push_settings(halts, commands as u64, append_blocks(entry), &mut settings)?;

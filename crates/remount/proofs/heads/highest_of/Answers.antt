@@ -1,4 +1,4 @@
-use Rattle.std.proofs.Common.{◌≡◌, drop, refl, sym, ap, ◌∙◌, arith}
+use Rattle.std.proofs.Common.{refl, sym, ap, ◌∙◌, arith}
 use Rattle.std.proofs.lemmas.List.{drop_all}
 use Rattle.remount.specs.Heads.{highest_of}
 use Rattle.remount.proofs.EntryLaws.{highest-step}

@@ -1,4 +1,4 @@
-use Rattle.std.proofs.Common.{List, ◌≡◌, ap, ◌∙◌}
+use Rattle.std.proofs.Common.{List, ap, ◌∙◌}
 use Rattle.remount.specs.Heads.{HeadsView, greatest_sequence}
 use Rattle.remount.specs.Torn.{sequences_in}
 use Rattle.remount.proofs.TornPlanLaws.{sequences-kept}

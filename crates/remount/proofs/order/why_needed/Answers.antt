@@ -1,8 +1,5 @@
-use Rattle.std.proofs.Common.{◌∙◌, ℕ, length, ap, sym, arith, map}
-use Rattle.std.proofs.lemmas.List.{length-map}
+use Rattle.std.proofs.Common.{◌∙◌, sym}
 use Rattle.zone_choice.specs.Agreement.{drive_logs}
-use Rattle.remount.specs.declared.scan.ScannedZone.{ScannedZone}
-use Rattle.remount.specs.Heads.{heads_of}
 use Rattle.remount.proofs.OrderLaws.{not-moved, scanned-in}
 use Rattle.remount.proofs.ReadLaws.{keeps-none}
 use Rattle.remount.proofs.order.why_needed.Goals as goal

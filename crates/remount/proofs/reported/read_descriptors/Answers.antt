@@ -1,5 +1,5 @@
-use Rattle.std.proofs.Common.{◌≡◌, ◌<◌, ◌++◌, [], ◌∷◌, length, arith, sym, ◌∙◌, Ok}
-use Rattle.remount.proofs.ReportLaws.{Left, in-front, left-all, none-left}
+use Rattle.std.proofs.Common.{◌≡◌, arith, sym, ◌∙◌, Ok}
+use Rattle.remount.proofs.ReportLaws.{in-front, left-all, none-left}
 use Rattle.remount.proofs.reported.read_descriptors.Goals as goal
 
 pub loop-front-init : goal.loop-front-init

@@ -1,4 +1,4 @@
-use Rattle.std.proofs.Common.{◌≡◌, ◌+◌, ◌-◌, ◌*◌, length, arith, refl, sym, ap, ◌∙◌, drop, List, ℕ}
+use Rattle.std.proofs.Common.{◌+◌, ◌-◌, ◌*◌, length, arith, ap, ◌∙◌, drop, List, ℕ}
 use Rattle.std.proofs.lemmas.List.{take_all, length-drop}
 use Rattle.zone_states.specs.declared.geometry.Geometry.{Geometry}
 use Rattle.remount.proofs.ReportLaws.{reports-zones}

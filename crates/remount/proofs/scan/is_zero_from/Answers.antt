@@ -1,8 +1,6 @@
-use Rattle.std.proofs.Common.{◌≡◌, refl, sym, ap, ◌∙◌, arith, ◌&&◌, true, false}
-use Rattle.std.specs.List.{list_all}
-use Rattle.remount.proofs.ReadLaws.{keeps-both, keeps-none, kept-blocks, kept-known}
+use Rattle.std.proofs.Common.{refl, true, false}
+use Rattle.remount.proofs.ReadLaws.{keeps-both, keeps-none, kept-known}
 use Rattle.remount.proofs.ZeroLaws.{zero-end, zero-step}
-use Rattle.batch_log.specs.Causes.{is_zero}
 use Rattle.remount.proofs.scan.is_zero_from.Goals as goal
 
 pub loop-offset-init : goal.loop-offset-init

@@ -1,4 +1,4 @@
-use Rattle.std.proofs.Common.{◌≡◌, ◌+◌, ◌<◌, [], slice_index_or, length, refl, sym, ap, ◌∙◌}
+use Rattle.std.proofs.Common.{[], slice_index_or, length, sym, ap, ◌∙◌}
 use Rattle.remount.proofs.ReadLaws.{keeps-both, kept-known, kept-blocks}
 use Rattle.remount.proofs.NextLaws.{bad-kept, end-ok, if-fault, meet-few, meets, met-err, met-few, met-ok}
 use Rattle.remount.proofs.scan.next_head.Goals as goal

@@ -1,6 +1,6 @@
 use Rattle.std.proofs.Common.{◌+◌, ◌*◌, ap}
 use Rattle.zone_states.specs.declared.geometry.Geometry.{Geometry}
-use Rattle.remount.proofs.ReadLaws.{Halts, read-halts, read-shown}
+use Rattle.remount.proofs.ReadLaws.{read-halts, read-shown}
 use Rattle.remount.proofs.scan.read_block.Goals as goal
 
 pub fault_of-requires : goal.fault_of-requires

@@ -1,6 +1,4 @@
-use Rattle.std.proofs.Common.{◌≡◌, ◌-◌, ◌<◌, refl, sym, ap, ◌∙◌, arith}
-use Rattle.drive_port.specs.Contents.{content_at, contents}
-use Rattle.remount.specs.Scan.{TakesNext}
+use Rattle.std.proofs.Common.{arith}
 use Rattle.remount.proofs.ReadLaws.{keeps-both, keeps-none, kept-known}
 use Rattle.remount.proofs.TakeLaws.{takes-none}
 use Rattle.remount.proofs.NextLaws.{all-next, if-fault}

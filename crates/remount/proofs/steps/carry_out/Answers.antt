@@ -1,5 +1,4 @@
-use Rattle.std.proofs.Common.{List, ℕ, ◌≡◌, ap, subst, sym, ◌∙◌}
-use Rattle.batch_log.specs.Log.{Batch}
+use Rattle.std.proofs.Common.{List, ℕ, ◌≡◌, ap, ◌∙◌}
 use Rattle.zone_choice.specs.Agreement.{drive_logs}
 use Rattle.zone_choice.specs.Spare.{cleared}
 use Rattle.remount.specs.Mount.{LeavesCleared}

@@ -1,4 +1,4 @@
-use Rattle.std.proofs.Common.{List, ℕ, ◌≡◌, ◌+◌, ◌-◌, ◌<◌, ◌≤◌, ◌^◌, min, inl, inr, refl, sym, ap, subst, ◌∙◌}
+use Rattle.std.proofs.Common.{List, ℕ, ◌+◌, ◌-◌, ◌<◌, ◌≤◌, ◌^◌, min, inl, inr, sym, ap, subst, ◌∙◌}
 use Rattle.std.specs.List.{AllByRecursion}
 use Rattle.zone_states.specs.declared.geometry.Geometry.{Geometry}
 use Rattle.drive_port.specs.Contents.{contents}
@@ -13,7 +13,7 @@ use Rattle.remount.specs.declared.fault.MountFault.TheVariants as faults
 use Rattle.remount.proofs.ReadLaws.{keeps-both}
 use Rattle.remount.proofs.NextLaws.{if-fault}
 use Rattle.remount.proofs.KeepLaws.{keeps-mountable-both}
-use Rattle.remount.proofs.StepLaws.{can-kept, carry-kept, carry-refused, closing-keeps, mounts, next-is, plan-refused, repairs, survey-knows, survey-refused, to-mount}
+use Rattle.remount.proofs.StepLaws.{can-kept, carry-kept, carry-refused, closing-keeps, mounts, next-is, plan-refused, repairs, survey-knows, to-mount}
 use Rattle.remount.proofs.steps.mount.Goals as goal
 
 pub returns-in_err-survey-clause-kept : goal.returns-in_err-survey-clause-kept

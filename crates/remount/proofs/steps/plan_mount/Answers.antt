@@ -1,4 +1,3 @@
-use Rattle.std.proofs.Common.{◌≡◌, sym, ◌∙◌}
 use Rattle.remount.proofs.ReadLaws.{keeps-none}
 use Rattle.remount.proofs.NextLaws.{if-fault}
 use Rattle.remount.proofs.StepLaws.{planned, plans-of, repair-refused, to-empty}

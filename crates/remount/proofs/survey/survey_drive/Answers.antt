@@ -1,4 +1,4 @@
-use Rattle.std.proofs.Common.{List, ℕ, ◌≡◌, ◌<◌, ◌≤◌, true, false, inl, inr, length, arith, refl, sym, ap, subst, ◌∙◌}
+use Rattle.std.proofs.Common.{List, ℕ, ◌≡◌, true, false, refl, sym, ap, subst, ◌∙◌}
 use Rattle.zone_states.specs.declared.geometry.Geometry.{Geometry}
 use Rattle.drive_port.specs.Contents.{contents}
 use Rattle.zone_choice.specs.Reserve.{FitsReserve}
