@@ -1,27 +1,31 @@
-//! The mount of a drive with contents, as far as it is built: what a mount reads before it changes anything.
+//! The mount of a drive: what it holds is read, what a stop left is repaired, and the tables of a disk are made.
 //!
 //! ```text
-//! let mut survey = survey_drive(alloc, &mut device, 9)?; // one report, and one Read for each batch
-//! survey.size;                                       // how many logical blocks the drive has
-//! survey.scanned[0].heads.blocks();                  // how many blocks of zone 0 are batches
-//! survey.scanned[0].is_torn;                         // whether a torn tail follows them
-//! let resets = clear_zones(alloc, &mut device, &mut survey, 9)?; // the zones to be emptied first, as [4]
+//! let tables = mount(alloc, &mut device, 9)?; // one report, one Read for each batch, and the repairs
+//! tables.blocks();                            // how many logical blocks the drive has
+//! tables.place_of(0);                         // where the newest record of block 0 lies
+//! tables.host();                              // the zone to which the next batch goes
 //! ```
 //!
 //! # What is promised
 //!
-//! * A drive is surveyed only where its geometry and the number of blocks are in range, no zone is Read Only or
-//!   Offline, at most two are partly written, each zone holds a log, the batches are sound, and the reserve allows
-//!   the size that they say (`Surveys` in specs/Survey). The headers of all batches are kept, 16 bytes each and 4
-//!   for each entry (`heads_of` in specs/Heads).
-//! * Each fault but `Halted` and `OutOfMemory` is the first one, in the order in which a mount looks (`SurveyFails`).
-//! * A mount empties the lowest half clean zone, again and again, until there is none. `clear_zones` finds these zones
-//!   in memory (`IsClearing` of zone_choice's specs/Spare), and sends Reads alone: of the blocks whose newest record
-//!   lies in a zone with Moves from one older zone alone. It looks through all headers once for each zone that it
-//!   finds, and once more; where no zone has such Moves alone it looks through none. `NoSpare` comes exactly where no
-//!   zone is vacant or half clean.
-//! * The drive is as it was, but that its controller may have closed zones (`KeepsZones` in specs/Reported). No
-//!   command is refused.
+//! * A drive is mounted exactly where it can be: its geometry and the number of blocks are in range, no zone is Read
+//!   Only or Offline, at most two are partly written, each zone holds a log, the batches are sound, the reserve allows
+//!   the size that they say, a zone is vacant or half clean, and at most one zone is torn when the half clean ones are
+//!   emptied, which can be repaired. Then the tables agree with the drive that is left, which encodes the same array
+//!   (`Mounts` in specs/Mount).
+//! * Each fault but `Halted` and `OutOfMemory` is the first one, in the order in which a mount looks (`MountFails`),
+//!   and leaves the drive as it was, but that its controller may have closed zones (`KeepsZones` in specs/Reported).
+//! * Whatever is answered, a drive that could be mounted still can, with the same array, and no command was refused
+//!   (`KeepsMountable` in specs/Known): also where the drive stopped inside a command, an Append of a repair included.
+//!
+//! # How it goes
+//!
+//! `survey_drive` reads the headers of all batches, which are kept, 16 bytes each and 4 for each entry
+//! (`heads_of` in specs/Heads). `clear_zones` finds in memory which zones are half clean, each the lowest of its
+//! moment, and `plan_repair` which zone is torn then. Only now the drive is changed: `empty_zones` resets the vacant
+//! zones and the half clean ones, `repair_zone` moves what is live in the torn zone to an empty one and resets it, and
+//! `finish_zones` finishes zones to which no more batches go. `mounted_tables` makes the tables from the headers.
 #![tactic(auto)]
 
 mod beside;
