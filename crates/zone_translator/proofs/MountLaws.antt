@@ -1,49 +1,46 @@
--- A fresh drive is mounted.
-use Rattle.std.proofs.Common.{◌≡◌, ◌≢◌, ℕ, ◌+◌, replicate, length, None, sym, ap, ◌∙◌, arith}
-use Rattle.std.proofs.lemmas.List.{length-replicate}
-use Rattle.zone_states.specs.declared.geometry.Geometry.{Geometry}
-use Rattle.zone_states.specs.Geometry.{IsInRange}
-use Rattle.drive_port.specs.Drive.{DriveState, IsClosing, IsLawful}
-use Rattle.drive_port.specs.Contents.{SameContents}
-use Rattle.batch_log.specs.Log.{zero_block}
-use Rattle.logical_map.specs.declared.place.Place.TheVariants as places
-use Rattle.zone_choice.specs.Tables.{TablesView, size_of}
-use Rattle.zone_choice.specs.Roles.{RolesView}
-use Rattle.zone_choice.specs.Reserve.{FitsReserve}
-use Rattle.zone_choice.specs.Agreement.{spelled}
-use Rattle.zone_choice.proofs.AgreementLaws.{agrees_same, spelled_same}
-use Rattle.zone_choice.proofs.FreshLaws.{IsFreshTables, fresh_agrees, fresh_spare, fresh_spelled}
-use Rattle.zone_choice.proofs.OpenLaws.{closing-opens}
-use Rattle.zone_cleaner.specs.Clean.{HasNoDestination}
-use Rattle.zone_translator.specs.Mount.{IsFresh, IsFreshDisk, MountRefuses}
-use Rattle.zone_translator.specs.declared.mount.MountFault.TheVariants.{NotFresh}
+-- What a mount gives is a disk.
+use Rattle.std.proofs.Common.{◌≡◌, ◌≢◌, ◌⊎◌, ℕ, ◌+◌, ◌≤◌, List, length, true, Option, Some, None, refl, sym, ◌∙◌}
+use Rattle.std.specs.List.{AllByRecursion}
+use Rattle.drive_port.specs.Contents.{Content, content_at, contents}
+use Rattle.drive_port.specs.Drive.{DriveState}
+use Rattle.zone_choice.specs.declared.roles.Filling.{Filling}
+use Rattle.zone_choice.specs.declared.roles.Second.{Second}
+use Rattle.zone_choice.specs.declared.roles.Second.TheVariants.{Next, Destination}
+use Rattle.zone_choice.specs.Mountable.{is_partly_written}
+use Rattle.zone_choice.specs.Roles.{RolesView, fillings}
+use Rattle.zone_choice.specs.Tables.{TablesView}
+use Rattle.zone_cleaner.specs.Clean.{CleanView, HasNoDestination}
+use Rattle.remount.specs.Mount.{AreInOrder, AreMountedRoles, Mounts}
+use Rattle.zone_translator.specs.declared.status.DiskStatus.TheVariants.{Serving}
+use Rattle.zone_translator.specs.Changes.{AgreesWith}
+use Rattle.zone_translator.specs.Mount.{MountsDisk}
+use Rattle.zone_translator.proofs.DiskLaws.{length-array, view_of}
 
-pub not-fresh : (drive back : DriveState) (geometry : Geometry) (blocks number : ℕ) → geometry ≡ drive.geometry → IsInRange geometry → FitsReserve geometry blocks → (IsFresh drive → number ≡ drive.geometry.zones) → number ≢ geometry.zones → MountRefuses drive blocks NotFresh back
-not-fresh drive back geometry blocks number same range fits all other =
-    (rw same at range, rw same at fits, λ fresh. other (all fresh ∙ sym (ap (λ (g : Geometry). g.zones) same)))
+-- the lower of the two zones is the host zone, so the other is the next one
+no-destination : (capacity : ℕ) (zones : List Content) (roles : RolesView) → AllByRecursion (λ (filling : Filling). (is_partly_written (content_at zones filling.zone) ≡ true) × (filling.written + 2 ≤ capacity)) (fillings roles)
+    → AreInOrder roles.host roles.second → HasNoDestination capacity roles.second
+no-destination capacity zones roles written order = by roles.host roles.second refl refl
+  where
+    by : (host : Option Filling) (second : Option Second) → roles.host ≡ host → roles.second ≡ second → HasNoDestination capacity roles.second
+    by host None e f = rw f tt
+    by None (Some second) e f = absurd (rw (e, f) at order)
+    by (Some host) (Some (Destination filling)) e f = absurd (rw (e, f) at order)
+    by (Some host) (Some (Next filling)) e f = let both = rw (e, f) at written in rw f both.1.0.1
 
-pub fresh-disk : (old new : DriveState) (geometry : Geometry) (blocks number : ℕ) (tables : TablesView) → geometry ≡ old.geometry → IsInRange geometry → FitsReserve geometry blocks → (number ≡ old.geometry.zones → IsFresh old) → number ≡ geometry.zones
-    → IsLawful old → IsLawful new → SameContents old new → IsClosing old.zones new.zones → new.refused ≡ old.refused → new.appended ≡ old.appended + 0 → IsFreshTables geometry tables blocks → IsFreshDisk old new tables blocks
-fresh-disk old new geometry blocks number tables same range fits all all_empty was lawful contents_are closing refused appended tables-are =
-    let zones = ap (λ (g : Geometry). g.zones) same in
-    let fresh = all (all_empty ∙ zones) in
-    let size : size_of tables ≡ blocks = ap length tables-are.places ∙ length-replicate blocks places.None in
-    let made = rw same at tables-are in
-    let here = rw same at range in
-    let agrees = fresh_agrees old tables blocks here (rw same at fits) was fresh made in
-    let second : tables.roles.second ≡ None = ap (λ (r : RolesView). r.second) tables-are.roles in
-    let alone : HasNoDestination new.geometry.capacity tables.roles.second = rw second tt in
+pub mounted-serves : (old new : DriveState) (n : ℕ) (tables : TablesView) → Mounts old new n tables → AgreesWith new tables None
+mounted-serves old new n tables mounts =
+    let roles = mounts.roles in
+    (mounts.agrees, (roles.empty, no-destination new.geometry.capacity (contents new.zones) tables.roles roles.written roles.order))
+
+pub mounts-disk : (old new : DriveState) (n : ℕ) (tables : TablesView) → Mounts old new n tables → MountsDisk old n (view_of new tables None Serving)
+mounts-disk old new n tables mounts =
     record {
-      agrees = (agrees_same old new tables contents_are (closing-opens old.zones new.zones closing) lawful agrees, (fresh_spare old.geometry tables blocks here made, alone));
-      size = size;
-      given = tables-are.given;
-      fresh = fresh;
-      next = tables-are.next;
-      same = contents_are;
-      refused = refused;
-      appended = omega (arith, appended);
+      can = mounts.can;
+      array = rw mounts.given mounts.array;
+      size = sym (length-array new tables None (mounted-serves old new n tables mounts));
+      given = mounts.given;
+      next = mounts.next;
+      roles = mounts.roles;
+      clean = refl;
+      status = refl;
     }
-
--- the array of a disk over a fresh drive
-pub fresh-array : (old new : DriveState) (tables : TablesView) (blocks : ℕ) → IsFreshDisk old new tables blocks → spelled new tables.given ≡ replicate blocks (zero_block old.geometry.block)
-fresh-array old new tables blocks is = spelled_same old new tables.given is.same ∙ rw is.given (fresh_spelled old blocks is.fresh)

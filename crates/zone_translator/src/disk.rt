@@ -13,19 +13,20 @@ ghost use Rattle.zone_translator.specs.Batches.{LogsAreCut, IsBatchCount, IsWhol
 ghost use Rattle.zone_translator.specs.Changes.{AreNamed, IsCause, Names, batch_commands};
 ghost use Rattle.zone_translator.specs.Flat.{FlatCall, IsFront, fill, grow, idle, known_growth, known_range, read, replaced, report, trim, with_nothing, write};
 ghost use Rattle.zone_translator.specs.declared.status.DiskStatus.TheVariants.{Serving};
-ghost use Rattle.batch_log.specs.Log.{Batch, zero_block};
-ghost use Rattle.zone_translator.specs.Mount.{IsFresh, KeepsDrive, MountRefuses};
+ghost use Rattle.batch_log.specs.Log.{Batch};
+ghost use Rattle.remount.specs.Known.{KeepsMountable};
+ghost use Rattle.zone_translator.specs.Mount.{GivesBack, MountsDisk};
 ghost use Rattle.zone_translator.specs.Read.{IsReadFault};
 ghost use Rattle.zone_translator.specs.View.{Completes, DiskCause, DiskView, KeepsDisk, array_of, disk_size, flat_of, disk_turns, given_size, logs_of, most_batches, next_sequence, places_of, size_on};
 
 use crate::fault::DiskFault;
-use crate::mount::{MountFault, fresh_tables};
 use crate::read::{read_block, read_into};
 use crate::report::report_all;
 use crate::status::DiskStatus;
 use crate::write::{Content, grow_batch, next_batch};
 use drive_port::Device;
 use logical_map::Place;
+use remount::{MountFault, mount};
 use std::alloc::Global;
 use std::marker::Model;
 use zone_choice::{BatchBuilder, Tables, most_blocks};
@@ -65,20 +66,18 @@ fn status_of(fault: DiskFault) -> DiskStatus
 }
 
 impl<D: Device + Drop> Disk<D> {
-    /// A disk of `blocks` logical blocks of zeros over a drive on which nothing is written. With the
-    /// fault the drive is given back, and holds what it held.
+    /// The disk that a drive holds, of `blocks` logical blocks where no header on the drive says how many. The drive
+    /// is checked, and what a stop left of it repaired: see `remount::mount`.
+    ///
+    /// With the fault the drive is given back, and can be mounted if it could before.
     pub fn mount(alloc: Global, mut device: D, blocks: u64) -> Result<Disk<D>, (MountFault, D)>
-        ensures size { IfOk result (λ disk. (disk_size disk ≡ blocks) × (given_size disk ≡ blocks) × (disk.status ≡ Serving)) }
-        ensures next { IfOk result (λ disk. next_sequence disk ≡ 1) }
+        ensures disk { IfOk result (MountsDisk (D.drive device) blocks) }
         ensures fits { IfOk result (λ disk. IsInRange disk.drive.geometry × FitsReserve disk.drive.geometry (disk_size disk)) }
-        ensures fresh { OnOk result (IsFresh (D.drive device)) }
-        ensures array { IfOk result (λ disk. array_of disk ≡ replicate blocks (zero_block (D.drive device).geometry.block)) }
-        ensures drive { IfOk result (λ disk. KeepsDrive (D.drive device) disk.drive) }
+        ensures kept { IfOk result (λ disk. KeepsMountable blocks (D.drive device) disk.drive) }
         ensures mountable { IfOk result (λ disk. IsMountable disk.drive (given_size disk)) }
-        ensures err { IfErr result (λ refusal. MountRefuses (D.drive device) blocks refusal.0 (D.drive refusal.1)) }
-        ensures given_back { IfErr result (λ refusal. KeepsDrive (D.drive device) (D.drive refusal.1)) }
+        ensures err { IfErr result (λ refusal. GivesBack (D.drive device) blocks refusal.0 (D.drive refusal.1)) }
     {
-        match fresh_tables(alloc, &mut device, blocks) {
+        match mount(alloc, &mut device, blocks) {
             Ok(tables) => Ok(Disk {
                 device,
                 tables,

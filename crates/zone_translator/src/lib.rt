@@ -25,7 +25,6 @@
 mod disk;
 mod fault;
 mod laws;
-mod mount;
 mod read;
 mod report;
 mod room;
@@ -36,5 +35,5 @@ pub use disk::Disk;
 pub use fault::DiskFault;
 pub use laws::{write_keeps_others, written_reads_back};
 pub use logical_map::Place;
-pub use mount::MountFault;
+pub use remount::MountFault;
 pub use status::DiskStatus;
