@@ -1,19 +1,31 @@
 -- What a mount gives is a disk.
-use Rattle.std.proofs.Common.{◌≡◌, ◌≢◌, ◌⊎◌, ℕ, ◌+◌, ◌≤◌, List, length, true, Option, Some, None, refl, sym, ◌∙◌}
+use Rattle.std.proofs.Common.{◌≡◌, ◌≢◌, ◌⊎◌, ℕ, ◌+◌, ◌≤◌, List, length, true, Option, Some, None, Ok, Err, refl, sym, ap, ◌∙◌, inl, inr}
 use Rattle.std.specs.List.{AllByRecursion}
 use Rattle.drive_port.specs.Contents.{Content, content_at, contents}
 use Rattle.drive_port.specs.Drive.{DriveState}
 use Rattle.zone_choice.specs.declared.roles.Filling.{Filling}
 use Rattle.zone_choice.specs.declared.roles.Second.{Second}
 use Rattle.zone_choice.specs.declared.roles.Second.TheVariants.{Next, Destination}
+use Rattle.zone_choice.specs.Agreement.{spelled}
 use Rattle.zone_choice.specs.Mountable.{is_partly_written}
+use Rattle.zone_choice.specs.Reserve.{FitsReserve}
 use Rattle.zone_choice.specs.Roles.{RolesView, fillings}
 use Rattle.zone_choice.specs.Tables.{TablesView}
 use Rattle.zone_cleaner.specs.Clean.{CleanView, HasNoDestination}
-use Rattle.remount.specs.Mount.{AreInOrder, AreMountedRoles, Mounts}
-use Rattle.zone_translator.specs.declared.status.DiskStatus.TheVariants.{Serving}
+use Rattle.remount.specs.declared.fault.MountFault.{MountFault}
+use Rattle.remount.specs.declared.fault.MountFault.TheVariants.{Halted, OutOfMemory}
+use Rattle.remount.specs.Known.{KeepsMountable}
+use Rattle.remount.specs.Mount.{AreInOrder, AreMountedRoles, IsToMount, MountFails, Mounts}
+use Rattle.remount.specs.Scan.{FailsBy}
+use Rattle.remount.proofs.RefusalLaws.{only-halts}
+use Rattle.zone_translator.specs.declared.status.DiskStatus.{DiskStatus}
+use Rattle.zone_translator.specs.declared.status.DiskStatus.TheVariants.{Serving, Unmounted}
+use Rattle.zone_translator.specs.Calls.{Holds}
 use Rattle.zone_translator.specs.Changes.{AgreesWith}
+use Rattle.zone_translator.specs.Flat.{FlatRemount}
 use Rattle.zone_translator.specs.Mount.{MountsDisk}
+use Rattle.zone_translator.specs.View.{DiskView, array_of, disk_size, flat_of, given_size}
+use Rattle.zone_translator.proofs.CallLaws.{flat-is}
 use Rattle.zone_translator.proofs.DiskLaws.{length-array, view_of}
 
 -- the lower of the two zones is the host zone, so the other is the next one
@@ -32,6 +44,9 @@ mounted-serves old new n tables mounts =
     let roles = mounts.roles in
     (mounts.agrees, (roles.empty, no-destination new.geometry.capacity (contents new.zones) tables.roles roles.written roles.order))
 
+pub mounted-fits : (old new : DriveState) (n : ℕ) (tables : TablesView) → new.geometry ≡ old.geometry → Mounts old new n tables → FitsReserve new.geometry tables.given
+mounted-fits old new n tables same mounts = rw (same, mounts.given) mounts.can.reserve
+
 pub mounts-disk : (old new : DriveState) (n : ℕ) (tables : TablesView) → Mounts old new n tables → MountsDisk old n (view_of new tables None Serving)
 mounts-disk old new n tables mounts =
     record {
@@ -44,3 +59,33 @@ mounts-disk old new n tables mounts =
       clean = refl;
       status = refl;
     }
+
+-- ---- mounting again
+
+-- the drive of a disk can be mounted
+pub holds-mount : (drive : DriveState) (tables : TablesView) (clean : Option CleanView) (status : DiskStatus) → Holds drive tables clean status → IsToMount drive tables.given
+holds-mount drive tables clean status holds = record { geometry = holds.geometry; reserve = holds.reserve; mountable = holds.mountable }
+
+pub remounted : (old : DiskView) (new : DriveState) (n : ℕ) (tables : TablesView) → n ≡ given_size old → Mounts old.drive new n tables → MountsDisk old.drive (given_size old) (view_of new tables None Serving)
+remounted old new n tables is mounts = mounts-disk old.drive new (given_size old) tables (rw is at mounts)
+
+pub remounted-flat : (old : DiskView) (new : DriveState) (n : ℕ) (tables : TablesView) (clean : Option CleanView) → n ≡ given_size old → new.geometry ≡ old.drive.geometry → Mounts old.drive new n tables
+    → FlatRemount (flat_of old) (Ok tt) (flat_of (view_of new tables clean Serving))
+remounted-flat old new n tables clean is same mounts =
+    let disk = remounted old new n tables is mounts in
+    flat-is old (view_of new tables clean Serving) (array_of old) (length (array_of old)) Serving disk.array (disk.size ∙ ap length disk.array) refl same
+
+-- one that was refused
+pub remount-halts : (drive new : DriveState) (tables : TablesView) (clean : Option CleanView) (status : DiskStatus) (n : ℕ) (fault : MountFault) → n ≡ tables.given → Holds drive tables clean status → FailsBy (MountFails drive n) new fault → FailsBy (λ _. ⊥) new fault
+remount-halts drive new tables clean status n fault is holds fails = only-halts drive new n fault (rw is (holds-mount drive tables clean status holds)) fails
+
+pub refused-flat : (old : DiskView) (new : DriveState) (n : ℕ) (clean : Option CleanView) (fault : MountFault) → n ≡ given_size old → Holds old.drive old.tables old.clean old.status → KeepsMountable n old.drive new → FailsBy (MountFails old.drive n) new fault
+    → FlatRemount (flat_of old) (Err fault) (flat_of (view_of new old.tables clean Unmounted))
+refused-flat old new n clean fault is holds kept fails =
+    let array : spelled new (given_size old) ≡ array_of old = (rw is at kept).array holds.mountable in
+    (stops (remount-halts old.drive new old.tables old.clean old.status n fault is holds fails), flat-is old (view_of new old.tables clean Unmounted) (array_of old) (disk_size old) Unmounted array refl refl kept.geometry)
+  where
+    stops : FailsBy (λ _. ⊥) new fault → (fault ≡ OutOfMemory) ⊎ (fault ≡ Halted)
+    stops (inl memory) = inl memory
+    stops (inr (inl halted)) = inr halted.0
+    stops (inr (inr none)) = absurd none

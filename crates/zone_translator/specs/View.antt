@@ -11,12 +11,13 @@ use Rattle.zone_choice.specs.Mountable.{IsMountable}
 use Rattle.zone_choice.specs.Reserve.{batch_most, most_size}
 use Rattle.zone_cleaner.specs.Clean.{CleanView, turns_left}
 use Rattle.zone_translator.specs.declared.fault.DiskFault.{DiskFault}
-use Rattle.zone_translator.specs.declared.fault.DiskFault.TheVariants.{OutOfRange, Smaller, Reserve}
+use Rattle.zone_translator.specs.declared.fault.DiskFault.TheVariants.{OutOfRange, Unmounted, Smaller, Reserve}
 use Rattle.zone_translator.specs.declared.status.DiskStatus.{DiskStatus}
+use Rattle.zone_translator.specs.declared.status.DiskStatus.TheVariants as statuses
 use Rattle.zone_translator.specs.Changes.{IsCause}
 use Rattle.zone_translator.specs.Flat.{FlatDisk}
 
--- the drive below, what is known of it in memory, the clean that runs, and whether `Stopped` was answered
+-- the drive below, what is known of it in memory, the clean that runs, and whether the disk serves
 pub record DiskView : Type 0 where
   pub drive : DriveState
   pub tables : TablesView
@@ -74,6 +75,7 @@ abbrev pub DiskCause : DiskView → DiskFault → Type 0
 DiskCause disk OutOfRange = Unit {0}
 DiskCause disk Smaller = Unit {0}
 DiskCause disk Reserve = Unit {0}
+DiskCause disk Unmounted = disk.status ≡ statuses.Unmounted
 DiskCause disk fault = IsCause disk.drive (next_sequence disk) fault
 
 -- how many turns are left of the clean that runs: one at least, if one runs

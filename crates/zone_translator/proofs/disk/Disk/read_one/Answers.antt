@@ -4,12 +4,12 @@ use Rattle.zone_translator.proofs.disk.Disk.read_one.Goals as goal
 pub invariant_of-self : goal.invariant_of-self
 invariant_of-self g c =
     let serves = holds-agrees _ c.self.inside.tables c.self.inside.cleaner c.self.inside.status (rw (← c.self.view_is) at c.requires.serving) c.self.invariant in
-    rw (rw (← c.self.view_is) at c.requires.serving) (holds-kept (g.D.Device.drive c.self.inside.device) (g.D.Device.drive c.read_block.new.device) c.self.inside.tables c.self.inside.cleaner serves c.read_block.ensures.kept)
+    rw (rw (← c.self.view_is) at c.requires.serving) (holds-kept (g.D.Device.drive c.self.inside.device) (g.D.Device.drive c.read_block.new.device) c.self.inside.tables c.self.inside.cleaner c.self.invariant.reserve serves c.read_block.ensures.kept)
 
 pub invariant_of-self-in-Err : goal.invariant_of-self-in-Err
 invariant_of-self-in-Err g c =
     let serves = holds-agrees _ c.self.inside.tables c.self.inside.cleaner c.self.inside.status (rw (← c.self.view_is) at c.requires.serving) c.self.invariant in
-    rw c.status_of-self-inside.ensures (holds-read (g.D.Device.drive c.self.inside.device) (g.D.Device.drive c.read_block.new.device) c.self.inside.tables c.self.inside.cleaner c.in-Err.fault serves c.read_block.ensures.kept c.in-Err.ensures.err)
+    rw c.status_of-self-inside.ensures (holds-read (g.D.Device.drive c.self.inside.device) (g.D.Device.drive c.read_block.new.device) c.self.inside.tables c.self.inside.cleaner c.in-Err.fault c.self.invariant.reserve serves c.read_block.ensures.kept c.in-Err.ensures.err)
 
 pub returns-in-Ok-clause-kept : goal.returns-in-Ok-clause-kept
 returns-in-Ok-clause-kept g c =
