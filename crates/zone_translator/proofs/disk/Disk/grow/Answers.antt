@@ -6,7 +6,7 @@ use Rattle.zone_translator.proofs.disk.Disk.grow.Goals as goal
 pub invariant_of-self : goal.invariant_of-self
 invariant_of-self g c =
     let serves = rw (← c.self.view_is) at c.in_ok-check_growth.ensures.grows.2 in
-    rw serves (holds-serving (g.D.Device.drive c.grow_batch-grown.new.device) c.grow_batch-grown.new.tables c.grow_batch-grown.new.cleaner (reserve-kept (g.D.Device.drive c.self.inside.device) _ c.self.inside.tables _ c.in-Ok.ensures.leaves.keeps.geometry c.in-Ok.ensures.leaves.keeps.given c.self.invariant.reserve) c.in-Ok.ensures.leaves.serves)
+    rw serves (holds-serving (g.D.Device.drive c.grow_batch-grown.new.device) c.grow_batch-grown.new.tables c.grow_batch-grown.new.cleaner (reserve-kept (g.D.Device.drive c.self.inside.device) (g.D.Device.drive c.grow_batch-grown.new.device) c.self.inside.tables c.grow_batch-grown.new.tables c.in-Ok.ensures.leaves.keeps.geometry c.in-Ok.ensures.leaves.keeps.given c.self.invariant.reserve) c.in-Ok.ensures.leaves.serves)
 
 pub invariant_of-self-in-Err : goal.invariant_of-self-in-Err
 invariant_of-self-in-Err g c =

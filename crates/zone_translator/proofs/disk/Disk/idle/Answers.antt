@@ -4,7 +4,7 @@ use Rattle.zone_translator.proofs.DiskLaws.{cleaned-disk, holds-agrees, holds-se
 use Rattle.zone_translator.proofs.disk.Disk.idle.Goals as goal
 
 pub invariant_of-self : goal.invariant_of-self
-invariant_of-self g c = rw (rw (← c.self.view_is) at c.in_ok-check_serving.ensures.serving) (holds-serving (g.D.Device.drive c.turn.new.device) c.turn.new.tables c.turn.new.self (reserve-kept (g.D.Device.drive c.self.inside.device) _ c.self.inside.tables _ c.in-Ok.ensures.keeps.geometry c.in-Ok.ensures.keeps.given c.self.invariant.reserve) c.in-Ok.ensures.goes_on)
+invariant_of-self g c = rw (rw (← c.self.view_is) at c.in_ok-check_serving.ensures.serving) (holds-serving (g.D.Device.drive c.turn.new.device) c.turn.new.tables c.turn.new.self (reserve-kept (g.D.Device.drive c.self.inside.device) (g.D.Device.drive c.turn.new.device) c.self.inside.tables c.turn.new.tables c.in-Ok.ensures.keeps.geometry c.in-Ok.ensures.keeps.given c.self.invariant.reserve) c.in-Ok.ensures.goes_on)
 
 pub invariant_of-self-in-Err : goal.invariant_of-self-in-Err
 invariant_of-self-in-Err g c =
