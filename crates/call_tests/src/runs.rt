@@ -112,6 +112,11 @@ const FAULTS: [(RunFault, &str, &str); 13] = [
         "Disk",
     ),
     (
+        RunFault::Disk(DiskFault::Unmounted),
+        "fault disk 5 Unmounted\n",
+        "Disk",
+    ),
+    (
         RunFault::Mount(MountFault::Limits),
         "fault mount 2 Limits\n",
         "Mount",
@@ -122,8 +127,23 @@ const FAULTS: [(RunFault, &str, &str); 13] = [
         "Mount",
     ),
     (
-        RunFault::Mount(MountFault::NotFresh),
-        "fault mount 12 NotFresh\n",
+        RunFault::Mount(MountFault::ZoneUnusable(3)),
+        "fault mount 3 ZoneUnusable 3\n",
+        "Mount",
+    ),
+    (
+        RunFault::Mount(MountFault::Log(0, 4, LogFault::Torn)),
+        "fault mount 4 Log 0 4 7 Torn\n",
+        "Mount",
+    ),
+    (
+        RunFault::Mount(MountFault::NoSpare),
+        "fault mount 8 NoSpare\n",
+        "Mount",
+    ),
+    (
+        RunFault::Mount(MountFault::TornZone(2)),
+        "fault mount 13 TornZone 2\n",
         "Mount",
     ),
     (

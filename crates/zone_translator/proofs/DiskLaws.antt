@@ -39,30 +39,42 @@ length-array drive tables clean serves = length-spelled drive tables.given ∙ s
 pub whole-array : (disk : DiskView) → IsMountable disk.drive (given_size disk) → AllByRecursion (λ block. length block ≡ disk.drive.geometry.block) (array_of disk)
 whole-array disk mountable = whole-spelled disk.drive (given_size disk) mountable
 
+-- no refusal of these unmounts a disk
+pub refused-status : (fault : DiskFault) (was : DiskStatus) → status_of fault ≡ statuses.Unmounted → was ≡ statuses.Unmounted
+refused-status OutOfRange was e = absurd (cc)
+refused-status OutOfMemory was e = absurd (cc)
+refused-status Stopped was e = absurd (cc)
+refused-status Spent was e = absurd (cc)
+refused-status Unmounted was e = absurd (cc)
+refused-status Smaller was e = absurd (cc)
+refused-status Reserve was e = absurd (cc)
+
 -- what a part of a call keeps, a disk keeps
-pub keeps-disk : (old new : DriveState) (tables tables' : TablesView) (clean clean' : Option CleanView) (was is : DiskStatus) → Keeps (mounted old tables) (mounted new tables') → KeepsDisk (view_of old tables clean was) (view_of new tables' clean' is)
-keeps-disk old new tables tables' clean clean' was is keeps = record {
+pub keeps-disk : (old new : DriveState) (tables tables' : TablesView) (clean clean' : Option CleanView) (was is : DiskStatus) → (is ≡ statuses.Unmounted → was ≡ statuses.Unmounted) → Keeps (mounted old tables) (mounted new tables') → KeepsDisk (view_of old tables clean was) (view_of new tables' clean' is)
+keeps-disk old new tables tables' clean clean' was is unmounted keeps = record {
   given = keeps.given;
   geometry = keeps.geometry;
   mountable = keeps.mountable;
   refused = keeps.refused;
   next = keeps.next;
   appended = keeps.appended;
+  unmounted = unmounted;
 }
 
-pub cleaned-disk : (old new : DriveState) (tables tables' : TablesView) (clean clean' : Option CleanView) (was is : DiskStatus) → KeepsByCleaning (mounted old tables) (mounted new tables') → KeepsDisk (view_of old tables clean was) (view_of new tables' clean' is)
-cleaned-disk old new tables tables' clean clean' was is keeps = record {
+pub cleaned-disk : (old new : DriveState) (tables tables' : TablesView) (clean clean' : Option CleanView) (was is : DiskStatus) → (is ≡ statuses.Unmounted → was ≡ statuses.Unmounted) → KeepsByCleaning (mounted old tables) (mounted new tables') → KeepsDisk (view_of old tables clean was) (view_of new tables' clean' is)
+cleaned-disk old new tables tables' clean clean' was is unmounted keeps = record {
   given = keeps.given;
   geometry = keeps.geometry;
   mountable = keeps.mountable;
   refused = keeps.refused;
   next = keeps.next;
   appended = keeps.appended;
+  unmounted = unmounted;
 }
 
 -- what a disk keeps where only commands went that change nothing
-pub kept-disk : (old new : DriveState) (tables : TablesView) (clean : Option CleanView) (was is : DiskStatus) → AgreesWith old tables clean → KeepsArray (mounted old tables) (mounted new tables) → KeepsDisk (view_of old tables clean was) (view_of new tables clean is)
-kept-disk old new tables clean was is serves kept = cleaned-disk old new tables tables clean clean was is (cleaning_kept (mounted old tables) (mounted new tables) clean serves kept)
+pub kept-disk : (old new : DriveState) (tables : TablesView) (clean : Option CleanView) (was is : DiskStatus) → (is ≡ statuses.Unmounted → was ≡ statuses.Unmounted) → AgreesWith old tables clean → KeepsArray (mounted old tables) (mounted new tables) → KeepsDisk (view_of old tables clean was) (view_of new tables clean is)
+kept-disk old new tables clean was is unmounted serves kept = cleaned-disk old new tables tables clean clean was is unmounted (cleaning_kept (mounted old tables) (mounted new tables) clean serves kept)
 
 -- and as many turns are left
 pub turns-same : (old new : DriveState) (tables : TablesView) (clean : Option CleanView) (was is : DiskStatus) → new.geometry ≡ old.geometry → disk_turns (view_of new tables clean is) ≡ disk_turns (view_of old tables clean was)
@@ -83,10 +95,11 @@ kept-join a b c p q = record {
   refused = q.refused ∙ p.refused;
   next = omega (arith, p.next, q.next);
   appended = omega (arith, p.appended, q.appended);
+  unmounted = λ e. p.unmounted (q.unmounted e);
 }
 
 pub kept-refl : (a : DiskView) → IsMountable a.drive (given_size a) → KeepsDisk a a
-kept-refl a mountable = record { given = refl; geometry = refl; mountable = mountable; refused = refl; next = refl; appended = omega arith }
+kept-refl a mountable = record { given = refl; geometry = refl; mountable = mountable; refused = refl; next = refl; appended = omega arith; unmounted = λ e. e }
 
 -- ---- the parts of a disk
 
@@ -149,14 +162,14 @@ pub record Refused (old new : DriveState) (tables tables' : TablesView) (clean c
 refused-serving : (old new : DriveState) (tables tables' : TablesView) (clean clean' : Option CleanView) (fault : DiskFault) (was : DiskStatus) → FitsReserve old.geometry tables.given → status_of fault ≡ statuses.Serving → KeepsByCleaning (mounted old tables) (mounted new tables') × AgreesWith new tables' clean' → Refused old new tables tables' clean clean' fault was
 refused-serving old new tables tables' clean clean' fault was fits is kept = record {
   holds = rw is (holds-serving new tables' clean' (reserve-kept old new tables tables' kept.0.geometry kept.0.given fits) kept.1);
-  kept = cleaned-disk old new tables tables' clean clean' was (status_of fault) kept.0;
+  kept = cleaned-disk old new tables tables' clean clean' was (status_of fault) (refused-status fault was) kept.0;
   size = kept.0.size;
 }
 
 refused-stopped : (old new : DriveState) (tables tables' : TablesView) (clean clean' : Option CleanView) (was : DiskStatus) → FitsReserve old.geometry tables.given → AgreesWith old tables clean → StopKeeps (mounted old tables) (mounted new tables') → Refused old new tables tables' clean clean' Stopped was
 refused-stopped old new tables tables' clean clean' was fits serves stops = record {
   holds = holds-stopped old new tables tables' clean clean' fits serves stops;
-  kept = keeps-disk old new tables tables' clean clean' was statuses.Stopped stops.keeps;
+  kept = keeps-disk old new tables tables' clean clean' was statuses.Stopped (refused-status Stopped was) stops.keeps;
   size = stops.size;
 }
 

@@ -61,7 +61,7 @@ flat_of disk = record {
   most = most_size disk.drive.geometry;
 }
 
--- What every call of a disk keeps, whatever it answers: a drive that can be mounted again. No command is refused, and the next sequence rises by one with each batch that is appended.
+-- What every call of a disk but a remount keeps, whatever it answers: a drive that can be mounted again. No command is refused, the next sequence rises by one with each batch that is appended, and the disk is not unmounted.
 pub record KeepsDisk (old new : DiskView) : Type 0 where
   pub given : given_size new ≡ given_size old
   pub geometry : new.drive.geometry ≡ old.drive.geometry
@@ -69,6 +69,7 @@ pub record KeepsDisk (old new : DiskView) : Type 0 where
   pub refused : new.drive.refused ≡ old.drive.refused
   pub next : next_sequence new + old.drive.appended ≡ next_sequence old + new.drive.appended
   pub appended : old.drive.appended ≤ new.drive.appended
+  pub unmounted : new.status ≡ statuses.Unmounted → old.status ≡ statuses.Unmounted
 
 -- why a call was refused; of a range and of a size the call itself tells
 abbrev pub DiskCause : DiskView → DiskFault → Type 0

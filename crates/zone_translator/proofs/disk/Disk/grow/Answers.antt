@@ -20,7 +20,7 @@ returns-in-Ok-clause-flat g c =
     growth-done c.args.self.now (view_of (g.D.Device.drive c.grow_batch-grown.new.device) c.grow_batch-grown.new.tables c.grow_batch-grown.new.cleaner c.self.inside.status) c.args.blocks known (rw (← c.self.view_is) grown.array) grown.size_is (rw (← c.self.view_is) refl) (rw (← c.self.view_is) grown.keeps.geometry)
 
 pub returns-in-Ok-clause-kept : goal.returns-in-Ok-clause-kept
-returns-in-Ok-clause-kept g c = rw (← c.self.view_is) (keeps-disk (g.D.Device.drive c.self.inside.device) (g.D.Device.drive c.grow_batch-grown.new.device) c.self.inside.tables c.grow_batch-grown.new.tables c.self.inside.cleaner c.grow_batch-grown.new.cleaner c.self.inside.status c.self.inside.status c.in-Ok.ensures.leaves.keeps)
+returns-in-Ok-clause-kept g c = rw (← c.self.view_is) (keeps-disk (g.D.Device.drive c.self.inside.device) (g.D.Device.drive c.grow_batch-grown.new.device) c.self.inside.tables c.grow_batch-grown.new.tables c.self.inside.cleaner c.grow_batch-grown.new.cleaner c.self.inside.status c.self.inside.status (λ e. e) c.in-Ok.ensures.leaves.keeps)
 
 pub returns-in-Err-clause-flat : goal.returns-in-Err-clause-flat
 returns-in-Err-clause-flat g c =

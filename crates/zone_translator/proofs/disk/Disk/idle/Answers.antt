@@ -20,7 +20,7 @@ pub returns-in-Ok-clause-turn : goal.returns-in-Ok-clause-turn
 returns-in-Ok-clause-turn g c = rw (← c.self.view_is) (λ serving. c.in-Ok.ensures.leaves)
 
 pub returns-in-Ok-clause-kept : goal.returns-in-Ok-clause-kept
-returns-in-Ok-clause-kept g c = rw (← c.self.view_is) (cleaned-disk (g.D.Device.drive c.self.inside.device) (g.D.Device.drive c.turn.new.device) c.self.inside.tables c.turn.new.tables c.self.inside.cleaner c.turn.new.self c.self.inside.status c.self.inside.status c.in-Ok.ensures.keeps)
+returns-in-Ok-clause-kept g c = rw (← c.self.view_is) (cleaned-disk (g.D.Device.drive c.self.inside.device) (g.D.Device.drive c.turn.new.device) c.self.inside.tables c.turn.new.tables c.self.inside.cleaner c.turn.new.self c.self.inside.status c.self.inside.status (λ e. e) c.in-Ok.ensures.keeps)
 
 pub returns-in-Err-clause-refused : goal.returns-in-Err-clause-refused
 returns-in-Err-clause-refused g c =

@@ -1,6 +1,6 @@
 use Rattle.zone_translator.proofs.CallLaws.{report-done, report-refused}
-use Rattle.zone_translator.proofs.DiskLaws.{holds-agrees, holds-kept, holds-read, kept-disk, turns-same, view_of}
-use Rattle.std.proofs.Common.{refl}
+use Rattle.zone_translator.proofs.DiskLaws.{holds-agrees, holds-kept, holds-read, kept-disk, refused-status, turns-same, view_of}
+use Rattle.std.proofs.Common.{refl, sym, ◌∙◌}
 use Rattle.zone_translator.proofs.disk.Disk.report.Goals as goal
 
 pub invariant_of-self : goal.invariant_of-self
@@ -15,7 +15,7 @@ returns-in-Ok-clause-flat g c =
     (rw (← c.self.view_is) c.in-Ok.ensures.kept.geometry)
 
 pub returns-in-Ok-clause-kept : goal.returns-in-Ok-clause-kept
-returns-in-Ok-clause-kept g c = rw (← c.self.view_is) (kept-disk (g.D.Device.drive c.self.inside.device) (g.D.Device.drive c.report_all.new.device) c.self.inside.tables c.self.inside.cleaner c.self.inside.status c.self.inside.status (holds-agrees _ c.self.inside.tables c.self.inside.cleaner c.self.inside.status (rw (← c.self.view_is) at c.in_ok-check_serving.ensures.serving) c.self.invariant) c.in-Ok.ensures.kept)
+returns-in-Ok-clause-kept g c = rw (← c.self.view_is) (kept-disk (g.D.Device.drive c.self.inside.device) (g.D.Device.drive c.report_all.new.device) c.self.inside.tables c.self.inside.cleaner c.self.inside.status c.self.inside.status (λ e. e) (holds-agrees _ c.self.inside.tables c.self.inside.cleaner c.self.inside.status (rw (← c.self.view_is) at c.in_ok-check_serving.ensures.serving) c.self.invariant) c.in-Ok.ensures.kept)
 
 pub returns-in-Ok-clause-turns : goal.returns-in-Ok-clause-turns
 returns-in-Ok-clause-turns g c = rw (← c.self.view_is) (turns-same (g.D.Device.drive c.self.inside.device) (g.D.Device.drive c.report_all.new.device) c.self.inside.tables c.self.inside.cleaner c.self.inside.status c.self.inside.status c.in-Ok.ensures.kept.geometry)
@@ -26,7 +26,7 @@ returns-in-Err-clause-flat g c =
     (rw (← c.self.view_is) c.in-Err.ensures.kept.geometry) c.in-Err.ensures.err
 
 pub returns-in-Err-clause-kept : goal.returns-in-Err-clause-kept
-returns-in-Err-clause-kept g c = rw (← c.self.view_is) (kept-disk (g.D.Device.drive c.self.inside.device) (g.D.Device.drive c.report_all.new.device) c.self.inside.tables c.self.inside.cleaner c.self.inside.status c.status_of-self-inside.result (holds-agrees _ c.self.inside.tables c.self.inside.cleaner c.self.inside.status (rw (← c.self.view_is) at c.in_ok-check_serving.ensures.serving) c.self.invariant) c.in-Err.ensures.kept)
+returns-in-Err-clause-kept g c = rw (← c.self.view_is) (kept-disk (g.D.Device.drive c.self.inside.device) (g.D.Device.drive c.report_all.new.device) c.self.inside.tables c.self.inside.cleaner c.self.inside.status c.status_of-self-inside.result (λ e. refused-status c.in-Err.fault c.self.inside.status (sym c.status_of-self-inside.ensures ∙ e)) (holds-agrees _ c.self.inside.tables c.self.inside.cleaner c.self.inside.status (rw (← c.self.view_is) at c.in_ok-check_serving.ensures.serving) c.self.invariant) c.in-Err.ensures.kept)
 
 pub returns-in-Err-clause-turns : goal.returns-in-Err-clause-turns
 returns-in-Err-clause-turns g c = rw (← c.self.view_is) (turns-same (g.D.Device.drive c.self.inside.device) (g.D.Device.drive c.report_all.new.device) c.self.inside.tables c.self.inside.cleaner c.self.inside.status c.status_of-self-inside.result c.in-Err.ensures.kept.geometry)

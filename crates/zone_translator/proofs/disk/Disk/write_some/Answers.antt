@@ -14,7 +14,7 @@ invariant_of-self-in-Err g c =
     rw c.status_of-self-inside.ensures (refused-write (g.D.Device.drive c.self.inside.device) (g.D.Device.drive c.next_batch-written.new.device) c.self.inside.tables c.next_batch-written.new.tables c.self.inside.cleaner c.next_batch-written.new.cleaner (is_trim c.args.content) _ _ c.in-Err.fault c.self.inside.status c.self.invariant.reserve serves c.in-Err.ensures.leaves).refused.holds
 
 pub returns-in-Ok-clause-kept : goal.returns-in-Ok-clause-kept
-returns-in-Ok-clause-kept g c = rw (← c.self.view_is) (keeps-disk (g.D.Device.drive c.self.inside.device) (g.D.Device.drive c.next_batch-written.new.device) c.self.inside.tables c.next_batch-written.new.tables c.self.inside.cleaner c.next_batch-written.new.cleaner c.self.inside.status c.self.inside.status c.in-Ok.ensures.leaves.keeps)
+returns-in-Ok-clause-kept g c = rw (← c.self.view_is) (keeps-disk (g.D.Device.drive c.self.inside.device) (g.D.Device.drive c.next_batch-written.new.device) c.self.inside.tables c.next_batch-written.new.tables c.self.inside.cleaner c.next_batch-written.new.cleaner c.self.inside.status c.self.inside.status (λ e. e) c.in-Ok.ensures.leaves.keeps)
 
 pub returns-in-Ok-clause-names : goal.returns-in-Ok-clause-names
 returns-in-Ok-clause-names g c =
