@@ -69,14 +69,16 @@ refusal_text kind refusal = codes "fault " ++ kind ++ codes " " ++ decimal refus
 abbrev pub zone_text : Refusal → ℕ → List ℕ
 zone_text refusal zone = codes "fault mount " ++ decimal refusal.number ++ codes " " ++ refusal.name ++ codes " " ++ decimal zone ++ codes "\n"
 
--- followed by a zone, a block of it, and the cause
-abbrev pub log_text : Refusal → ℕ → ℕ → Refusal → List ℕ
-log_text refusal zone offset cause =
-    codes "fault mount " ++ decimal refusal.number ++ codes " " ++ refusal.name ++ codes " " ++ decimal zone ++ codes " " ++ decimal offset ++ codes " " ++ decimal cause.number ++ codes " " ++ cause.name ++ codes "\n"
+-- followed by a zone and a block of it, and the end of such a line, which names the cause
+abbrev pub block_text : Refusal → ℕ → ℕ → List ℕ
+block_text refusal zone offset = codes "fault mount " ++ decimal refusal.number ++ codes " " ++ refusal.name ++ codes " " ++ decimal zone ++ codes " " ++ decimal offset
+
+abbrev pub cause_text : Refusal → List ℕ
+cause_text cause = codes " " ++ decimal cause.number ++ codes " " ++ cause.name ++ codes "\n"
 
 abbrev pub mount_text : MountFault → List ℕ
 mount_text (mount.ZoneUnusable zone) = zone_text (mount_refusal (mount.ZoneUnusable zone)) zone
-mount_text (mount.Log zone offset cause) = log_text (mount_refusal (mount.Log zone offset cause)) zone offset (log_refusal cause)
+mount_text (mount.Log zone offset cause) = block_text (mount_refusal (mount.Log zone offset cause)) zone offset ++ cause_text (log_refusal cause)
 mount_text (mount.TornZone zone) = zone_text (mount_refusal (mount.TornZone zone)) zone
 mount_text fault = refusal_text (codes "mount") (mount_refusal fault)
 

@@ -1,6 +1,6 @@
 ghost use Rattle.std.specs.Prelude.{◌≡◌, ◌++◌, IfErr, OnOk, codes};
 ghost use Rattle.std.specs.Io.KnownBytes.{Appends};
-ghost use Rattle.disk_runs.specs.FaultText.{NotWritten, disk_refusal, fault_text, geometry_refusal, line_text, log_refusal, log_text, mount_refusal, mount_text, refusal_text, zone_text};
+ghost use Rattle.disk_runs.specs.FaultText.{NotWritten, block_text, cause_text, disk_refusal, fault_text, geometry_refusal, line_text, log_refusal, mount_refusal, mount_text, refusal_text, zone_text};
 
 use crate::fault::RunFault;
 use batch_log::LogFault;
@@ -102,13 +102,35 @@ fn zone_line(refusal: (u8, &str), zone: u32, out: &mut Vec<u8>) -> Result<(), Al
     writeln!(out, "fault mount {number} {name} {zone}").map_err(|_| AllocError)
 }
 
-/// The refusal of a mount for a zone that holds no log at this block, followed by the cause.
-fn log_line(refusal: (u8, &str), zone: u32, offset: u32, cause: (u8, &str), out: &mut Vec<u8>) -> Result<(), AllocError>
-    ensures { OnOk result (out.new.items ≡ out.old.items ++ log_text (record { number = refusal.entry.0; name = refusal.entry.1.now }) zone offset (record { number = cause.entry.0; name = cause.entry.1.now })) }
+/// The refusal of a mount, followed by a zone and a block of it.
+fn block_line(refusal: (u8, &str), zone: u32, offset: u32, out: &mut Vec<u8>) -> Result<(), AllocError>
+    ensures { OnOk result (out.new.items ≡ out.old.items ++ block_text (record { number = refusal.entry.0; name = refusal.entry.1.now }) zone offset) }
 {
     let (number, name) = refusal;
-    let (code, because) = cause;
-    writeln!(out, "fault mount {number} {name} {zone} {offset} {code} {because}").map_err(|_| AllocError)
+    write!(out, "fault mount {number} {name} {zone} {offset}").map_err(|_| AllocError)
+}
+
+/// The rest of a line, which names a cause.
+fn cause_line(cause: (u8, &str), out: &mut Vec<u8>) -> Result<(), AllocError>
+    ensures { OnOk result (out.new.items ≡ out.old.items ++ cause_text (record { number = cause.entry.0; name = cause.entry.1.now })) }
+{
+    let (number, name) = cause;
+    writeln!(out, " {number} {name}").map_err(|_| AllocError)
+}
+
+/// The refusal of a mount for a zone that holds no log.
+fn log_line(
+    refusal: (u8, &str),
+    zone: u32,
+    offset: u32,
+    cause: LogFault,
+    out: &mut Vec<u8>,
+) -> Result<(), AllocError>
+    ensures { OnOk result (out.new.items ≡ out.old.items ++ block_text (record { number = refusal.entry.0; name = refusal.entry.1.now }) zone offset ++ cause_text (log_refusal cause)) }
+{
+    block_line(refusal, zone, offset, out)?;
+    cause_line(log_refusal(cause), out)?;
+    Ok(())
 }
 
 fn mount_line(fault: MountFault, out: &mut Vec<u8>) -> Result<(), AllocError>
@@ -120,7 +142,7 @@ fn mount_line(fault: MountFault, out: &mut Vec<u8>) -> Result<(), AllocError>
             zone_line(refusal, zone, out)
         }
         MountFault::Log(zone, offset, cause) => {
-            log_line(refusal, zone, offset, log_refusal(cause), out)
+            log_line(refusal, zone, offset, cause, out)
         }
         _ => refusal_line("mount", refusal, out),
     }
