@@ -1,6 +1,7 @@
 // Readers and writers that fail. `worked_runs` has the rows of traces and raw lines.
 
 use crate::fakes::{FailingReader, FailingWriter};
+use batch_log::LogFault;
 use disk_runs::{RunFault, run_raw, run_trace, write_fault};
 use drive_port::Geometry;
 use std::alloc::Global;
@@ -84,7 +85,7 @@ fn ends_where_the_writer_fails(rt: HostRuntime) -> Result<(), Fail> {
     Ok(())
 }
 
-const FAULTS: [(RunFault, &str, &str); 13] = [
+const FAULTS: [(RunFault, &str, &str); 17] = [
     (RunFault::Line(3), "fault line 3\n", "Line"),
     (
         RunFault::Long(u64::MAX),
