@@ -103,7 +103,12 @@ fn zone_line(refusal: (u8, &str), zone: u32, out: &mut Vec<u8>) -> Result<(), Al
 }
 
 /// The refusal of a mount, followed by a zone and a block of it.
-fn block_line(refusal: (u8, &str), zone: u32, offset: u32, out: &mut Vec<u8>) -> Result<(), AllocError>
+fn block_line(
+    refusal: (u8, &str),
+    zone: u32,
+    offset: u32,
+    out: &mut Vec<u8>,
+) -> Result<(), AllocError>
     ensures { OnOk result (out.new.items ≡ out.old.items ++ block_text (record { number = refusal.entry.0; name = refusal.entry.1.now }) zone offset) }
 {
     let (number, name) = refusal;
@@ -141,9 +146,7 @@ fn mount_line(fault: MountFault, out: &mut Vec<u8>) -> Result<(), AllocError>
         MountFault::ZoneUnusable(zone) | MountFault::TornZone(zone) => {
             zone_line(refusal, zone, out)
         }
-        MountFault::Log(zone, offset, cause) => {
-            log_line(refusal, zone, offset, cause, out)
-        }
+        MountFault::Log(zone, offset, cause) => { log_line(refusal, zone, offset, cause, out) }
         _ => refusal_line("mount", refusal, out),
     }
 }

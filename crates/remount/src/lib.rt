@@ -1,4 +1,4 @@
-//! The mount of a drive with contents, as far as it is built: what a mount reads before it changes anything.
+//! The mount of a drive with contents: what a mount reads before it changes anything, and what it repairs.
 //!
 //! ```text
 //! let survey = survey_drive(alloc, &mut device, 9)?; // one report, and one Read for each batch

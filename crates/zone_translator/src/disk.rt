@@ -304,7 +304,7 @@ impl<D: Device + Drop> Disk<D> {
     /// Writes `blocks` blocks of one byte from `first` on.
     ///
     /// After a refusal on its way a front of them is written. After `OutOfMemory` or `Spent` the
-    /// disk goes on; after `Stopped` it needs a mount of the restarted drive, on which the front is found.
+    /// disk goes on; after `Stopped` it needs a mount of the restarted drive, or a remount, by which the front is found.
     pub fn fill(&mut self, first: u64, blocks: u64, byte: u8) -> Result<(), DiskFault>
         ensures flat { FlatCall (flat_of self.old) (fill self.old.drive.geometry.block first blocks byte) (with_nothing result) (flat_of self.new) }
         ensures stored { OnOk result (AreNamed false (places_of self.new) first blocks) }
