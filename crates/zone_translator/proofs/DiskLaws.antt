@@ -3,7 +3,7 @@ use Rattle.std.proofs.Common.{◌≡◌, ℕ, Bool, List, length, Option, Err, r
 use Rattle.std.specs.List.{AllByRecursion}
 use Rattle.zone_states.specs.declared.geometry.Geometry.{Geometry}
 use Rattle.drive_port.specs.Drive.{DriveState}
-use Rattle.zone_choice.specs.Agreement.{drive_logs, mounted, spelled}
+use Rattle.zone_choice.specs.Agreement.{mounted, spelled}
 use Rattle.zone_choice.specs.Changes.{KeepsArray}
 use Rattle.zone_choice.specs.Tables.{TablesView, size_of}
 use Rattle.zone_choice.proofs.AgreementLaws.{length-spelled, size-encoded}
@@ -23,7 +23,6 @@ use Rattle.zone_translator.specs.Calls.{Holds, status_of}
 use Rattle.zone_translator.specs.Changes.{AgreesWith, GrowLeaves, Keeps, Names, NoMoreTurns, StopKeeps, WriteLeaves, cleaning_fault}
 use Rattle.zone_translator.specs.Flat.{IsAfterFront, IsFront, grow}
 use Rattle.zone_translator.specs.Read.{IsReadFault}
-use Rattle.zone_translator.proofs.CutLaws.{cut-old}
 use Rattle.zone_translator.proofs.WriteLaws.{front-none}
 use Rattle.zone_translator.proofs.RoomLaws.{room-stops, serves-kept, serves_mountable}
 use Rattle.zone_translator.specs.View.{DiskView, KeepsDisk, array_of, disk_turns, flat_of, given_size, places_of}

@@ -1,5 +1,5 @@
 -- What a mount gives is a disk.
-use Rattle.std.proofs.Common.{◌≡◌, ◌≢◌, ◌⊎◌, ℕ, ◌+◌, ◌≤◌, List, length, true, Option, Some, None, Ok, Err, refl, sym, ap, ◌∙◌, inl, inr}
+use Rattle.std.proofs.Common.{◌≡◌, ◌⊎◌, ℕ, ◌+◌, ◌≤◌, List, length, true, Option, Some, None, Ok, Err, refl, sym, ap, ◌∙◌, inl, inr}
 use Rattle.std.specs.List.{AllByRecursion}
 use Rattle.drive_port.specs.Contents.{Content, content_at, contents}
 use Rattle.drive_port.specs.Drive.{DriveState}
@@ -15,7 +15,7 @@ use Rattle.zone_cleaner.specs.Clean.{CleanView, HasNoDestination}
 use Rattle.remount.specs.declared.fault.MountFault.{MountFault}
 use Rattle.remount.specs.declared.fault.MountFault.TheVariants.{Halted, OutOfMemory}
 use Rattle.remount.specs.Known.{KeepsMountable}
-use Rattle.remount.specs.Mount.{AreInOrder, AreMountedRoles, IsToMount, MountFails, Mounts}
+use Rattle.remount.specs.Mount.{AreInOrder, IsToMount, MountFails, Mounts}
 use Rattle.remount.specs.Scan.{FailsBy}
 use Rattle.remount.proofs.RefusalLaws.{only-halts}
 use Rattle.zone_translator.specs.declared.status.DiskStatus.{DiskStatus}

@@ -1,5 +1,5 @@
 -- What a mount makes of a drive, and what it gives back where it is refused.
-use Rattle.std.specs.Prelude.{◌≡◌, ◌≢◌, ◌⊎◌, ℕ, ◌+◌, max, List, length, None}
+use Rattle.std.specs.Prelude.{◌≡◌, ◌≢◌, ◌⊎◌, ℕ, ◌+◌, max, length, None}
 use Rattle.drive_port.specs.Contents.{contents}
 use Rattle.drive_port.specs.Drive.{DriveState}
 use Rattle.zone_choice.specs.Agreement.{drive_logs, spelled}

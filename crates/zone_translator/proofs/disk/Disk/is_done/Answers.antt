@@ -1,6 +1,6 @@
-use Rattle.std.proofs.Common.{◌≡◌, ◌<◌, ◌+◌, ◌∙◌, sym, ap, arith}
+use Rattle.std.proofs.Common.{◌≡◌, ◌<◌, ◌+◌, sym, arith}
 use Rattle.zone_translator.specs.View.{disk_size}
-use Rattle.zone_translator.proofs.CallLaws.{known-goes, known-past}
+use Rattle.zone_translator.proofs.CallLaws.{known-past}
 use Rattle.zone_translator.proofs.DiskLaws.{holds-agrees, length-array}
 use Rattle.zone_translator.proofs.disk.Disk.is_done.Goals.{then-blocks-size-via-then-blocks-size, then-blocks-size-via-else-blocks-size+then-first-size}
 use Rattle.zone_translator.proofs.disk.Disk.is_done.Goals as goal
