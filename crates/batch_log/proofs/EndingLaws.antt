@@ -91,7 +91,7 @@ zeros_end : (size n : ℕ) → ending_of true (replicate n (zero_block (suc size
 zeros_end size zero = refl
 zeros_end size (suc n) = rw (zero_fault size, zeros_zero size, zeros_all (suc size) n) refl
 
-never_fails : (size : ℕ) (full : Bool) (tail : List (List ℕ)) (fault : LogFault) → head_size ≤ size → size < 2 ^ 32 → IsTail size full tail → ending_of full tail ≡ failed fault → ⊥
+pub never_fails : (size : ℕ) (full : Bool) (tail : List (List ℕ)) (fault : LogFault) → head_size ≤ size → size < 2 ^ 32 → IsTail size full tail → ending_of full tail ≡ failed fault → ⊥
 never_fails size false tail fault le small (inl none) e = let h : ended ≡ failed fault = rw none at e in absurd (cc)
 never_fails size false tail fault le small (inr is) e =
     let long = header_length size is.heading le is.says in

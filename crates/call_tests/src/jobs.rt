@@ -430,7 +430,7 @@ start 24 state Empty pointer 24 capacity 6
         (&format, b"", b"ok\n", 96),
         (&run, b"fill 0 5 AA\nnone\n", b"ok\nfault line 2\n", 4192),
         (&report, b"", before, 0),
-        (&run, b"read 0 1\n", b"fault mount 12 NotFresh\n", 4192),
+        (&run, b"read 0 1\n", b"0 aa*512\nok\n", 4192),
         (&report, b"", after, 0),
         (&nvme, b"none\n", b"fault line 1\n", 4192),
         (&format, b"", b"ok\n", 96),

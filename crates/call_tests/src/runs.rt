@@ -1,6 +1,7 @@
 // Readers and writers that fail. `worked_runs` has the rows of traces and raw lines.
 
 use crate::fakes::{FailingReader, FailingWriter};
+use batch_log::LogFault;
 use disk_runs::{RunFault, run_raw, run_trace, write_fault};
 use drive_port::Geometry;
 use std::alloc::Global;
@@ -84,7 +85,7 @@ fn ends_where_the_writer_fails(rt: HostRuntime) -> Result<(), Fail> {
     Ok(())
 }
 
-const FAULTS: [(RunFault, &str, &str); 13] = [
+const FAULTS: [(RunFault, &str, &str); 17] = [
     (RunFault::Line(3), "fault line 3\n", "Line"),
     (
         RunFault::Long(u64::MAX),
@@ -112,6 +113,11 @@ const FAULTS: [(RunFault, &str, &str); 13] = [
         "Disk",
     ),
     (
+        RunFault::Disk(DiskFault::Unmounted),
+        "fault disk 5 Unmounted\n",
+        "Disk",
+    ),
+    (
         RunFault::Mount(MountFault::Limits),
         "fault mount 2 Limits\n",
         "Mount",
@@ -122,8 +128,23 @@ const FAULTS: [(RunFault, &str, &str); 13] = [
         "Mount",
     ),
     (
-        RunFault::Mount(MountFault::NotFresh),
-        "fault mount 12 NotFresh\n",
+        RunFault::Mount(MountFault::ZoneUnusable(3)),
+        "fault mount 3 ZoneUnusable 3\n",
+        "Mount",
+    ),
+    (
+        RunFault::Mount(MountFault::Log(0, 4, LogFault::Torn)),
+        "fault mount 4 Log 0 4 7 Torn\n",
+        "Mount",
+    ),
+    (
+        RunFault::Mount(MountFault::NoSpare),
+        "fault mount 8 NoSpare\n",
+        "Mount",
+    ),
+    (
+        RunFault::Mount(MountFault::TornZone(2)),
+        "fault mount 13 TornZone 2\n",
         "Mount",
     ),
     (

@@ -8,12 +8,13 @@ use Rattle.disk_files.specs.Reply.{block_line, block_lines, ok_text, out_of_rang
 use Rattle.zone_translator.specs.Calls.{Reads}
 use Rattle.zone_translator.specs.Flat.{Answer, FlatCall, FlatDisk, answer_while, blocks_from, known_answer, may_refuse, read, with_nothing}
 use Rattle.zone_translator.specs.declared.fault.DiskFault.{DiskFault}
-use Rattle.zone_translator.specs.declared.fault.DiskFault.TheVariants.{OutOfRange, OutOfMemory, Stopped, Spent, Smaller, Reserve}
+use Rattle.zone_translator.specs.declared.fault.DiskFault.TheVariants.{OutOfRange, OutOfMemory, Stopped, Spent, Unmounted, Smaller, Reserve}
 use Rattle.zone_translator.specs.declared.status.DiskStatus.{DiskStatus}
 use Rattle.zone_translator.specs.declared.status.DiskStatus.TheVariants as statuses
-use Rattle.zone_translator.specs.Changes.{IsCause}
-use Rattle.zone_translator.specs.View.{DiskCause, DiskView, next_sequence}
+use Rattle.zone_translator.specs.View.{DiskCause, DiskView}
 use Rattle.disk_runs.specs.FlatLines.{IsRefused, RepliesTo, refusal_reply, single}
+use Rattle.disk_runs.specs.Trace.{EndCause}
+use Rattle.disk_runs.specs.declared.fault.RunFault.TheVariants.{Disk}
 
 -- ---- what is known of a call before it begins
 
@@ -53,6 +54,10 @@ shows_block old new at bytes fits reads = of old.status refl
         let known = rw (known-in old at 1 (omega arith) fits, e) at reads.flat in
         let bad : Ok tt ≡ Err Stopped = ap (λ (a : Answer). a.result) known.0 in
         absurd (cc)
+    of statuses.Unmounted e =
+        let known = rw (known-in old at 1 (omega arith) fits, e) at reads.flat in
+        let bad : Ok tt ≡ Err Unmounted = ap (λ (a : Answer). a.result) known.0 in
+        absurd (cc)
 
 same_refusal : (a b c d : ℕ) (fault : DiskFault) → may_refuse (read a b) fault ≡ may_refuse (read c d) fault
 same_refusal a b c d OutOfRange = refl
@@ -61,6 +66,7 @@ same_refusal a b c d Stopped = refl
 same_refusal a b c d Spent = refl
 same_refusal a b c d Smaller = refl
 same_refusal a b c d Reserve = refl
+same_refusal a b c d Unmounted = refl
 
 -- no refusal of a read on its way has a reply
 no_reply : (first n : ℕ) (fault : DiskFault) → may_refuse (read first n) fault ≡ true → refusal_reply fault ≡ None
@@ -70,6 +76,7 @@ no_reply first n Stopped may = refl
 no_reply first n Spent may = refl
 no_reply first n Smaller may = absurd (cc)
 no_reply first n Reserve may = absurd (cc)
+no_reply first n Unmounted may = refl
 
 -- a read of blocks is refused as that of one of them is
 refused_block : (old new : FlatDisk) (at first n : ℕ) (bytes : List ℕ) (fault : DiskFault) → at + 1 ≤ old.size → 0 < n → first + n ≤ old.size → Reads old at 1 (Err fault) bytes new → IsRefused old (single (read first n)) fault new
@@ -87,6 +94,14 @@ refused_block old new at first n bytes fault fits some all reads = of old.status
         let known = rw (known-in old at 1 (omega arith) fits, e) at reads.flat in
         let same : Err fault ≡ Err Stopped = ap (λ (a : Answer). a.result) known.0 in
         let is : fault ≡ Stopped = cc in
+        record {
+          flat = rw (known-in old first n some all, e) (ap with_nothing same, known.1);
+          no_reply = ap refusal_reply is;
+        }
+    of statuses.Unmounted e =
+        let known = rw (known-in old at 1 (omega arith) fits, e) at reads.flat in
+        let same : Err fault ≡ Err Unmounted = ap (λ (a : Answer). a.result) known.0 in
+        let is : fault ≡ Unmounted = cc in
         record {
           flat = rw (known-in old first n some all, e) (ap with_nothing same, known.1);
           no_reply = ap refusal_reply is;
@@ -111,13 +126,14 @@ shows_all disk first (suc n) fits serves =
     rw (known-in disk first (suc n) (omega arith) (fits (omega arith)), serves (omega arith)) (refl, refl)
 
 -- why a disk refused what has no reply
-pub cause_of : (disk : DiskView) (fault : DiskFault) → refusal_reply fault ≡ None → DiskCause disk fault → IsCause disk.drive (next_sequence disk) fault
+pub cause_of : (disk : DiskView) (fault : DiskFault) → refusal_reply fault ≡ None → DiskCause disk fault → EndCause disk (Disk fault)
 cause_of disk OutOfRange none cause = absurd (cc)
 cause_of disk OutOfMemory none cause = cause
 cause_of disk Stopped none cause = cause
 cause_of disk Spent none cause = cause
 cause_of disk Smaller none cause = absurd (cc)
 cause_of disk Reserve none cause = absurd (cc)
+cause_of disk Unmounted none cause = cause
 
 -- ---- replies
 

@@ -5,7 +5,7 @@ use Rattle.zone_translator.specs.Flat.{Answer, FlatCall, FlatDisk, answer_while,
 use Rattle.zone_translator.specs.declared.fault.DiskFault.{DiskFault}
 use Rattle.zone_translator.specs.declared.fault.DiskFault.TheVariants as faults
 use Rattle.zone_translator.specs.declared.status.DiskStatus.{DiskStatus}
-use Rattle.zone_translator.specs.declared.status.DiskStatus.TheVariants.{Serving, Stopped}
+use Rattle.zone_translator.specs.declared.status.DiskStatus.TheVariants.{Serving, Stopped, Unmounted}
 use Rattle.disk_runs.specs.FlatLines.{FlatAnswer, RepliesTo, Request, Turns, TurnsDone, first_of, reply_of}
 use Rattle.disk_runs.specs.declared.fault.RunFault.{RunFault}
 
@@ -32,6 +32,11 @@ idle_unchanged old new answered = by old.status refl
         let known : known_answer old idle ≡ Some (Err faults.Stopped) = ap answer_while e in
         let so = rw known at answered in
         let bad : Ok tt ≡ Err faults.Stopped = ap (λ (a : Answer). a.result) so.0 in
+        absurd (cc)
+    by Unmounted e =
+        let known : known_answer old idle ≡ Some (Err faults.Unmounted) = ap answer_while e in
+        let so = rw known at answered in
+        let bad : Ok tt ≡ Err faults.Unmounted = ap (λ (a : Answer). a.result) so.0 in
         absurd (cc)
 
 -- or some of them, and is refused the next

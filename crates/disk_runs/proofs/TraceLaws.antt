@@ -1,19 +1,21 @@
 -- A run from a drive to a drive.
-use Rattle.std.proofs.Common.{◌≡◌, ℕ, List, Option, Ok, Err, refl, ap, subst, ◌∙◌, arith}
+use Rattle.std.proofs.Common.{◌≡◌, ℕ, List, length, Option, Ok, Err, refl, sym, ap, subst, ◌∙◌, arith}
 use Rattle.std.specs.Prelude.{IfErr, OnOk, Result}
 use Rattle.zone_states.specs.declared.geometry.Geometry.{Geometry}
 use Rattle.drive_port.specs.Drive.{DriveState}
 use Rattle.zone_choice.specs.Agreement.{spelled}
 use Rattle.zone_choice.specs.Reserve.{most_size}
-use Rattle.zone_choice.proofs.AgreementLaws.{spelled_same}
+use Rattle.remount.specs.Known.{KeepsMountable}
 use Rattle.zone_translator.specs.Flat.{FlatDisk}
-use Rattle.zone_translator.specs.Mount.{KeepsDrive}
+use Rattle.zone_translator.specs.Mount.{MountsDisk}
 use Rattle.zone_translator.specs.View.{DiskView, KeepsDisk, disk_size, flat_of, given_size, next_sequence}
+use Rattle.zone_translator.specs.declared.fault.DiskFault.{DiskFault}
+use Rattle.zone_translator.specs.declared.fault.DiskFault.TheVariants as faults
 use Rattle.zone_translator.specs.declared.status.DiskStatus.{DiskStatus}
-use Rattle.zone_translator.specs.declared.status.DiskStatus.TheVariants.{Serving}
+use Rattle.zone_translator.specs.declared.status.DiskStatus.TheVariants as statuses
 use Rattle.disk_runs.specs.FlatLines.{flat}
 use Rattle.disk_runs.specs.Run.{HasCause, Ran, Stopped, WhereKnown}
-use Rattle.disk_runs.specs.Trace.{EndCause, IsMounted, RunGives, RunKeeps, RunLeaves, disk_at_first, disk_on}
+use Rattle.disk_runs.specs.Trace.{EndCause, IsDiskCause, RunGives, RunKeeps, RunLeaves, disk_at_first, disk_on}
 use Rattle.disk_runs.specs.declared.fault.RunFault.{RunFault}
 use Rattle.disk_runs.specs.declared.fault.RunFault.TheVariants as runs
 use Rattle.disk_runs.specs.declared.fault.RunFault.TheVariants.{Line, Long, Disk, Mount, Input, Output, Memory}
@@ -35,11 +37,11 @@ disk-of : (array array' : List (List ℕ)) (size size' : ℕ) (status status' : 
     → disk_of array size status geometry ≡ disk_of array' size' status' geometry'
 disk-of array array' size size' status status' geometry geometry' e f g h = rw (e, f, g, h) refl
 
-pub seen : (n : ℕ) (old : DriveState) (first last : DiskView) → KeepsDrive old first.drive → given_size first ≡ n → disk_size first ≡ n → first.status ≡ Serving → given_size last ≡ given_size first → Seen n old first last
-seen n old first last kept given size serves keeps = record {
-  block = ap (λ (g : Geometry). g.block) kept.same.geometry;
-  begins = disk-of _ _ _ _ _ _ _ _ (ap (λ (k : ℕ). spelled first.drive k) given ∙ spelled_same old first.drive n kept.same) size serves kept.same.geometry;
-  ends = ap (λ (k : ℕ). disk_on k last.drive (disk_size last) last.status) (keeps ∙ given);
+pub seen : (n : ℕ) (old : DriveState) (first last : DiskView) → MountsDisk old n first → first.drive.geometry ≡ old.geometry → given_size last ≡ given_size first → Seen n old first last
+seen n old first last mounted same keeps = record {
+  block = ap (λ (g : Geometry). g.block) same;
+  begins = disk-of (spelled first.drive (given_size first)) (spelled old n) (disk_size first) (length (spelled old n)) first.status statuses.Serving first.drive.geometry old.geometry mounted.array (mounted.size ∙ ap length mounted.array) mounted.status same;
+  ends = ap (λ (k : ℕ). disk_on k last.drive (disk_size last) last.status) (keeps ∙ mounted.given);
 }
 
 abbrev pub RanAs : Option (List ℕ) → Option (List ℕ) → Option (List ℕ) → ℕ → FlatDisk → FlatDisk → Type 0
@@ -69,25 +71,35 @@ run_gives n old first last input written contents (Err fault) s cause ran stoppe
     of Memory cause h = h
 
 -- what it leaves of the drive
-run_keeps : (n : ℕ) (old : DriveState) (first last : DiskView) → IsMounted old n → KeepsDrive old first.drive → given_size first ≡ n → KeepsDisk first last → RunKeeps n old last.drive
-run_keeps n old first last is_mounted kept given keeps = record {
-  mounted = is_mounted;
-  geometry = keeps.geometry ∙ kept.same.geometry;
-  mountable = rw (← given, ← keeps.given) keeps.mountable;
+run_keeps : (n : ℕ) (old : DriveState) (first last : DiskView) → MountsDisk old n first → KeepsMountable n old first.drive → KeepsDisk first last → RunKeeps n old last.drive
+run_keeps n old first last mounted kept keeps = record {
+  can = mounted.can;
+  geometry = keeps.geometry ∙ kept.geometry;
+  mountable = rw (← mounted.given, ← keeps.given) keeps.mountable;
   refused = keeps.refused ∙ kept.refused;
 }
 
-pub run_leaves : (n : ℕ) (old : DriveState) (first last : DiskView) (result : Result (Unit {0}) RunFault) → IsMounted old n → KeepsDrive old first.drive → given_size first ≡ n → next_sequence first ≡ 1 → KeepsDisk first last
+-- a disk that was mounted refuses no call as unmounted
+disk_cause : (n : ℕ) (old : DriveState) (first last : DiskView) (fault : DiskFault) → MountsDisk old n first → KeepsDisk first last → EndCause last (Disk fault) → IsDiskCause n old fault last.drive
+disk_cause n old first last faults.OutOfRange mounted keeps cause = absurd cause
+disk_cause n old first last faults.OutOfMemory mounted keeps cause = record { first = first; mounted = mounted; next = next_sequence last; next_is = keeps.next; cause = cause }
+disk_cause n old first last faults.Stopped mounted keeps cause = record { first = first; mounted = mounted; next = next_sequence last; next_is = keeps.next; cause = cause }
+disk_cause n old first last faults.Spent mounted keeps cause = record { first = first; mounted = mounted; next = next_sequence last; next_is = keeps.next; cause = cause }
+disk_cause n old first last faults.Unmounted mounted keeps cause = let e = sym mounted.status ∙ keeps.unmounted cause in absurd (cc)
+disk_cause n old first last faults.Smaller mounted keeps cause = absurd cause
+disk_cause n old first last faults.Reserve mounted keeps cause = absurd cause
+
+pub run_leaves : (n : ℕ) (old : DriveState) (first last : DiskView) (result : Result (Unit {0}) RunFault) → MountsDisk old n first → KeepsMountable n old first.drive → KeepsDisk first last
     → IfErr result (HasCause (EndCause last)) → RunLeaves n old result last.drive
-run_leaves n old first last (Ok done) is_mounted kept given next keeps cause = run_keeps n old first last is_mounted kept given keeps
-run_leaves n old first last (Err fault) is_mounted kept given next keeps cause = of fault cause
+run_leaves n old first last (Ok done) mounted kept keeps cause = run_keeps n old first last mounted kept keeps
+run_leaves n old first last (Err fault) mounted kept keeps cause = of fault cause
   where
     of : (fault : RunFault) → HasCause (EndCause last) fault → RunLeaves n old (Err fault) last.drive
-    of (Line m) cause = run_keeps n old first last is_mounted kept given keeps
-    of (Long m) cause = run_keeps n old first last is_mounted kept given keeps
-    of (Disk f) cause = (run_keeps n old first last is_mounted kept given keeps, record { next = next_sequence last; next_is = omega (arith, keeps.next, next, kept.appended); cause = cause })
+    of (Line m) cause = run_keeps n old first last mounted kept keeps
+    of (Long m) cause = run_keeps n old first last mounted kept keeps
+    of (Disk f) cause = (run_keeps n old first last mounted kept keeps, disk_cause n old first last f mounted keeps cause)
     of (Mount f) cause = absurd cause
     of (runs.Geometry f) cause = absurd cause
-    of Input cause = run_keeps n old first last is_mounted kept given keeps
-    of Output cause = run_keeps n old first last is_mounted kept given keeps
-    of Memory cause = run_keeps n old first last is_mounted kept given keeps
+    of Input cause = run_keeps n old first last mounted kept keeps
+    of Output cause = run_keeps n old first last mounted kept keeps
+    of Memory cause = run_keeps n old first last mounted kept keeps

@@ -6,8 +6,10 @@ use Rattle.zone_states.specs.declared.geometry.GeometryFault.{GeometryFault}
 use Rattle.zone_states.specs.declared.geometry.GeometryFault.TheVariants as geometry
 use Rattle.zone_translator.specs.declared.fault.DiskFault.{DiskFault}
 use Rattle.zone_translator.specs.declared.fault.DiskFault.TheVariants as disk
-use Rattle.zone_translator.specs.declared.mount.MountFault.{MountFault}
-use Rattle.zone_translator.specs.declared.mount.MountFault.TheVariants as mount
+use Rattle.batch_log.specs.declared.fault.LogFault.{LogFault}
+use Rattle.batch_log.specs.declared.fault.LogFault.TheVariants as log
+use Rattle.remount.specs.declared.fault.MountFault.{MountFault}
+use Rattle.remount.specs.declared.fault.MountFault.TheVariants as mount
 use Rattle.disk_runs.specs.declared.fault.RunFault.{RunFault}
 use Rattle.disk_runs.specs.declared.fault.RunFault.TheVariants.{Line, Long, Disk, Mount, Geometry, Input, Output, Memory}
 
@@ -21,15 +23,35 @@ disk_refusal disk.OutOfRange = record { number = 1; name = codes "OutOfRange" }
 disk_refusal disk.OutOfMemory = record { number = 2; name = codes "OutOfMemory" }
 disk_refusal disk.Stopped = record { number = 3; name = codes "Stopped" }
 disk_refusal disk.Spent = record { number = 4; name = codes "Spent" }
+disk_refusal disk.Unmounted = record { number = 5; name = codes "Unmounted" }
 disk_refusal disk.Smaller = record { number = 7; name = codes "Smaller" }
 disk_refusal disk.Reserve = record { number = 8; name = codes "Reserve" }
 
 abbrev pub mount_refusal : MountFault → Refusal
 mount_refusal mount.Reserve = record { number = 1; name = codes "Reserve" }
 mount_refusal mount.Limits = record { number = 2; name = codes "Limits" }
+mount_refusal (mount.ZoneUnusable zone) = record { number = 3; name = codes "ZoneUnusable" }
+mount_refusal (mount.Log zone offset cause) = record { number = 4; name = codes "Log" }
+mount_refusal mount.SequenceRepeated = record { number = 5; name = codes "SequenceRepeated" }
+mount_refusal mount.BlockOutOfRange = record { number = 6; name = codes "BlockOutOfRange" }
+mount_refusal mount.TooManyPartial = record { number = 7; name = codes "TooManyPartial" }
+mount_refusal mount.NoSpare = record { number = 8; name = codes "NoSpare" }
+mount_refusal mount.Spent = record { number = 9; name = codes "Spent" }
 mount_refusal mount.Halted = record { number = 10; name = codes "Halted" }
 mount_refusal mount.OutOfMemory = record { number = 11; name = codes "OutOfMemory" }
-mount_refusal mount.NotFresh = record { number = 12; name = codes "NotFresh" }
+mount_refusal (mount.TornZone zone) = record { number = 13; name = codes "TornZone" }
+
+-- why a zone holds no log
+abbrev pub log_refusal : LogFault → Refusal
+log_refusal log.Magic = record { number = 1; name = codes "Magic" }
+log_refusal log.Version = record { number = 2; name = codes "Version" }
+log_refusal log.Kind = record { number = 3; name = codes "Kind" }
+log_refusal log.Count = record { number = 4; name = codes "Count" }
+log_refusal log.RestNotZero = record { number = 5; name = codes "RestNotZero" }
+log_refusal log.BlockRepeated = record { number = 6; name = codes "BlockRepeated" }
+log_refusal log.Torn = record { number = 7; name = codes "Torn" }
+log_refusal log.ForeignTail = record { number = 8; name = codes "ForeignTail" }
+log_refusal log.Size = record { number = 9; name = codes "Size" }
 
 abbrev pub geometry_refusal : GeometryFault → Refusal
 geometry_refusal geometry.Block = record { number = 1; name = codes "Block" }
@@ -43,6 +65,23 @@ geometry_refusal geometry.Open = record { number = 7; name = codes "Open" }
 abbrev pub refusal_text : List ℕ → Refusal → List ℕ
 refusal_text kind refusal = codes "fault " ++ kind ++ codes " " ++ decimal refusal.number ++ codes " " ++ refusal.name ++ codes "\n"
 
+-- the refusal of a mount, followed by the zone that it names
+abbrev pub zone_text : Refusal → ℕ → List ℕ
+zone_text refusal zone = codes "fault mount " ++ decimal refusal.number ++ codes " " ++ refusal.name ++ codes " " ++ decimal zone ++ codes "\n"
+
+-- followed by a zone and a block of it, and the end of such a line, which names the cause
+abbrev pub block_text : Refusal → ℕ → ℕ → List ℕ
+block_text refusal zone offset = codes "fault mount " ++ decimal refusal.number ++ codes " " ++ refusal.name ++ codes " " ++ decimal zone ++ codes " " ++ decimal offset
+
+abbrev pub cause_text : Refusal → List ℕ
+cause_text cause = codes " " ++ decimal cause.number ++ codes " " ++ cause.name ++ codes "\n"
+
+abbrev pub mount_text : MountFault → List ℕ
+mount_text (mount.ZoneUnusable zone) = zone_text (mount_refusal (mount.ZoneUnusable zone)) zone
+mount_text (mount.Log zone offset cause) = block_text (mount_refusal (mount.Log zone offset cause)) zone offset ++ cause_text (log_refusal cause)
+mount_text (mount.TornZone zone) = zone_text (mount_refusal (mount.TornZone zone)) zone
+mount_text fault = refusal_text (codes "mount") (mount_refusal fault)
+
 abbrev pub line_text : List ℕ → ℕ → List ℕ
 line_text kind number = codes "fault " ++ kind ++ codes " " ++ decimal number ++ codes "\n"
 
@@ -50,7 +89,7 @@ abbrev pub fault_text : RunFault → List ℕ
 fault_text (Line number) = line_text (codes "line") number
 fault_text (Long number) = line_text (codes "long") number
 fault_text (Disk fault) = refusal_text (codes "disk") (disk_refusal fault)
-fault_text (Mount fault) = refusal_text (codes "mount") (mount_refusal fault)
+fault_text (Mount fault) = mount_text fault
 fault_text (Geometry fault) = refusal_text (codes "geometry") (geometry_refusal fault)
 fault_text Input = codes "fault input\n"
 fault_text Output = codes "fault output\n"

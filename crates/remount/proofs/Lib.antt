@@ -7,6 +7,7 @@ pub mod ScanLaws
 pub mod AllScanLaws
 pub mod ReportLaws
 pub mod SoundLaws
+pub mod RefusalLaws
 pub mod HeadLaws
 pub mod SurveyLaws
 pub mod RivalLaws

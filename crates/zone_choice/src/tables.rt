@@ -111,6 +111,13 @@ impl Tables {
         self.map.records_of(zone, from)
     }
 
+    /// How many logical blocks the mount was given: there are as many where no header has a size.
+    pub fn given(&self) -> u32
+        ensures { result ≡ self.now.given }
+    {
+        self.given
+    }
+
     /// The sequence of the next batch, 2^63 at most.
     pub fn next(&self) -> u64
         ensures { result ≡ self.now.next }

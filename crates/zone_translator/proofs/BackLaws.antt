@@ -2,7 +2,7 @@
 use Rattle.std.proofs.Common.{◌≡◌, ◌==◌, ◌∙◌, ◌⊎◌, ℕ, nat_lt, zero, suc, ◌+◌, ◌<◌, ◌≤◌, Bool, true, false, List, [], ◌∷◌, length, take, drop, get_or, Ok, refl, ap, arith, inl, inr}
 use Rattle.std.proofs.lemmas.Bool.Decides.{nat_tests}
 use Rattle.zone_translator.specs.declared.status.DiskStatus.{DiskStatus}
-use Rattle.zone_translator.specs.declared.status.DiskStatus.TheVariants.{Serving, Stopped}
+use Rattle.zone_translator.specs.declared.status.DiskStatus.TheVariants.{Serving, Stopped, Unmounted}
 use Rattle.zone_translator.specs.Flat.{Answer, FlatCall, FlatDisk, blocks_from, read, replaced, with_nothing, write}
 
 pub blocks-replaced : {X : Type 0} (xs : List X) (first : ℕ) (ys : List X) → first + length ys ≤ length xs → take (length ys) (drop first (replaced xs first ys)) ≡ ys
@@ -41,12 +41,18 @@ is-written old new first blocks false Serving some past is call =
 is-written old new first blocks false Stopped some past is call =
     let known = rw (some, past, is) at call in
     let answers = ap (λ (a : Answer). a.result) known.0 in absurd (cc)
+is-written old new first blocks false Unmounted some past is call =
+    let known = rw (some, past, is) at call in
+    let answers = ap (λ (a : Answer). a.result) known.0 in absurd (cc)
 
 -- a read of some blocks in range that is done shows them
 is-shown : (old new : FlatDisk) (first n : ℕ) (shown : List (List ℕ)) (status : DiskStatus) → (n == 0) ≡ false → nat_lt old.size (first + n) ≡ false → old.status ≡ status
     → FlatCall old (read first n) (record { result = Ok tt; shown = shown }) new → shown ≡ blocks_from old.array first n
 is-shown old new first n shown Serving some past is call = let begun = rw (some, past, is) at call in begun.0
 is-shown old new first n shown Stopped some past is call =
+    let known = rw (some, past, is) at call in
+    let answers = ap (λ (a : Answer). a.result) known.0 in absurd (cc)
+is-shown old new first n shown Unmounted some past is call =
     let known = rw (some, past, is) at call in
     let answers = ap (λ (a : Answer). a.result) known.0 in absurd (cc)
 

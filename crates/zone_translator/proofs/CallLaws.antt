@@ -18,7 +18,7 @@ use Rattle.zone_choice.specs.Reserve.{batch_most, most_size}
 use Rattle.zone_choice.specs.Sizes.{extended}
 use Rattle.zone_choice.proofs.ReserveLaws.{div_ceil-add, div_ceil-none, div_ceil-positive, positive-most}
 use Rattle.zone_translator.specs.declared.fault.DiskFault.{DiskFault}
-use Rattle.zone_translator.specs.declared.fault.DiskFault.TheVariants.{OutOfRange, OutOfMemory, Stopped, Spent, Smaller, Reserve}
+use Rattle.zone_translator.specs.declared.fault.DiskFault.TheVariants.{OutOfRange, OutOfMemory, Stopped, Spent, Unmounted, Smaller, Reserve}
 use Rattle.zone_translator.specs.declared.status.DiskStatus.{DiskStatus}
 use Rattle.zone_translator.specs.declared.status.DiskStatus.TheVariants as statuses
 use Rattle.zone_translator.specs.Batches.{IsBatchCount}
@@ -66,17 +66,12 @@ known-past disk first n some past =
     let lt : nat_lt (disk_size disk) (first + n) ≡ true = grind (arith, nat_tests, past) in
     rw (none, lt) refl
 
-pub known-stopped : (disk : DiskView) (first n : ℕ) → 0 < n → first + n ≤ disk_size disk → disk.status ≡ statuses.Stopped → known_range (flat_of disk) first n ≡ Some (Err Stopped)
-known-stopped disk first n some within stopped =
+-- one of some blocks that is in range: what the disk answers by its status
+pub known-goes : (disk : DiskView) (first n : ℕ) → 0 < n → first + n ≤ disk_size disk → known_range (flat_of disk) first n ≡ answer_while disk.status
+known-goes disk first n some within =
     let none : (n == 0) ≡ false = grind (arith, nat_tests, some) in
     let lt : nat_lt (disk_size disk) (first + n) ≡ false = grind (arith, nat_tests, within) in
-    rw (none, lt, stopped) refl
-
-pub known-none : (disk : DiskView) (first n : ℕ) → 0 < n → first + n ≤ disk_size disk → disk.status ≡ statuses.Serving → known_range (flat_of disk) first n ≡ None
-known-none disk first n some within serves =
-    let none : (n == 0) ≡ false = grind (arith, nat_tests, some) in
-    let lt : nat_lt (disk_size disk) (first + n) ≡ false = grind (arith, nat_tests, within) in
-    rw (none, lt, serves) refl
+    rw (none, lt) refl
 
 -- ---- the flat disk, part by part
 
@@ -91,6 +86,7 @@ status-refused Stopped = refl
 status-refused Spent = refl
 status-refused Smaller = refl
 status-refused Reserve = refl
+status-refused Unmounted = refl
 
 -- what is left of a disk by a refusal
 pub flat-refused : (old new : DiskView) (fault : DiskFault) → disk_size new ≡ disk_size old → new.status ≡ status_of fault → new.drive.geometry ≡ old.drive.geometry → flat_of new ≡ record (flat_of old) { array = array_of new; status = status_after (Err fault) }
@@ -105,6 +101,7 @@ cause-of disk Stopped cause = cause
 cause-of disk Spent cause = cause
 cause-of disk Smaller cause = tt
 cause-of disk Reserve cause = tt
+cause-of disk Unmounted cause = absurd cause
 
 pub read-cause : (disk : DiskView) (fault : DiskFault) → IsReadFault disk.drive fault → DiskCause disk fault
 read-cause disk OutOfRange cause = tt
@@ -113,6 +110,7 @@ read-cause disk Stopped cause = cause
 read-cause disk Spent cause = absurd cause
 read-cause disk Smaller cause = tt
 read-cause disk Reserve cause = tt
+read-cause disk Unmounted cause = absurd cause
 
 -- ---- the answers of a write
 
@@ -143,6 +141,7 @@ may-refuse disk first blocks Stopped cause = refl
 may-refuse disk first blocks Spent cause = refl
 may-refuse disk first blocks Smaller cause = absurd cause
 may-refuse disk first blocks Reserve cause = absurd cause
+may-refuse disk first blocks Unmounted cause = absurd cause
 
 pub write-refused : (old new : DiskView) (first n : ℕ) (blocks : List (List ℕ)) (fault : DiskFault) → length blocks ≡ n → known_range (flat_of old) first n ≡ None → IsFront (array_of old) first blocks (array_of new) → disk_size new ≡ disk_size old → new.status ≡ status_of fault
     → new.drive.geometry ≡ old.drive.geometry → IsCause new.drive (next_sequence new) fault → FlatCall (flat_of old) (write first blocks) (with_nothing (Err fault)) (flat_of new)
@@ -219,6 +218,7 @@ growth-refuse disk blocks Stopped cause = refl
 growth-refuse disk blocks Spent cause = refl
 growth-refuse disk blocks Smaller cause = absurd cause
 growth-refuse disk blocks Reserve cause = absurd cause
+growth-refuse disk blocks Unmounted cause = absurd cause
 
 pub growth-refused : (old new : DiskView) (blocks : ℕ) (fault : DiskFault) → known_growth (flat_of old) blocks ≡ None → IsAfterFront (flat_of old) (grow blocks) fault (array_of new) → disk_size new ≡ disk_size old → new.status ≡ status_of fault
     → new.drive.geometry ≡ old.drive.geometry → IsCause new.drive (next_sequence new) fault → FlatCall (flat_of old) (grow blocks) (with_nothing (Err fault)) (flat_of new)
@@ -234,6 +234,7 @@ read-refuse drive first n Stopped cause = refl
 read-refuse drive first n Spent cause = absurd cause
 read-refuse drive first n Smaller cause = absurd cause
 read-refuse drive first n Reserve cause = absurd cause
+read-refuse drive first n Unmounted cause = absurd cause
 
 pub read-done : (old new : DiskView) (first n : ℕ) (bytes : List ℕ) → known_range (flat_of old) first n ≡ None → old.status ≡ statuses.Serving → bytes ≡ concat (blocks_from (array_of old) first n) → array_of new ≡ array_of old → disk_size new ≡ disk_size old
     → new.status ≡ statuses.Serving → new.drive.geometry ≡ old.drive.geometry → Reads (flat_of old) first n (Ok tt) bytes (flat_of new)
@@ -298,6 +299,7 @@ idle-refuse disk Stopped cause = refl
 idle-refuse disk Spent cause = refl
 idle-refuse disk Smaller cause = absurd cause
 idle-refuse disk Reserve cause = absurd cause
+idle-refuse disk Unmounted cause = absurd cause
 
 pub idle-refused : (old new : DiskView) (fault : DiskFault) → old.status ≡ statuses.Serving → array_of new ≡ array_of old → disk_size new ≡ disk_size old → new.status ≡ status_of fault → new.drive.geometry ≡ old.drive.geometry → IsCause new.drive (next_sequence new) fault
     → FlatCall (flat_of old) idle (with_nothing (Err fault)) (flat_of new)
@@ -325,6 +327,7 @@ report-refuse drive Stopped cause = refl
 report-refuse drive Spent cause = absurd cause
 report-refuse drive Smaller cause = absurd cause
 report-refuse drive Reserve cause = absurd cause
+report-refuse drive Unmounted cause = absurd cause
 
 pub report-refused : (old new : DiskView) (fault : DiskFault) → old.status ≡ statuses.Serving → array_of new ≡ array_of old → disk_size new ≡ disk_size old → new.status ≡ status_of fault → new.drive.geometry ≡ old.drive.geometry → IsReadFault new.drive fault
     → FlatCall (flat_of old) report (with_nothing (Err fault)) (flat_of new)

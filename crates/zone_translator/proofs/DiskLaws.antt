@@ -3,27 +3,26 @@ use Rattle.std.proofs.Common.{◌≡◌, ℕ, Bool, List, length, Option, Err, r
 use Rattle.std.specs.List.{AllByRecursion}
 use Rattle.zone_states.specs.declared.geometry.Geometry.{Geometry}
 use Rattle.drive_port.specs.Drive.{DriveState}
-use Rattle.zone_choice.specs.Agreement.{drive_logs, mounted, spelled}
+use Rattle.zone_choice.specs.Agreement.{mounted, spelled}
 use Rattle.zone_choice.specs.Changes.{KeepsArray}
 use Rattle.zone_choice.specs.Tables.{TablesView, size_of}
 use Rattle.zone_choice.proofs.AgreementLaws.{length-spelled, size-encoded}
 use Rattle.zone_choice.proofs.WholeLaws.{whole-spelled}
 use Rattle.zone_choice.specs.Mountable.{IsMountable}
-use Rattle.zone_choice.specs.Reserve.{batch_most}
+use Rattle.zone_choice.specs.Reserve.{FitsReserve, batch_most}
 use Rattle.zone_cleaner.specs.declared.fault.CleanFault.{CleanFault}
 use Rattle.zone_cleaner.specs.declared.fault.CleanFault.TheVariants as faults
 use Rattle.zone_cleaner.specs.Clean.{CleanView, turns_left}
 use Rattle.zone_cleaner.specs.Start.{GoesOn, IsCleaningCause, KeepsByCleaning}
 use Rattle.zone_cleaner.proofs.NextLaws.{cleaning_kept}
 use Rattle.zone_translator.specs.declared.fault.DiskFault.{DiskFault}
-use Rattle.zone_translator.specs.declared.fault.DiskFault.TheVariants.{OutOfRange, OutOfMemory, Stopped, Spent, Smaller, Reserve}
+use Rattle.zone_translator.specs.declared.fault.DiskFault.TheVariants.{OutOfRange, OutOfMemory, Stopped, Spent, Unmounted, Smaller, Reserve}
 use Rattle.zone_translator.specs.declared.status.DiskStatus.{DiskStatus}
 use Rattle.zone_translator.specs.declared.status.DiskStatus.TheVariants as statuses
 use Rattle.zone_translator.specs.Calls.{Holds, status_of}
 use Rattle.zone_translator.specs.Changes.{AgreesWith, GrowLeaves, Keeps, Names, NoMoreTurns, StopKeeps, WriteLeaves, cleaning_fault}
 use Rattle.zone_translator.specs.Flat.{IsAfterFront, IsFront, grow}
 use Rattle.zone_translator.specs.Read.{IsReadFault}
-use Rattle.zone_translator.proofs.CutLaws.{cut-old}
 use Rattle.zone_translator.proofs.WriteLaws.{front-none}
 use Rattle.zone_translator.proofs.RoomLaws.{room-stops, serves-kept, serves_mountable}
 use Rattle.zone_translator.specs.View.{DiskView, KeepsDisk, array_of, disk_turns, flat_of, given_size, places_of}
@@ -39,30 +38,42 @@ length-array drive tables clean serves = length-spelled drive tables.given ∙ s
 pub whole-array : (disk : DiskView) → IsMountable disk.drive (given_size disk) → AllByRecursion (λ block. length block ≡ disk.drive.geometry.block) (array_of disk)
 whole-array disk mountable = whole-spelled disk.drive (given_size disk) mountable
 
+-- no refusal of these unmounts a disk
+pub refused-status : (fault : DiskFault) (was : DiskStatus) → status_of fault ≡ statuses.Unmounted → was ≡ statuses.Unmounted
+refused-status OutOfRange was e = absurd (cc)
+refused-status OutOfMemory was e = absurd (cc)
+refused-status Stopped was e = absurd (cc)
+refused-status Spent was e = absurd (cc)
+refused-status Unmounted was e = absurd (cc)
+refused-status Smaller was e = absurd (cc)
+refused-status Reserve was e = absurd (cc)
+
 -- what a part of a call keeps, a disk keeps
-pub keeps-disk : (old new : DriveState) (tables tables' : TablesView) (clean clean' : Option CleanView) (was is : DiskStatus) → Keeps (mounted old tables) (mounted new tables') → KeepsDisk (view_of old tables clean was) (view_of new tables' clean' is)
-keeps-disk old new tables tables' clean clean' was is keeps = record {
+pub keeps-disk : (old new : DriveState) (tables tables' : TablesView) (clean clean' : Option CleanView) (was is : DiskStatus) → (is ≡ statuses.Unmounted → was ≡ statuses.Unmounted) → Keeps (mounted old tables) (mounted new tables') → KeepsDisk (view_of old tables clean was) (view_of new tables' clean' is)
+keeps-disk old new tables tables' clean clean' was is unmounted keeps = record {
   given = keeps.given;
   geometry = keeps.geometry;
   mountable = keeps.mountable;
   refused = keeps.refused;
   next = keeps.next;
   appended = keeps.appended;
+  unmounted = unmounted;
 }
 
-pub cleaned-disk : (old new : DriveState) (tables tables' : TablesView) (clean clean' : Option CleanView) (was is : DiskStatus) → KeepsByCleaning (mounted old tables) (mounted new tables') → KeepsDisk (view_of old tables clean was) (view_of new tables' clean' is)
-cleaned-disk old new tables tables' clean clean' was is keeps = record {
+pub cleaned-disk : (old new : DriveState) (tables tables' : TablesView) (clean clean' : Option CleanView) (was is : DiskStatus) → (is ≡ statuses.Unmounted → was ≡ statuses.Unmounted) → KeepsByCleaning (mounted old tables) (mounted new tables') → KeepsDisk (view_of old tables clean was) (view_of new tables' clean' is)
+cleaned-disk old new tables tables' clean clean' was is unmounted keeps = record {
   given = keeps.given;
   geometry = keeps.geometry;
   mountable = keeps.mountable;
   refused = keeps.refused;
   next = keeps.next;
   appended = keeps.appended;
+  unmounted = unmounted;
 }
 
 -- what a disk keeps where only commands went that change nothing
-pub kept-disk : (old new : DriveState) (tables : TablesView) (clean : Option CleanView) (was is : DiskStatus) → AgreesWith old tables clean → KeepsArray (mounted old tables) (mounted new tables) → KeepsDisk (view_of old tables clean was) (view_of new tables clean is)
-kept-disk old new tables clean was is serves kept = cleaned-disk old new tables tables clean clean was is (cleaning_kept (mounted old tables) (mounted new tables) clean serves kept)
+pub kept-disk : (old new : DriveState) (tables : TablesView) (clean : Option CleanView) (was is : DiskStatus) → (is ≡ statuses.Unmounted → was ≡ statuses.Unmounted) → AgreesWith old tables clean → KeepsArray (mounted old tables) (mounted new tables) → KeepsDisk (view_of old tables clean was) (view_of new tables clean is)
+kept-disk old new tables clean was is unmounted serves kept = cleaned-disk old new tables tables clean clean was is unmounted (cleaning_kept (mounted old tables) (mounted new tables) clean serves kept)
 
 -- and as many turns are left
 pub turns-same : (old new : DriveState) (tables : TablesView) (clean : Option CleanView) (was is : DiskStatus) → new.geometry ≡ old.geometry → disk_turns (view_of new tables clean is) ≡ disk_turns (view_of old tables clean was)
@@ -83,52 +94,61 @@ kept-join a b c p q = record {
   refused = q.refused ∙ p.refused;
   next = omega (arith, p.next, q.next);
   appended = omega (arith, p.appended, q.appended);
+  unmounted = λ e. p.unmounted (q.unmounted e);
 }
 
 pub kept-refl : (a : DiskView) → IsMountable a.drive (given_size a) → KeepsDisk a a
-kept-refl a mountable = record { given = refl; geometry = refl; mountable = mountable; refused = refl; next = refl; appended = omega arith }
+kept-refl a mountable = record { given = refl; geometry = refl; mountable = mountable; refused = refl; next = refl; appended = omega arith; unmounted = λ e. e }
 
 -- ---- the parts of a disk
 
+-- the reserve allows the number that the mount was given, as before
+pub reserve-kept : (old new : DriveState) (tables tables' : TablesView) → new.geometry ≡ old.geometry → tables'.given ≡ tables.given → FitsReserve old.geometry tables.given → FitsReserve new.geometry tables'.given
+reserve-kept old new tables tables' same given fits = rw (same, given) fits
+
 -- a disk that serves, by the agreement of its tables and its drive
-pub holds-serving : (drive : DriveState) (tables : TablesView) (clean : Option CleanView) → AgreesWith drive tables clean → Holds drive tables clean statuses.Serving
-holds-serving drive tables clean serves = record {
+pub holds-serving : (drive : DriveState) (tables : TablesView) (clean : Option CleanView) → FitsReserve drive.geometry tables.given → AgreesWith drive tables clean → Holds drive tables clean statuses.Serving
+holds-serving drive tables clean fits serves = record {
   mountable = serves_mountable drive tables clean serves;
   geometry = serves.0.geometry;
+  reserve = fits;
   short = serves.0.reserve.1;
   agrees = serves;
   stopped = λ e. absurd (cc);
 }
 
 -- one whose drive stopped
-pub holds-stopped : (old new : DriveState) (tables tables' : TablesView) (clean clean' : Option CleanView) → AgreesWith old tables clean → StopKeeps (mounted old tables) (mounted new tables') → Holds new tables' clean' statuses.Stopped
-holds-stopped old new tables tables' clean clean' serves stops = record {
+pub holds-stopped : (old new : DriveState) (tables tables' : TablesView) (clean clean' : Option CleanView) → FitsReserve old.geometry tables.given → AgreesWith old tables clean → StopKeeps (mounted old tables) (mounted new tables') → Holds new tables' clean' statuses.Stopped
+holds-stopped old new tables tables' clean clean' fits serves stops = record {
   mountable = stops.keeps.mountable;
   geometry = rw stops.keeps.geometry serves.0.geometry;
+  reserve = reserve-kept old new tables tables' stops.keeps.geometry stops.keeps.given fits;
   short = omega (arith, stops.size, serves.0.reserve.1);
   agrees = tt;
   stopped = λ e. stops.stopped;
 }
 
 -- one that was read, and goes on or has stopped
-pub holds-kept : (old new : DriveState) (tables : TablesView) (clean : Option CleanView) → AgreesWith old tables clean → KeepsArray (mounted old tables) (mounted new tables) → Holds new tables clean statuses.Serving
-holds-kept old new tables clean serves kept = holds-serving new tables clean (serves-kept old new tables tables clean serves kept)
+pub holds-kept : (old new : DriveState) (tables : TablesView) (clean : Option CleanView) → FitsReserve old.geometry tables.given → AgreesWith old tables clean → KeepsArray (mounted old tables) (mounted new tables) → Holds new tables clean statuses.Serving
+holds-kept old new tables clean fits serves kept = holds-serving new tables clean (reserve-kept old new tables tables kept.geometry refl fits) (serves-kept old new tables tables clean serves kept)
 
-pub holds-read : (old new : DriveState) (tables : TablesView) (clean : Option CleanView) (fault : DiskFault) → AgreesWith old tables clean → KeepsArray (mounted old tables) (mounted new tables) → IsReadFault new fault → Holds new tables clean (status_of fault)
-holds-read old new tables clean OutOfRange serves kept cause = absurd cause
-holds-read old new tables clean OutOfMemory serves kept cause = holds-kept old new tables clean serves kept
-holds-read old new tables clean Stopped serves kept cause =
+pub holds-read : (old new : DriveState) (tables : TablesView) (clean : Option CleanView) (fault : DiskFault) → FitsReserve old.geometry tables.given → AgreesWith old tables clean → KeepsArray (mounted old tables) (mounted new tables) → IsReadFault new fault → Holds new tables clean (status_of fault)
+holds-read old new tables clean OutOfRange fits serves kept cause = absurd cause
+holds-read old new tables clean OutOfMemory fits serves kept cause = holds-kept old new tables clean fits serves kept
+holds-read old new tables clean Stopped fits serves kept cause =
     let now = serves-kept old new tables tables clean serves kept in
     record {
       mountable = serves_mountable new tables clean now;
       geometry = now.0.geometry;
+      reserve = reserve-kept old new tables tables kept.geometry refl fits;
       short = now.0.reserve.1;
       agrees = tt;
       stopped = λ e. cause;
     }
-holds-read old new tables clean Spent serves kept cause = absurd cause
-holds-read old new tables clean Smaller serves kept cause = absurd cause
-holds-read old new tables clean Reserve serves kept cause = absurd cause
+holds-read old new tables clean Spent fits serves kept cause = absurd cause
+holds-read old new tables clean Smaller fits serves kept cause = absurd cause
+holds-read old new tables clean Reserve fits serves kept cause = absurd cause
+holds-read old new tables clean Unmounted fits serves kept cause = absurd cause
 
 -- ---- a part of a call that was refused
 
@@ -138,65 +158,68 @@ pub record Refused (old new : DriveState) (tables tables' : TablesView) (clean c
   pub kept : KeepsDisk (view_of old tables clean was) (view_of new tables' clean' (status_of fault))
   pub size : size_of tables' ≡ size_of tables
 
-refused-serving : (old new : DriveState) (tables tables' : TablesView) (clean clean' : Option CleanView) (fault : DiskFault) (was : DiskStatus) → status_of fault ≡ statuses.Serving → KeepsByCleaning (mounted old tables) (mounted new tables') × AgreesWith new tables' clean' → Refused old new tables tables' clean clean' fault was
-refused-serving old new tables tables' clean clean' fault was is kept = record {
-  holds = rw is (holds-serving new tables' clean' kept.1);
-  kept = cleaned-disk old new tables tables' clean clean' was (status_of fault) kept.0;
+refused-serving : (old new : DriveState) (tables tables' : TablesView) (clean clean' : Option CleanView) (fault : DiskFault) (was : DiskStatus) → FitsReserve old.geometry tables.given → status_of fault ≡ statuses.Serving → KeepsByCleaning (mounted old tables) (mounted new tables') × AgreesWith new tables' clean' → Refused old new tables tables' clean clean' fault was
+refused-serving old new tables tables' clean clean' fault was fits is kept = record {
+  holds = rw is (holds-serving new tables' clean' (reserve-kept old new tables tables' kept.0.geometry kept.0.given fits) kept.1);
+  kept = cleaned-disk old new tables tables' clean clean' was (status_of fault) (refused-status fault was) kept.0;
   size = kept.0.size;
 }
 
-refused-stopped : (old new : DriveState) (tables tables' : TablesView) (clean clean' : Option CleanView) (was : DiskStatus) → AgreesWith old tables clean → StopKeeps (mounted old tables) (mounted new tables') → Refused old new tables tables' clean clean' Stopped was
-refused-stopped old new tables tables' clean clean' was serves stops = record {
-  holds = holds-stopped old new tables tables' clean clean' serves stops;
-  kept = keeps-disk old new tables tables' clean clean' was statuses.Stopped stops.keeps;
+refused-stopped : (old new : DriveState) (tables tables' : TablesView) (clean clean' : Option CleanView) (was : DiskStatus) → FitsReserve old.geometry tables.given → AgreesWith old tables clean → StopKeeps (mounted old tables) (mounted new tables') → Refused old new tables tables' clean clean' Stopped was
+refused-stopped old new tables tables' clean clean' was fits serves stops = record {
+  holds = holds-stopped old new tables tables' clean clean' fits serves stops;
+  kept = keeps-disk old new tables tables' clean clean' was statuses.Stopped (refused-status Stopped was) stops.keeps;
   size = stops.size;
 }
 
 -- a turn that was not done
-pub refused-turn : (old new : DriveState) (tables tables' : TablesView) (clean clean' : Option CleanView) (cause : CleanFault) (was : DiskStatus) → AgreesWith old tables clean → KeepsByCleaning (mounted old tables) (mounted new tables') → GoesOn (Err cause) (mounted new tables') clean' → IsCleaningCause new tables'.next cause
+pub refused-turn : (old new : DriveState) (tables tables' : TablesView) (clean clean' : Option CleanView) (cause : CleanFault) (was : DiskStatus) → FitsReserve old.geometry tables.given → AgreesWith old tables clean → KeepsByCleaning (mounted old tables) (mounted new tables') → GoesOn (Err cause) (mounted new tables') clean' → IsCleaningCause new tables'.next cause
     → Refused old new tables tables' clean clean' (cleaning_fault cause) was
-refused-turn old new tables tables' clean clean' faults.OutOfMemory was serves kept on cause = refused-serving old new tables tables' clean clean' OutOfMemory was refl (kept, on)
-refused-turn old new tables tables' clean clean' faults.Stopped was serves kept on cause = refused-stopped old new tables tables' clean clean' was serves (room-stops (mounted old tables) (mounted new tables') kept cause)
-refused-turn old new tables tables' clean clean' faults.Spent was serves kept on cause = refused-serving old new tables tables' clean clean' Spent was refl (kept, on)
+refused-turn old new tables tables' clean clean' faults.OutOfMemory was fits serves kept on cause = refused-serving old new tables tables' clean clean' OutOfMemory was fits refl (kept, on)
+refused-turn old new tables tables' clean clean' faults.Stopped was fits serves kept on cause = refused-stopped old new tables tables' clean clean' was fits serves (room-stops (mounted old tables) (mounted new tables') kept cause)
+refused-turn old new tables tables' clean clean' faults.Spent was fits serves kept on cause = refused-serving old new tables tables' clean clean' Spent was fits refl (kept, on)
 
 -- with the front of a write that was made
 pub record RefusedWrite (old new : DriveState) (tables tables' : TablesView) (clean clean' : Option CleanView) (first : ℕ) (blocks : List (List ℕ)) (fault : DiskFault) (was : DiskStatus) : Type 0 where
   pub refused : Refused old new tables tables' clean clean' fault was
   pub front : IsFront (spelled old tables.given) first blocks (spelled new tables'.given)
 
-pub refused-write : (old new : DriveState) (tables tables' : TablesView) (clean clean' : Option CleanView) (trim : Bool) (first : ℕ) (blocks : List (List ℕ)) (fault : DiskFault) (was : DiskStatus) → AgreesWith old tables clean
+pub refused-write : (old new : DriveState) (tables tables' : TablesView) (clean clean' : Option CleanView) (trim : Bool) (first : ℕ) (blocks : List (List ℕ)) (fault : DiskFault) (was : DiskStatus) → FitsReserve old.geometry tables.given → AgreesWith old tables clean
     → WriteLeaves trim (mounted old tables) (mounted new tables') clean' first blocks (Err fault) → RefusedWrite old new tables tables' clean clean' first blocks fault was
-refused-write old new tables tables' clean clean' trim first blocks fault was serves leaves = by fault leaves
+refused-write old new tables tables' clean clean' trim first blocks fault was fits serves leaves = by fault leaves
   where
     same : (fault : DiskFault) → status_of fault ≡ statuses.Serving → KeepsByCleaning (mounted old tables) (mounted new tables') × AgreesWith new tables' clean' → RefusedWrite old new tables tables' clean clean' first blocks fault was
-    same fault is kept = record { refused = refused-serving old new tables tables' clean clean' fault was is kept; front = front-none (spelled old tables.given) (spelled new tables'.given) first blocks kept.0.array }
+    same fault is kept = record { refused = refused-serving old new tables tables' clean clean' fault was fits is kept; front = front-none (spelled old tables.given) (spelled new tables'.given) first blocks kept.0.array }
 
     by : (fault : DiskFault) → WriteLeaves trim (mounted old tables) (mounted new tables') clean' first blocks (Err fault) → RefusedWrite old new tables tables' clean clean' first blocks fault was
     by OutOfRange leaves = same OutOfRange refl leaves
     by OutOfMemory leaves = same OutOfMemory refl leaves
-    by Stopped leaves = record { refused = refused-stopped old new tables tables' clean clean' was serves leaves.0; front = leaves.1 }
+    by Stopped leaves = record { refused = refused-stopped old new tables tables' clean clean' was fits serves leaves.0; front = leaves.1 }
     by Spent leaves = same Spent refl leaves
     by Smaller leaves = same Smaller refl leaves
     by Reserve leaves = same Reserve refl leaves
+    by Unmounted leaves = same Unmounted refl leaves
 
 -- with the array of a growth, which is the old one but where the drive stopped
 pub record RefusedGrowth (old new : DriveState) (tables tables' : TablesView) (clean clean' : Option CleanView) (size : ℕ) (fault : DiskFault) (was : DiskStatus) : Type 0 where
   pub refused : Refused old new tables tables' clean clean' fault was
   pub front : IsAfterFront (flat_of (view_of old tables clean was)) (grow size) fault (spelled new tables'.given)
 
-pub refused-growth : (old new : DriveState) (tables tables' : TablesView) (clean clean' : Option CleanView) (size : ℕ) (fault : DiskFault) (was : DiskStatus) → AgreesWith old tables clean
+pub refused-growth : (old new : DriveState) (tables tables' : TablesView) (clean clean' : Option CleanView) (size : ℕ) (fault : DiskFault) (was : DiskStatus) → FitsReserve old.geometry tables.given → AgreesWith old tables clean
     → GrowLeaves (mounted old tables) (mounted new tables') clean' size (Err fault) → RefusedGrowth old new tables tables' clean clean' size fault was
-refused-growth old new tables tables' clean clean' size OutOfRange was serves leaves = record { refused = refused-serving old new tables tables' clean clean' OutOfRange was refl leaves; front = leaves.0.array }
-refused-growth old new tables tables' clean clean' size OutOfMemory was serves leaves = record { refused = refused-serving old new tables tables' clean clean' OutOfMemory was refl leaves; front = leaves.0.array }
-refused-growth old new tables tables' clean clean' size Stopped was serves leaves = record { refused = refused-stopped old new tables tables' clean clean' was serves leaves.0; front = leaves.1 }
-refused-growth old new tables tables' clean clean' size Spent was serves leaves = record { refused = refused-serving old new tables tables' clean clean' Spent was refl leaves; front = leaves.0.array }
-refused-growth old new tables tables' clean clean' size Smaller was serves leaves = record { refused = refused-serving old new tables tables' clean clean' Smaller was refl leaves; front = leaves.0.array }
-refused-growth old new tables tables' clean clean' size Reserve was serves leaves = record { refused = refused-serving old new tables tables' clean clean' Reserve was refl leaves; front = leaves.0.array }
+refused-growth old new tables tables' clean clean' size OutOfRange was fits serves leaves = record { refused = refused-serving old new tables tables' clean clean' OutOfRange was fits refl leaves; front = leaves.0.array }
+refused-growth old new tables tables' clean clean' size OutOfMemory was fits serves leaves = record { refused = refused-serving old new tables tables' clean clean' OutOfMemory was fits refl leaves; front = leaves.0.array }
+refused-growth old new tables tables' clean clean' size Stopped was fits serves leaves = record { refused = refused-stopped old new tables tables' clean clean' was fits serves leaves.0; front = leaves.1 }
+refused-growth old new tables tables' clean clean' size Spent was fits serves leaves = record { refused = refused-serving old new tables tables' clean clean' Spent was fits refl leaves; front = leaves.0.array }
+refused-growth old new tables tables' clean clean' size Smaller was fits serves leaves = record { refused = refused-serving old new tables tables' clean clean' Smaller was fits refl leaves; front = leaves.0.array }
+refused-growth old new tables tables' clean clean' size Reserve was fits serves leaves = record { refused = refused-serving old new tables tables' clean clean' Reserve was fits refl leaves; front = leaves.0.array }
+refused-growth old new tables tables' clean clean' size Unmounted was fits serves leaves = record { refused = refused-serving old new tables tables' clean clean' Unmounted was fits refl leaves; front = leaves.0.array }
 
 -- while it serves, its tables agree with its drive
 pub holds-agrees : (drive : DriveState) (tables : TablesView) (clean : Option CleanView) (status : DiskStatus) → status ≡ statuses.Serving → Holds drive tables clean status → AgreesWith drive tables clean
 holds-agrees drive tables clean statuses.Serving e holds = holds.agrees
 holds-agrees drive tables clean statuses.Stopped e holds = absurd (cc)
+holds-agrees drive tables clean statuses.Unmounted e holds = absurd (cc)
 
 -- ---- the tables name the places that the drive has
 

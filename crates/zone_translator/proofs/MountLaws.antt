@@ -1,49 +1,91 @@
--- A fresh drive is mounted.
-use Rattle.std.proofs.Common.{◌≡◌, ◌≢◌, ℕ, ◌+◌, replicate, length, None, sym, ap, ◌∙◌, arith}
-use Rattle.std.proofs.lemmas.List.{length-replicate}
-use Rattle.zone_states.specs.declared.geometry.Geometry.{Geometry}
-use Rattle.zone_states.specs.Geometry.{IsInRange}
-use Rattle.drive_port.specs.Drive.{DriveState, IsClosing, IsLawful}
-use Rattle.drive_port.specs.Contents.{SameContents}
-use Rattle.batch_log.specs.Log.{zero_block}
-use Rattle.logical_map.specs.declared.place.Place.TheVariants as places
-use Rattle.zone_choice.specs.Tables.{TablesView, size_of}
-use Rattle.zone_choice.specs.Roles.{RolesView}
-use Rattle.zone_choice.specs.Reserve.{FitsReserve}
+-- What a mount gives is a disk.
+use Rattle.std.proofs.Common.{◌≡◌, ◌⊎◌, ℕ, ◌+◌, ◌≤◌, List, length, true, Option, Some, None, Ok, Err, refl, sym, ap, ◌∙◌, inl, inr}
+use Rattle.std.specs.List.{AllByRecursion}
+use Rattle.drive_port.specs.Contents.{Content, content_at, contents}
+use Rattle.drive_port.specs.Drive.{DriveState}
+use Rattle.zone_choice.specs.declared.roles.Filling.{Filling}
+use Rattle.zone_choice.specs.declared.roles.Second.{Second}
+use Rattle.zone_choice.specs.declared.roles.Second.TheVariants.{Next, Destination}
 use Rattle.zone_choice.specs.Agreement.{spelled}
-use Rattle.zone_choice.proofs.AgreementLaws.{agrees_same, spelled_same}
-use Rattle.zone_choice.proofs.FreshLaws.{IsFreshTables, fresh_agrees, fresh_spare, fresh_spelled}
-use Rattle.zone_choice.proofs.OpenLaws.{closing-opens}
-use Rattle.zone_cleaner.specs.Clean.{HasNoDestination}
-use Rattle.zone_translator.specs.Mount.{IsFresh, IsFreshDisk, MountRefuses}
-use Rattle.zone_translator.specs.declared.mount.MountFault.TheVariants.{NotFresh}
+use Rattle.zone_choice.specs.Mountable.{is_partly_written}
+use Rattle.zone_choice.specs.Reserve.{FitsReserve}
+use Rattle.zone_choice.specs.Roles.{RolesView, fillings}
+use Rattle.zone_choice.specs.Tables.{TablesView}
+use Rattle.zone_cleaner.specs.Clean.{CleanView, HasNoDestination}
+use Rattle.remount.specs.declared.fault.MountFault.{MountFault}
+use Rattle.remount.specs.declared.fault.MountFault.TheVariants.{Halted, OutOfMemory}
+use Rattle.remount.specs.Known.{KeepsMountable}
+use Rattle.remount.specs.Mount.{AreInOrder, IsToMount, MountFails, Mounts}
+use Rattle.remount.specs.Scan.{FailsBy}
+use Rattle.remount.proofs.RefusalLaws.{only-halts}
+use Rattle.zone_translator.specs.declared.status.DiskStatus.{DiskStatus}
+use Rattle.zone_translator.specs.declared.status.DiskStatus.TheVariants.{Serving, Unmounted}
+use Rattle.zone_translator.specs.Calls.{Holds}
+use Rattle.zone_translator.specs.Changes.{AgreesWith}
+use Rattle.zone_translator.specs.Flat.{FlatRemount}
+use Rattle.zone_translator.specs.Mount.{MountsDisk}
+use Rattle.zone_translator.specs.View.{DiskView, array_of, disk_size, flat_of, given_size}
+use Rattle.zone_translator.proofs.CallLaws.{flat-is}
+use Rattle.zone_translator.proofs.DiskLaws.{length-array, view_of}
 
-pub not-fresh : (drive back : DriveState) (geometry : Geometry) (blocks number : ℕ) → geometry ≡ drive.geometry → IsInRange geometry → FitsReserve geometry blocks → (IsFresh drive → number ≡ drive.geometry.zones) → number ≢ geometry.zones → MountRefuses drive blocks NotFresh back
-not-fresh drive back geometry blocks number same range fits all other =
-    (rw same at range, rw same at fits, λ fresh. other (all fresh ∙ sym (ap (λ (g : Geometry). g.zones) same)))
+-- the lower of the two zones is the host zone, so the other is the next one
+no-destination : (capacity : ℕ) (zones : List Content) (roles : RolesView) → AllByRecursion (λ (filling : Filling). (is_partly_written (content_at zones filling.zone) ≡ true) × (filling.written + 2 ≤ capacity)) (fillings roles)
+    → AreInOrder roles.host roles.second → HasNoDestination capacity roles.second
+no-destination capacity zones roles written order = by roles.host roles.second refl refl
+  where
+    by : (host : Option Filling) (second : Option Second) → roles.host ≡ host → roles.second ≡ second → HasNoDestination capacity roles.second
+    by host None e f = rw f tt
+    by None (Some second) e f = absurd (rw (e, f) at order)
+    by (Some host) (Some (Destination filling)) e f = absurd (rw (e, f) at order)
+    by (Some host) (Some (Next filling)) e f = let both = rw (e, f) at written in rw f both.1.0.1
 
-pub fresh-disk : (old new : DriveState) (geometry : Geometry) (blocks number : ℕ) (tables : TablesView) → geometry ≡ old.geometry → IsInRange geometry → FitsReserve geometry blocks → (number ≡ old.geometry.zones → IsFresh old) → number ≡ geometry.zones
-    → IsLawful old → IsLawful new → SameContents old new → IsClosing old.zones new.zones → new.refused ≡ old.refused → new.appended ≡ old.appended + 0 → IsFreshTables geometry tables blocks → IsFreshDisk old new tables blocks
-fresh-disk old new geometry blocks number tables same range fits all all_empty was lawful contents_are closing refused appended tables-are =
-    let zones = ap (λ (g : Geometry). g.zones) same in
-    let fresh = all (all_empty ∙ zones) in
-    let size : size_of tables ≡ blocks = ap length tables-are.places ∙ length-replicate blocks places.None in
-    let made = rw same at tables-are in
-    let here = rw same at range in
-    let agrees = fresh_agrees old tables blocks here (rw same at fits) was fresh made in
-    let second : tables.roles.second ≡ None = ap (λ (r : RolesView). r.second) tables-are.roles in
-    let alone : HasNoDestination new.geometry.capacity tables.roles.second = rw second tt in
+pub mounted-serves : (old new : DriveState) (n : ℕ) (tables : TablesView) → Mounts old new n tables → AgreesWith new tables None
+mounted-serves old new n tables mounts =
+    let roles = mounts.roles in
+    (mounts.agrees, (roles.empty, no-destination new.geometry.capacity (contents new.zones) tables.roles roles.written roles.order))
+
+pub mounted-fits : (old new : DriveState) (n : ℕ) (tables : TablesView) → new.geometry ≡ old.geometry → Mounts old new n tables → FitsReserve new.geometry tables.given
+mounted-fits old new n tables same mounts = rw (same, mounts.given) mounts.can.reserve
+
+pub mounts-disk : (old new : DriveState) (n : ℕ) (tables : TablesView) → Mounts old new n tables → MountsDisk old n (view_of new tables None Serving)
+mounts-disk old new n tables mounts =
     record {
-      agrees = (agrees_same old new tables contents_are (closing-opens old.zones new.zones closing) lawful agrees, (fresh_spare old.geometry tables blocks here made, alone));
-      size = size;
-      given = tables-are.given;
-      fresh = fresh;
-      next = tables-are.next;
-      same = contents_are;
-      refused = refused;
-      appended = omega (arith, appended);
+      can = mounts.can;
+      array = rw mounts.given mounts.array;
+      size = sym (length-array new tables None (mounted-serves old new n tables mounts));
+      given = mounts.given;
+      next = mounts.next;
+      roles = mounts.roles;
+      clean = refl;
+      status = refl;
     }
 
--- the array of a disk over a fresh drive
-pub fresh-array : (old new : DriveState) (tables : TablesView) (blocks : ℕ) → IsFreshDisk old new tables blocks → spelled new tables.given ≡ replicate blocks (zero_block old.geometry.block)
-fresh-array old new tables blocks is = spelled_same old new tables.given is.same ∙ rw is.given (fresh_spelled old blocks is.fresh)
+-- ---- mounting again
+
+-- the drive of a disk can be mounted
+pub holds-mount : (drive : DriveState) (tables : TablesView) (clean : Option CleanView) (status : DiskStatus) → Holds drive tables clean status → IsToMount drive tables.given
+holds-mount drive tables clean status holds = record { geometry = holds.geometry; reserve = holds.reserve; mountable = holds.mountable }
+
+pub remounted : (old : DiskView) (new : DriveState) (n : ℕ) (tables : TablesView) → n ≡ given_size old → Mounts old.drive new n tables → MountsDisk old.drive (given_size old) (view_of new tables None Serving)
+remounted old new n tables is mounts = mounts-disk old.drive new (given_size old) tables (rw is at mounts)
+
+pub remounted-flat : (old : DiskView) (new : DriveState) (n : ℕ) (tables : TablesView) (clean : Option CleanView) → n ≡ given_size old → new.geometry ≡ old.drive.geometry → Mounts old.drive new n tables
+    → FlatRemount (flat_of old) (Ok tt) (flat_of (view_of new tables clean Serving))
+remounted-flat old new n tables clean is same mounts =
+    let disk = remounted old new n tables is mounts in
+    flat-is old (view_of new tables clean Serving) (array_of old) (length (array_of old)) Serving disk.array (disk.size ∙ ap length disk.array) refl same
+
+-- one that was refused
+pub remount-halts : (drive new : DriveState) (tables : TablesView) (clean : Option CleanView) (status : DiskStatus) (n : ℕ) (fault : MountFault) → n ≡ tables.given → Holds drive tables clean status → FailsBy (MountFails drive n) new fault → FailsBy (λ _. ⊥) new fault
+remount-halts drive new tables clean status n fault is holds fails = only-halts drive new n fault (rw is (holds-mount drive tables clean status holds)) fails
+
+pub refused-flat : (old : DiskView) (new : DriveState) (n : ℕ) (clean : Option CleanView) (fault : MountFault) → n ≡ given_size old → Holds old.drive old.tables old.clean old.status → KeepsMountable n old.drive new → FailsBy (MountFails old.drive n) new fault
+    → FlatRemount (flat_of old) (Err fault) (flat_of (view_of new old.tables clean Unmounted))
+refused-flat old new n clean fault is holds kept fails =
+    let array : spelled new (given_size old) ≡ array_of old = (rw is at kept).array holds.mountable in
+    (stops (remount-halts old.drive new old.tables old.clean old.status n fault is holds fails), flat-is old (view_of new old.tables clean Unmounted) (array_of old) (disk_size old) Unmounted array refl refl kept.geometry)
+  where
+    stops : FailsBy (λ _. ⊥) new fault → (fault ≡ OutOfMemory) ⊎ (fault ≡ Halted)
+    stops (inl memory) = inl memory
+    stops (inr (inl halted)) = inr halted.0
+    stops (inr (inr none)) = absurd none

@@ -31,7 +31,7 @@ use Rattle.zone_cleaner.proofs.BesideLaws.{kept_turns}
 use Rattle.zone_cleaner.proofs.NextLaws.{cleaned_kept, cleaning_kept, promote_gives}
 use Rattle.zone_cleaner.proofs.TurnLaws.{cleans_mountable, keeps-more}
 use Rattle.zone_translator.specs.declared.fault.DiskFault.{DiskFault}
-use Rattle.zone_translator.specs.declared.fault.DiskFault.TheVariants.{OutOfRange, OutOfMemory, Stopped, Spent, Smaller, Reserve}
+use Rattle.zone_translator.specs.declared.fault.DiskFault.TheVariants.{OutOfRange, OutOfMemory, Stopped, Spent, Unmounted, Smaller, Reserve}
 use Rattle.zone_translator.specs.Changes.{AgreesWith, HasRoom, IsCause, NoMoreTurns, RetireLeaves, RoomLeaves, StopKeeps, TakesHost, cleaning_fault, disk_fault}
 
 -- ---- a disk that serves
@@ -57,6 +57,7 @@ room-join a b c clean (Err Stopped) kept leaves = keeps-more a b c kept leaves
 room-join a b c clean (Err Spent) kept leaves = (keeps-more a b c kept leaves.0, leaves.1)
 room-join a b c clean (Err Smaller) kept leaves = (keeps-more a b c kept leaves.0, leaves.1)
 room-join a b c clean (Err Reserve) kept leaves = (keeps-more a b c kept leaves.0, leaves.1)
+room-join a b c clean (Err Unmounted) kept leaves = (keeps-more a b c kept leaves.0, leaves.1)
 
 -- a refusal tells nothing of the value that was asked for
 pub room-err : (V W : Type 0) (a b : Mounted) (clean : Option CleanView) (fault : DiskFault) → RoomLeaves {V = V} a b clean (Err fault) → RoomLeaves {V = W} a b clean (Err fault)
@@ -66,6 +67,7 @@ room-err V W a b clean Stopped leaves = leaves
 room-err V W a b clean Spent leaves = leaves
 room-err V W a b clean Smaller leaves = leaves
 room-err V W a b clean Reserve leaves = leaves
+room-err V W a b clean Unmounted leaves = leaves
 
 -- whatever the answer
 pub room-keeps : (V : Type 0) (a b : Mounted) (clean : Option CleanView) (fault : DiskFault) → RoomLeaves {V = V} a b clean (Err fault) → KeepsByCleaning a b
@@ -75,6 +77,7 @@ room-keeps V a b clean Stopped leaves = leaves
 room-keeps V a b clean Spent leaves = leaves.0
 room-keeps V a b clean Smaller leaves = leaves.0
 room-keeps V a b clean Reserve leaves = leaves.0
+room-keeps V a b clean Unmounted leaves = leaves.0
 
 -- the drive stopped, while some tables agreed with it
 retire-stops : (a b : Mounted) (clean : Option CleanView) → AgreesWithClean a clean → RetireLeaves a b (Err Stopped) → KeepsByCleaning a b
@@ -103,6 +106,7 @@ retire_room V a b clean Stopped is leaves = retire-stops a b clean is leaves
 retire_room V a b clean Spent is leaves = keeps-serving a b clean is leaves
 retire_room V a b clean Smaller is leaves = keeps-serving a b clean is leaves
 retire_room V a b clean Reserve is leaves = keeps-serving a b clean is leaves
+retire_room V a b clean Unmounted is leaves = keeps-serving a b clean is leaves
 
 -- the drive stopped, and the array is kept
 pub room-stops : (a b : Mounted) → KeepsByCleaning a b → b.drive.stopped ≡ true → StopKeeps a b

@@ -41,7 +41,7 @@ use Rattle.zone_cleaner.proofs.TurnLaws.{cleans_mountable, keeps-more}
 use Rattle.zone_translator.specs.declared.write.Content.{Content}
 use Rattle.zone_translator.specs.Batches.{IsBatchCount, IsCut, LogsAreCut, IsNextBatch, IsRoom, IsWhole, batch_count, blocks_of, bytes_of, host_heading, is_trim}
 use Rattle.zone_translator.specs.declared.fault.DiskFault.{DiskFault}
-use Rattle.zone_translator.specs.declared.fault.DiskFault.TheVariants.{OutOfRange, OutOfMemory, Stopped, Spent, Smaller, Reserve}
+use Rattle.zone_translator.specs.declared.fault.DiskFault.TheVariants.{OutOfRange, OutOfMemory, Stopped, Spent, Unmounted, Smaller, Reserve}
 use Rattle.zone_translator.specs.Changes.{IsCause, Keeps, Names, RoomLeaves, StopKeeps, WriteLeaves, WritesBlocks, disk_fault}
 use Rattle.zone_translator.specs.Flat.{IsFront, replaced}
 use Rattle.zone_translator.proofs.BatchLaws.{data_count-entries, data_count-trims, entries-below, entries-ready, host-heading, host_batch, length-entries, names-placed}
@@ -296,6 +296,7 @@ write_without trim a b clean first blocks Stopped leaves cause = (room-stops a b
 write_without trim a b clean first blocks Spent leaves cause = leaves
 write_without trim a b clean first blocks Smaller leaves cause = leaves
 write_without trim a b clean first blocks Reserve leaves cause = leaves
+write_without trim a b clean first blocks Unmounted leaves cause = leaves
 
 pub write_no_room : (trim : Bool) (a b : Mounted) (clean : Option CleanView) (first : ℕ) (blocks : List (List ℕ)) (fault : DiskFault) (result : Result ℕ DiskFault) → result ≡ Err fault → RoomLeaves {V = Filling} a b clean (Err fault) → IsCause b.drive b.tables.next fault → WriteLeaves trim a b clean first blocks result
 write_no_room trim a b clean first blocks fault result is leaves cause = rw is (write_without trim a b clean first blocks fault leaves cause)

@@ -11,10 +11,11 @@ use Rattle.drive_port.specs.Drive.{DriveState, IsClosing}
 use Rattle.zone_choice.specs.Agreement.{mounted}
 use Rattle.zone_choice.specs.Tables.{TablesView, size_of}
 use Rattle.zone_choice.specs.Mountable.{IsMountable}
+use Rattle.zone_choice.specs.Reserve.{FitsReserve}
 use Rattle.zone_translator.specs.declared.fault.DiskFault.{DiskFault}
 use Rattle.zone_translator.specs.declared.fault.DiskFault.TheVariants as faults
 use Rattle.zone_translator.specs.declared.status.DiskStatus.{DiskStatus}
-use Rattle.zone_translator.specs.declared.status.DiskStatus.TheVariants.{Serving, Stopped}
+use Rattle.zone_translator.specs.declared.status.DiskStatus.TheVariants.{Serving, Stopped, Unmounted}
 use Rattle.zone_cleaner.specs.declared.fault.CleanFault.{CleanFault}
 use Rattle.zone_cleaner.specs.Clean.{CleanView}
 use Rattle.zone_cleaner.specs.Start.{TurnLeaves}
@@ -26,11 +27,13 @@ use Rattle.zone_translator.specs.View.{DiskView}
 abbrev pub WhileServing : DiskStatus → Type 0 → Type 0
 WhileServing Serving Fact = Fact
 WhileServing Stopped Fact = Unit {0}
+WhileServing Unmounted Fact = Unit {0}
 
--- The drive of a disk has a geometry in range, and can be mounted. While the disk serves, the tables agree with the drive; and it has answered `Stopped` only where the drive has stopped.
+-- The drive of a disk can be mounted: its geometry is in range, and its reserve allows the number that the mount was given. While the disk serves, the tables agree with the drive; and it has answered `Stopped` only where the drive has stopped.
 pub record Holds (drive : DriveState) (tables : TablesView) (clean : Option CleanView) (status : DiskStatus) : Type 0 where
   pub mountable : IsMountable drive tables.given
   pub geometry : IsInRange drive.geometry
+  pub reserve : FitsReserve drive.geometry tables.given
   pub short : size_of tables ≤ 2 ^ 31
   pub agrees : WhileServing status (AgreesWith drive tables clean)
   pub stopped : status ≡ Stopped → drive.stopped ≡ true
@@ -46,10 +49,10 @@ answer_before (Ok true) = Some (Ok tt)
 answer_before (Ok false) = None
 answer_before (Err fault) = Some (Err fault)
 
--- the answer that a test of a growth stands for: that it goes on, or a refusal
-abbrev pub growth_before : Result (Unit {0}) DiskFault → Option (Result (Unit {0}) DiskFault)
-growth_before (Ok done) = None
-growth_before (Err fault) = Some (Err fault)
+-- the answer that a test stands for whether a call goes on: none, or a refusal
+abbrev pub refusal_before : Result (Unit {0}) DiskFault → Option (Result (Unit {0}) DiskFault)
+refusal_before (Ok done) = None
+refusal_before (Err fault) = Some (Err fault)
 
 -- a read of n blocks: what stands in the buffer are the bytes of the blocks that it shows
 pub record Reads (old : FlatDisk) (first n : ℕ) (result : Result (Unit {0}) DiskFault) (bytes : List ℕ) (new : FlatDisk) : Type 0 where

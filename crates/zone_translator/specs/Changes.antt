@@ -21,7 +21,7 @@ use Rattle.zone_cleaner.specs.Clean.{CleanView, turns_left}
 use Rattle.zone_cleaner.specs.Start.{AgreesWithClean, KeepsByCleaning, trims}
 use Rattle.zone_translator.specs.Flat.{IsFront, replaced}
 use Rattle.zone_translator.specs.declared.fault.DiskFault.{DiskFault}
-use Rattle.zone_translator.specs.declared.fault.DiskFault.TheVariants.{OutOfRange, OutOfMemory, Stopped, Spent, Smaller, Reserve}
+use Rattle.zone_translator.specs.declared.fault.DiskFault.TheVariants.{OutOfRange, OutOfMemory, Stopped, Spent, Unmounted, Smaller, Reserve}
 
 -- What holds while a disk serves: its tables agree with its drive, and a clean runs, or none does and a zone is kept empty.
 abbrev pub AgreesWith : DriveState → TablesView → Option CleanView → Type 0
@@ -30,6 +30,7 @@ AgreesWith drive tables clean = AgreesWithClean (mounted drive tables) clean
 -- why a refusal came: the drive has stopped, or no sequence is left that a batch may have; of memory nothing can be said
 abbrev pub IsCause : DriveState → ℕ → DiskFault → Type 0
 IsCause drive next OutOfRange = ⊥
+IsCause drive next Unmounted = ⊥
 IsCause drive next Smaller = ⊥
 IsCause drive next Reserve = ⊥
 IsCause drive next OutOfMemory = Unit {0}

@@ -2,8 +2,10 @@
 use Rattle.std.specs.Prelude.{◌≡◌, ◌⊎◌, ℕ, zero, suc, ◌+◌, ◌≤◌, ◌==◌, nat_lt, if◌then◌else◌, Bool, true, false, List, [], ◌∷◌, length, replicate, take, drop, MatchOption, Option, Some, None, Result, Ok, Err}
 use Rattle.batch_log.specs.Log.{zero_block}
 use Rattle.zone_choice.specs.Sizes.{extended}
+use Rattle.remount.specs.declared.fault.MountFault.{MountFault}
+use Rattle.remount.specs.declared.fault.MountFault.TheVariants as mount
 use Rattle.zone_translator.specs.declared.fault.DiskFault.{DiskFault}
-use Rattle.zone_translator.specs.declared.fault.DiskFault.TheVariants.{OutOfRange, OutOfMemory, Stopped, Spent, Smaller, Reserve}
+use Rattle.zone_translator.specs.declared.fault.DiskFault.TheVariants.{OutOfRange, OutOfMemory, Stopped, Spent, Unmounted, Smaller, Reserve}
 use Rattle.zone_translator.specs.declared.status.DiskStatus.{DiskStatus}
 use Rattle.zone_translator.specs.declared.status.DiskStatus.TheVariants as statuses
 
@@ -28,7 +30,7 @@ pub record IsFront (old : List (List ℕ)) (first : ℕ) (blocks : List (List �
 
 -- ---- the disk
 
--- An array, and whether the disk serves it or has answered `Stopped`. The size is the number of blocks that may be named: it is that of the array while the disk serves. `block` is how many bytes a block has, `most` the greatest size that the drive's reserve allows.
+-- An array, and whether the disk serves it, has answered `Stopped`, or has refused a remount. The size is the number of blocks that may be named: it is that of the array while the disk serves. `block` is how many bytes a block has, `most` the greatest size that the drive's reserve allows.
 pub record FlatDisk : Type 0 where
   pub array : List (List ℕ)
   pub size : ℕ
@@ -91,12 +93,13 @@ pub record Answer : Type 0 where
 abbrev pub with_nothing : Result (Unit {0}) DiskFault → Answer
 with_nothing result = record { result = result; shown = [] }
 
--- a disk that serves calls knows no answer beforehand; one that answered `Stopped` does so again
+-- a disk that serves calls knows no answer beforehand; one that answered `Stopped` does so again, and one that refused a remount answers `Unmounted`
 abbrev pub answer_while : DiskStatus → Option (Result (Unit {0}) DiskFault)
 answer_while statuses.Serving = None
 answer_while statuses.Stopped = Some (Err Stopped)
+answer_while statuses.Unmounted = Some (Err Unmounted)
 
--- Of a call that names n blocks, the answer that is known before anything is done, in this order: a call of no block is done, one past the end is out of range, and a disk that answered `Stopped` does so again.
+-- Of a call that names n blocks, the answer that is known before anything is done, in this order: a call of no block is done, one past the end is out of range, and a disk that does not serve says so.
 abbrev pub known_range : FlatDisk → ℕ → ℕ → Option (Result (Unit {0}) DiskFault)
 known_range disk first n =
     if n == 0 then Some (Ok tt)
@@ -134,3 +137,10 @@ FlatCall old call answer new =
     MatchOption (known_answer old call)
     (Begun old call answer.result answer.shown new)
     (λ result. (answer ≡ with_nothing result) × (new ≡ old))
+
+-- ---- mounting again
+
+-- A remount, whatever the disk answered before. Done, the disk serves, by the size of its array: where a growth was stopped, that may be the greater one. Refused, by an allocation that failed or a drive that has stopped, it is unmounted. The array stays.
+abbrev pub FlatRemount : FlatDisk → Result (Unit {0}) MountFault → FlatDisk → Type 0
+FlatRemount old (Ok done) new = new ≡ record old { size = length old.array; status = statuses.Serving }
+FlatRemount old (Err fault) new = ((fault ≡ mount.OutOfMemory) ⊎ (fault ≡ mount.Halted)) × (new ≡ record old { status = statuses.Unmounted })

@@ -1,45 +1,33 @@
--- Which drives are mounted, and why others are not.
-use Rattle.std.specs.Prelude.{◌≡◌, ℕ, true, None}
-use Rattle.zone_states.specs.Geometry.{IsInRange}
+-- What a mount makes of a drive, and what it gives back where it is refused.
+use Rattle.std.specs.Prelude.{◌≡◌, ◌≢◌, ◌⊎◌, ℕ, ◌+◌, max, length, None}
+use Rattle.drive_port.specs.Contents.{contents}
 use Rattle.drive_port.specs.Drive.{DriveState}
-use Rattle.drive_port.specs.declared.calls.PortFault.{PortFault}
-use Rattle.drive_port.specs.declared.calls.PortFault.TheVariants as port
-use Rattle.drive_port.specs.Contents.{AreEmpty, SameContents, contents}
-use Rattle.zone_choice.specs.Reserve.{FitsReserve}
-use Rattle.zone_choice.specs.Tables.{TablesView, size_of}
-use Rattle.zone_translator.specs.Changes.{AgreesWith}
-use Rattle.zone_translator.specs.declared.mount.MountFault.{MountFault}
-use Rattle.zone_translator.specs.declared.mount.MountFault.TheVariants.{Reserve, Limits, Halted, OutOfMemory, NotFresh}
+use Rattle.zone_choice.specs.Agreement.{drive_logs, spelled}
+use Rattle.zone_choice.specs.ZoneLogs.{sequences}
+use Rattle.remount.specs.declared.fault.MountFault.{MountFault}
+use Rattle.remount.specs.declared.fault.MountFault.TheVariants.{Halted, OutOfMemory}
+use Rattle.remount.specs.Heads.{greatest_sequence}
+use Rattle.remount.specs.Known.{KeepsMountable}
+use Rattle.remount.specs.Mount.{AreMountedRoles, IsToMount, MountFails}
+use Rattle.remount.specs.Reported.{KeepsZones}
+use Rattle.remount.specs.Scan.{FailsBy}
+use Rattle.zone_translator.specs.declared.status.DiskStatus.TheVariants.{Serving}
+use Rattle.zone_translator.specs.View.{DiskView, array_of, disk_size, given_size, next_sequence}
 
--- nothing is written on a drive: each zone is Empty
-abbrev pub IsFresh : DriveState → Type 0
-IsFresh drive = AreEmpty (contents drive.zones)
+-- A drive that can be mounted is mounted, with n logical blocks where no header says how many: the disk serves the array that the drive encoded, and has its size. Zones that are partly written are filled on, no clean runs, and the next sequence is one more than the greatest that any batch had.
+pub record MountsDisk (old : DriveState) (n : ℕ) (disk : DiskView) : Type 0 where
+  pub can : IsToMount old n
+  pub array : array_of disk ≡ spelled old n
+  pub size : disk_size disk ≡ length (array_of disk)
+  pub given : given_size disk ≡ n
+  pub next : next_sequence disk ≡ 1 + max (greatest_sequence (sequences (drive_logs old))) (greatest_sequence (sequences (drive_logs disk.drive)))
+  pub roles : AreMountedRoles disk.drive.geometry.capacity (contents disk.drive.zones) disk.tables.roles
+  pub clean : disk.clean ≡ None
+  pub status : disk.status ≡ Serving
 
--- why a drive isn't mounted as that many blocks, in the order of the refusals; and, of one that is given back, that it has stopped
-abbrev pub MountRefuses : DriveState → ℕ → MountFault → DriveState → Type 0
-MountRefuses drive blocks Limits back = IsInRange drive.geometry → ⊥
-MountRefuses drive blocks Reserve back = IsInRange drive.geometry × (FitsReserve drive.geometry blocks → ⊥)
-MountRefuses drive blocks NotFresh back = IsInRange drive.geometry × FitsReserve drive.geometry blocks × (IsFresh drive → ⊥)
-MountRefuses drive blocks Halted back = back.stopped ≡ true
-MountRefuses drive blocks OutOfMemory back = Unit {0}
-
--- the tables of a disk over a fresh drive
-pub record IsFreshDisk (old new : DriveState) (tables : TablesView) (blocks : ℕ) : Type 0 where
-  pub agrees : AgreesWith new tables None
-  pub size : size_of tables ≡ blocks
-  pub given : tables.given ≡ blocks
-  pub fresh : IsFresh old
-  pub next : tables.next ≡ 1
-  pub same : SameContents old new
-  pub refused : new.refused ≡ old.refused
-  pub appended : new.appended ≡ old.appended
-
--- What a mount keeps of a drive: all that it holds. No command was refused, and nothing was appended.
-pub record KeepsDrive (old new : DriveState) : Type 0 where
-  pub same : SameContents old new
-  pub refused : new.refused ≡ old.refused
-  pub appended : new.appended ≡ old.appended
-
-abbrev pub mount_fault : PortFault → MountFault
-mount_fault port.Memory = OutOfMemory
-mount_fault fault = Halted
+-- A drive is not mounted, but given back. A drive that is refused for what it holds is as it was, and so is one that cannot be mounted: only a stop and a failed allocation may come once repairs have begun, and what they leave can be mounted as before, with the same array.
+pub record GivesBack (old : DriveState) (n : ℕ) (fault : MountFault) (back : DriveState) : Type 0 where
+  pub why : FailsBy (MountFails old n) back fault
+  pub refused : fault ≢ Halted → fault ≢ OutOfMemory → KeepsZones old back
+  pub early : KeepsZones old back ⊎ IsToMount old n
+  pub kept : KeepsMountable n old back

@@ -11,12 +11,13 @@ use Rattle.zone_choice.specs.Mountable.{IsMountable}
 use Rattle.zone_choice.specs.Reserve.{batch_most, most_size}
 use Rattle.zone_cleaner.specs.Clean.{CleanView, turns_left}
 use Rattle.zone_translator.specs.declared.fault.DiskFault.{DiskFault}
-use Rattle.zone_translator.specs.declared.fault.DiskFault.TheVariants.{OutOfRange, Smaller, Reserve}
+use Rattle.zone_translator.specs.declared.fault.DiskFault.TheVariants.{OutOfRange, Unmounted, Smaller, Reserve}
 use Rattle.zone_translator.specs.declared.status.DiskStatus.{DiskStatus}
+use Rattle.zone_translator.specs.declared.status.DiskStatus.TheVariants as statuses
 use Rattle.zone_translator.specs.Changes.{IsCause}
 use Rattle.zone_translator.specs.Flat.{FlatDisk}
 
--- the drive below, what is known of it in memory, the clean that runs, and whether `Stopped` was answered
+-- the drive below, what is known of it in memory, the clean that runs, and whether the disk serves
 pub record DiskView : Type 0 where
   pub drive : DriveState
   pub tables : TablesView
@@ -60,7 +61,7 @@ flat_of disk = record {
   most = most_size disk.drive.geometry;
 }
 
--- What every call of a disk keeps, whatever it answers: a drive that can be mounted again. No command is refused, and the next sequence rises by one with each batch that is appended.
+-- What every call of a disk but a remount keeps, whatever it answers: a drive that can be mounted again. No command is refused, the next sequence rises by one with each batch that is appended, and the disk is not unmounted.
 pub record KeepsDisk (old new : DiskView) : Type 0 where
   pub given : given_size new ≡ given_size old
   pub geometry : new.drive.geometry ≡ old.drive.geometry
@@ -68,12 +69,14 @@ pub record KeepsDisk (old new : DiskView) : Type 0 where
   pub refused : new.drive.refused ≡ old.drive.refused
   pub next : next_sequence new + old.drive.appended ≡ next_sequence old + new.drive.appended
   pub appended : old.drive.appended ≤ new.drive.appended
+  pub unmounted : new.status ≡ statuses.Unmounted → old.status ≡ statuses.Unmounted
 
 -- why a call was refused; of a range and of a size the call itself tells
 abbrev pub DiskCause : DiskView → DiskFault → Type 0
 DiskCause disk OutOfRange = Unit {0}
 DiskCause disk Smaller = Unit {0}
 DiskCause disk Reserve = Unit {0}
+DiskCause disk Unmounted = disk.status ≡ statuses.Unmounted
 DiskCause disk fault = IsCause disk.drive (next_sequence disk) fault
 
 -- how many turns are left of the clean that runs: one at least, if one runs

@@ -1,4 +1,4 @@
-ghost use Rattle.std.specs.Prelude.{◌≡◌, ℕ, List, ◌-◌, ◌+◌, ◌<◌, ◌≤◌, ◌++◌, ◌^◌, ◌*◌, [], IfErr, IfOk, OnOk, OnErr, Some, count_by, is_some, false, true, length, replicate, slice_index_or, take};
+ghost use Rattle.std.specs.Prelude.{◌≡◌, ℕ, List, ◌-◌, ◌+◌, ◌<◌, ◌≤◌, ◌++◌, ◌^◌, ◌*◌, [], IfErr, IfOk, OnOk, OnErr, None, Some, count_by, is_some, false, true, length, replicate, slice_index_or, take};
 ghost use Rattle.drive_port.specs.Calls.{block_count, data_blocks};
 ghost use Rattle.logical_map.specs.Live.{lies_in};
 ghost use Rattle.logical_map.specs.declared.place.Place.TheVariants as places;
@@ -8,24 +8,26 @@ ghost use Rattle.zone_choice.specs.Reserve.{FitsReserve};
 ghost use Rattle.zone_states.specs.Geometry.{IsInRange};
 ghost use Rattle.zone_states.specs.Zone.{cut_blocks};
 ghost use Rattle.zone_cleaner.specs.Start.{TurnsFewer};
-ghost use Rattle.zone_translator.specs.Calls.{IsTurn, Reads, ReportsAll, answer_before, done_of, growth_before, is_known, status_of};
+ghost use Rattle.zone_translator.specs.Calls.{IsTurn, Reads, ReportsAll, answer_before, done_of, refusal_before, is_known, status_of};
 ghost use Rattle.zone_translator.specs.Batches.{LogsAreCut, IsBatchCount, IsWhole, blocks_of, is_trim};
 ghost use Rattle.zone_translator.specs.Changes.{AreNamed, IsCause, Names, batch_commands};
-ghost use Rattle.zone_translator.specs.Flat.{FlatCall, IsFront, fill, grow, idle, known_growth, known_range, read, replaced, report, trim, with_nothing, write};
+ghost use Rattle.zone_translator.specs.Flat.{FlatCall, FlatRemount, IsFront, answer_while, fill, grow, idle, known_growth, known_range, read, replaced, report, trim, with_nothing, write};
 ghost use Rattle.zone_translator.specs.declared.status.DiskStatus.TheVariants.{Serving};
-ghost use Rattle.batch_log.specs.Log.{Batch, zero_block};
-ghost use Rattle.zone_translator.specs.Mount.{IsFresh, KeepsDrive, MountRefuses};
+ghost use Rattle.batch_log.specs.Log.{Batch};
+ghost use Rattle.remount.specs.Known.{KeepsMountable};
+ghost use Rattle.remount.specs.Scan.{FailsBy};
+ghost use Rattle.zone_translator.specs.Mount.{GivesBack, MountsDisk};
 ghost use Rattle.zone_translator.specs.Read.{IsReadFault};
 ghost use Rattle.zone_translator.specs.View.{Completes, DiskCause, DiskView, KeepsDisk, array_of, disk_size, flat_of, disk_turns, given_size, logs_of, most_batches, next_sequence, places_of, size_on};
 
 use crate::fault::DiskFault;
-use crate::mount::{MountFault, fresh_tables};
 use crate::read::{read_block, read_into};
 use crate::report::report_all;
 use crate::status::DiskStatus;
 use crate::write::{Content, grow_batch, next_batch};
 use drive_port::Device;
 use logical_map::Place;
+use remount::{MountFault, mount};
 use std::alloc::Global;
 use std::marker::Model;
 use zone_choice::{BatchBuilder, Tables, most_blocks};
@@ -65,20 +67,18 @@ fn status_of(fault: DiskFault) -> DiskStatus
 }
 
 impl<D: Device + Drop> Disk<D> {
-    /// A disk of `blocks` logical blocks of zeros over a drive on which nothing is written. With the
-    /// fault the drive is given back, and holds what it held.
+    /// The disk that a drive holds, of `blocks` logical blocks where no header on the drive says how many. The drive
+    /// is checked, and what a stop left of it repaired: see `remount::mount`.
+    ///
+    /// With the fault the drive is given back, and can be mounted if it could before.
     pub fn mount(alloc: Global, mut device: D, blocks: u64) -> Result<Disk<D>, (MountFault, D)>
-        ensures size { IfOk result (λ disk. (disk_size disk ≡ blocks) × (given_size disk ≡ blocks) × (disk.status ≡ Serving)) }
-        ensures next { IfOk result (λ disk. next_sequence disk ≡ 1) }
+        ensures disk { IfOk result (MountsDisk (D.drive device) blocks) }
         ensures fits { IfOk result (λ disk. IsInRange disk.drive.geometry × FitsReserve disk.drive.geometry (disk_size disk)) }
-        ensures fresh { OnOk result (IsFresh (D.drive device)) }
-        ensures array { IfOk result (λ disk. array_of disk ≡ replicate blocks (zero_block (D.drive device).geometry.block)) }
-        ensures drive { IfOk result (λ disk. KeepsDrive (D.drive device) disk.drive) }
+        ensures kept { IfOk result (λ disk. KeepsMountable blocks (D.drive device) disk.drive) }
         ensures mountable { IfOk result (λ disk. IsMountable disk.drive (given_size disk)) }
-        ensures err { IfErr result (λ refusal. MountRefuses (D.drive device) blocks refusal.0 (D.drive refusal.1)) }
-        ensures given_back { IfErr result (λ refusal. KeepsDrive (D.drive device) (D.drive refusal.1)) }
+        ensures err { IfErr result (λ refusal. GivesBack (D.drive device) blocks refusal.0 (D.drive refusal.1)) }
     {
-        match fresh_tables(alloc, &mut device, blocks) {
+        match mount(alloc, &mut device, blocks) {
             Ok(tables) => Ok(Disk {
                 device,
                 tables,
@@ -141,7 +141,7 @@ impl<D: Device + Drop> Disk<D> {
         self.tables.live(zone)
     }
 
-    /// Whether the disk serves calls, or has answered `Stopped`.
+    /// Whether the disk serves calls, has answered `Stopped`, or has refused a remount.
     pub fn status(&self) -> DiskStatus
         ensures { result ≡ self.now.status }
     {
@@ -264,8 +264,22 @@ impl<D: Device + Drop> Disk<D> {
         }
     }
 
+    /// Whether the disk serves calls, or which fault it answers to each.
+    fn check_serving(&self) -> Result<(), DiskFault>
+        ensures known { answer_while self.now.status ≡ refusal_before result }
+        ensures serving { OnOk result (self.now.status ≡ Serving) }
+        ensures cause { IfErr result (DiskCause self.now) }
+        ensures mountable { IsMountable self.now.drive (given_size self.now) }
+    {
+        match self.status {
+            DiskStatus::Serving => Ok(()),
+            DiskStatus::Stopped => Err(DiskFault::Stopped),
+            DiskStatus::Unmounted => Err(DiskFault::Unmounted),
+        }
+    }
+
     /// Whether a read or a write of n blocks is done before it begins: it is where n is 0. One past the
-    /// end is refused, and so is each once the disk has answered `Stopped`.
+    /// end is refused, and so is each while the disk does not serve.
     fn is_done(&self, first: u64, blocks: u64) -> Result<bool, DiskFault>
         ensures known { known_range (flat_of self.now) first blocks ≡ answer_before result }
         ensures in_range { IfOk result (λ done. done ≡ false → (1 ≤ blocks) × (first + blocks ≤ disk_size self.now) × (self.now.status ≡ Serving)) }
@@ -283,16 +297,14 @@ impl<D: Device + Drop> Disk<D> {
         if blocks > size || first > size - blocks {
             return Err(DiskFault::OutOfRange);
         }
-        match self.status {
-            DiskStatus::Serving => Ok(false),
-            DiskStatus::Stopped => Err(DiskFault::Stopped),
-        }
+        self.check_serving()?;
+        Ok(false)
     }
 
     /// Writes `blocks` blocks of one byte from `first` on.
     ///
     /// After a refusal on its way a front of them is written. After `OutOfMemory` or `Spent` the
-    /// disk goes on; after `Stopped` it needs a mount of the restarted drive, on which the front is found.
+    /// disk goes on; after `Stopped` it needs a mount of the restarted drive, or a remount, by which the front is found.
     pub fn fill(&mut self, first: u64, blocks: u64, byte: u8) -> Result<(), DiskFault>
         ensures flat { FlatCall (flat_of self.old) (fill self.old.drive.geometry.block first blocks byte) (with_nothing result) (flat_of self.new) }
         ensures stored { OnOk result (AreNamed false (places_of self.new) first blocks) }
@@ -346,7 +358,7 @@ impl<D: Device + Drop> Disk<D> {
 
     /// Whether a growth to `blocks` blocks is refused before it begins.
     fn check_growth(&self, blocks: u64) -> Result<(), DiskFault>
-        ensures known { known_growth (flat_of self.now) blocks ≡ growth_before result }
+        ensures known { known_growth (flat_of self.now) blocks ≡ refusal_before result }
         ensures grows { OnOk result ((disk_size self.now ≤ blocks) × FitsReserve self.now.drive.geometry blocks × (self.now.status ≡ Serving)) }
         ensures cause { IfErr result (DiskCause self.now) }
         ensures mountable { IsMountable self.now.drive (given_size self.now) }
@@ -357,10 +369,7 @@ impl<D: Device + Drop> Disk<D> {
         if blocks > most_blocks(&self.device.geometry()) {
             return Err(DiskFault::Reserve);
         }
-        match self.status {
-            DiskStatus::Serving => Ok(()),
-            DiskStatus::Stopped => Err(DiskFault::Stopped),
-        }
+        self.check_serving()
     }
 
     /// Makes it a disk of `blocks` blocks, as many as it has or more: those that are new read as zeros. The size
@@ -409,9 +418,7 @@ impl<D: Device + Drop> Disk<D> {
         ensures cause { IfErr result (DiskCause self.new) }
         ensures completed { Completes self.old 2 self.new }
     {
-        let DiskStatus::Serving = self.status else {
-            return Err(DiskFault::Stopped);
-        };
+        self.check_serving()?;
         match self.cleaner.turn(&mut self.tables, &mut self.device) {
             Ok(()) => Ok(()),
             Err(cause) => {
@@ -429,6 +436,34 @@ impl<D: Device + Drop> Disk<D> {
         self.cleaner.running()
     }
 
+    /// Mounts the drive again, as a mount with the same number of logical blocks does it. A clean that runs is
+    /// forgotten. A disk that has answered `Stopped` serves again, if the drive goes on.
+    ///
+    /// A refusal is `Halted` or `OutOfMemory`. It leaves the array on the drive, and the disk answers `Unmounted` to
+    /// every call that needs the drive, until a remount is done.
+    pub fn remount(&mut self) -> Result<(), MountFault>
+        ensures flat { FlatRemount (flat_of self.old) result (flat_of self.new) }
+        ensures disk { OnOk result (MountsDisk self.old.drive (given_size self.old) self.new) }
+        ensures cause { IfErr result (FailsBy (λ _. ⊥) self.new.drive) }
+        ensures kept { KeepsMountable (given_size self.old) self.old.drive self.new.drive }
+        ensures given { given_size self.new ≡ given_size self.old }
+        ensures mountable { IsMountable self.new.drive (given_size self.new) }
+        ensures clean { self.new.clean ≡ None }
+    {
+        self.cleaner = Cleaner::new(self.alloc);
+        match mount(self.alloc, &mut self.device, self.tables.given() as u64) {
+            Ok(tables) => {
+                self.tables = tables;
+                self.status = DiskStatus::Serving;
+                Ok(())
+            }
+            Err(fault) => {
+                self.status = DiskStatus::Unmounted;
+                Err(fault)
+            }
+        }
+    }
+
     /// A report of all zones of the drive, as Zone Management Receive gives it (Zoned Namespace Command
     /// Set 1.1, section 3.4.2): a head of 64 bytes and a descriptor of 64 bytes for each zone.
     pub fn report(&mut self) -> Result<Vec<u8>, DiskFault>
@@ -440,9 +475,7 @@ impl<D: Device + Drop> Disk<D> {
         ensures turns { disk_turns self.new ≡ disk_turns self.old }
         ensures completed { Completes self.old 1 self.new }
     {
-        let DiskStatus::Serving = self.status else {
-            return Err(DiskFault::Stopped);
-        };
+        self.check_serving()?;
         match report_all(self.alloc, &self.tables, &mut self.device) {
             Ok(bytes) => Ok(bytes),
             Err(fault) => {

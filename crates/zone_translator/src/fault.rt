@@ -12,14 +12,17 @@ pub enum DiskFault {
     /// goes on.
     #[error("out of memory")]
     OutOfMemory,
-    /// The drive has stopped. Of a write, a fill or a trim a front is in place; of a growth only a mount can
-    /// tell whether it is done.
+    /// The drive has stopped. Of a write, a fill or a trim a front is in place; of a growth only a remount
+    /// can tell whether it is done.
     #[error("the drive has stopped")]
     Stopped,
     /// The sequence numbers that are left are kept for the repair of a zone, at a mount. Of a write, a fill or a
     /// trim a front is in place, a growth is not done, and reads go on.
     #[error("no sequence number is left for a batch of the disk")]
     Spent,
+    /// A remount was refused, and none was done since. Nothing was sent, and nothing changed.
+    #[error("the disk is not mounted")]
+    Unmounted,
     /// A growth to fewer blocks than the disk has. Nothing was sent, and nothing changed.
     #[error("the disk has more blocks already")]
     Smaller,

@@ -13,11 +13,12 @@
 //! disk.trim(6, 1)?;                // block 6 reads as zeros
 //! disk.grow(9)?;                   // one block more
 //! disk.read(2, 3, &mut shown)?;    // blocks 2 to 4
+//! disk.remount()?;                 // the same blocks, found again on the drive
 //! let drive = disk.into_device();
 //! ```
 //!
 //! What is promised, whatever the drive does that obeys its rules: each call answers as a flat array of
-//! blocks would (`FlatCall` in specs/Flat); the drive can be mounted again and its newest records hold
+//! blocks would (`FlatCall` and `FlatRemount` in specs/Flat); the drive can be mounted again and its newest records hold
 //! that array, at the exit of every call; no command that the disk sends is refused by the drive
 //! (`KeepsDisk` in specs/View). A refused write has written a front of its blocks, and nothing else.
 #![tactic(auto)]
@@ -25,7 +26,6 @@
 mod disk;
 mod fault;
 mod laws;
-mod mount;
 mod read;
 mod report;
 mod room;
@@ -36,5 +36,5 @@ pub use disk::Disk;
 pub use fault::DiskFault;
 pub use laws::{write_keeps_others, written_reads_back};
 pub use logical_map::Place;
-pub use mount::MountFault;
+pub use remount::MountFault;
 pub use status::DiskStatus;

@@ -1,6 +1,6 @@
 use Rattle.std.proofs.Common.{◌≡◌, ◌<◌, ◌+◌, sym, arith}
 use Rattle.zone_translator.specs.View.{disk_size}
-use Rattle.zone_translator.proofs.CallLaws.{known-none, known-past, known-stopped}
+use Rattle.zone_translator.proofs.CallLaws.{known-past}
 use Rattle.zone_translator.proofs.DiskLaws.{holds-agrees, length-array}
 use Rattle.zone_translator.proofs.disk.Disk.is_done.Goals.{then-blocks-size-via-then-blocks-size, then-blocks-size-via-else-blocks-size+then-first-size}
 use Rattle.zone_translator.proofs.disk.Disk.is_done.Goals as goal
@@ -14,16 +14,7 @@ returns-then-blocks-size-clause-known g c =
       | then-blocks-size-via-else-blocks-size+then-first-size w ↦ omega (arith, size)
     ])
 
-pub returns-in-Stopped-clause-known : goal.returns-in-Stopped-clause-known
-returns-in-Stopped-clause-known g c =
-    let size : disk_size c.args.self.now ≡ c.blocks-size.result = rw (← c.self.view_is) (sym c.blocks-size.ensures) in
-    known-stopped c.args.self.now c.args.first c.args.blocks (omega arith) (omega (arith, size)) (rw (← c.self.view_is) c.in-Stopped.is)
-
-pub returns-in-Serving-clause-known : goal.returns-in-Serving-clause-known
-returns-in-Serving-clause-known g c =
-    let size : disk_size c.args.self.now ≡ c.blocks-size.result = rw (← c.self.view_is) (sym c.blocks-size.ensures) in
-    known-none c.args.self.now c.args.first c.args.blocks (omega arith) (omega (arith, size)) (rw (← c.self.view_is) c.in-Serving.is)
-
-pub returns-in-Serving-clause-long : goal.returns-in-Serving-clause-long
-returns-in-Serving-clause-long g c =
-    rw (← c.self.view_is) (λ e. length-array _ c.self.inside.tables c.self.inside.cleaner (holds-agrees _ c.self.inside.tables c.self.inside.cleaner c.self.inside.status c.in-Serving.is c.self.invariant))
+pub returns-clause-long : goal.returns-clause-long
+returns-clause-long g c =
+    let serves = holds-agrees _ c.self.inside.tables c.self.inside.cleaner c.self.inside.status (rw (← c.self.view_is) at c.in_ok-check_serving.ensures.serving) c.self.invariant in
+    rw (← c.self.view_is) (λ e. length-array _ c.self.inside.tables c.self.inside.cleaner serves)

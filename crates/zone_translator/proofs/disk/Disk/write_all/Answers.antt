@@ -3,7 +3,7 @@ use Rattle.zone_states.specs.declared.geometry.Geometry.{Geometry}
 use Rattle.zone_translator.specs.Batches.{blocks_of, is_trim}
 use Rattle.zone_translator.specs.Changes.{batch_commands}
 use Rattle.zone_translator.specs.View.{array_of, logs_of, most_batches}
-use Rattle.zone_translator.proofs.CallLaws.{batches-less, batches-some, goes-begun, named-more, spend, write-done, write-front, write-known, write-refused, write-unknown, written-more}
+use Rattle.zone_translator.proofs.CallLaws.{batches-less, batches-some, cause-of, goes-begun, named-more, spend, write-done, write-front, write-known, write-refused, write-unknown, written-more}
 use Rattle.zone_translator.proofs.ContentLaws.{length-blocks, rest-is, rest-whole}
 use Rattle.zone_translator.proofs.CutLaws.{cut-old, cut-step}
 use Rattle.zone_translator.proofs.DiskLaws.{kept-join, kept-refl}
@@ -115,3 +115,9 @@ returns-in-Err-clause-cut g c =
 
 pub returns-clause-cut : goal.returns-clause-cut
 returns-clause-cut g c = c.loop-done.invariant.8
+
+pub returns-in-Err-clause-kept : goal.returns-in-Err-clause-kept
+returns-in-Err-clause-kept g c = kept-join c.args.self.now c.loop-done.self c.write_some.new.self c.loop-done.invariant.0 c.write_some.ensures.kept
+
+pub returns-in-Err-clause-cause : goal.returns-in-Err-clause-cause
+returns-in-Err-clause-cause g c = cause-of c.write_some.new.self c.in-Err.fault c.in-Err.ensures.cause
