@@ -1,4 +1,4 @@
-use Rattle.std.proofs.Common.{◌≡◌, ◌∙◌, sym, ap, arith, rules}
+use Rattle.std.proofs.Common.{◌∙◌, sym, ap, arith, rules}
 use Rattle.zone_translator.specs.Flat.{FlatDisk}
 use Rattle.zone_translator.specs.View.{flat_of}
 use Rattle.disk_runs.specs.KeepingLaws.{keeps_again, keeps_call}
