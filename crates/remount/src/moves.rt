@@ -122,7 +122,7 @@ fn copy_records<D: Device>(
     Ok(())
 }
 
-/// At most so many of the numbers from one on.
+/// The numbers from `from` on, but at most `most` of them.
 fn part(numbers: &[u32], from: usize, most: usize) -> &[u32]
     requires { from ≤ length numbers.now }
     ensures { result.now ≡ take most (drop from numbers.now) }

@@ -33,7 +33,7 @@ pub(crate) fn block_in(entry: u32) -> u32
     entry
 }
 
-/// The record of an entry, where so many data blocks of the batch belong to the entries before it.
+/// The record of an entry. `before` is how many data blocks of the batch belong to the entries before it.
 pub(crate) fn entry_record(zone: u32, head: &Head, before: usize, entry: u32) -> KeptRecord
     requires { before < 2 ^ 63 }
     ensures { result ≡ entry_record head.now.sequence zone head.now.offset before entry }

@@ -39,7 +39,7 @@ pub(crate) fn empty_torn<D: Device>(
     Ok(())
 }
 
-/// What a report tells of a zone that was empty, and has so many blocks now.
+/// What a report tells of a zone that was empty, after this many blocks were appended to it.
 fn filled_zone(blocks: u32, capacity: u32) -> ReportedZone
     requires { 1 ≤ blocks }
     ensures usage { usage_of result.state ≡ usage_with capacity blocks }
