@@ -31,6 +31,7 @@ pub mod ToEmptyLaws
 pub mod FinishLaws
 pub mod TornLaws
 pub mod TornPlanLaws
+pub mod TornRepairLaws
 pub mod CallLaws
 pub mod MoveBuildLaws
 pub mod TakingLaws

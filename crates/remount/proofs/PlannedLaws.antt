@@ -290,6 +290,8 @@ plan-made drive n survey repair into why plan p =
         all = subst (λ (z : ℕ). (block : ℕ) → LiesIn z (newest block rs) → Contains plan.blocks.items block) (sym p.torn)
             (λ block lies. in-contains block plan.blocks.items (order.has block (live-block drive n survey repair block known p.is (lies-below drive n survey zone block known lies, lies))));
         distinct = order.distinct;
+        count = rw p.torn count;
+        next = omega (arith, p.next);
         later = all-weaker (λ s. s + 0 < plan.next) (λ s. s < plan.next) (sequences logs) (λ s lt. omega (arith, lt)) (all-greatest plan.next 0 (sequences logs) (omega (arith, p.next)));
         last = omega (arith, greatest, count, p.next);
         room = subst (λ (z : ℕ). log_size (moves_before (source_of drive repair.tables z) plan (move_count plan)) ≤ g.capacity) (sym p.torn) (omega (arith, room, count, size, counts.with_data));

@@ -1,11 +1,10 @@
 -- A drive that can be mounted is refused for nothing that it holds.
-use Rattle.std.proofs.Common.{◌≡◌, ◌⊎◌, ℕ, zero, suc, ◌+◌, ◌<◌, ◌≤◌, ◌^◌, Bool, true, false, List, [], ◌∷◌, ◌++◌, length, take, drop, Option, Some, None, refl, sym, ap, ◌∙◌, append_assoc, inl, inr, arith}
+use Rattle.std.proofs.Common.{◌≡◌, ℕ, zero, suc, ◌<◌, ◌≤◌, ◌^◌, true, List, [], ◌∷◌, ◌++◌, length, take, drop, Option, Some, None, refl, sym, ap, ◌∙◌, append_assoc, inl, inr, arith}
 use Rattle.std.specs.List.{AllByRecursion, flat_map}
 use Rattle.std.specs.Ordering.{nat_cmp}
 use Rattle.std.specs.BTreeSet.{insert_key}
 use Rattle.std.proofs.lemmas.List.{drop_at, take_at}
 use Rattle.zone_states.specs.declared.geometry.Geometry.{Geometry}
-use Rattle.zone_states.specs.Geometry.{IsInRange}
 use Rattle.drive_port.specs.Contents.{Content, content_at, contents, is_full, is_usable, nothing}
 use Rattle.drive_port.specs.Drive.{DriveState}
 use Rattle.batch_log.specs.Ending.{Ending, ended, ending_of, failed, torn}
@@ -13,7 +12,6 @@ use Rattle.batch_log.specs.Header.{Heading, head_size, header_block}
 use Rattle.batch_log.specs.Log.{Batch, BeginsWith, BeginsWithNoBatch, IsBatch, batch_blocks, data_count}
 use Rattle.batch_log.proofs.EndingLaws.{never_fails, one_front, tail_none}
 use Rattle.batch_log.proofs.HeaderLaws.{one_header}
-use Rattle.zone_choice.specs.Mountable.{HoldDisk}
 use Rattle.zone_choice.specs.Repair.{CanRepair}
 use Rattle.zone_choice.specs.ZoneLogs.{HasLog, readable, zone_log, zone_logs, zone_tails}
 use Rattle.zone_choice.specs.Agreement.{drive_logs}
@@ -23,7 +21,7 @@ use Rattle.remount.specs.declared.fault.MountFault.{MountFault}
 use Rattle.remount.specs.declared.fault.MountFault.TheVariants.{Reserve, Limits, ZoneUnusable, Log, SequenceRepeated, BlockOutOfRange, TooManyPartial, NoSpare, Spent, Halted, OutOfMemory, TornZone}
 use Rattle.remount.specs.Mount.{CannotClear, CannotRepair, IsToMount, MountFails}
 use Rattle.remount.specs.Scan.{FailsBy, FailsFirst, HaveNoFault, ending_fault, heading_fault, log_fault, or_else, seen_after, seen_with}
-use Rattle.remount.specs.Survey.{SurveyFails, drive_size}
+use Rattle.remount.specs.Survey.{drive_size}
 use Rattle.remount.proofs.NextLaws.{fails-more}
 use Rattle.remount.proofs.SoundLaws.{sequences-sound}
 use Rattle.remount.proofs.TakeLaws.{or-none}

@@ -92,7 +92,7 @@ within-before geometry n logs source plan (suc k) can =
     rw (log_greatest-more (moves_before source plan k) (move_by source plan k))
     (within-both (log_greatest (moves_before source plan k)) (size_by plan k) (log_greatest (log_at logs plan.torn)) (within-before geometry n logs source plan k can) (within-by (size_by plan k) (log_greatest (log_at logs plan.torn)) (size-either geometry n logs source plan k can)))
 
-says-size : (geometry : Geometry) (n : ℕ) (logs : List (List Batch)) (source : Source) (plan : MovePlan) (count : ℕ) → CanMove geometry n logs source plan → move_count plan ≡ count → 1 ≤ count → log_greatest (moves_before source plan count) ≡ log_greatest (log_at logs plan.torn)
+pub says-size : (geometry : Geometry) (n : ℕ) (logs : List (List Batch)) (source : Source) (plan : MovePlan) (count : ℕ) → CanMove geometry n logs source plan → move_count plan ≡ count → 1 ≤ count → log_greatest (moves_before source plan count) ≡ log_greatest (log_at logs plan.torn)
 says-size geometry n logs source plan zero can is some = absurd (omega arith)
 says-size geometry n logs source plan (suc k) can is some =
     let last : size_by plan k ≡ plan.size = rw (eq-eqb (k + 1) (move_count plan) (omega (arith, is))) refl in

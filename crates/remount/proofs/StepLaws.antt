@@ -27,7 +27,7 @@ use Rattle.remount.specs.declared.survey.Survey.{Survey}
 use Rattle.remount.specs.Heads.{HeadsView, greatest_sequence, heads_of}
 use Rattle.remount.specs.Known.{AreVacantEmpty, KeepsMountable, Knows}
 use Rattle.remount.specs.Known.{HasVacant}
-use Rattle.remount.specs.Mount.{AreMountedRoles, AreToEmpty, AreWhole, CannotRepair, IsCleared, IsPlan, IsPlanned, IsRepaired, IsToMount, IsUntorn, LeavesCleared, MountFails, Mounts, NoneIsTorn, PlanFails, Plans}
+use Rattle.remount.specs.Mount.{AreMountedRoles, AreToEmpty, AreWhole, CannotRepair, IsCleared, IsPlan, IsPlanned, IsRepaired, IsToMount, IsUntorn, LeavesCleared, LeavesPlanned, LeavesRepaired, MountFails, Mounts, NoneIsTorn, PlanFails, Plans}
 use Rattle.remount.specs.Reported.{KeepsZones}
 use Rattle.remount.specs.Scan.{FailsBy, heads_in}
 use Rattle.remount.specs.Torn.{sequences_in}
@@ -353,7 +353,7 @@ pub record Repaired (old new : DriveState) (n : ℕ) (survey : Survey) : Type 0 
   pub can : IsToMount old n
   pub resets : List ℕ
   pub clearing : IsClearing old.geometry.block n (drive_logs old) resets
-  pub left : LeavesCleared old resets new
+  pub left : LeavesCleared n old resets new
   pub kept : KeepsMountable n old new
   pub known : Knows new n (drive_logs new) survey
   pub repaired : IsRepaired new survey
@@ -364,14 +364,14 @@ to-mount old middle third n first second plan lawful k is k' planned =
     record { geometry = is.can.geometry; reserve = is.can.reserve; mountable = record { lawful = lawful; holds = rw (both.geometry, kept-contents old third both) at planned.mountable.holds } }
 
 pub repairs : (old middle third new : DriveState) (n : ℕ) (first second last : Survey) (plan : Plan) → IsLawful old → KeepsZones old middle → Surveys old middle n first → KeepsZones middle third → IsPlanned third n second plan
-    → KeepsMountable n third new → Knows new n (drive_logs new) last → IsRepaired new last → LeavesCleared third plan.half_clean.items new → Repaired old new n last
+    → KeepsMountable n third new → Knows new n (drive_logs new) last → IsRepaired new last → LeavesCleared n third plan.half_clean.items new → Repaired old new n last
 repairs old middle third new n first second last plan lawful k is k' planned kept known repaired left =
     let both = keeps-both old middle third k k' in
     record {
       can = to-mount old middle third n first second plan lawful k is k' planned;
       resets = plan.half_clean.items;
       clearing = rw (kept-logs old third both, both.geometry) at planned.clearing;
-      left = rw (kept-logs old third both, kept-contents old third both) at left;
+      left = rw (kept-logs old third both, kept-contents old third both, both.geometry) at left;
       kept = keeps-mountable-both n old third new (closing-keeps old third n both) kept;
       known = known;
       repaired = repaired;
@@ -397,9 +397,7 @@ pub mounts : (old new : DriveState) (n : ℕ) (survey : Survey) (tables : Tables
     → Mounts old new n tables
 mounts old new n survey tables is next given agrees roles = record {
   can = is.can;
-  resets = is.resets;
-  clearing = is.clearing;
-  left = is.left;
+  leaves = record { resets = is.resets; clearing = is.clearing; left = is.left };
   agrees = agrees;
   roles = roles;
   given = given;
@@ -435,12 +433,14 @@ carry-kept P last fault (inr (inr bad)) not_halted not_memory = absurd bad
 
 -- ---- what is left
 
-pub torn-left : (P : Type 0) (geometry : Geometry) (n : ℕ) (logs : List (List Batch)) (tails : List Bool) (plan : Option Repair) (repair : Repair) → plan ≡ Some repair → Plans geometry n logs tails plan → NoneIsTorn logs tails → P
-torn-left P geometry n logs tails plan repair e is none = absurd (none repair.zone (plans-some geometry n logs tails plan repair e is).torn.torn)
+planned-left : (geometry : Geometry) (n : ℕ) (logs new : List (List Batch)) (tails : List Bool) (plan : Option Repair) → Plans geometry n logs tails plan → LeavesPlanned geometry n logs plan new → LeavesRepaired geometry n logs tails new
+planned-left geometry n logs new tails None none same = inl (none, same)
+planned-left geometry n logs new tails (Some repair) is repaired = inr (repair.zone, is.torn, repaired)
 
-pub carried-left : (old middle third new : DriveState) (n : ℕ) (resets : List ℕ) (survey : Survey) → Empties old middle n resets survey
-    → (NoneIsTorn (drive_logs middle) (zone_tails (contents middle.zones)) → drive_logs third ≡ drive_logs middle) → drive_logs new ≡ drive_logs third → LeavesCleared old resets new
-carried-left old middle third new n resets survey is left same none = same ∙ left (λ zone torn. none zone (rw is.logs at (tails-kept (drive_logs middle) (zone_tails (contents old.zones)) (zone_tails (contents middle.zones)) zone is.tails torn))) ∙ is.logs
+pub carried-left : (old middle third new : DriveState) (n : ℕ) (resets : List ℕ) (plan : Option Repair) (survey : Survey) → Empties old middle n resets survey → Plans old.geometry n (cleared (drive_logs old) resets) (zone_tails (contents old.zones)) plan
+    → LeavesPlanned middle.geometry n (drive_logs middle) plan (drive_logs third) → drive_logs new ≡ drive_logs third → LeavesCleared n old resets new
+carried-left old middle third new n resets plan survey is plans left same =
+    rw same (planned-left old.geometry n (cleared (drive_logs old) resets) (drive_logs third) (zone_tails (contents old.zones)) plan plans (rw (is.logs, is.kept.geometry) at left))
 
 pub on-ok : (result : Result (Unit {0}) MountFault) (P Q : Type 0) → (P → Q) → OnOk result P → OnOk result Q
 on-ok (Ok done) P Q f is = f is

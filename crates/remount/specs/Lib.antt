@@ -4,6 +4,7 @@ pub mod Scan
 pub mod Survey
 pub mod Known
 pub mod Moving
+pub mod TornRepair
 pub mod Mount
 pub mod Resets
 pub mod KeptRecords

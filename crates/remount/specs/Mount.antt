@@ -28,6 +28,7 @@ use Rattle.remount.specs.declared.survey.Survey.{Survey}
 use Rattle.remount.specs.declared.steps.Plan.{Plan}
 use Rattle.remount.specs.Heads.{greatest_sequence}
 use Rattle.remount.specs.Known.{AreVacantEmpty, HasVacant, Knows}
+use Rattle.remount.specs.TornRepair.{RepairsTorn}
 use Rattle.remount.specs.Survey.{AreInside, CanScan, HoldLogs, SurveyFails, drive_size}
 
 -- ---- torn zones
@@ -119,16 +120,30 @@ pub record IsToMount (drive : DriveState) (n : ℕ) : Type 0 where
   pub reserve : FitsReserve drive.geometry n
   pub mountable : IsMountable drive n
 
--- The zones that were emptied, and what is left of the others: if no zone was torn, just their batches.
-abbrev pub LeavesCleared : DriveState → List ℕ → DriveState → Type 0
-LeavesCleared old resets new = NoneIsTorn (cleared (drive_logs old) resets) (zone_tails (contents old.zones)) → drive_logs new ≡ cleared (drive_logs old) resets
+-- What is left where no zone is torn: the same batches. Where one is, it was repaired.
+abbrev pub LeavesRepaired : Geometry → ℕ → List (List Batch) → List Bool → List (List Batch) → Type 0
+LeavesRepaired geometry n logs tails new =
+    (NoneIsTorn logs tails × (new ≡ logs)) ⊎ ((torn : ℕ) × IsOnlyTorn logs tails torn × RepairsTorn geometry n logs torn new)
 
--- A drive that can be mounted is mounted, with n logical blocks where no header says how many. Its half clean zones were emptied, the lowest first. The tables agree with the drive that is left, which has the same array; and the next sequence is one more than the greatest that any batch had.
-pub record Mounts (old new : DriveState) (n : ℕ) (tables : TablesView) : Type 0 where
-  pub can : IsToMount old n
+-- What carrying out the repair that is planned leaves.
+abbrev pub LeavesPlanned : Geometry → ℕ → List (List Batch) → Option Repair → List (List Batch) → Type 0
+LeavesPlanned geometry n logs None new = new ≡ logs
+LeavesPlanned geometry n logs (Some repair) new = RepairsTorn geometry n logs repair.zone new
+
+-- These zones were emptied, and of the others a torn one was repaired.
+abbrev pub LeavesCleared : ℕ → DriveState → List ℕ → DriveState → Type 0
+LeavesCleared n old resets new = LeavesRepaired old.geometry n (cleared (drive_logs old) resets) (zone_tails (contents old.zones)) (drive_logs new)
+
+-- What a mount leaves of a drive: its half clean zones were emptied, the lowest first, and then a torn zone was repaired.
+pub record LeavesMounted (old new : DriveState) (n : ℕ) : Type 0 where
   pub resets : List ℕ
   pub clearing : IsClearing old.geometry.block n (drive_logs old) resets
-  pub left : LeavesCleared old resets new
+  pub left : LeavesCleared n old resets new
+
+-- A drive that can be mounted is mounted, with n logical blocks where no header says how many. It was cleared and repaired. The tables agree with the drive that is left, which has the same array; and the next sequence is one more than the greatest that any batch had.
+pub record Mounts (old new : DriveState) (n : ℕ) (tables : TablesView) : Type 0 where
+  pub can : IsToMount old n
+  pub leaves : LeavesMounted old new n
   pub agrees : Agrees (mounted new tables)
   pub roles : AreMountedRoles new.geometry.capacity (contents new.zones) tables.roles
   pub given : tables.given ≡ n

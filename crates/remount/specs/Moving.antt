@@ -16,7 +16,7 @@ use Rattle.zone_choice.specs.Agreement.{IsShut, drive_logs, spelled}
 use Rattle.zone_choice.specs.Builder.{BuilderView, IsBuilt, built}
 use Rattle.zone_choice.specs.Mountable.{IsMountable}
 use Rattle.zone_choice.specs.Records.{Record, newest, records}
-use Rattle.zone_choice.specs.Repair.{moves}
+use Rattle.zone_choice.specs.Repair.{live, moves}
 use Rattle.zone_choice.specs.Repairing.{IsOnRepair, IsStillNeeded, LiesIn}
 use Rattle.zone_choice.specs.Reserve.{batch_most}
 use Rattle.zone_choice.specs.Sizes.{encoded_size, log_greatest}
@@ -27,7 +27,7 @@ use Rattle.remount.specs.declared.clearing.Finding.TheVariants.{NeedsBlock, Need
 use Rattle.remount.specs.declared.moves.MovePlan.{MovePlan}
 use Rattle.remount.specs.declared.repair.Repair.{Repair}
 use Rattle.remount.specs.declared.survey.Survey.{Survey}
-use Rattle.remount.specs.Heads.{HeadsView, heads_of}
+use Rattle.remount.specs.Heads.{HeadsView, greatest_sequence, heads_of}
 use Rattle.remount.specs.Known.{AreVacantEmpty, KeepsMountable, Knows}
 use Rattle.remount.specs.Reported.{IsKnown}
 use Rattle.remount.specs.Scan.{blocks_of}
@@ -168,12 +168,14 @@ pub record IsMovable (n : ℕ) (logs : List (List Batch)) (source : Source) (tor
   pub zone : newest_is.zone ≡ torn
   pub content : newest_is.content ≡ said source block
 
--- The Moves of a cleared drive repair its torn zone: they name each block once whose newest record lies there; their sequences are above all others, and last; there is room for them in one zone; they say the size that the torn zone says, the last one at least; and while some are left, the torn zone is not half clean.
+-- The Moves of a cleared drive repair its torn zone: they name each block once whose newest record lies there, and are no more than that takes; their sequences follow the greatest, and last; there is room for them in one zone; they say the size that the torn zone says, the last one at least; and while some are left, the torn zone is not half clean.
 pub record CanMove (geometry : Geometry) (n : ℕ) (logs : List (List Batch)) (source : Source) (plan : MovePlan) : Type 0 where
   pub most : plan.most ≡ batch_most geometry
   pub movable : AllByRecursion (IsMovable n logs source plan.torn) plan.blocks.items
   pub all : (block : ℕ) → LiesIn plan.torn (newest block (records 0 logs)) → Contains plan.blocks.items block
   pub distinct : IsDistinct nat_eq plan.blocks.items
+  pub count : move_count plan ≡ moves (batch_most geometry) (live (encoded_size n logs) logs plan.torn)
+  pub next : plan.next ≡ 1 + greatest_sequence (sequences logs)
   pub later : AllByRecursion (λ sequence. sequence < plan.next) (sequences logs)
   pub last : plan.next + move_count plan ≤ 2 ^ 63
   pub room : log_size (moves_before source plan (move_count plan)) ≤ geometry.capacity

@@ -108,6 +108,7 @@ pub(crate) fn finish_beside<D: Device>(
 pub(crate) fn lowest_empty(zones: &[ReportedZone]) -> Option<u32>
     requires { length zones.now < 2 ^ 32 }
     ensures some { IfSome result (λ zone. (zone < length zones.now) × ((reported : ReportedZone) → slice_get zones.now zone ≡ Some reported → reported.state ≡ states.Empty)) }
+    ensures lowest { IfSome result (λ zone. (other : ℕ) (reported : ReportedZone) → other < zone → slice_get zones.now other ≡ Some reported → reported.state ≢ states.Empty) }
     ensures none { IfNone result ((zone : ℕ) (reported : ReportedZone) → slice_get zones.now zone ≡ Some reported → reported.state ≢ states.Empty) }
 {
     for (number, zone) in zones.iter().enumerate() {

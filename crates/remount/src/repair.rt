@@ -8,6 +8,7 @@ ghost use Rattle.remount.specs.Known.{AreVacantEmpty, KeepsMountable, Knows};
 ghost use Rattle.remount.specs.Known.{HasVacant};
 ghost use Rattle.remount.specs.Mount.{AreWhole, IsPlan};
 ghost use Rattle.remount.specs.Scan.{FailsBy};
+ghost use Rattle.remount.specs.TornRepair.{RepairsTorn};
 
 use crate::beside::{close_alone, finish_beside, lowest_empty};
 use crate::fault::MountFault;
@@ -47,6 +48,7 @@ pub fn repair_zone<D: Device>(
     ensures vacant { OnOk result (AreVacantEmpty survey.new.zones.items (drive_logs (D.drive device.new))) }
     ensures spare { OnOk result (HasVacant (drive_logs (D.drive device.new))) }
     ensures whole { OnOk result (AreWhole (contents (D.drive device.new).zones)) }
+    ensures repaired { OnOk result (RepairsTorn (D.drive device.old).geometry blocks (drive_logs (D.drive device.old)) repair.now.zone (drive_logs (D.drive device.new))) }
     ensures err { IfErr result (FailsBy (λ _. ⊥) (D.drive device.new)) }
     ensures kept { KeepsMountable blocks (D.drive device.old) (D.drive device.new) }
 {

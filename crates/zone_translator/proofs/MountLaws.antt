@@ -53,6 +53,7 @@ mounts-disk old new n tables mounts =
       can = mounts.can;
       array = rw mounts.given mounts.array;
       size = sym (length-array new tables None (mounted-serves old new n tables mounts));
+      leaves = mounts.leaves;
       given = mounts.given;
       next = mounts.next;
       roles = mounts.roles;

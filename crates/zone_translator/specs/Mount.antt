@@ -8,15 +8,16 @@ use Rattle.remount.specs.declared.fault.MountFault.{MountFault}
 use Rattle.remount.specs.declared.fault.MountFault.TheVariants.{Halted, OutOfMemory}
 use Rattle.remount.specs.Heads.{greatest_sequence}
 use Rattle.remount.specs.Known.{KeepsMountable}
-use Rattle.remount.specs.Mount.{AreMountedRoles, IsToMount, MountFails}
+use Rattle.remount.specs.Mount.{AreMountedRoles, IsToMount, LeavesMounted, MountFails}
 use Rattle.remount.specs.Reported.{KeepsZones}
 use Rattle.remount.specs.Scan.{FailsBy}
 use Rattle.zone_translator.specs.declared.status.DiskStatus.TheVariants.{Serving}
 use Rattle.zone_translator.specs.View.{DiskView, array_of, disk_size, given_size, next_sequence}
 
--- A drive that can be mounted is mounted, with n logical blocks where no header says how many: the disk serves the array that the drive encoded, and has its size. Zones that are partly written are filled on, no clean runs, and the next sequence is one more than the greatest that any batch had.
+-- A drive that can be mounted is mounted, with n logical blocks where no header says how many: the disk serves the array that the drive encoded, and has its size. The drive was cleared and repaired. Zones that are partly written are filled on, no clean runs, and the next sequence is one more than the greatest that any batch had.
 pub record MountsDisk (old : DriveState) (n : ℕ) (disk : DiskView) : Type 0 where
   pub can : IsToMount old n
+  pub leaves : LeavesMounted old disk.drive n
   pub array : array_of disk ≡ spelled old n
   pub size : disk_size disk ≡ length (array_of disk)
   pub given : given_size disk ≡ n

@@ -1,4 +1,4 @@
-use Rattle.std.proofs.Common.{◌≡◌, ◌≢◌, ℕ, List, Some, sym, ap, subst, ◌∙◌}
+use Rattle.std.proofs.Common.{◌≡◌, ◌≢◌, ◌<◌, ℕ, List, Some, sym, ap, subst, ◌∙◌}
 use Rattle.std.specs.Prelude.{slice_get}
 use Rattle.nvme_wire.specs.declared.zone_state.ZoneState.TheVariants as states
 use Rattle.zone_states.specs.declared.geometry.Geometry.{Geometry}
@@ -9,7 +9,8 @@ use Rattle.remount.specs.declared.reported.ReportedZone.{ReportedZone}
 use Rattle.remount.specs.Mount.{IsOnlyTorn}
 use Rattle.remount.specs.Moving.{move_count, moves_before, source_of}
 use Rattle.remount.proofs.BeginLaws.{has-empty, heads-some, is-finished, is-prepared, is-started, repaired-vacant, repaired-whole, survey-count}
-use Rattle.remount.proofs.CallLaws.{mountable-both, shut-both, shut-known, shut-mountable, zones-shut}
+use Rattle.remount.proofs.CallLaws.{mountable-both, shut-both, shut-known, shut-logs, shut-mountable, zones-shut}
+use Rattle.remount.proofs.TornRepairLaws.{repaired-since, torn-repaired}
 use Rattle.remount.proofs.repair.repair_zone.Goals as goal
 
 pub unreachable-requires : goal.unreachable-requires
@@ -273,6 +274,31 @@ returns-clause-whole g c =
     let made = moves_before (source_of start repair.tables plan.torn) plan (move_count plan) in
     let e = c.in_ok-empty_torn.ensures.ok n start repair.tables heads at in
     repaired-whole n start new survey plan made e started.prepared.known started.prepared.vacant (subst (λ (t : ℕ). IsOnlyTorn (drive_logs start) (zone_tails (contents start.zones)) t) (sym started.torn) started.prepared.only)
+
+pub returns-clause-repaired : goal.returns-clause-repaired
+returns-clause-repaired g c =
+    let n = c.args.blocks in
+    let old = g.D.Device.drive c.args.device.now in
+    let one = g.D.Device.drive c.finish_beside.new.device in
+    let survey = c.finish_beside.new.survey in
+    let repair = c.args.repair.now in
+    let f = c.in_ok-finish_beside.ensures in
+    let finished = is-finished n old one survey repair.zone c.requires.mountable c.requires.cleared c.requires.plan.torn c.finish_beside.ensures.kept f.logs f.tails f.known f.vacant f.settled in
+    let into = c.in-Some.into in
+    let prepared = is-prepared n one survey repair.zone into c.deref.result.now finished c.deref.ensures.value c.in-Some.ensures.some.0 c.in-Some.ensures.some.1 in
+    let middle = g.D.Device.drive c.plan_moves.new.device in
+    let plan = c.in_ok-plan.plan in
+    let start = g.D.Device.drive c.close_alone.new.device in
+    let started = is-started n one middle start survey repair into plan prepared c.plan_moves.ensures.kept c.in_ok-plan.ensures.ok c.close_alone.ensures.kept c.in_ok-close_alone.ensures.shut in
+    let moved = g.D.Device.drive c.make_moves.new.device in
+    let heads = c.in_ok-heads.heads in
+    let at = c.in_ok-heads.ensures.ok n started.at in
+    let new = g.D.Device.drive c.empty_torn.new.device in
+    let made = moves_before (source_of start repair.tables plan.torn) plan (move_count plan) in
+    let e = c.in_ok-empty_torn.ensures.ok n start repair.tables heads at in
+    let k = shut-both one middle start (zones-shut one middle c.plan_moves.ensures.kept) c.close_alone.ensures.kept in
+    let done = torn-repaired n start new survey (source_of start repair.tables plan.torn) plan repair.zone into started.prepared started.torn (c.in_ok-plan.ensures.ok.into_is) (subst (λ (zs : List ReportedZone). (other : ℕ) (r : ReportedZone) → other < into → slice_get zs other ≡ Some r → r.state ≢ states.Empty) c.deref.ensures.value c.in-Some.ensures.lowest) at.can e in
+    repaired-since n repair.zone start.geometry old.geometry (drive_logs start) (drive_logs old) (drive_logs new) (k.geometry ∙ c.finish_beside.ensures.kept.geometry) (shut-logs one start k ∙ f.logs) done
 
 pub returns-clause-kept : goal.returns-clause-kept
 returns-clause-kept g c =

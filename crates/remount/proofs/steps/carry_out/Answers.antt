@@ -49,5 +49,5 @@ returns-clause-left g c =
       tails = c.in_ok-empty_zones.ensures.tails;
       kept = c.empty_zones.ensures.kept;
     } in
-    on-ok c.finish_zones.result (drive_logs new ≡ drive_logs third) (LeavesCleared old c.args.plan.now.half_clean.items new)
-    (carried-left old middle third new c.args.blocks c.args.plan.now.half_clean.items c.empty_zones.new.survey is c.in_ok-repair_torn.ensures.left) c.finish_zones.ensures.logs
+    on-ok c.finish_zones.result (drive_logs new ≡ drive_logs third) (LeavesCleared c.args.blocks old c.args.plan.now.half_clean.items new)
+    (carried-left old middle third new c.args.blocks c.args.plan.now.half_clean.items c.args.plan.now.repair c.empty_zones.new.survey is c.requires.planned.repair c.in_ok-repair_torn.ensures.left) c.finish_zones.ensures.logs

@@ -1,0 +1,105 @@
+-- What the Moves of a repair are, and which logs the whole repair leaves.
+use Rattle.std.proofs.Common.{◌≡◌, ◌≢◌, ◌⊎◌, ℕ, zero, suc, ◌+◌, ◌<◌, List, [], ◌∷◌, ◌++◌, length, map, None, Some, refl, sym, ap, subst, ◌∙◌, arith}
+use Rattle.std.specs.Prelude.{slice_get, slice_index_or, slice_set}
+use Rattle.std.specs.List.{AllByRecursion, range_with_len}
+use Rattle.std.proofs.lemmas.List.{length-append, length-map, map-append}
+use Rattle.nvme_wire.specs.declared.zone_state.ZoneState.TheVariants as states
+use Rattle.zone_states.specs.declared.geometry.Geometry.{Geometry}
+use Rattle.drive_port.specs.Contents.{content_of, contents}
+use Rattle.drive_port.specs.Drive.{DriveState}
+use Rattle.batch_log.specs.Log.{Batch}
+use Rattle.logical_map.specs.declared.place.Place.TheVariants as places
+use Rattle.zone_choice.specs.Agreement.{drive_logs}
+use Rattle.zone_choice.specs.Records.{without}
+use Rattle.zone_choice.specs.Repair.{HasAtMost}
+use Rattle.zone_choice.specs.Sizes.{log_greatest}
+use Rattle.zone_choice.specs.Spare.{IsMoveFrom, IsVacant}
+use Rattle.zone_choice.specs.ZoneLogs.{log_at, zone_log}
+use Rattle.zone_choice.proofs.AgreementLaws.{zone_log-emptied}
+use Rattle.zone_choice.proofs.AllLaws.{all-append}
+use Rattle.zone_choice.proofs.ZoneLogLaws.{log_at-zone}
+use Rattle.remount.specs.declared.moves.MovePlan.{MovePlan}
+use Rattle.remount.specs.declared.reported.ReportedZone.{ReportedZone}
+use Rattle.remount.specs.declared.survey.Survey.{Survey}
+use Rattle.remount.specs.Moving.{CanMove, EmptiesTorn, Source, move_by, move_count, moves_before, named_by, placed_entry}
+use Rattle.remount.specs.TornRepair.{AreRepairMoves, RepairsTorn}
+use Rattle.remount.proofs.BeginLaws.{IsPrepared}
+use Rattle.remount.proofs.CallLaws.{in-get}
+use Rattle.remount.proofs.MovePlanLaws.{few-named, size-either}
+use Rattle.remount.proofs.NoteLaws.{logs-emptied}
+use Rattle.remount.proofs.SettleLaws.{says-size}
+
+-- ---- the Moves
+
+moves-from : (source : Source) (plan : MovePlan) (k : ℕ) → AllByRecursion (IsMoveFrom plan.torn) (moves_before source plan k)
+moves-from source plan zero = tt
+moves-from source plan (suc k) = all-append (IsMoveFrom plan.torn) (moves_before source plan k) (move_by source plan k ∷ []) (moves-from source plan k) ((refl, refl), tt)
+
+few-entries : (source : Source) (plan : MovePlan) (k : ℕ) → HasAtMost plan.most (move_by source plan k)
+few-entries source plan k = omega (arith, few-named plan k, length-map (named_by plan k) (λ x. placed_entry x (slice_index_or source.places x places.None)))
+
+moves-few : (source : Source) (plan : MovePlan) (k : ℕ) → AllByRecursion (HasAtMost plan.most) (moves_before source plan k)
+moves-few source plan zero = tt
+moves-few source plan (suc k) = all-append (HasAtMost plan.most) (moves_before source plan k) (move_by source plan k ∷ []) (moves-few source plan k) (few-entries source plan k, tt)
+
+moves-count : (source : Source) (plan : MovePlan) (k : ℕ) → length (moves_before source plan k) ≡ k
+moves-count source plan zero = refl
+moves-count source plan (suc k) = omega (arith, length-append (moves_before source plan k) (move_by source plan k ∷ []), moves-count source plan k)
+
+range-more : (a n : ℕ) → range_with_len a (suc n) ≡ range_with_len a n ++ (a + n) ∷ []
+range-more a zero = let same : a + 0 ≡ a = omega arith in rw same refl
+range-more a (suc n) = let same : a + suc n ≡ (a + 1) + n = omega arith in rw same (ap (λ (xs : List ℕ). a ∷ xs) (range-more (a + 1) n))
+
+moves-numbers : (source : Source) (plan : MovePlan) (k : ℕ) → map (λ (batch : Batch). batch.heading.sequence) (moves_before source plan k) ≡ range_with_len plan.next k
+moves-numbers source plan zero = refl
+moves-numbers source plan (suc k) =
+    map-append (λ (batch : Batch). batch.heading.sequence) (moves_before source plan k) (move_by source plan k ∷ [])
+    ∙ ap (λ (xs : List ℕ). xs ++ (plan.next + k) ∷ []) (moves-numbers source plan k)
+    ∙ sym (range-more plan.next k)
+
+moves-sizes : (geometry : Geometry) (n : ℕ) (logs : List (List Batch)) (source : Source) (plan : MovePlan) (k : ℕ) → CanMove geometry n logs source plan
+    → AllByRecursion (λ (batch : Batch). (batch.heading.size ≡ log_greatest (log_at logs plan.torn)) ⊎ (batch.heading.size ≡ None)) (moves_before source plan k)
+moves-sizes geometry n logs source plan zero can = tt
+moves-sizes geometry n logs source plan (suc k) can =
+    all-append (λ (batch : Batch). (batch.heading.size ≡ log_greatest (log_at logs plan.torn)) ⊎ (batch.heading.size ≡ None)) (moves_before source plan k) (move_by source plan k ∷ [])
+    (moves-sizes geometry n logs source plan k can) (size-either geometry n logs source plan k can, tt)
+
+are-moves : (geometry : Geometry) (n : ℕ) (logs : List (List Batch)) (source : Source) (plan : MovePlan) → CanMove geometry n logs source plan → AreRepairMoves geometry n logs plan.torn (moves_before source plan (move_count plan))
+are-moves geometry n logs source plan can =
+    let count = moves-count source plan (move_count plan) in
+    record {
+      from = moves-from source plan (move_count plan);
+      few = subst (λ (most : ℕ). AllByRecursion (HasAtMost most) (moves_before source plan (move_count plan))) can.most (moves-few source plan (move_count plan));
+      count = count ∙ can.count;
+      numbers = moves-numbers source plan (move_count plan) ∙ ap (λ (a : ℕ). range_with_len a (move_count plan)) can.next ∙ ap (range_with_len _) (sym count);
+      size = says-size geometry n logs source plan (move_count plan) can refl (omega arith);
+      sizes = moves-sizes geometry n logs source plan (move_count plan) can;
+    }
+
+-- ---- the logs
+
+-- no zone below an Empty one is vacant, where none is Empty
+abbrev pub NoneEmptyBelow : List ReportedZone → ℕ → Type 0
+NoneEmptyBelow reported limit = (other : ℕ) (r : ReportedZone) → other < limit → slice_get reported other ≡ Some r → r.state ≢ states.Empty
+
+none-vacant : (n : ℕ) (drive : DriveState) (survey : Survey) (torn into : ℕ) → IsPrepared n drive survey torn into → NoneEmptyBelow survey.zones.items into → (zone : ℕ) → zone < into → IsVacant (drive_logs drive) zone → ⊥
+none-vacant n drive survey torn into p none zone lt vacant =
+    let there = in-get survey.zones.items zone (record { state = states.Empty; blocks = 0 }) (omega (arith, lt, p.in_range, p.known.zones.count)) in
+    none zone there.0 lt there.1 (p.vacant zone there.0 there.1 vacant)
+
+pub torn-repaired : (n : ℕ) (start new : DriveState) (survey : Survey) (source : Source) (plan : MovePlan) (torn into : ℕ) → IsPrepared n start survey torn into → plan.torn ≡ torn → plan.into ≡ into → NoneEmptyBelow survey.zones.items into
+    → CanMove start.geometry n (drive_logs start) source plan → EmptiesTorn n start new plan (moves_before source plan (move_count plan)) → RepairsTorn start.geometry n (drive_logs start) torn (drive_logs new)
+torn-repaired n start new survey source plan torn into p torn_is into_is none can e = record {
+  into = into;
+  in_range = omega (arith, p.in_range, length-map (contents start.zones) (zone_log start.geometry), length-map start.zones content_of);
+  vacant = log_at-zone start.geometry (contents start.zones) into ∙ ap (zone_log start.geometry) p.there ∙ zone_log-emptied start.geometry;
+  lowest = none-vacant n start survey torn into p none;
+  made = moves_before source plan (move_count plan);
+  are = subst (λ (z : ℕ). AreRepairMoves start.geometry n (drive_logs start) z (moves_before source plan (move_count plan))) torn_is (are-moves start.geometry n (drive_logs start) source plan can);
+  logs_are = logs-emptied n start new plan (moves_before source plan (move_count plan)) e
+      ∙ ap (λ (z : ℕ). without (slice_set (drive_logs start) z (moves_before source plan (move_count plan))) plan.torn) into_is
+      ∙ ap (λ (z : ℕ). without (slice_set (drive_logs start) into (moves_before source plan (move_count plan))) z) torn_is;
+}
+
+pub repaired-since : (n torn : ℕ) (g h : Geometry) (start old new : List (List Batch)) → g ≡ h → start ≡ old → RepairsTorn g n start torn new → RepairsTorn h n old torn new
+repaired-since n torn g h start old new shape same is = subst (λ (x : Geometry). RepairsTorn x n old torn new) shape (subst (λ (logs : List (List Batch)). RepairsTorn g n logs torn new) same is)
