@@ -1,19 +1,22 @@
 -- What a mount keeps while it looks for half clean zones, so that no zone is looked at without need.
-use Rattle.std.specs.Prelude.{◌≡◌, ◌≢◌, ◌⊎◌, ℕ, ◌<◌, List, length, IsTrue}
+use Rattle.std.specs.Prelude.{◌≡◌, ◌≢◌, ◌⊎◌, ℕ, ◌<◌, List, Some, length, IsTrue}
+use Rattle.std.specs.List.{AllByRecursion}
 use Rattle.std.specs.BTreeSet.{BTreeSet, contains}
 use Rattle.std.specs.Ordering.{nat_cmp}
 use Rattle.drive_port.specs.Drive.{DriveState}
 use Rattle.batch_log.specs.Log.{Batch}
-use Rattle.zone_choice.specs.Records.{without}
+use Rattle.zone_choice.specs.Records.{Record, newest, records, without}
 use Rattle.zone_choice.specs.Repairing.{IsMoved, NeedsItsBlock}
 use Rattle.zone_choice.specs.Sizes.{encoded_size}
 use Rattle.remount.specs.declared.clearing.Candidates.{Candidates}
 use Rattle.remount.specs.declared.survey.Survey.{Survey}
 use Rattle.remount.specs.BlockRecords.{HoldsRecords}
 use Rattle.remount.specs.Clearing.{CoversMoved}
+use Rattle.remount.specs.Heads.{HeadsView}
+use Rattle.remount.specs.KeptRecords.{block_in}
 use Rattle.remount.specs.Known.{Knows}
 use Rattle.remount.specs.Scan.{heads_in}
-use Rattle.remount.specs.SizeCounts.{size_counts}
+use Rattle.remount.specs.SizeCounts.{IsSized, size_counts}
 
 -- Why a zone is not half clean: its batches are not Moves from an older zone; or a block shows something else without it; or it alone says the size.
 abbrev pub IsNeeded : ℕ → ℕ → List (List Batch) → ℕ → Type 0
@@ -40,3 +43,17 @@ AllWait drive n logs candidates = (zone : ℕ) → zone < length logs → MayWai
 -- and so does each but one
 abbrev pub OthersWait : DriveState → ℕ → List (List Batch) → Candidates → ℕ → Type 0
 OthersWait drive n logs candidates taken = (zone : ℕ) → zone < length logs → zone ≢ taken → MayWait drive.geometry.block n logs candidates.waiting zone
+
+-- ---- zones that wait again
+
+-- the zone in which the newest record of a block lies waits
+abbrev pub HolderWaits : List (List Batch) → BTreeSet ℕ → ℕ → Type 0
+HolderWaits logs waiting block = (r : Record) → newest block (records 0 logs) ≡ Some r → IsTrue (contains nat_cmp waiting r.zone)
+
+-- and so do those of the blocks of these entries
+abbrev pub HoldersWait : List (List Batch) → BTreeSet ℕ → List ℕ → Type 0
+HoldersWait logs waiting entries = AllByRecursion (λ entry. HolderWaits logs waiting (block_in entry)) entries
+
+-- a zone that says a size waits, where there is one
+abbrev pub LastWaits : List HeadsView → BTreeSet ℕ → Type 0
+LastWaits views waiting = ((zone : ℕ) → IsSized views zone → ⊥) ⊎ ((zone : ℕ) × IsSized views zone × IsTrue (contains nat_cmp waiting zone))

@@ -1,4 +1,6 @@
-ghost use Rattle.std.specs.Prelude.{◌≡◌, ◌<◌, ◌^◌, ℕ, List, length, IfErr, IfOk, IfSome, OnOk};
+ghost use Rattle.std.specs.Prelude.{◌≡◌, ◌≢◌, ◌<◌, ◌^◌, ℕ, List, Some, false, length, slice_get, IfErr, IfOk, IfSome, IsSome, OnOk};
+ghost use Rattle.std.specs.BTreeSet.{IsSubset, contains};
+ghost use Rattle.std.specs.Ordering.{nat_cmp};
 ghost use Rattle.batch_log.specs.Log.{Batch};
 ghost use Rattle.drive_port.specs.Drive.{DriveState};
 ghost use Rattle.zone_choice.specs.Agreement.{drive_logs};
@@ -6,17 +8,20 @@ ghost use Rattle.zone_choice.specs.Records.{without};
 ghost use Rattle.zone_choice.specs.Repairing.{IsMoved};
 ghost use Rattle.zone_choice.specs.Spare.{HasSpare, IsClearing, IsHalfClean, cleared};
 ghost use Rattle.remount.specs.declared.fault.MountFault.TheVariants.{NoSpare};
-ghost use Rattle.remount.specs.BlockRecords.{HoldsRecords};
-ghost use Rattle.remount.specs.Clearing.{CoversZone, FindsLowest, forgotten};
+ghost use Rattle.remount.specs.declared.scan.ScannedZone.{ScannedZone};
+ghost use Rattle.remount.specs.BlockRecords.{HoldsBlocks, HoldsRecords, held_of};
+ghost use Rattle.remount.specs.Clearing.{AreOf, CoversZone, FindsLowest, Tells, forgotten};
 ghost use Rattle.remount.specs.Known.{Finds, Knows};
 ghost use Rattle.remount.specs.Reported.{KeepsZones};
 ghost use Rattle.remount.specs.Scan.{AreKnown, FailsBy, heads_in, tails_in};
 ghost use Rattle.remount.specs.SizeCounts.{size_counts};
-ghost use Rattle.remount.specs.Waiting.{AllWait, AreCandidates, OthersWait};
+ghost use Rattle.remount.specs.Waiting.{AllWait, AreCandidates, HolderWaits, HoldersWait, LastWaits, OthersWait};
 
 use crate::block_records::BlockRecords;
 use crate::fault::MountFault;
 use crate::moved::{forget, has_moved, has_vacant, is_moved};
+use crate::records::block_in;
+use crate::scan::ScannedZone;
 use crate::shown::first_needed;
 use crate::sizes::{SizeCounts, lowest_sized};
 use crate::survey::Survey;
@@ -115,18 +120,42 @@ pub fn examine_zone<D: Device>(
     )
 }
 
+/// Adds a zone to a set, if it has Moves from an older zone alone.
+fn add_moved(
+    zones: &mut BTreeSet<u32>,
+    scanned: &[ScannedZone],
+    zone: u32,
+) -> Result<(), AllocError>
+    ensures own { OnOk result (contains nat_cmp zones.old zone ≡ false → (logs : List (List Batch)) → AreOf scanned.now logs → Tells (contains nat_cmp zones.new zone) (IsMoved logs zone)) }
+    ensures others { OnOk result ((q : ℕ) → q ≢ zone → contains nat_cmp zones.new q ≡ contains nat_cmp zones.old q) }
+{
+    if !is_moved(scanned, zone) {
+        return Ok(());
+    }
+    zones.insert(zone)?;
+    Ok(())
+}
+
 /// All zones of Moves from an older zone.
-fn moved_zones(alloc: Global, survey: &Survey) -> Result<BTreeSet<u32>, AllocError> {
-    Err(AllocError)
+fn moved_zones(alloc: Global, scanned: &[ScannedZone]) -> Result<BTreeSet<u32>, AllocError>
+    requires few { length scanned.now < 2 ^ 32 }
+    ensures { IfOk result (λ zones. (logs : List (List Batch)) → AreOf scanned.now logs → (zone : ℕ) → Tells (contains nat_cmp zones zone) (IsMoved logs zone)) }
+{
+    let mut zones = BTreeSet::new(alloc);
+    for zone in 0..scanned.len() as u32 {
+        add_moved(&mut zones, scanned, zone)?;
+    }
+    Ok(zones)
 }
 
 impl Candidates {
     fn new(alloc: Global, survey: &Survey) -> Result<Candidates, AllocError>
+        requires few { length survey.now.scanned.items < 2 ^ 32 }
         ensures are { IfOk result (λ candidates. (drive : DriveState) (n : ℕ) (logs : List (List Batch)) → Knows drive n logs survey.now → AreCandidates drive n logs survey.now candidates) }
         ensures wait { IfOk result (λ candidates. (drive : DriveState) (n : ℕ) (logs : List (List Batch)) → Knows drive n logs survey.now → AllWait drive n logs candidates) }
     {
         let records = BlockRecords::of_moved(alloc, survey)?;
-        let waiting = moved_zones(alloc, survey)?;
+        let waiting = moved_zones(alloc, &survey.scanned)?;
         Ok(Candidates {
             records,
             sizes: SizeCounts::new(survey),
@@ -152,7 +181,95 @@ fn next_half_clean<D: Device>(
     ensures err { IfErr result (FailsBy (λ _. ⊥) (D.drive device.new)) }
     ensures kept { KeepsZones (D.drive device.old) (D.drive device.new) }
 {
-    Err(MountFault::OutOfMemory)
+    let mut first = Vec::new(alloc);
+    let mut second = Vec::new(alloc);
+    while let Some(zone) = candidates.waiting.pop_first() {
+        let finding = examine_by(
+            device,
+            survey,
+            blocks,
+            &candidates.records,
+            candidates.sizes,
+            zone,
+            &mut first,
+            &mut second,
+        )?;
+        if let Finding::HalfClean = finding {
+            return Ok(Some(zone));
+        }
+    }
+    Ok(None)
+}
+
+/// The zone that shows a block is to be looked at.
+fn wake_one(
+    records: &BlockRecords,
+    waiting: &mut BTreeSet<u32>,
+    block: u32,
+) -> Result<(), AllocError>
+    ensures more { OnOk result (IsSubset nat_cmp waiting.old waiting.new) }
+    ensures holder { OnOk result ((logs : List (List Batch)) → HoldsRecords logs records.now → IsSome (held_of records.now block) → HolderWaits logs waiting.new block) }
+{
+    let Some(newest) = records.newest(block) else {
+        return Ok(());
+    };
+    waiting.insert(newest.zone)?;
+    Ok(())
+}
+
+/// The zones that show the blocks of these entries are to be looked at.
+fn wake(
+    records: &BlockRecords,
+    waiting: &mut BTreeSet<u32>,
+    entries: &[u32],
+) -> Result<(), AllocError>
+    ensures more { OnOk result (IsSubset nat_cmp waiting.old waiting.new) }
+    ensures holders { OnOk result ((logs : List (List Batch)) → HoldsRecords logs records.now → HoldsBlocks records.now entries.now → HoldersWait logs waiting.new entries.now) }
+{
+    for entry in entries {
+        wake_one(records, waiting, block_in(*entry))?;
+    }
+    Ok(())
+}
+
+/// The zones that show the blocks of a zone are to be looked at.
+fn wake_holders(
+    records: &BlockRecords,
+    waiting: &mut BTreeSet<u32>,
+    survey: &Survey,
+    zone: u32,
+) -> Result<(), AllocError>
+    ensures more { OnOk result (IsSubset nat_cmp waiting.old waiting.new) }
+    ensures holders { OnOk result ((logs : List (List Batch)) (found : ScannedZone) → slice_get survey.now.scanned.items zone ≡ Some found → HoldsRecords logs records.now → HoldsBlocks records.now found.heads.entries → HoldersWait logs waiting.new found.heads.entries) }
+{
+    let Some(found) = survey.scanned.get(zone as usize) else {
+        return Ok(());
+    };
+    wake(records, waiting, found.heads.entries())
+}
+
+/// If one zone says a size, and there were more before, it is to be looked at.
+fn wake_last(
+    before: SizeCounts,
+    left: SizeCounts,
+    waiting: &mut BTreeSet<u32>,
+    scanned: &[ScannedZone],
+) -> Result<(), AllocError>
+    requires few { length scanned.now < 2 ^ 32 }
+    ensures more { OnOk result (IsSubset nat_cmp waiting.old waiting.new) }
+    ensures last { OnOk result (left.any ≡ 1 → before.any ≢ 1 → LastWaits (heads_in scanned.now) waiting.new) }
+{
+    if left.any != 1 {
+        return Ok(());
+    }
+    if before.any == 1 {
+        return Ok(());
+    }
+    let Some(last) = lowest_sized(scanned) else {
+        return Ok(());
+    };
+    waiting.insert(last)?;
+    Ok(())
 }
 
 /// Forgets the headers of a half clean zone. Zones that show one of its blocks now, and the last one that says a size,
@@ -163,6 +280,7 @@ fn give_up(
     candidates: &mut Candidates,
     zone: u32,
 ) -> Result<(), AllocError>
+    requires few { length survey.old.scanned.items < 2 ^ 32 }
     ensures are { OnOk result ((drive : DriveState) (n : ℕ) (logs : List (List Batch)) → AreCandidates drive n logs survey.old candidates.old → IsHalfClean drive.geometry.block n logs zone → AreCandidates drive n (without logs zone) survey.new candidates.new) }
     ensures wait { OnOk result ((drive : DriveState) (n : ℕ) (logs : List (List Batch)) → AreCandidates drive n logs survey.old candidates.old → IsHalfClean drive.geometry.block n logs zone → OthersWait drive n logs candidates.old zone → AllWait drive n (without logs zone) candidates.new) }
     ensures heads { OnOk result (heads_in survey.new.scanned.items ≡ forgotten (heads_in survey.old.scanned.items) zone) }
@@ -170,7 +288,13 @@ fn give_up(
     ensures zones { survey.new.zones ≡ survey.old.zones }
     ensures size { survey.new.size ≡ survey.old.size }
 {
-    Err(AllocError)
+    let before = candidates.sizes;
+    let left = before.without(survey, zone);
+    candidates.records.forget(survey, zone);
+    candidates.sizes = left;
+    wake_holders(&candidates.records, &mut candidates.waiting, survey, zone)?;
+    forget(alloc, &mut survey.scanned, zone);
+    wake_last(before, left, &mut candidates.waiting, &survey.scanned)
 }
 
 /// Finds the half clean zones, each the lowest of its moment, and forgets their headers.
