@@ -48,6 +48,9 @@ count-forgotten p (v ∷ vs) (suc zone) none = omega (arith, count-forgotten p v
 pub count-share : (p : HeadsView → Bool) (views : List HeadsView) (zone : ℕ) (b : Bool) → p no_heads ≡ false → p (view_at views zone) ≡ b → count_by p views ≡ one_if b + count_by p (forgotten views zone)
 count-share p views zone b none is = count-forgotten p views zone none ∙ ap (λ (t : Bool). one_if t + count_by p (forgotten views zone)) is
 
+count-none : (p : HeadsView → Bool) (views : List HeadsView) (zone : ℕ) → p no_heads ≡ false → p (view_at views zone) ≡ false → count_by p views ≡ count_by p (forgotten views zone)
+count-none p views zone none is = omega (arith, count-share p views zone false none is)
+
 -- ---- the greatest size
 
 pub greatest-forgotten : (views : List HeadsView) (zone : ℕ) → greatest_in views ≡ larger (view_at views zone).size (greatest_in (forgotten views zone))
@@ -61,66 +64,66 @@ greatest-forgotten (v ∷ vs) (suc zone) =
 -- it is said
 some-said : (views : List HeadsView) (k : ℕ) → greatest_in views ≡ Some k → 1 ≤ count_by says_some views
 some-said [] k e = absurd (cc)
-some-said (v ∷ vs) k e = by v.size refl e
+some-said (v ∷ vs) k e = by (some-said vs k) v.size refl e
   where
-    by : (x : Option ℕ) → v.size ≡ x → larger x (greatest_in vs) ≡ Some k → 1 ≤ count_by says_some (v ∷ vs)
-    by None is same = let rest = some-said vs k same in omega (arith, rest, count-cons says_some v vs)
-    by (Some a) is same = let here : one_if (says_some v) ≡ 1 = ap (λ (s : Option ℕ). one_if (is_some s)) is in omega (arith, here, count-cons says_some v vs)
+    by : (greatest_in vs ≡ Some k → 1 ≤ count_by says_some vs) → (x : Option ℕ) → v.size ≡ x → larger x (greatest_in vs) ≡ Some k → 1 ≤ count_by says_some (v ∷ vs)
+    by more None is same = let rest = more same in omega (arith, rest, count-cons says_some v vs)
+    by more (Some a) is same = let here : one_if (says_some v) ≡ 1 = ap (λ (s : Option ℕ). one_if (is_some s)) is in omega (arith, here, count-cons says_some v vs)
 
 greatest-said : (views : List HeadsView) (k : ℕ) → greatest_in views ≡ Some k → 1 ≤ count_by (says_size k) views
 greatest-said [] k e = absurd (cc)
-greatest-said (v ∷ vs) k e = by v.size refl (greatest_in vs) refl e
+greatest-said (v ∷ vs) k e = by (greatest-said vs k) v.size refl (greatest_in vs) refl e
   where
     here : (a : ℕ) → v.size ≡ Some a → a ≡ k → 1 ≤ count_by (says_size k) (v ∷ vs)
     here a is same = let one : one_if (says_size k v) ≡ 1 = ap (λ (s : Option ℕ). one_if (is_size k s)) is ∙ ap one_if (eq-eqb a k same) in omega (arith, one, count-cons (says_size k) v vs)
 
-    there : greatest_in vs ≡ Some k → 1 ≤ count_by (says_size k) (v ∷ vs)
-    there is = let rest = greatest-said vs k is in omega (arith, rest, count-cons (says_size k) v vs)
+    there : 1 ≤ count_by (says_size k) vs → 1 ≤ count_by (says_size k) (v ∷ vs)
+    there rest = omega (arith, rest, count-cons (says_size k) v vs)
 
-    by : (x : Option ℕ) → v.size ≡ x → (y : Option ℕ) → greatest_in vs ≡ y → larger x y ≡ Some k → 1 ≤ count_by (says_size k) (v ∷ vs)
-    by None is y g same = there (g ∙ same)
-    by (Some a) is None g same = here a is (cc)
-    by (Some a) is (Some b) g same =
+    by : (greatest_in vs ≡ Some k → 1 ≤ count_by (says_size k) vs) → (x : Option ℕ) → v.size ≡ x → (y : Option ℕ) → greatest_in vs ≡ y → larger x y ≡ Some k → 1 ≤ count_by (says_size k) (v ∷ vs)
+    by more None is y g same = there (more (g ∙ same))
+    by more (Some a) is None g same = here a is (cc)
+    by more (Some a) is (Some b) g same =
         let top : max a b ≡ k = cc in
         elim (cases_eq a k) as (λ _. 1 ≤ count_by (says_size k) (v ∷ vs)) [
           | inl first ↦ here a is first
-          | inr other ↦ there (g ∙ ap (λ (n : ℕ). Some n) (omega (arith, top, other)))
+          | inr other ↦ there (more (g ∙ ap (λ (n : ℕ). Some n) (omega (arith, top, other))))
         ]
 
 -- where none is said, no zone says one
 none-said : (views : List HeadsView) (k : ℕ) → greatest_in views ≡ None → (count_by says_some views ≡ 0) × (count_by (says_size k) views ≡ 0)
 none-said [] k e = (refl, refl)
-none-said (v ∷ vs) k e = by v.size refl (greatest_in vs) refl e
+none-said (v ∷ vs) k e = by (none-said vs k) v.size refl (greatest_in vs) refl e
   where
-    by : (x : Option ℕ) → v.size ≡ x → (y : Option ℕ) → greatest_in vs ≡ y → larger x y ≡ None → (count_by says_some (v ∷ vs) ≡ 0) × (count_by (says_size k) (v ∷ vs) ≡ 0)
-    by None is y g same =
-        let rest = none-said vs k (g ∙ same) in
+    by : (greatest_in vs ≡ None → (count_by says_some vs ≡ 0) × (count_by (says_size k) vs ≡ 0)) → (x : Option ℕ) → v.size ≡ x → (y : Option ℕ) → greatest_in vs ≡ y → larger x y ≡ None → (count_by says_some (v ∷ vs) ≡ 0) × (count_by (says_size k) (v ∷ vs) ≡ 0)
+    by more None is y g same =
+        let rest = more (g ∙ same) in
         let any : one_if (says_some v) ≡ 0 = ap (λ (s : Option ℕ). one_if (is_some s)) is in
         let own : one_if (says_size k v) ≡ 0 = ap (λ (s : Option ℕ). one_if (is_size k s)) is in
         (omega (arith, any, rest.0, count-cons says_some v vs), omega (arith, own, rest.1, count-cons (says_size k) v vs))
-    by (Some a) is None g same = absurd (cc)
-    by (Some a) is (Some b) g same = absurd (cc)
+    by more (Some a) is None g same = absurd (cc)
+    by more (Some a) is (Some b) g same = absurd (cc)
 
 -- no zone says a greater one
 said-below : (views : List HeadsView) (size k : ℕ) → greatest_in views ≡ Some k → 1 ≤ count_by (says_size size) views → size ≤ k
 said-below [] size k e some = absurd (cc)
-said-below (v ∷ vs) size k e some = by v.size refl (greatest_in vs) refl e
+said-below (v ∷ vs) size k e some = by (said-below vs size) v.size refl (greatest_in vs) refl e
   where
     rest : (x : Option ℕ) → v.size ≡ x → is_size size x ≡ false → 1 ≤ count_by (says_size size) vs
     rest x is other = let own : one_if (says_size size v) ≡ 0 = ap (λ (s : Option ℕ). one_if (is_size size s)) is ∙ ap one_if other in omega (arith, own, some, count-cons (says_size size) v vs)
 
-    by : (x : Option ℕ) → v.size ≡ x → (y : Option ℕ) → greatest_in vs ≡ y → larger x y ≡ Some k → size ≤ k
-    by None is y g same = said-below vs size k (g ∙ same) (rest None is refl)
-    by (Some a) is None g same = at (eqb a size) refl
-      where
-        at : (t : Bool) → eqb a size ≡ t → size ≤ k
-        at true one = let top : a ≡ k = cc in omega (arith, top, eqb-true a size one)
-        at false other = let bad = rest (Some a) is other in absurd (omega (arith, bad, (none-said vs size g).1))
-    by (Some a) is (Some b) g same = at (eqb a size) refl
-      where
-        at : (t : Bool) → eqb a size ≡ t → size ≤ k
-        at true one = let top : max a b ≡ k = cc in omega (arith, top, eqb-true a size one)
-        at false other = let top : max a b ≡ k = cc in let less = said-below vs size b g (rest (Some a) is other) in omega (arith, top, less)
+    alone : (a : ℕ) (t : Bool) → v.size ≡ Some a → greatest_in vs ≡ None → a ≡ k → eqb a size ≡ t → size ≤ k
+    alone a true is g top one = omega (arith, top, eqb-true a size one)
+    alone a false is g top other = let bad = rest (Some a) is other in absurd (omega (arith, bad, (none-said vs size g).1))
+
+    beside : (more : 1 ≤ count_by (says_size size) vs → (b : ℕ) → greatest_in vs ≡ Some b → size ≤ b) (a b : ℕ) (t : Bool) → v.size ≡ Some a → greatest_in vs ≡ Some b → max a b ≡ k → eqb a size ≡ t → size ≤ k
+    beside more a b true is g top one = omega (arith, top, eqb-true a size one)
+    beside more a b false is g top other = let less = more (rest (Some a) is other) b g in omega (arith, top, less)
+
+    by : ((b : ℕ) → greatest_in vs ≡ Some b → 1 ≤ count_by (says_size size) vs → size ≤ b) → (x : Option ℕ) → v.size ≡ x → (y : Option ℕ) → greatest_in vs ≡ y → larger x y ≡ Some k → size ≤ k
+    by more None is y g same = more k (g ∙ same) (rest None is refl)
+    by more (Some a) is None g same = alone a (eqb a size) is g (cc) refl
+    by more (Some a) is (Some b) g same = beside (λ one c there. more c there one) a b (eqb a size) is g (cc) refl
 
 -- ---- the size without a zone
 
@@ -290,7 +293,7 @@ counts-silent size zone scanned found said counts there_is says none are =
     let views = heads_in scanned in
     let own : (view_at views zone).size ≡ None = ap (λ (h : HeadsView). h.size) (view-found scanned zone found there_is) ∙ sym says ∙ none in
     are ∙ same-counts (count_by says_some views) (count_by (says_size size) views) (count_by says_some (forgotten views zone)) (count_by (says_size size) (forgotten views zone))
-    (count-share says_some views zone false refl (ap (λ (s : Option ℕ). is_some s) own)) (count-share (says_size size) views zone false refl (ap (is_size size) own))
+    (count-none says_some views zone refl (ap (λ (s : Option ℕ). is_some s) own)) (count-none (says_size size) views zone refl (ap (is_size size) own))
 
 pub counts-other : (size zone k less : ℕ) (scanned : List ScannedZone) (found : ScannedZone) (said : Option ℕ) (counts : SizeCounts) → slice_get scanned zone ≡ Some found → said ≡ found.heads.size → said ≡ Some k → k ≢ size → less ≡ counts.any - 1
     → counts ≡ size_counts size (heads_in scanned) → ◌≡◌ {A = SizeCounts} (record { any = less; greatest = counts.greatest }) (size_counts size (forgotten (heads_in scanned) zone))
@@ -298,7 +301,7 @@ counts-other size zone k less scanned found said counts there_is says some diffe
     let views = heads_in scanned in
     let own : (view_at views zone).size ≡ Some k = ap (λ (h : HeadsView). h.size) (view-found scanned zone found there_is) ∙ sym says ∙ some in
     let any = count-share says_some views zone true refl (ap (λ (s : Option ℕ). is_some s) own) in
-    let greatest = count-share (says_size size) views zone false refl (ap (is_size size) own ∙ ne_eqb k size differs) in
+    let greatest = count-none (says_size size) views zone refl (ap (is_size size) own ∙ ne_eqb k size differs) in
     let before : counts.any ≡ count_by says_some views = ap (λ (c : SizeCounts). c.any) are in
     same-counts less counts.greatest (count_by says_some (forgotten views zone)) (count_by (says_size size) (forgotten views zone))
     (omega (arith, fewer, before, any)) (ap (λ (c : SizeCounts). c.greatest) are ∙ greatest)

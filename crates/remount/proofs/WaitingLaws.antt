@@ -81,7 +81,7 @@ moved-less logs gone zone apart is =
 
 -- ---- a block that a zone shows
 
-AllWoken : List (List Batch) → ℕ → BTreeSet ℕ → Type 0
+abbrev AllWoken : List (List Batch) → ℕ → BTreeSet ℕ → Type 0
 AllWoken logs gone waiting = AllByRecursion (λ (r : Record). r.zone ≡ gone → HolderWaits (without logs gone) waiting r.block) (records 0 logs)
 
 all-outside : (P : Record → Type 0) (zone : ℕ) (rs : List Record) → AllByRecursion P rs → AllByRecursion P (outside zone rs)
@@ -140,7 +140,7 @@ block-needs block_bytes n logs gone zone block waiting apart size woken needs = 
 
 -- ---- a zone that is not half clean
 
-IsLastWoken : List HeadsView → ℕ → BTreeSet ℕ → Type 0
+abbrev IsLastWoken : List HeadsView → ℕ → BTreeSet ℕ → Type 0
 IsLastWoken views gone waiting = count_by says_some (forgotten views gone) ≡ 1 → count_by says_some views ≢ 1 → LastWaits (forgotten views gone) waiting
 
 -- it is not half clean still, unless it waits
