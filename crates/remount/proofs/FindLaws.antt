@@ -108,6 +108,10 @@ not-above k q = grind (arith, nat_tests)
 taken-other : (old new : BTreeSet ℕ) (zone q : ℕ) → Updates nat_cmp old new zone false → q ≢ zone → IsTrue (contains nat_cmp old q) → IsTrue (contains nat_cmp new q)
 taken-other old new zone q updates apart waits = updates.2 q (at-is zone q ∙ ne_eqb zone q (λ e. apart (sym e))) ∙ waits
 
+pub no-length : (n : ℕ) → (0 < n → ⊥) → n ≡ 0
+no-length zero none = refl
+no-length (suc n) none = absurd (none (omega arith))
+
 none-waits : (waiting : BTreeSet ℕ) (q : ℕ) → btree_set_len waiting ≡ 0 → IsTrue (contains nat_cmp waiting q) → ⊥
 none-waits waiting q none waits =
     let empty : waiting.keys ≡ [] = nil_from_length waiting.keys none in

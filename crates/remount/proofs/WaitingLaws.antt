@@ -1,6 +1,6 @@
 -- Which zones have to be looked at again once a half clean zone is forgotten.
-use Rattle.std.proofs.Common.{◌≡◌, ◌≢◌, ◌⊎◌, inl, inr, ℕ, zero, suc, ◌+◌, ◌<◌, ◌≤◌, Bool, true, false, cond, eqb, List, [], ◌∷◌, length, map, set, drop, get_or, Option, Some, None, refl, sym, ap, subst, ◌∙◌, arith}
-use Rattle.std.specs.Prelude.{IsSome, IsTrue, slice_get}
+use Rattle.std.proofs.Common.{◌≡◌, ◌≢◌, ◌⊎◌, inl, inr, ℕ, zero, suc, ◌+◌, ◌<◌, ◌≤◌, Bool, true, false, cond, eqb, List, [], ◌∷◌, length, map, set, drop, get_or, Option, Some, None, Result, Ok, Err, refl, sym, ap, subst, ◌∙◌, arith}
+use Rattle.std.specs.Prelude.{IsSome, IsTrue, OnOk, slice_get}
 use Rattle.std.specs.Option.{option_map}
 use Rattle.std.specs.BTreeSet.{BTreeSet, IsSubset, Updates, contains}
 use Rattle.std.specs.BTreeMap.{is_at}
@@ -241,6 +241,10 @@ given-wait before after old new woken gone wakes drive n logs are half others zo
     last : IsLastWoken (heads_in before.scanned.items) gone new.waiting
     last one more = subst (λ (hs : List HeadsView). LastWaits hs new.waiting) wakes.forgets.heads
         (wakes.last (ap (λ (c : SizeCounts). c.any) (wakes.sizes are.sizes) ∙ one) (λ same. more (sym (ap (λ (c : SizeCounts). c.any) are.sizes) ∙ same)))
+
+pub ok-both : {T E P Q R : Type 0} (result : Result T E) → (P → Q → R) → OnOk result P → OnOk result Q → OnOk result R
+ok-both (Ok x) f p q = f p q
+ok-both (Err e) f p q = tt
 
 -- ---- entry after entry
 
