@@ -5,6 +5,16 @@ use Rattle.remount.proofs.ReadLaws.{keeps-both, keeps-none}
 use Rattle.remount.proofs.SpareLaws.{knows-kept}
 use Rattle.remount.proofs.clearing.clear_moved.Goals as goal
 
+pub returns-then-not-has_moved-clause-kept : goal.returns-then-not-has_moved-clause-kept
+returns-then-not-has_moved-clause-kept g c = keeps-none _ c.requires.known.zones.lawful
+
+pub returns-in_err-candidates-clause-kept : goal.returns-in_err-candidates-clause-kept
+returns-in_err-candidates-clause-kept g c = keeps-none _ c.requires.known.zones.lawful
+
+pub loop-candidates-init : goal.loop-candidates-init
+loop-candidates-init g c =
+    (rw c.new-resets.ensures.items (searches-none (g.D.Device.drive c.args.device.now) c.args.blocks c.args.survey.now c.in_ok-candidates.candidates c.requires.known c.in_ok-candidates.ensures.are c.in_ok-candidates.ensures.wait), refl)
+
 pub returns-in_err-zone-clause-kept : goal.returns-in_err-zone-clause-kept
 returns-in_err-zone-clause-kept g c = keeps-both _ _ _ c.loop-candidates.invariant.0.clears.kept c.next_half_clean.ensures.kept
 
@@ -16,6 +26,9 @@ loop-candidates-smaller g c =
     clears-fewer (g.D.Device.drive c.args.device.now).geometry.block c.args.blocks (drive_logs (g.D.Device.drive c.args.device.now)) c.loop-candidates.resets.items c.push.new.self.items c.in-Some.zone
     (next-known (g.D.Device.drive c.args.device.now) (g.D.Device.drive c.loop-candidates.device) c.args.blocks c.loop-candidates.survey c.loop-candidates.candidates c.loop-candidates.resets.items (Some c.in-Some.zone) c.loop-candidates.invariant.0 (rw c.in-Some.is at c.in_ok-zone.ensures.ok))
     (rw c.if-is_err.ensures.negation at c.push.ensures.items)
+
+pub returns-in_err-give_up-clause-kept : goal.returns-in_err-give_up-clause-kept
+returns-in_err-give_up-clause-kept g c = keeps-both _ _ _ c.loop-candidates.invariant.0.clears.kept c.next_half_clean.ensures.kept
 
 pub loop-candidates-preserved : goal.loop-candidates-preserved
 loop-candidates-preserved g c = (
