@@ -6,7 +6,6 @@ use Rattle.drive_port.specs.Drive.{DriveState}
 use Rattle.batch_log.specs.Log.{Batch}
 use Rattle.zone_choice.specs.Agreement.{drive_logs}
 use Rattle.zone_choice.specs.Records.{without}
-use Rattle.zone_choice.specs.Repairing.{IsMoved}
 use Rattle.zone_choice.specs.Spare.{HasSpare, IsClearing, IsHalfClean, IsLowest, cleared}
 use Rattle.zone_choice.proofs.ClearingLaws.{clearing-part, fewer, has_batch, part-trans, with_batch}
 use Rattle.zone_choice.proofs.SizeLaws.{empty_spare}
@@ -17,7 +16,6 @@ use Rattle.remount.specs.Known.{HasVacant, Knows}
 use Rattle.remount.specs.Reported.{KeepsZones}
 use Rattle.remount.specs.Scan.{heads_in, tails_in}
 use Rattle.remount.specs.Waiting.{AllWait, AreCandidates, OthersWait}
-use Rattle.remount.proofs.FindLaws.{few-known, half-moved}
 use Rattle.remount.proofs.MovedLaws.{forgotten-are}
 use Rattle.remount.proofs.ReadLaws.{keeps-both, keeps-none}
 use Rattle.remount.proofs.SpareLaws.{knows-kept}
@@ -90,10 +88,6 @@ clears-fewer block_bytes n logs resets more zone lowest pushed =
 pub clears-all : (first now : DriveState) (n : ℕ) (survey : Survey) (resets : List ℕ) → ClearsSoFar first now n survey resets → FindsLowest first.geometry.block n (cleared (drive_logs first) resets) None → IsClearing first.geometry.block n (drive_logs first) resets
 clears-all first now n survey resets so_far none = subst (IsClearing first.geometry.block n (drive_logs first)) (append-nil resets) (so_far.lead [] none)
 
--- no zone is half clean where none is moved
-pub clears-unmoved : (drive : DriveState) (n : ℕ) (survey : Survey) → Knows drive n (drive_logs drive) survey → (((zone : ℕ) × IsMoved (drive_logs drive) zone) → ⊥) → IsClearing drive.geometry.block n (drive_logs drive) []
-clears-unmoved drive n survey known none zone lt half = none (zone, half-moved drive.geometry.block n (drive_logs drive) zone half)
-
 -- ---- with the zones that wait
 
 -- The candidates are known after these zones were cleared, and each half clean zone waits.
@@ -106,9 +100,6 @@ pub searches-none : (drive : DriveState) (n : ℕ) (survey : Survey) (candidates
     → ((d : DriveState) (k : ℕ) (logs : List (List Batch)) → Knows d k logs survey → AreCandidates d k logs survey candidates)
     → ((d : DriveState) (k : ℕ) (logs : List (List Batch)) → Knows d k logs survey → AllWait d k logs candidates) → SearchesOn drive drive n survey candidates []
 searches-none drive n survey candidates known are wait = record { clears = clears-none drive n survey known; are = are drive n (drive_logs drive) known; wait = wait drive n (drive_logs drive) known }
-
-pub searches-few : (first now : DriveState) (n : ℕ) (survey : Survey) (candidates : Candidates) (resets : List ℕ) → SearchesOn first now n survey candidates resets → length survey.scanned.items < 2 ^ 32
-searches-few first now n survey candidates resets on = few-known now n (cleared (drive_logs first) resets) survey on.are.known
 
 -- after the next was looked for
 abbrev pub FindsNext : DriveState → ℕ → Survey → Candidates → Option ℕ → Type 0

@@ -132,9 +132,9 @@ sifts-more first now n survey begin old new zone finding kept same updates other
       inr (rw here (finds-other first.geometry.block n logs zone finding other (told logs are.known are.records (are.covers zone))))
       )
   | inr apart ↦ (elim (so_far logs are wait q lt) as (λ _. IsTrue (contains nat_cmp new.waiting q) ⊎ IsNeeded first.geometry.block n logs q) [
-      | inl waits ↦ inl (taken-other old.waiting new.waiting zone q updates apart waits)
-      | inr needed ↦ inr needed
-    ])
+    | inl waits ↦ inl (taken-other old.waiting new.waiting zone q updates apart waits)
+    | inr needed ↦ inr needed
+  ])
 ]
 
 half-there : (block_bytes n : ℕ) (logs : List (List Batch)) (zone : ℕ) → IsHalfClean block_bytes n logs zone → zone < length logs

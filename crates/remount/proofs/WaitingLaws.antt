@@ -115,7 +115,7 @@ block-needs block_bytes n logs gone zone block waiting apart size woken needs = 
       in_range = rw size needs.in_range;
       differs = λ shown_same. needs.differs (
           ap (shown block_bytes) (sym same ∙ ap (λ (ls : List (List Batch)). newest block (records 0 ls)) (sym turned)) ∙ shown_same ∙ ap (shown block_bytes) (shows r is other ∙ sym is)
-      );
+          );
     })
 
     next : (r : Record) → newest block (records 0 logs) ≡ Some r → r.zone ≡ zone → r.zone ≢ gone → (x : Option Record) → newest block (records 0 (without logs zone)) ≡ x → IsNewest (records 0 (without logs zone)) block x → Goal
@@ -229,10 +229,10 @@ pub given-wait : (before after : Survey) (old new : Candidates) (woken : BTreeSe
 given-wait before after old new woken gone wakes drive n logs are half others zone lt = elim (cases_eq zone gone) as (λ _. IsTrue (contains nat_cmp new.waiting zone) ⊎ IsNeeded b n (without logs gone) zone) [
   | inl here ↦ inr (inl (λ moved. moved-batch (without logs gone) zone moved (rw here (gone-is logs gone))))
   | inr apart ↦ (elim (others zone (omega (arith, lt, length-set logs gone [])) apart) as (λ _. IsTrue (contains nat_cmp new.waiting zone) ⊎ IsNeeded b n (without logs gone) zone) [
-      | inl waits ↦ inl (wakes.then zone (wakes.first zone waits))
-      | inr needed ↦ needed-still b n logs (heads_in before.scanned.items) gone zone new.waiting are.known.heads apart (same-size b n (without logs gone) logs half.spare)
-          (all-woken drive n logs before after old new woken gone wakes are (half-moved b n logs gone half)) last needed
-    ])
+    | inl waits ↦ inl (wakes.then zone (wakes.first zone waits))
+    | inr needed ↦ needed-still b n logs (heads_in before.scanned.items) gone zone new.waiting are.known.heads apart (same-size b n (without logs gone) logs half.spare)
+        (all-woken drive n logs before after old new woken gone wakes are (half-moved b n logs gone half)) last needed
+  ])
 ]
   where
     b : ℕ

@@ -77,9 +77,15 @@ fn examine_by<D: Device>(
         return Ok(Finding::NotMoves);
     };
     let entries = found.heads.entries();
-    if let Some(block) =
-        first_needed(device, &survey.zones, records, zone, entries, first, second)?
-    {
+    if let Some(block) = first_needed(
+        device,
+        &survey.zones,
+        records,
+        zone,
+        entries,
+        first,
+        second,
+    )? {
         return Ok(Finding::NeedsBlock(block));
     }
     if !sizes.keep_size(survey, blocks, zone) {

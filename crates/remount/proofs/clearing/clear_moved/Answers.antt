@@ -1,6 +1,6 @@
 use Rattle.std.proofs.Common.{Some, None, refl, ◌∙◌}
 use Rattle.zone_choice.specs.Agreement.{drive_logs}
-use Rattle.remount.proofs.ClearLaws.{clears-all, clears-fewer, clears-unmoved, next-known, searches-few, searches-more, searches-none}
+use Rattle.remount.proofs.ClearLaws.{clears-all, clears-fewer, next-known, searches-more, searches-none}
 use Rattle.remount.proofs.ReadLaws.{keeps-both, keeps-none}
 use Rattle.remount.proofs.SpareLaws.{knows-kept}
 use Rattle.remount.proofs.clearing.clear_moved.Goals as goal
