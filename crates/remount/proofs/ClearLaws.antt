@@ -1,5 +1,5 @@
 -- Zones are cleared one after the other.
-use Rattle.std.proofs.Common.{◌≡◌, ◌⊎◌, inl, inr, ℕ, ◌^◌, ◌<◌, List, [], ◌∷◌, ◌++◌, Option, None, refl, sym, ap, subst, ◌∙◌, arith, append_assoc, append-nil}
+use Rattle.std.proofs.Common.{◌≡◌, ◌⊎◌, inl, inr, ℕ, ◌^◌, ◌<◌, List, [], ◌∷◌, ◌++◌, length, Option, Some, None, refl, sym, ap, subst, ◌∙◌, arith, append_assoc, append-nil}
 use Rattle.std.proofs.lemmas.List.{length-set}
 use Rattle.zone_states.specs.declared.geometry.Geometry.{Geometry}
 use Rattle.drive_port.specs.Drive.{DriveState}
@@ -9,12 +9,13 @@ use Rattle.zone_choice.specs.Records.{without}
 use Rattle.zone_choice.specs.Spare.{HasSpare, IsClearing, IsHalfClean, IsLowest, cleared}
 use Rattle.zone_choice.proofs.ClearingLaws.{clearing-part, fewer, has_batch, part-trans, with_batch}
 use Rattle.zone_choice.proofs.SizeLaws.{empty_spare}
+use Rattle.remount.specs.declared.clearing.Candidates.{Candidates}
 use Rattle.remount.specs.declared.survey.Survey.{Survey}
-use Rattle.remount.specs.Known.{HasVacant}
-use Rattle.remount.specs.Clearing.{FindsLowest, forgotten}
-use Rattle.remount.specs.Known.{Knows}
+use Rattle.remount.specs.Clearing.{AreOf, FindsLowest, forgotten}
+use Rattle.remount.specs.Known.{HasVacant, Knows}
 use Rattle.remount.specs.Reported.{KeepsZones}
 use Rattle.remount.specs.Scan.{heads_in, tails_in}
+use Rattle.remount.specs.Waiting.{AllWait, AreCandidates, OthersWait}
 use Rattle.remount.proofs.MovedLaws.{forgotten-are}
 use Rattle.remount.proofs.ReadLaws.{keeps-both, keeps-none}
 use Rattle.remount.proofs.SpareLaws.{knows-kept}
@@ -52,15 +53,9 @@ pub record ClearsSoFar (first now : DriveState) (n : ℕ) (survey : Survey) (res
   pub kept : KeepsZones first now
   pub known : Knows now n (cleared (drive_logs first) resets) survey
   pub lead : (rest : List ℕ) → IsClearing first.geometry.block n (cleared (drive_logs first) resets) rest → IsClearing first.geometry.block n (drive_logs first) (resets ++ rest)
-  pub spare : (resets ≡ []) ⊎ HasSpare first.geometry.block n (drive_logs first)
 
 pub clears-none : (drive : DriveState) (n : ℕ) (survey : Survey) → Knows drive n (drive_logs drive) survey → ClearsSoFar drive drive n survey []
-clears-none drive n survey known = record { kept = keeps-none drive known.zones.lawful; known = known; lead = λ rest is. is; spare = inl refl }
-
--- after the next was looked for
-pub lowest-known : (first old new : DriveState) (n : ℕ) (survey : Survey) (resets : List ℕ) (found : Option ℕ) → ClearsSoFar first old n survey resets → ((logs : List (List Batch)) → Knows old n logs survey → FindsLowest old.geometry.block n logs found)
-    → FindsLowest first.geometry.block n (cleared (drive_logs first) resets) found
-lowest-known first old new n survey resets found so_far finds = subst (λ (g : Geometry). FindsLowest g.block n (cleared (drive_logs first) resets) found) so_far.kept.geometry (finds (cleared (drive_logs first) resets) so_far.known)
+clears-none drive n survey known = record { kept = keeps-none drive known.zones.lawful; known = known; lead = λ rest is. is }
 
 pub clears-more : (first old new : DriveState) (n : ℕ) (before after : Survey) (resets more : List ℕ) (zone : ℕ) → ClearsSoFar first old n before resets → KeepsZones old new → IsLowest first.geometry.block n (cleared (drive_logs first) resets) zone → Forgets before after zone → more ≡ resets ++ zone ∷ []
     → ClearsSoFar first new n after more
@@ -75,19 +70,12 @@ clears-more first old new n before after resets more zone so_far kept lowest for
       kept = all;
       known = subst (λ (ls : List (List Batch)). Knows new n ls after) (sym now) less;
       lead = lead now;
-      spare = inr (spare so_far.spare);
     }
   where
     lead : cleared (drive_logs first) more ≡ without (cleared (drive_logs first) resets) zone → (rest : List ℕ) → IsClearing first.geometry.block n (cleared (drive_logs first) more) rest → IsClearing first.geometry.block n (drive_logs first) (more ++ rest)
     lead now rest is =
         let joined : more ++ rest ≡ resets ++ (zone ∷ rest) = ap (λ (zs : List ℕ). zs ++ rest) pushed ∙ append_assoc resets (zone ∷ []) rest in
         rw joined (so_far.lead (zone ∷ rest) (lowest, subst (λ (ls : List (List Batch)). IsClearing first.geometry.block n ls rest) now is))
-
-    spare : (resets ≡ []) ⊎ HasSpare first.geometry.block n (drive_logs first) → HasSpare first.geometry.block n (drive_logs first)
-    spare (inl none) =
-        let lowest' = rw none at lowest in
-        record { zone = zone; in_range = lowest'.in_range; spare = inr lowest'.half_clean }
-    spare (inr has) = has
 
 -- fewer zones have a batch then
 pub clears-fewer : (block_bytes n : ℕ) (logs : List (List Batch)) (resets more : List ℕ) (zone : ℕ) → IsLowest block_bytes n (cleared logs resets) zone → more ≡ resets ++ zone ∷ [] → with_batch (cleared logs more) < with_batch (cleared logs resets)
@@ -100,10 +88,76 @@ clears-fewer block_bytes n logs resets more zone lowest pushed =
 pub clears-all : (first now : DriveState) (n : ℕ) (survey : Survey) (resets : List ℕ) → ClearsSoFar first now n survey resets → FindsLowest first.geometry.block n (cleared (drive_logs first) resets) None → IsClearing first.geometry.block n (drive_logs first) resets
 clears-all first now n survey resets so_far none = subst (IsClearing first.geometry.block n (drive_logs first)) (append-nil resets) (so_far.lead [] none)
 
+-- ---- with the zones that wait
+
+-- The candidates are known after these zones were cleared, and each half clean zone waits.
+pub record SearchesOn (first now : DriveState) (n : ℕ) (survey : Survey) (candidates : Candidates) (resets : List ℕ) : Type 0 where
+  pub clears : ClearsSoFar first now n survey resets
+  pub are : AreCandidates now n (cleared (drive_logs first) resets) survey candidates
+  pub wait : AllWait now n (cleared (drive_logs first) resets) candidates
+
+pub searches-none : (drive : DriveState) (n : ℕ) (survey : Survey) (candidates : Candidates) → Knows drive n (drive_logs drive) survey
+    → ((d : DriveState) (k : ℕ) (logs : List (List Batch)) → Knows d k logs survey → AreCandidates d k logs survey candidates)
+    → ((d : DriveState) (k : ℕ) (logs : List (List Batch)) → Knows d k logs survey → AllWait d k logs candidates) → SearchesOn drive drive n survey candidates []
+searches-none drive n survey candidates known are wait = record { clears = clears-none drive n survey known; are = are drive n (drive_logs drive) known; wait = wait drive n (drive_logs drive) known }
+
+-- after the next was looked for
+abbrev pub FindsNext : DriveState → ℕ → Survey → Candidates → Option ℕ → Type 0
+FindsNext drive n survey candidates found = (logs : List (List Batch)) → AreCandidates drive n logs survey candidates → AllWait drive n logs candidates → FindsLowest drive.geometry.block n logs found
+
+pub next-known : (first old : DriveState) (n : ℕ) (survey : Survey) (candidates : Candidates) (resets : List ℕ) (found : Option ℕ) → SearchesOn first old n survey candidates resets → FindsNext old n survey candidates found
+    → FindsLowest first.geometry.block n (cleared (drive_logs first) resets) found
+next-known first old n survey candidates resets found on finds = subst (λ (g : Geometry). FindsLowest g.block n (cleared (drive_logs first) resets) found) on.clears.kept.geometry (finds (cleared (drive_logs first) resets) on.are on.wait)
+
+-- What is known of the candidates does not rest on which of them wait, and a look at the drive keeps it.
+taken-are : (old new : DriveState) (n : ℕ) (logs : List (List Batch)) (survey : Survey) (a b : Candidates) → KeepsZones old new → b.records ≡ a.records → b.sizes ≡ a.sizes → AreCandidates old n logs survey a → AreCandidates new n logs survey b
+taken-are old new n logs survey a b kept records sizes are = record {
+  known = knows-kept old new n logs survey kept are.known;
+  records = rw records are.records;
+  covers = rw records are.covers;
+  sizes = sizes ∙ are.sizes;
+}
+
+-- what giving up a zone tells
+pub record GivesUp (before after : Survey) (old new : Candidates) (zone : ℕ) : Type 0 where
+  pub are : (drive : DriveState) (n : ℕ) (logs : List (List Batch)) → AreCandidates drive n logs before old → IsHalfClean drive.geometry.block n logs zone → AreCandidates drive n (without logs zone) after new
+  pub wait : (drive : DriveState) (n : ℕ) (logs : List (List Batch)) → AreCandidates drive n logs before old → IsHalfClean drive.geometry.block n logs zone → OthersWait drive n logs old zone → AllWait drive n (without logs zone) new
+
+pub searches-more : (first old new : DriveState) (n : ℕ) (before after : Survey) (begin taken left : Candidates) (resets more : List ℕ) (zone : ℕ) → SearchesOn first old n before begin resets → KeepsZones old new
+    → taken.records ≡ begin.records → taken.sizes ≡ begin.sizes → FindsNext old n before begin (Some zone)
+    → ((logs : List (List Batch)) → AreCandidates old n logs before begin → AllWait old n logs begin → OthersWait old n logs taken zone)
+    → Forgets before after zone → GivesUp before after taken left zone → more ≡ resets ++ zone ∷ [] → SearchesOn first new n after left more
+searches-more first old new n before after begin taken left resets more zone on kept records sizes finds others forgets gives pushed =
+    let logs = cleared (drive_logs first) resets in
+    let lowest = next-known first old n before begin resets (Some zone) on finds in
+    let here : IsLowest old.geometry.block n logs zone = finds logs on.are on.wait in
+    let half : IsHalfClean new.geometry.block n logs zone = subst (λ (g : Geometry). IsHalfClean g.block n logs zone) (sym kept.geometry) here.half_clean in
+    let are = taken-are old new n logs before begin taken kept records sizes on.are in
+    let wait : OthersWait new n logs taken zone = rw (kept.geometry) (others logs on.are on.wait) in
+    let now : cleared (drive_logs first) more ≡ without logs zone = ap (cleared (drive_logs first)) pushed ∙ cleared-more (drive_logs first) resets zone in
+    record {
+      clears = clears-more first old new n before after resets more zone on.clears kept lowest forgets pushed;
+      are = subst (λ (ls : List (List Batch)). AreCandidates new n ls after left) (sym now) (gives.are new n logs are half);
+      wait = subst (λ (ls : List (List Batch)). AllWait new n ls left) (sym now) (gives.wait new n logs are half wait);
+    }
+
+-- ---- a zone to spare
+
+abbrev pub IsCleared : DriveState → ℕ → List ℕ → Type 0
+IsCleared drive n resets = IsClearing drive.geometry.block n (drive_logs drive) resets
+
+pub cleared-spare : (drive : DriveState) (n : ℕ) (resets : List ℕ) → (length resets ≡ 0 → ⊥) → IsCleared drive n resets → HasSpare drive.geometry.block n (drive_logs drive)
+cleared-spare drive n [] some is = absurd (some refl)
+cleared-spare drive n (z ∷ zs) some is = record { zone = z; in_range = is.0.in_range; spare = inr is.0.half_clean }
+
+pub vacant-spare : (drive now : DriveState) (n : ℕ) (resets : List ℕ) (survey : Survey) → length resets ≡ 0 → Knows now n (cleared (drive_logs drive) resets) survey → ((logs : List (List Batch)) → AreOf survey.scanned.items logs → HasVacant logs)
+    → HasSpare drive.geometry.block n (drive_logs drive)
+vacant-spare drive now n [] survey none known vacant = let here = vacant (drive_logs drive) known.heads in record { zone = here.zone; in_range = here.in_range; spare = inl here.vacant }
+vacant-spare drive now n (z ∷ zs) survey none known vacant = absurd (omega (arith, none))
+
 -- no zone was cleared, and none is vacant
-pub no-spare : (first now : DriveState) (n : ℕ) (survey : Survey) (resets : List ℕ) → ClearsSoFar first now n survey resets → FindsLowest first.geometry.block n (cleared (drive_logs first) resets) None → resets ≡ []
-    → (HasVacant (cleared (drive_logs first) resets) → ⊥) → HasSpare first.geometry.block n (drive_logs first) → ⊥
-no-spare first now n survey resets so_far none empty vacant has =
-    let none' = rw empty at none in
-    let vacant' = rw empty at vacant in
-    elim has.spare as (λ _. ⊥) [ inl is ↦ vacant' (record { zone = has.zone; in_range = has.in_range; vacant = is }) | inr half ↦ none' has.zone has.in_range half ]
+pub no-spare : (drive now : DriveState) (n : ℕ) (resets : List ℕ) (survey : Survey) → length resets ≡ 0 → IsCleared drive n resets → Knows now n (cleared (drive_logs drive) resets) survey → ((logs : List (List Batch)) → AreOf survey.scanned.items logs → HasVacant logs → ⊥)
+    → HasSpare drive.geometry.block n (drive_logs drive) → ⊥
+no-spare drive now n [] survey none is known vacant has =
+    elim has.spare as (λ _. ⊥) [ inl empty ↦ vacant (drive_logs drive) known.heads (record { zone = has.zone; in_range = has.in_range; vacant = empty }) | inr half ↦ is has.zone has.in_range half ]
+no-spare drive now n (z ∷ zs) survey none is known vacant has = absurd (omega (arith, none))

@@ -16,6 +16,8 @@ pub mod OutsideLaws
 pub mod SpareLaws
 pub mod MovedLaws
 pub mod FindLaws
+pub mod SizeCountLaws
+pub mod WaitingLaws
 pub mod ShowLaws
 pub mod ClearLaws
 pub mod HeadPlaceLaws

@@ -1,18 +1,15 @@
 -- What the headers tell of the zones that Moves alone stand in.
-use Rattle.std.proofs.Common.{◌≡◌, ◌≢◌, ◌⊎◌, inl, inr, ℕ, zero, suc, ◌+◌, ◌<◌, ◌≤◌, ◌&&◌, Bool, true, false, eqb, ltb, List, [], ◌∷◌, ◌++◌, length, map, drop, get_or, Option, Some, None, refl, sym, ap, subst, ◌∙◌, arith}
+use Rattle.std.proofs.Common.{◌≡◌, ◌≢◌, ◌⊎◌, inl, inr, ℕ, zero, suc, ◌+◌, ◌<◌, ◌≤◌, ◌&&◌, Bool, true, false, eqb, ltb, List, [], ◌∷◌, ◌++◌, length, map, get_or, Option, Some, None, refl, sym, ap, subst, ◌∙◌, arith}
 use Rattle.std.specs.Prelude.{slice_get}
 use Rattle.std.specs.List.{AllByRecursion}
 use Rattle.std.proofs.lemmas.Bool.{cases_eq, cases_lt, eq-eqb, eqb-true, ltb-false, ltb-true}
 use Rattle.std.proofs.lemmas.List.{length-map, map-set, nil_from_length}
-use Rattle.std.proofs.Math.Seq.{drop-cons}
-use Rattle.zone_choice.proofs.SizeLaws.{larger-assoc}
 use Rattle.std.proofs.lemmas.Option.{slice_get_past, slice_get_read}
-use Rattle.std.proofs.Math.ListN.{get_or-map}
 use Rattle.batch_log.specs.declared.header.Kind.{Kind}
 use Rattle.batch_log.specs.declared.header.Kind.TheVariants.{Host, Move}
 use Rattle.batch_log.specs.Log.{Batch}
 use Rattle.zone_choice.specs.Records.{without}
-use Rattle.zone_choice.specs.Sizes.{encoded_size, larger, size_or}
+use Rattle.zone_choice.specs.Sizes.{encoded_size, size_or}
 use Rattle.zone_choice.specs.Spare.{IsBefore, IsMoveFrom, first_sequence}
 use Rattle.zone_choice.specs.ZoneLogs.{log_at}
 use Rattle.remount.specs.declared.heads.Head.{Head}
@@ -252,20 +249,3 @@ not-vacant scanned logs zone limit found heads are lt is same some none less emp
 
 pub none-vacant : (scanned : List ScannedZone) (logs : List (List Batch)) (limit : ℕ) → AreOf scanned logs → length scanned ≤ limit → ((k : ℕ) → k < limit → log_at logs k ≡ [] → ⊥) → HasVacant logs → ⊥
 none-vacant scanned logs limit are le none some = none some.zone (omega (arith, some.in_range, le, count-same scanned logs are)) some.vacant
-
-other-here : (xs : List HeadsView) (zone number : ℕ) (d : HeadsView) → (number ≡ zone → ⊥) → number < length xs → drop number (forgotten xs zone) ≡ get_or xs number d ∷ drop (suc number) (forgotten xs zone)
-other-here [] zone number d other lt = absurd (omega arith)
-other-here (x ∷ xs) zero zero d other lt = absurd (other refl)
-other-here (x ∷ xs) (suc zone) zero d other lt = refl
-other-here (x ∷ xs) zero (suc number) d other lt = drop-cons xs number d (omega (arith, lt))
-other-here (x ∷ xs) (suc zone) (suc number) d other lt = other-here xs zone number d (λ e. other (ap suc e)) (omega (arith, lt))
-
-pub size-takes : (scanned : List ScannedZone) (zone number : ℕ) (found : ScannedZone) (size more all : Option ℕ) → (number ≡ zone → ⊥) → number < length scanned → found ≡ get_or scanned number found → more ≡ larger size found.heads.size
-    → larger size (greatest_in (drop number (forgotten (heads_in scanned) zone))) ≡ all → larger more (greatest_in (drop (number + 1) (forgotten (heads_in scanned) zone))) ≡ all
-size-takes scanned zone number found size more all other lt is grown before =
-    let views = heads_in scanned in
-    let next : number + 1 ≡ suc number = omega arith in
-    let view : get_or views number found.heads ≡ found.heads = get_or-map (λ (z : ScannedZone). z.heads) scanned number found ∙ ap (λ (z : ScannedZone). z.heads) (sym is) in
-    let rest = greatest_in (drop (suc number) (forgotten views zone)) in
-    let before' = rw (other-here views zone number found.heads other (omega (arith, lt, length-map scanned (λ (z : ScannedZone). z.heads))), view) at before in
-    rw (next, grown) (sym (larger-assoc size found.heads.size rest) ∙ before')

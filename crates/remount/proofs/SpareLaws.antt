@@ -115,7 +115,7 @@ log-named P zone offset (b ∷ bs) inside all =
     (entries-named P b.heading.sequence zone offset 0 b.body b.heading.entries inside.0 parts.0) (log-named P zone (offset + batch_size b) bs inside.1 parts.1)
 
 -- what holds of the blocks of a zone's entries holds of all records that lie in it
-zone-named : (P : ℕ → Type 0) (first index zone : ℕ) (logs : List (List Batch)) → zone ≡ first + index → AllByRecursion (AllByRecursion (IsInside (2 ^ 31))) logs → AllByRecursion (λ x. P (block_in x)) (entries_of (log_at logs index))
+pub zone-named : (P : ℕ → Type 0) (first index zone : ℕ) (logs : List (List Batch)) → zone ≡ first + index → AllByRecursion (AllByRecursion (IsInside (2 ^ 31))) logs → AllByRecursion (λ x. P (block_in x)) (entries_of (log_at logs index))
     → AllByRecursion (λ (r : Record). r.zone ≡ zone → P r.block) (records first logs)
 zone-named P first index zone [] e inside all = tt
 zone-named P first zero zone (log ∷ logs) e inside all =

@@ -1,18 +1,17 @@
 -- What is found of the zones that a mount empties.
 use Rattle.std.specs.Prelude.{◌≡◌, ℕ, ◌<◌, Bool, true, false, List, [], ◌∷◌, length, map, slice_get, slice_set, Option, Some, None}
-use Rattle.std.specs.BTreeMap.{BTreeMap}
 use Rattle.std.specs.List.{AllByRecursion}
 use Rattle.drive_port.specs.Drive.{DriveState}
 use Rattle.batch_log.specs.Log.{Batch}
 use Rattle.zone_choice.specs.Records.{Record, newest, records, shown, without}
 use Rattle.zone_choice.specs.Spare.{IsLowest, NoneBelow}
 use Rattle.remount.specs.declared.heads.Head.{Head}
-use Rattle.remount.specs.declared.rivals.Rivals.{Rivals}
+use Rattle.remount.specs.declared.block_records.BlockRecords.{BlockRecords}
 use Rattle.remount.specs.declared.scan.ScannedZone.{ScannedZone}
 use Rattle.remount.specs.Heads.{HeadsView, heads_of, no_heads}
 use Rattle.remount.specs.KeptRecords.{block_in}
 use Rattle.zone_choice.specs.Repairing.{IsMoved}
-use Rattle.remount.specs.Rivals.{HoldsBlocks}
+use Rattle.remount.specs.BlockRecords.{HoldsBlocks}
 use Rattle.remount.specs.Scan.{block_of, blocks_of, heads_in}
 
 -- a test tells whether something holds
@@ -51,11 +50,11 @@ FindsNeeded block_bytes logs zone entries None = AllByRecursion (λ entry. Shows
 -- ---- zones
 
 -- a table holds the blocks that a zone names
-abbrev pub CoversZone : List ScannedZone → BTreeMap ℕ Rivals → ℕ → Type 0
+abbrev pub CoversZone : List ScannedZone → BlockRecords → ℕ → Type 0
 CoversZone scanned table zone = (found : ScannedZone) → slice_get scanned zone ≡ Some found → HoldsBlocks table found.heads.entries
 
 -- and those of all zones with Moves from an older zone alone
-abbrev pub CoversMoved : List (List Batch) → List ScannedZone → BTreeMap ℕ Rivals → Type 0
+abbrev pub CoversMoved : List (List Batch) → List ScannedZone → BlockRecords → Type 0
 CoversMoved logs scanned table = (zone : ℕ) → IsMoved logs zone → CoversZone scanned table zone
 
 -- the lowest half clean zone, or that there is none

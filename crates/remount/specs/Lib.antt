@@ -10,6 +10,8 @@ pub mod Resets
 pub mod KeptRecords
 pub mod Placing
 pub mod Mounting
-pub mod Rivals
+pub mod BlockRecords
+pub mod SizeCounts
 pub mod Clearing
+pub mod Waiting
 pub mod Torn

@@ -1,24 +1,33 @@
-ghost use Rattle.std.specs.Prelude.{◌≡◌, ◌<◌, ◌^◌, ℕ, List, length, IfErr, IfOk, OnOk};
-ghost use Rattle.std.specs.BTreeMap.{BTreeMap};
+ghost use Rattle.std.specs.Prelude.{◌≡◌, ◌≢◌, ◌<◌, ◌^◌, ℕ, List, Some, false, length, slice_get, IfErr, IfOk, IfSome, IsSome, OnOk};
+ghost use Rattle.std.specs.BTreeSet.{IsSubset, contains};
+ghost use Rattle.std.specs.Ordering.{nat_cmp};
 ghost use Rattle.batch_log.specs.Log.{Batch};
+ghost use Rattle.drive_port.specs.Drive.{DriveState};
 ghost use Rattle.zone_choice.specs.Agreement.{drive_logs};
-ghost use Rattle.zone_choice.specs.Spare.{HasSpare, IsClearing, cleared};
-ghost use Rattle.remount.specs.declared.fault.MountFault.TheVariants.{NoSpare};
-ghost use Rattle.remount.specs.Clearing.{CoversMoved, CoversZone, FindsLowest};
+ghost use Rattle.zone_choice.specs.Records.{without};
 ghost use Rattle.zone_choice.specs.Repairing.{IsMoved};
+ghost use Rattle.zone_choice.specs.Spare.{HasSpare, IsClearing, IsHalfClean, cleared};
+ghost use Rattle.remount.specs.declared.fault.MountFault.TheVariants.{NoSpare};
+ghost use Rattle.remount.specs.declared.scan.ScannedZone.{ScannedZone};
+ghost use Rattle.remount.specs.BlockRecords.{HoldsBlocks, HoldsRecords, held_of};
+ghost use Rattle.remount.specs.Clearing.{AreOf, CoversZone, FindsLowest, Tells, forgotten};
 ghost use Rattle.remount.specs.Known.{Finds, Knows};
 ghost use Rattle.remount.specs.Reported.{KeepsZones};
-ghost use Rattle.remount.specs.Rivals.{HoldsRivals};
-ghost use Rattle.remount.specs.Scan.{AreKnown, FailsBy};
+ghost use Rattle.remount.specs.Scan.{AreKnown, FailsBy, heads_in, tails_in};
+ghost use Rattle.remount.specs.SizeCounts.{size_counts};
+ghost use Rattle.remount.specs.Waiting.{AllWait, AreCandidates, HolderWaits, HoldersWait, LastWaits, OthersWait};
 
+use crate::block_records::BlockRecords;
 use crate::fault::MountFault;
-use crate::moved::{forget, has_moved, has_vacant, is_moved, moved_table, size_without};
-use crate::rivals::{Rivals, hold_blocks, note_all};
+use crate::moved::{forget, has_moved, has_vacant, is_moved};
+use crate::records::block_in;
+use crate::scan::ScannedZone;
 use crate::shown::first_needed;
+use crate::sizes::{SizeCounts, lowest_sized};
 use crate::survey::Survey;
 use drive_port::Device;
-use std::alloc::Global;
-use std::collections::BTreeMap;
+use std::alloc::{AllocError, Global};
+use std::collections::BTreeSet;
 
 /// What a mount finds of a zone.
 #[derive(Clone, Copy, Debug, PartialEq, Eq)]
@@ -33,18 +42,30 @@ pub enum Finding {
     NeedsSize,
 }
 
-/// Whether a zone is half clean, by a table of the newest two records of the blocks that it names.
+/// The zones that may be half clean, and what tells whether they are.
+#[derive(Drop)]
+pub struct Candidates {
+    /// All records of the blocks that zones of Moves name.
+    records: BlockRecords,
+    sizes: SizeCounts,
+    /// The zones that are still to be looked at.
+    waiting: BTreeSet<u32>,
+}
+
+/// Whether a zone is half clean, by the records of the blocks that it names.
 fn examine_by<D: Device>(
     device: &mut D,
     survey: &Survey,
     blocks: u32,
-    table: &BTreeMap<u32, Rivals>,
+    records: &BlockRecords,
+    sizes: SizeCounts,
     zone: u32,
     first: &mut Vec<u8>,
     second: &mut Vec<u8>,
 ) -> Result<Finding, MountFault>
     requires zones { AreKnown (D.drive device.old) survey.now.zones.items }
-    ensures ok { IfOk result (λ finding. (logs : List (List Batch)) → Knows (D.drive device.old) blocks logs survey.now → HoldsRivals logs table.now → (IsMoved logs zone → CoversZone survey.now.scanned.items table.now zone)
+    requires sizes { sizes ≡ size_counts survey.now.size (heads_in survey.now.scanned.items) }
+    ensures ok { IfOk result (λ finding. (logs : List (List Batch)) → Knows (D.drive device.old) blocks logs survey.now → HoldsRecords logs records.now → (IsMoved logs zone → CoversZone survey.now.scanned.items records.now zone)
         → Finds (D.drive device.old).geometry.block blocks logs zone finding) }
     ensures err { IfErr result (FailsBy (λ _. ⊥) (D.drive device.new)) }
     ensures kept { KeepsZones (D.drive device.old) (D.drive device.new) }
@@ -56,59 +77,21 @@ fn examine_by<D: Device>(
         return Ok(Finding::NotMoves);
     };
     let entries = found.heads.entries();
-    if let Some(block) = first_needed(device, &survey.zones, table, zone, entries, first, second)? {
+    if let Some(block) = first_needed(
+        device,
+        &survey.zones,
+        records,
+        zone,
+        entries,
+        first,
+        second,
+    )? {
         return Ok(Finding::NeedsBlock(block));
     }
-    if size_without(&survey.scanned, zone, blocks) != survey.size {
+    if !sizes.keep_size(survey, blocks, zone) {
         return Ok(Finding::NeedsSize);
     }
     Ok(Finding::HalfClean)
-}
-
-/// The lowest half clean zone, by a table of the newest two records of the blocks that such zones name.
-fn lowest_by<D: Device>(
-    alloc: Global,
-    device: &mut D,
-    survey: &Survey,
-    blocks: u32,
-    table: &BTreeMap<u32, Rivals>,
-) -> Result<Option<u32>, MountFault>
-    requires zones { AreKnown (D.drive device.old) survey.now.zones.items }
-    requires few { length survey.now.scanned.items < 2 ^ 32 }
-    ensures ok { IfOk result (λ found. (logs : List (List Batch)) → Knows (D.drive device.old) blocks logs survey.now → HoldsRivals logs table.now → CoversMoved logs survey.now.scanned.items table.now
-        → FindsLowest (D.drive device.old).geometry.block blocks logs found) }
-    ensures err { IfErr result (FailsBy (λ _. ⊥) (D.drive device.new)) }
-    ensures kept { KeepsZones (D.drive device.old) (D.drive device.new) }
-{
-    let mut first = Vec::new(alloc);
-    let mut second = Vec::new(alloc);
-    for zone in 0..survey.scanned.len() as u32 {
-        let finding = examine_by(device, survey, blocks, table, zone, &mut first, &mut second)?;
-        if let Finding::HalfClean = finding {
-            return Ok(Some(zone));
-        }
-    }
-    Ok(None)
-}
-
-/// The lowest half clean zone. The headers of all batches are looked through once, if a zone has Moves alone.
-fn lowest_half_clean<D: Device>(
-    alloc: Global,
-    device: &mut D,
-    survey: &Survey,
-    blocks: u32,
-) -> Result<Option<u32>, MountFault>
-    requires zones { AreKnown (D.drive device.old) survey.now.zones.items }
-    requires few { length survey.now.scanned.items < 2 ^ 32 }
-    ensures ok { IfOk result (λ found. (logs : List (List Batch)) → Knows (D.drive device.old) blocks logs survey.now → FindsLowest (D.drive device.old).geometry.block blocks logs found) }
-    ensures err { IfErr result (FailsBy (λ _. ⊥) (D.drive device.new)) }
-    ensures kept { KeepsZones (D.drive device.old) (D.drive device.new) }
-{
-    if !has_moved(&survey.scanned) {
-        return Ok(None);
-    }
-    let table = moved_table(alloc, &survey.scanned)?;
-    lowest_by(alloc, device, survey, blocks, &table)
 }
 
 /// Whether a zone is half clean, and why it is not.
@@ -127,23 +110,225 @@ pub fn examine_zone<D: Device>(
     if !is_moved(&survey.scanned, zone) {
         return Ok(Finding::NotMoves);
     }
-    let Some(found) = survey.scanned.get(zone as usize) else {
-        return Ok(Finding::NotMoves);
-    };
-    let mut table = BTreeMap::new(alloc);
-    hold_blocks(&mut table, &found.heads)?;
-    note_all(&mut table, &survey.scanned);
+    let records = BlockRecords::of_zone(alloc, survey, zone)?;
+    let sizes = SizeCounts::new(survey);
     let mut first = Vec::new(alloc);
     let mut second = Vec::new(alloc);
     examine_by(
         device,
         survey,
         blocks,
-        &table,
+        &records,
+        sizes,
         zone,
         &mut first,
         &mut second,
     )
+}
+
+/// Adds a zone to a set, if it has Moves from an older zone alone.
+fn add_moved(
+    zones: &mut BTreeSet<u32>,
+    scanned: &[ScannedZone],
+    zone: u32,
+) -> Result<(), AllocError>
+    ensures own { OnOk result (contains nat_cmp zones.old zone ≡ false → (logs : List (List Batch)) → AreOf scanned.now logs → Tells (contains nat_cmp zones.new zone) (IsMoved logs zone)) }
+    ensures others { OnOk result ((q : ℕ) → q ≢ zone → contains nat_cmp zones.new q ≡ contains nat_cmp zones.old q) }
+{
+    if !is_moved(scanned, zone) {
+        return Ok(());
+    }
+    zones.insert(zone)?;
+    Ok(())
+}
+
+/// All zones of Moves from an older zone.
+fn moved_zones(alloc: Global, scanned: &[ScannedZone]) -> Result<BTreeSet<u32>, AllocError>
+    requires few { length scanned.now < 2 ^ 32 }
+    ensures { IfOk result (λ zones. (logs : List (List Batch)) → AreOf scanned.now logs → (zone : ℕ) → Tells (contains nat_cmp zones zone) (IsMoved logs zone)) }
+{
+    let mut zones = BTreeSet::new(alloc);
+    for zone in 0..scanned.len() as u32 {
+        add_moved(&mut zones, scanned, zone)?;
+    }
+    Ok(zones)
+}
+
+impl Candidates {
+    fn new(alloc: Global, survey: &Survey) -> Result<Candidates, AllocError>
+        requires few { length survey.now.scanned.items < 2 ^ 32 }
+        ensures are { IfOk result (λ candidates. (drive : DriveState) (n : ℕ) (logs : List (List Batch)) → Knows drive n logs survey.now → AreCandidates drive n logs survey.now candidates) }
+        ensures wait { IfOk result (λ candidates. (drive : DriveState) (n : ℕ) (logs : List (List Batch)) → Knows drive n logs survey.now → AllWait drive n logs candidates) }
+    {
+        let records = BlockRecords::of_moved(alloc, survey)?;
+        let waiting = moved_zones(alloc, &survey.scanned)?;
+        Ok(Candidates {
+            records,
+            sizes: SizeCounts::new(survey),
+            waiting,
+        })
+    }
+}
+
+/// Takes the lowest half clean zone from those that wait, with all below it.
+fn next_half_clean<D: Device>(
+    alloc: Global,
+    device: &mut D,
+    survey: &Survey,
+    blocks: u32,
+    candidates: &mut Candidates,
+) -> Result<Option<u32>, MountFault>
+    requires zones { AreKnown (D.drive device.old) survey.now.zones.items }
+    requires sizes { candidates.old.sizes ≡ size_counts survey.now.size (heads_in survey.now.scanned.items) }
+    ensures ok { IfOk result (λ found. (logs : List (List Batch)) → AreCandidates (D.drive device.old) blocks logs survey.now candidates.old → AllWait (D.drive device.old) blocks logs candidates.old → FindsLowest (D.drive device.old).geometry.block blocks logs found) }
+    ensures others { IfOk result (λ found. IfSome found (λ zone. (logs : List (List Batch)) → AreCandidates (D.drive device.old) blocks logs survey.now candidates.old → AllWait (D.drive device.old) blocks logs candidates.old → OthersWait (D.drive device.old) blocks logs candidates.new zone)) }
+    ensures records { candidates.new.records ≡ candidates.old.records }
+    ensures sizes { candidates.new.sizes ≡ candidates.old.sizes }
+    ensures err { IfErr result (FailsBy (λ _. ⊥) (D.drive device.new)) }
+    ensures kept { KeepsZones (D.drive device.old) (D.drive device.new) }
+{
+    let mut first = Vec::new(alloc);
+    let mut second = Vec::new(alloc);
+    while let Some(zone) = candidates.waiting.pop_first() {
+        let finding = examine_by(
+            device,
+            survey,
+            blocks,
+            &candidates.records,
+            candidates.sizes,
+            zone,
+            &mut first,
+            &mut second,
+        )?;
+        if let Finding::HalfClean = finding {
+            return Ok(Some(zone));
+        }
+    }
+    Ok(None)
+}
+
+/// The zone that shows a block is to be looked at.
+fn wake_one(
+    records: &BlockRecords,
+    waiting: &mut BTreeSet<u32>,
+    block: u32,
+) -> Result<(), AllocError>
+    ensures more { OnOk result (IsSubset nat_cmp waiting.old waiting.new) }
+    ensures holder { OnOk result ((logs : List (List Batch)) → HoldsRecords logs records.now → IsSome (held_of records.now block) → HolderWaits logs waiting.new block) }
+{
+    let Some(newest) = records.newest(block) else {
+        return Ok(());
+    };
+    waiting.insert(newest.zone)?;
+    Ok(())
+}
+
+/// The zones that show the blocks of these entries are to be looked at.
+fn wake(
+    records: &BlockRecords,
+    waiting: &mut BTreeSet<u32>,
+    entries: &[u32],
+) -> Result<(), AllocError>
+    ensures more { OnOk result (IsSubset nat_cmp waiting.old waiting.new) }
+    ensures holders { OnOk result ((logs : List (List Batch)) → HoldsRecords logs records.now → HoldsBlocks records.now entries.now → HoldersWait logs waiting.new entries.now) }
+{
+    for entry in entries {
+        wake_one(records, waiting, block_in(*entry))?;
+    }
+    Ok(())
+}
+
+/// The zones that show the blocks of a zone are to be looked at.
+fn wake_holders(
+    records: &BlockRecords,
+    waiting: &mut BTreeSet<u32>,
+    survey: &Survey,
+    zone: u32,
+) -> Result<(), AllocError>
+    ensures more { OnOk result (IsSubset nat_cmp waiting.old waiting.new) }
+    ensures holders { OnOk result ((logs : List (List Batch)) (found : ScannedZone) → slice_get survey.now.scanned.items zone ≡ Some found → HoldsRecords logs records.now → HoldsBlocks records.now found.heads.entries → HoldersWait logs waiting.new found.heads.entries) }
+{
+    let Some(found) = survey.scanned.get(zone as usize) else {
+        return Ok(());
+    };
+    wake(records, waiting, found.heads.entries())
+}
+
+/// If one zone says a size, and there were more before, it is to be looked at.
+fn wake_last(
+    before: SizeCounts,
+    left: SizeCounts,
+    waiting: &mut BTreeSet<u32>,
+    scanned: &[ScannedZone],
+) -> Result<(), AllocError>
+    requires few { length scanned.now < 2 ^ 32 }
+    ensures more { OnOk result (IsSubset nat_cmp waiting.old waiting.new) }
+    ensures last { OnOk result (left.any ≡ 1 → before.any ≢ 1 → LastWaits (heads_in scanned.now) waiting.new) }
+{
+    if left.any != 1 {
+        return Ok(());
+    }
+    if before.any == 1 {
+        return Ok(());
+    }
+    let Some(last) = lowest_sized(scanned) else {
+        return Ok(());
+    };
+    waiting.insert(last)?;
+    Ok(())
+}
+
+/// Forgets the headers of a half clean zone. Zones that show one of its blocks now, and the last one that says a size,
+/// may have become half clean with that: they are to be looked at again.
+fn give_up(
+    alloc: Global,
+    survey: &mut Survey,
+    candidates: &mut Candidates,
+    zone: u32,
+) -> Result<(), AllocError>
+    requires few { length survey.old.scanned.items < 2 ^ 32 }
+    ensures are { OnOk result ((drive : DriveState) (n : ℕ) (logs : List (List Batch)) → AreCandidates drive n logs survey.old candidates.old → IsHalfClean drive.geometry.block n logs zone → AreCandidates drive n (without logs zone) survey.new candidates.new) }
+    ensures wait { OnOk result ((drive : DriveState) (n : ℕ) (logs : List (List Batch)) → AreCandidates drive n logs survey.old candidates.old → IsHalfClean drive.geometry.block n logs zone → OthersWait drive n logs candidates.old zone → AllWait drive n (without logs zone) candidates.new) }
+    ensures heads { OnOk result (heads_in survey.new.scanned.items ≡ forgotten (heads_in survey.old.scanned.items) zone) }
+    ensures tails { tails_in survey.new.scanned.items ≡ tails_in survey.old.scanned.items }
+    ensures zones { survey.new.zones ≡ survey.old.zones }
+    ensures size { survey.new.size ≡ survey.old.size }
+{
+    let before = candidates.sizes;
+    let left = before.without(survey, zone);
+    candidates.records.forget(survey, zone);
+    candidates.sizes = left;
+    wake_holders(&candidates.records, &mut candidates.waiting, survey, zone)?;
+    forget(alloc, &mut survey.scanned, zone);
+    wake_last(before, left, &mut candidates.waiting, &survey.scanned)
+}
+
+/// Finds the half clean zones, each the lowest of its moment, and forgets their headers.
+fn clear_moved<D: Device>(
+    alloc: Global,
+    device: &mut D,
+    survey: &mut Survey,
+    blocks: u32,
+) -> Result<Vec<u32>, MountFault>
+    requires known { Knows (D.drive device.old) blocks (drive_logs (D.drive device.old)) survey.old }
+    ensures clearing { IfOk result (λ resets. IsClearing (D.drive device.old).geometry.block blocks (drive_logs (D.drive device.old)) resets.items) }
+    ensures known { IfOk result (λ resets. Knows (D.drive device.new) blocks (cleared (drive_logs (D.drive device.old)) resets.items) survey.new) }
+    ensures zones { survey.new.zones ≡ survey.old.zones }
+    ensures err { IfErr result (FailsBy (λ _. ⊥) (D.drive device.new)) }
+    ensures kept { KeepsZones (D.drive device.old) (D.drive device.new) }
+{
+    let mut resets = Vec::new(alloc);
+    if !has_moved(&survey.scanned) {
+        return Ok(resets);
+    }
+    let mut candidates = Candidates::new(alloc, survey)?;
+    while let Some(zone) = next_half_clean(alloc, device, survey, blocks, &mut candidates)? {
+        if resets.push(zone).is_err() {
+            return Err(MountFault::OutOfMemory);
+        }
+        give_up(alloc, survey, &mut candidates, zone)?;
+    }
+    Ok(resets)
 }
 
 /// Finds the zones that a mount has to empty before it repairs the drive: the lowest half clean one, again and
@@ -162,13 +347,7 @@ pub fn clear_zones<D: Device>(
     ensures err { IfErr result (FailsBy (λ fault. (fault ≡ NoSpare) × (HasSpare (D.drive device.old).geometry.block blocks (drive_logs (D.drive device.old)) → ⊥)) (D.drive device.new)) }
     ensures kept { KeepsZones (D.drive device.old) (D.drive device.new) }
 {
-    let mut resets = Vec::new(alloc);
-    while let Some(zone) = lowest_half_clean(alloc, device, survey, blocks)? {
-        if resets.push(zone).is_err() {
-            return Err(MountFault::OutOfMemory);
-        }
-        forget(alloc, &mut survey.scanned, zone);
-    }
+    let resets = clear_moved(alloc, device, survey, blocks)?;
     if !resets.is_empty() {
         return Ok(resets);
     }

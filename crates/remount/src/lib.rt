@@ -29,6 +29,7 @@
 #![tactic(auto)]
 
 mod beside;
+mod block_records;
 mod clearing;
 mod empty;
 mod fault;
@@ -40,12 +41,12 @@ mod places;
 mod records;
 mod repair;
 mod reported;
-mod rivals;
 mod roles;
 mod scan;
 mod sequences;
 mod settle;
 mod shown;
+mod sizes;
 mod steps;
 mod survey;
 mod torn;

@@ -1,21 +1,14 @@
-ghost use Rattle.std.specs.Prelude.{◌≡◌, ◌<◌, ◌^◌, ℕ, List, length, map, IfOk};
-ghost use Rattle.std.specs.List.{AllByRecursion};
+ghost use Rattle.std.specs.Prelude.{◌≡◌, ◌<◌, ◌^◌, ℕ, List, length, map};
 ghost use Rattle.batch_log.specs.Log.{Batch};
-ghost use Rattle.zone_choice.specs.Mountable.{IsInside};
-ghost use Rattle.zone_choice.specs.Sizes.{size_or};
 ghost use Rattle.remount.specs.Known.{HasVacant};
-ghost use Rattle.remount.specs.Clearing.{AreOf, CoversMoved, Tells, first_of, forgotten};
+ghost use Rattle.remount.specs.Clearing.{AreOf, Tells, first_of, forgotten};
 ghost use Rattle.remount.specs.Heads.{heads_of};
 ghost use Rattle.zone_choice.specs.Repairing.{IsMoved};
-ghost use Rattle.remount.specs.Rivals.{HoldsRivals};
 ghost use Rattle.remount.specs.Scan.{heads_in, tails_in};
-ghost use Rattle.remount.specs.Survey.{greatest_in};
 
-use crate::heads::{ZoneHeads, larger};
-use crate::rivals::{Rivals, hold_blocks, note_all};
+use crate::heads::ZoneHeads;
 use crate::scan::ScannedZone;
-use std::alloc::{AllocError, Global};
-use std::collections::BTreeMap;
+use std::alloc::Global;
 
 /// The sequence of the first batch.
 fn first_sequence(heads: &ZoneHeads) -> Option<u64>
@@ -62,43 +55,6 @@ pub(crate) fn has_moved(scanned: &[ScannedZone]) -> bool
         }
     }
     false
-}
-
-/// The newest two records of each block that such a zone names.
-pub(crate) fn moved_table(
-    alloc: Global,
-    scanned: &[ScannedZone],
-) -> Result<BTreeMap<u32, Rivals>, AllocError>
-    requires few { length scanned.now < 2 ^ 32 }
-    ensures covers { IfOk result (λ table. (logs : List (List Batch)) → AreOf scanned.now logs → CoversMoved logs scanned.now table) }
-    ensures holds { IfOk result (λ table. (logs : List (List Batch)) → AreOf scanned.now logs → AllByRecursion (AllByRecursion (IsInside (2 ^ 31))) logs → HoldsRivals logs table) }
-{
-    let mut table = BTreeMap::new(alloc);
-    for (zone, found) in scanned.iter().enumerate() {
-        if !is_moved(scanned, zone as u32) {
-            continue;
-        }
-        hold_blocks(&mut table, &found.heads)?;
-    }
-    note_all(&mut table, scanned);
-    Ok(table)
-}
-
-/// How many logical blocks the drive has without a zone.
-pub(crate) fn size_without(scanned: &[ScannedZone], zone: u32, blocks: u32) -> u32
-    ensures { result ≡ size_or blocks (greatest_in (forgotten (heads_in scanned.now) zone)) }
-{
-    let mut size = None;
-    for (number, found) in scanned.iter().enumerate() {
-        if number == zone as usize {
-            continue;
-        }
-        size = larger(size, found.heads.size());
-    }
-    match size {
-        Some(size) => size,
-        None => blocks,
-    }
 }
 
 /// Whether some zone has no batch.

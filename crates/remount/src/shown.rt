@@ -5,17 +5,16 @@ ghost use Rattle.zone_choice.specs.Records.{Record, shown};
 ghost use Rattle.remount.specs.Clearing.{AllStand, FindsNeeded, IfStands, ShowsSame, Tells};
 ghost use Rattle.remount.specs.KeptRecords.{kept_record};
 ghost use Rattle.remount.specs.Reported.{KeepsZones};
-ghost use Rattle.remount.specs.Rivals.{HoldsBlocks, HoldsRivals, held_of};
+ghost use Rattle.remount.specs.BlockRecords.{HoldsBlocks, HoldsRecords, held_of};
 ghost use Rattle.remount.specs.Scan.{AreKnown, FailsBy, block_of, blocks_of};
 
+use crate::block_records::BlockRecords;
 use crate::fault::MountFault;
 use crate::records::{KeptRecord, block_in};
 use crate::reported::ReportedZone;
-use crate::rivals::Rivals;
 use crate::scan::read_block;
 use drive_port::Device;
 use std::alloc::AllocError;
-use std::collections::BTreeMap;
 
 /// Makes a buffer a block of zeros.
 fn write_zeros(bytes: u32, into: &mut Vec<u8>) -> Result<(), AllocError>
@@ -67,22 +66,23 @@ fn read_shown<D: Device>(
     Ok(())
 }
 
-/// Whether the newest record of a block and the other one show the same.
+/// Whether two records of a block show the same.
 fn show_same<D: Device>(
     device: &mut D,
     zones: &[ReportedZone],
-    rivals: Rivals,
+    newest: Option<KeptRecord>,
+    other: Option<KeptRecord>,
     first: &mut Vec<u8>,
     second: &mut Vec<u8>,
 ) -> Result<bool, MountFault>
     requires zones { AreKnown (D.drive device.old) zones.now }
-    ensures ok { IfOk result (λ same. (newest other : Option Record) → rivals.newest ≡ option_map kept_record newest → rivals.other ≡ option_map kept_record other → IfStands (D.drive device.old) newest → IfStands (D.drive device.old) other
-        → Tells same (shown (D.drive device.old).geometry.block other ≡ shown (D.drive device.old).geometry.block newest)) }
+    ensures ok { IfOk result (λ same. (new old : Option Record) → newest ≡ option_map kept_record new → other ≡ option_map kept_record old → IfStands (D.drive device.old) new → IfStands (D.drive device.old) old
+        → Tells same (shown (D.drive device.old).geometry.block old ≡ shown (D.drive device.old).geometry.block new)) }
     ensures err { IfErr result (FailsBy (λ _. ⊥) (D.drive device.new)) }
     ensures kept { KeepsZones (D.drive device.old) (D.drive device.new) }
 {
-    read_shown(device, zones, rivals.newest, first)?;
-    read_shown(device, zones, rivals.other, second)?;
+    read_shown(device, zones, newest, first)?;
+    read_shown(device, zones, other, second)?;
     if first == second {
         return Ok(true);
     }
@@ -93,41 +93,39 @@ fn show_same<D: Device>(
 fn shows_same<D: Device>(
     device: &mut D,
     zones: &[ReportedZone],
-    table: &BTreeMap<u32, Rivals>,
+    table: &BlockRecords,
     zone: u32,
     block: u32,
     first: &mut Vec<u8>,
     second: &mut Vec<u8>,
 ) -> Result<bool, MountFault>
     requires zones { AreKnown (D.drive device.old) zones.now }
-    ensures ok { IfOk result (λ same. (logs : List (List Batch)) → HoldsRivals logs table.now → AllStand (D.drive device.old) logs → IsSome (held_of table.now block) → Tells same (ShowsSame (D.drive device.old).geometry.block logs zone block)) }
+    ensures ok { IfOk result (λ same. (logs : List (List Batch)) → HoldsRecords logs table.now → AllStand (D.drive device.old) logs → IsSome (held_of table.now block) → Tells same (ShowsSame (D.drive device.old).geometry.block logs zone block)) }
     ensures err { IfErr result (FailsBy (λ _. ⊥) (D.drive device.new)) }
     ensures kept { KeepsZones (D.drive device.old) (D.drive device.new) }
 {
-    let Some(rivals) = table.get(&block) else {
-        return Ok(true);
-    };
-    let Some(newest) = rivals.newest else {
+    let Some(newest) = table.newest(block) else {
         return Ok(true);
     };
     if newest.zone != zone {
         return Ok(true);
     }
-    show_same(device, zones, *rivals, first, second)
+    let other = table.newest_outside(block, zone);
+    show_same(device, zones, Some(newest), other, first, second)
 }
 
 /// The first block of these entries that shows something else without a zone.
 pub(crate) fn first_needed<D: Device>(
     device: &mut D,
     zones: &[ReportedZone],
-    table: &BTreeMap<u32, Rivals>,
+    table: &BlockRecords,
     zone: u32,
     entries: &[u32],
     first: &mut Vec<u8>,
     second: &mut Vec<u8>,
 ) -> Result<Option<u32>, MountFault>
     requires zones { AreKnown (D.drive device.old) zones.now }
-    ensures ok { IfOk result (λ found. (logs : List (List Batch)) → HoldsRivals logs table.now → AllStand (D.drive device.old) logs → HoldsBlocks table.now entries.now → FindsNeeded (D.drive device.old).geometry.block logs zone entries.now found) }
+    ensures ok { IfOk result (λ found. (logs : List (List Batch)) → HoldsRecords logs table.now → AllStand (D.drive device.old) logs → HoldsBlocks table.now entries.now → FindsNeeded (D.drive device.old).geometry.block logs zone entries.now found) }
     ensures err { IfErr result (FailsBy (λ _. ⊥) (D.drive device.new)) }
     ensures kept { KeepsZones (D.drive device.old) (D.drive device.new) }
 {

@@ -10,18 +10,18 @@ returns-in_default-clause-kept g c = keeps-none _ c.requires.zones.lawful
 
 pub returns-in-Some-2-clause-ok : goal.returns-in-Some-2-clause-ok
 returns-in-Some-2-clause-ok g c =
-    examine-needs (g.D.Device.drive c.args.device.now) c.args.blocks c.args.survey.now c.args.table.now c.args.zone c.in-Some.found.now c.entries-entries.result.now c.in-Some-2.block
+    examine-needs (g.D.Device.drive c.args.device.now) c.args.blocks c.args.survey.now c.args.records.now c.args.zone c.in-Some.found.now c.entries-entries.result.now c.in-Some-2.block
     (rw (c.deref.ensures.value, c.if-not-is_moved.false) at c.is_moved.ensures)
     (found-in c.deref-2.result.now c.args.survey.now c.args.zone c.in-Some.found.now c.deref-2.ensures.value c.in-Some.ensures.lookup.3.0 c.in-Some.ensures.lookup.1) c.entries-entries.ensures (rw c.in-Some-2.is at c.in_ok-block.ensures.ok)
 
-pub returns-then-size_without-survey-clause-ok : goal.returns-then-size_without-survey-clause-ok
-returns-then-size_without-survey-clause-ok g c =
-    examine-size (g.D.Device.drive c.args.device.now) c.args.blocks c.args.survey.now c.args.table.now c.args.zone c.size_without.result c.deref-4.result.now
-    (rw (c.deref.ensures.value, c.if-not-is_moved.false) at c.is_moved.ensures) c.deref-4.ensures.value c.size_without.ensures c.if-size_without-survey.true
+pub returns-then-not-keep_size-clause-ok : goal.returns-then-not-keep_size-clause-ok
+returns-then-not-keep_size-clause-ok g c =
+    examine-size (g.D.Device.drive c.args.device.now) c.args.blocks c.args.survey.now c.args.records.now c.args.sizes c.args.zone c.keep_size.result
+    (rw (c.deref.ensures.value, c.if-not-is_moved.false) at c.is_moved.ensures) c.requires.sizes c.if-not-keep_size.true c.keep_size.ensures
 
 pub returns-clause-ok : goal.returns-clause-ok
 returns-clause-ok g c =
-    examine-half (g.D.Device.drive c.args.device.now) c.args.blocks c.args.survey.now c.args.table.now c.args.zone c.in-Some.found.now c.entries-entries.result.now c.size_without.result c.deref-4.result.now
+    examine-half (g.D.Device.drive c.args.device.now) c.args.blocks c.args.survey.now c.args.records.now c.args.sizes c.args.zone c.in-Some.found.now c.entries-entries.result.now c.keep_size.result
     (rw (c.deref.ensures.value, c.if-not-is_moved.false) at c.is_moved.ensures)
     (found-in c.deref-2.result.now c.args.survey.now c.args.zone c.in-Some.found.now c.deref-2.ensures.value c.in-Some.ensures.lookup.3.0 c.in-Some.ensures.lookup.1) c.entries-entries.ensures (rw c.in_default-2.is at c.in_ok-block.ensures.ok)
-    c.deref-4.ensures.value c.size_without.ensures c.if-size_without-survey.false
+    c.requires.sizes c.if-not-keep_size.false c.keep_size.ensures

@@ -1,0 +1,11 @@
+use Rattle.std.proofs.Common.{◌≡◌, ◌≤◌, ◌+◌, drop}
+use Rattle.std.specs.List.{count_by}
+use Rattle.remount.specs.Scan.{heads_in}
+use Rattle.remount.specs.SizeCounts.{says_size}
+use Rattle.remount.proofs.sizes.count_saying.Given as goal
+
+abbrev pub invariant-loop-zone : goal.invariant-loop-zone
+invariant-loop-zone l = record {
+  counted : l.count + count_by (says_size l.size) (heads_in (drop l.zone-index l.scanned)) ≡ count_by (says_size l.size) (heads_in l.scanned);
+  small : l.count ≤ l.zone-index;
+}
