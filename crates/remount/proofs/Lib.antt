@@ -10,7 +10,8 @@ pub mod SoundLaws
 pub mod RefusalLaws
 pub mod HeadLaws
 pub mod SurveyLaws
-pub mod RivalLaws
+pub mod RecordTableLaws
+pub mod RecordHoldLaws
 pub mod HeadRecordLaws
 pub mod OutsideLaws
 pub mod SpareLaws
