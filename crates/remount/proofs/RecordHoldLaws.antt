@@ -83,13 +83,6 @@ covers-more scanned limit one old new lt is more holds covers logs are zone less
   | inr other ↦ blocks-more old new found.heads.entries more (covers logs are zone (omega (arith, less, other)) moved found there_is)
 ]
 
--- a zone that is not one of Moves is left out
-pub covers-other : (scanned : List ScannedZone) (limit : ℕ) (table : BlockRecords) → ((logs : List (List Batch)) → AreOf scanned logs → IsMoved logs limit → ⊥) → CoversBelow scanned table limit → CoversBelow scanned table (limit + 1)
-covers-other scanned limit table other covers logs are zone less moved = elim (cases_eq zone limit) as (λ _. CoversZone scanned table zone) [
-  | inl here ↦ absurd (other logs are (subst (λ (k : ℕ). IsMoved logs k) here moved))
-  | inr apart ↦ covers logs are zone (omega (arith, less, apart)) moved
-]
-
 pub covers-all : (scanned : List ScannedZone) (limit : ℕ) (table : BlockRecords) → length scanned ≤ limit → CoversBelow scanned table limit → (logs : List (List Batch)) → AreOf scanned logs → CoversMoved logs scanned table
 covers-all scanned limit table le covers logs are zone moved = elim (cases_lt zone limit) as (λ _. CoversZone scanned table zone) [
   | inl lt ↦ covers logs are zone lt moved

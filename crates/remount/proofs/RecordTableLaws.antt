@@ -26,35 +26,6 @@ Slot = Option (Option KeptRecord)
 pub at-is : (k q : ℕ) → is_at (nat_cmp k) q ≡ eqb k q
 at-is k q = grind (arith, nat_tests)
 
-same-slot : (slot : Slot) (r : Option KeptRecord) → option_map (λ (found : Option KeptRecord). cond false r found) slot ≡ slot
-same-slot None r = refl
-same-slot (Some found) r = refl
-
--- of a block that the table does not hold
-pub slot-none : (put : Put) (table : BlockRecords) (r : KeptRecord) → held_of table r.block ≡ None → (block sequence : ℕ) → slot_of table block sequence ≡ slot_after put block sequence (slot_of table block sequence) (r ∷ [])
-slot-none put table r none block sequence = by (eqb r.block block) refl
-  where
-    by : (b : Bool) → eqb r.block block ≡ b → slot_of table block sequence ≡ slot_after put block sequence (slot_of table block sequence) (r ∷ [])
-    by true e = let here : r.block ≡ block = eqb-true r.block block e in rw (← here, none) refl
-    by false e = rw e (sym (same-slot (slot_of table block sequence) (put r)))
-
--- of a block that it holds
-pub slot-step : (put : Put) (old new : BlockRecords) (r : KeptRecord) (held held' : BTreeMap ℕ KeptRecord) → held_of old r.block ≡ Some held
-    → ((q : ℕ) → held_of new q ≡ cond (is_at (nat_cmp r.block) q) (Some held') (held_of old q))
-    → ((s : ℕ) → get nat_cmp held' s ≡ cond (is_at (nat_cmp r.sequence) s) (put r) (get nat_cmp held s))
-    → (block sequence : ℕ) → slot_of new block sequence ≡ slot_after put block sequence (slot_of old block sequence) (r ∷ [])
-slot-step put old new r held held' there puts changes block sequence = by (eqb r.block block) refl
-  where
-    by : (b : Bool) → eqb r.block block ≡ b → slot_of new block sequence ≡ slot_after put block sequence (slot_of old block sequence) (r ∷ [])
-    by true e =
-        let here : r.block ≡ block = eqb-true r.block block e in
-        let new_is : held_of new block ≡ Some held' = puts block ∙ ap (λ (b : Bool). cond b (Some held') (held_of old block)) (at-is r.block block ∙ e) in
-        let old_is : held_of old block ≡ Some held = ap (held_of old) (sym here) ∙ there in
-        rw (new_is, old_is, e) (ap (λ (x : Option KeptRecord). Some x) (changes sequence ∙ ap (λ (b : Bool). cond b (put r) (get nat_cmp held sequence)) (at-is r.sequence sequence)))
-    by false e =
-        let same : held_of new block ≡ held_of old block = puts block ∙ ap (λ (b : Bool). cond b (Some held') (held_of old block)) (at-is r.block block ∙ e) in
-        rw (same, e) (sym (same-slot (slot_of old block sequence) (put r)))
-
 -- ---- one part after the other
 
 pub slot-append : (put : Put) (block sequence : ℕ) (slot : Slot) (xs ys : List KeptRecord) → slot_after put block sequence slot (xs ++ ys) ≡ slot_after put block sequence (slot_after put block sequence slot xs) ys

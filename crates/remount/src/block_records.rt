@@ -51,8 +51,11 @@ fn hold_moved(
     ensures none { OnOk result (HasNoRecord table.new) }
     ensures covers { OnOk result (length scanned.now < 2 ^ 32 → (logs : List (List Batch)) → AreOf scanned.now logs → CoversMoved logs scanned.now table.new) }
 {
-    for (zone, found) in scanned.iter().enumerate() {
-        if !is_moved(scanned, zone as u32) {
+    for (number, found) in scanned.iter().enumerate() {
+        let Ok(zone) = u32::try_from(number) else {
+            return Ok(());
+        };
+        if !is_moved(scanned, zone) {
             continue;
         }
         hold_blocks(alloc, table, &found.heads)?;
