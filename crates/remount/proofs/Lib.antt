@@ -12,6 +12,9 @@ pub mod HeadLaws
 pub mod SurveyLaws
 pub mod RecordTableLaws
 pub mod RecordHoldLaws
+pub mod RecordKeyLaws
+pub mod RecordMapLaws
+pub mod RecordKnownLaws
 pub mod HeadRecordLaws
 pub mod OutsideLaws
 pub mod SpareLaws
