@@ -15,6 +15,7 @@ pub mod RecordHoldLaws
 pub mod RecordKeyLaws
 pub mod RecordMapLaws
 pub mod RecordKnownLaws
+pub mod RecordNewestLaws
 pub mod HeadRecordLaws
 pub mod OutsideLaws
 pub mod SpareLaws

@@ -1,7 +1,6 @@
 -- A table of the records of a drive, as a mount knows it.
 use Rattle.std.proofs.Common.{◌≡◌, ℕ, zero, suc, ◌^◌, ◌<◌, ◌≤◌, List, [], ◌∷◌, length, map, get_or, Option, Some, None, refl, sym, ap, subst, ◌∙◌, arith}
 use Rattle.std.specs.Prelude.{slice_get}
-use Rattle.std.specs.BTreeMap.{BTreeMap, IsEmpty}
 use Rattle.std.specs.List.{AllByRecursion}
 use Rattle.std.proofs.lemmas.List.{length-map}
 use Rattle.batch_log.specs.Log.{Batch}
@@ -9,11 +8,10 @@ use Rattle.drive_port.specs.Drive.{DriveState}
 use Rattle.zone_choice.specs.Mountable.{IsInside}
 use Rattle.zone_choice.specs.Records.{without}
 use Rattle.zone_choice.specs.ZoneLogs.{log_at}
-use Rattle.remount.specs.declared.records.KeptRecord.{KeptRecord}
 use Rattle.remount.specs.declared.block_records.BlockRecords.{BlockRecords}
 use Rattle.remount.specs.declared.scan.ScannedZone.{ScannedZone}
 use Rattle.remount.specs.declared.survey.Survey.{Survey}
-use Rattle.remount.specs.BlockRecords.{HasNoRecord, HoldsBlocks, HoldsRecords, forgets, notes}
+use Rattle.remount.specs.BlockRecords.{HasNoRecord, HoldsBlocks, HoldsMore, HoldsRecords, forgets, notes}
 use Rattle.remount.specs.Clearing.{AreOf, CoversMoved, CoversZone}
 use Rattle.remount.specs.Heads.{HeadsView, heads_of}
 use Rattle.remount.specs.KeptRecords.{kept_in, kept_records}
@@ -24,16 +22,13 @@ use Rattle.remount.proofs.MovedLaws.{found-heads, there}
 use Rattle.remount.proofs.RecordHoldLaws.{blocks-more}
 use Rattle.remount.proofs.RecordKeyLaws.{knows-apart}
 use Rattle.remount.proofs.RecordMapLaws.{holds-forgotten, holds-noted}
-use Rattle.remount.proofs.RecordTableLaws.{Changes, changed-more}
+use Rattle.remount.proofs.RecordTableLaws.{Changes}
 use Rattle.remount.proofs.SpareLaws.{knows-small}
 
 few-zones : (drive : DriveState) (n : ℕ) (logs : List (List Batch)) (survey : Survey) → Knows drive n logs survey → length survey.scanned.items < 2 ^ 32
 few-zones drive n logs survey known =
     let count : length survey.scanned.items ≡ length logs = sym (length-map survey.scanned.items (λ (z : ScannedZone). z.heads)) ∙ ap length known.heads ∙ length-map logs heads_of in
     omega (arith, count, known.count, known.zones.lawful.count, known.zones.geometry.zones.1)
-
-pub fresh-none : (table : BlockRecords) → IsEmpty table.blocks → HasNoRecord table
-fresh-none table empty block held there = absurd (let bad = rw empty at there in cc)
 
 abbrev pub CoversAll : Survey → BlockRecords → Type 0
 CoversAll survey table = length survey.scanned.items < 2 ^ 32 → (logs : List (List Batch)) → AreOf survey.scanned.items logs → CoversMoved logs survey.scanned.items table
@@ -42,10 +37,14 @@ CoversAll survey table = length survey.scanned.items < 2 ^ 32 → (logs : List (
 abbrev pub NotesAll : Survey → BlockRecords → BlockRecords → Type 0
 NotesAll survey old new = length survey.scanned.items < 2 ^ 32 → Changes notes old new (kept_records 0 (heads_in survey.scanned.items))
 
-pub known-covers : (drive : DriveState) (n : ℕ) (logs : List (List Batch)) (survey : Survey) (old new : BlockRecords) → CoversAll survey old → NotesAll survey old new → Knows drive n logs survey → CoversMoved logs survey.scanned.items new
-known-covers drive n logs survey old new covers noted known zone moved found there =
-    let few = few-zones drive n logs survey known in
-    blocks-more old new found.heads.entries (changed-more notes old new (kept_records 0 (heads_in survey.scanned.items)) (noted few)) (covers few logs known.heads zone moved found there)
+pub known-covers : (drive : DriveState) (n : ℕ) (logs : List (List Batch)) (survey : Survey) (old new : BlockRecords) → CoversAll survey old → HoldsMore old new → Knows drive n logs survey → CoversMoved logs survey.scanned.items new
+known-covers drive n logs survey old new covers more known zone moved found there =
+    blocks-more old new found.heads.entries more (covers (few-zones drive n logs survey known) logs known.heads zone moved found there)
+
+pub covers-one : (survey : Survey) (zone : ℕ) (one : ScannedZone) (old new : BlockRecords) → slice_get survey.scanned.items zone ≡ Some one → HoldsBlocks old one.heads.entries → HoldsMore old new → CoversZone survey.scanned.items new zone
+covers-one survey zone one old new there holds more found found_is =
+    let same : one ≡ found = (let e = sym there ∙ found_is in cc) in
+    subst (λ (z : ScannedZone). HoldsBlocks new z.heads.entries) same (blocks-more old new one.heads.entries more holds)
 
 pub known-holds : (drive : DriveState) (n : ℕ) (logs : List (List Batch)) (survey : Survey) (old new : BlockRecords) → HasNoRecord old → NotesAll survey old new → Knows drive n logs survey → HoldsRecords logs new
 known-holds drive n logs survey old new none noted known =

@@ -124,7 +124,7 @@ holds-noted logs old new apart none changes block held there =
 
 -- ---- those of a zone are taken out
 
-among-outside : (zone : ℕ) (rs : List Record) (r : Record) → Contains (outside zone rs) r → Contains rs r × (r.zone ≢ zone)
+pub among-outside : (zone : ℕ) (rs : List Record) (r : Record) → Contains (outside zone rs) r → Contains rs r × (r.zone ≢ zone)
 among-outside zone [] r c = absurd (omega (arith, c.1))
 among-outside zone (x ∷ rs) r c = by (eqb x.zone zone) refl (λ d. among-outside zone rs r d) c
   where
@@ -142,7 +142,7 @@ among-outside zone (x ∷ rs) r c = by (eqb x.zone zone) refl (λ d. among-outsi
     by true e rest d = more (rest d)
     by false e rest d = first e rest d
 
-outside-among : (zone : ℕ) (rs : List Record) (r : Record) → Contains rs r → r.zone ≢ zone → Contains (outside zone rs) r
+pub outside-among : (zone : ℕ) (rs : List Record) (r : Record) → Contains rs r → r.zone ≢ zone → Contains (outside zone rs) r
 outside-among zone [] r c apart = absurd (omega (arith, c.1))
 outside-among zone (x ∷ rs) r (zero, lt, is) apart = rw (ne_eqb x.zone zone (λ same. apart (ap (λ (y : Record). y.zone) (sym is) ∙ same))) (0, omega arith, is)
 outside-among zone (x ∷ rs) r (suc k, lt, is) apart = by (is_outside zone x) (outside-among zone rs r (k, omega (arith, lt), is) apart)

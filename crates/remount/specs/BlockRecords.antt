@@ -1,5 +1,5 @@
 -- The records of some blocks, each found by its block and its sequence.
-use Rattle.std.specs.Prelude.{◌≡◌, ◌++◌, ℕ, ◌==◌, ◌&&◌, if◌then◌else◌, List, [], ◌∷◌, Option, Some, None, IsSome, Contains}
+use Rattle.std.specs.Prelude.{◌≡◌, ◌≢◌, ◌++◌, ℕ, ◌==◌, ◌&&◌, if◌then◌else◌, List, [], ◌∷◌, Option, Some, None, IsSome, Contains}
 use Rattle.std.specs.BTreeMap.{BTreeMap, get, IsEmpty}
 use Rattle.std.specs.List.{AllByRecursion}
 use Rattle.std.specs.Option.{option_map}
@@ -66,4 +66,4 @@ pub record OthersIn (held : BTreeMap ℕ KeptRecord) (zone : ℕ) (rest : List (
 -- the last one outside a zone, or that all lie in it
 abbrev pub IsLastOutside : BTreeMap ℕ KeptRecord → ℕ → Option KeptRecord → Type 0
 IsLastOutside held zone None = OthersIn held zone []
-IsLastOutside held zone (Some found) = (found.zone ≡ zone → ⊥) × ((front : List (ℕ × KeptRecord)) × (sequence : ℕ) × OthersIn held zone (front ++ (sequence, found) ∷ []))
+IsLastOutside held zone (Some found) = (front : List (ℕ × KeptRecord)) × (sequence : ℕ) × (found.zone ≢ zone) × OthersIn held zone (front ++ (sequence, found) ∷ [])

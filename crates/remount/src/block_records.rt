@@ -1,5 +1,7 @@
 ghost use Rattle.std.specs.Prelude.{◌≡◌, ◌≤◌, ◌<◌, ◌^◌, ℕ, [], ◌∷◌, List, length, IfOk, IsSome, None, OnOk, Some};
+ghost use Rattle.std.specs.BTreeMap.{IsOrdered};
 ghost use Rattle.std.specs.Option.{option_map};
+ghost use Rattle.std.specs.Ordering.{nat_cmp};
 ghost use Rattle.batch_log.specs.Log.{Batch};
 ghost use Rattle.drive_port.specs.Drive.{DriveState};
 ghost use Rattle.zone_choice.specs.Records.{newest, records, without};
@@ -111,7 +113,8 @@ fn note_zone(table: &mut BlockRecords, zone: u32, heads: &ZoneHeads) -> Result<(
 
 /// Takes the records of all batches.
 fn note_all(table: &mut BlockRecords, scanned: &[ScannedZone]) -> Result<(), AllocError>
-    ensures { OnOk result (length scanned.now < 2 ^ 32 → (block sequence : ℕ) → slot_of table.new block sequence ≡ slot_after notes block sequence (slot_of table.old block sequence) (kept_records 0 (heads_in scanned.now))) }
+    ensures more { OnOk result (HoldsMore table.old table.new) }
+    ensures noted { OnOk result (length scanned.now < 2 ^ 32 → (block sequence : ℕ) → slot_of table.new block sequence ≡ slot_after notes block sequence (slot_of table.old block sequence) (kept_records 0 (heads_in scanned.now))) }
 {
     for (number, found) in scanned.iter().enumerate() {
         let Ok(zone) = u32::try_from(number) else {
@@ -161,7 +164,8 @@ fn forget_zone(table: &mut BlockRecords, zone: u32, heads: &ZoneHeads)
 
 /// The last record that lies outside a zone, of those of a block.
 fn last_outside(held: &BTreeMap<u64, KeptRecord>, zone: u32) -> Option<KeptRecord>
-    ensures { IsLastOutside held.now zone result }
+    ensures ordered { IsOrdered nat_cmp held.now }
+    ensures last { IsLastOutside held.now zone result }
 {
     let mut entries = held.iter();
     while let Some((_, found)) = entries.next_back() {
