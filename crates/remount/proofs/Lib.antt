@@ -10,7 +10,12 @@ pub mod SoundLaws
 pub mod RefusalLaws
 pub mod HeadLaws
 pub mod SurveyLaws
-pub mod RivalLaws
+pub mod RecordTableLaws
+pub mod RecordHoldLaws
+pub mod RecordKeyLaws
+pub mod RecordMapLaws
+pub mod RecordKnownLaws
+pub mod RecordNewestLaws
 pub mod HeadRecordLaws
 pub mod OutsideLaws
 pub mod SpareLaws

@@ -1,7 +1,6 @@
 -- What blocks show, as it is read.
 use Rattle.std.proofs.Common.{◌≡◌, ◌≢◌, ℕ, suc, ◌<◌, ◌≤◌, Bool, true, false, cond, List, [], ◌∷◌, length, drop, get_or, Option, Some, None, Result, Ok, Err, refl, sym, ap, subst, ◌∙◌, arith}
 use Rattle.std.specs.Prelude.{IfOk}
-use Rattle.std.specs.BTreeMap.{BTreeMap}
 use Rattle.std.specs.List.{AllByRecursion}
 use Rattle.std.specs.Option.{IsSome, option_map}
 use Rattle.std.proofs.lemmas.List.{drop_all}
@@ -15,11 +14,11 @@ use Rattle.zone_choice.proofs.NewestLaws.{newest-is}
 use Rattle.zone_choice.proofs.ReadLaws.{all-among}
 use Rattle.remount.specs.declared.records.KeptRecord.{KeptRecord}
 use Rattle.remount.specs.declared.reported.ReportedZone.{ReportedZone}
-use Rattle.remount.specs.declared.rivals.Rivals.{Rivals}
+use Rattle.remount.specs.declared.block_records.BlockRecords.{BlockRecords}
 use Rattle.remount.specs.Clearing.{AllStand, FindsNeeded, IfStands, ShowsSame, StandsAt, Tells}
 use Rattle.remount.specs.KeptRecords.{block_in, kept_record}
 use Rattle.remount.specs.Reported.{IsKnown, KeepsZones}
-use Rattle.remount.specs.Rivals.{AreRivals, HoldsBlocks, HoldsRivals, held_of}
+use Rattle.remount.specs.BlockRecords.{HoldsBlocks, HoldsRecords, held_of}
 use Rattle.remount.specs.Scan.{block_of, blocks_of}
 use Rattle.remount.proofs.OutsideLaws.{is_outside, outside, outside-is}
 use Rattle.remount.proofs.ReadLaws.{kept-blocks}
@@ -56,45 +55,36 @@ outside-stands P zone (r ∷ rs) all = by (is_outside zone r) (outside-stands P 
     by true rest = (all.0, rest)
     by false rest = rest
 
--- the block is one that the table holds
-pub same-told : (drive : DriveState) (logs : List (List Batch)) (table : BTreeMap ℕ Rivals) (zone block : ℕ) (rivals : Rivals) (kept : KeptRecord) (same : Bool) → held_of table block ≡ Some rivals → rivals.newest ≡ Some kept → kept.zone ≡ zone
-    → ((a b : Option Record) → rivals.newest ≡ option_map kept_record a → rivals.other ≡ option_map kept_record b → IfStands drive a → IfStands drive b → Tells same (shown drive.geometry.block b ≡ shown drive.geometry.block a))
-    → HoldsRivals logs table → AllStand drive logs → Tells same (ShowsSame drive.geometry.block logs zone block)
-same-told drive logs table zone block rivals kept same there newest_kept zone_is tells holds stand = by (newest block (records 0 logs)) refl
+-- what a table answers of a block that it holds
+abbrev pub TellsNewest : BlockRecords → ℕ → Option KeptRecord → Type 0
+TellsNewest table block newest_kept = (logs : List (List Batch)) → HoldsRecords logs table → IsSome (held_of table block) → newest_kept ≡ option_map kept_record (newest block (records 0 logs))
+
+abbrev pub TellsOutside : BlockRecords → ℕ → ℕ → Option KeptRecord → Type 0
+TellsOutside table block zone other = (logs : List (List Batch)) → HoldsRecords logs table → IsSome (held_of table block) → other ≡ option_map kept_record (newest block (records 0 (without logs zone)))
+
+abbrev pub TellsRecords : DriveState → Option KeptRecord → Option KeptRecord → Bool → Type 0
+TellsRecords drive newest_kept other same = (new old : Option Record) → newest_kept ≡ option_map kept_record new → other ≡ option_map kept_record old → IfStands drive new → IfStands drive old → Tells same (shown drive.geometry.block old ≡ shown drive.geometry.block new)
+
+pub same-told : (drive : DriveState) (logs : List (List Batch)) (table : BlockRecords) (zone block : ℕ) (newest_kept other : Option KeptRecord) (same : Bool) → TellsNewest table block newest_kept → TellsOutside table block zone other
+    → TellsRecords drive newest_kept other same → HoldsRecords logs table → AllStand drive logs → IsSome (held_of table block) → Tells same (ShowsSame drive.geometry.block logs zone block)
+same-told drive logs table zone block newest_kept other same first second tells holds stand some =
+    tells (newest block (records 0 logs)) (newest block (records 0 (without logs zone))) (first logs holds some) (second logs holds some) (newest-stands drive logs block (records 0 logs) stand)
+    (newest-stands drive logs block (records 0 (without logs zone)) (subst (λ (rs : List Record). AllByRecursion (StandsAt drive) rs) (outside-is 0 zone zone logs (omega arith)) (outside-stands (StandsAt drive) zone (records 0 logs) stand)))
+
+pub same-absent : (drive : DriveState) (logs : List (List Batch)) (table : BlockRecords) (zone block : ℕ) → TellsNewest table block None → HoldsRecords logs table → IsSome (held_of table block) → ShowsSame drive.geometry.block logs zone block
+same-absent drive logs table zone block tells holds some = by (newest block (records 0 logs)) refl (tells logs holds some)
   where
-    are : AreRivals logs block rivals
-    are = holds block rivals there
+    by : (x : Option Record) → newest block (records 0 logs) ≡ x → None ≡ option_map kept_record (newest block (records 0 logs)) → ShowsSame drive.geometry.block logs zone block
+    by None e told = same-none drive.geometry.block logs zone block e
+    by (Some r) e told = absurd (let bad = told ∙ ap (option_map kept_record) e in cc)
 
-    rest : List Record
-    rest = records 0 (without logs zone)
-
-    stands : IfStands drive (newest block rest)
-    stands = newest-stands drive logs block rest (subst (λ (rs : List Record). AllByRecursion (StandsAt drive) rs) (outside-is 0 zone zone logs (omega arith)) (outside-stands (StandsAt drive) zone (records 0 logs) stand))
-
-    by : (x : Option Record) → newest block (records 0 logs) ≡ x → Tells same (ShowsSame drive.geometry.block logs zone block)
-    by None e = absurd (let some = sym newest_kept ∙ are.newest_is ∙ ap (option_map kept_record) e in cc)
-    by (Some r) e =
-        let one : Some kept ≡ Some (kept_record r) = sym newest_kept ∙ are.newest_is ∙ ap (option_map kept_record) e in
-        let eq : kept ≡ kept_record r = cc in
-        let z : r.zone ≡ zone = sym (ap (λ (k : KeptRecord). k.zone) eq) ∙ zone_is in
-        let other : rivals.other ≡ option_map kept_record (newest block rest) = are.other_is r e ∙ ap (λ (k : ℕ). option_map kept_record (newest block (records 0 (without logs k)))) z in
-        tells (newest block (records 0 logs)) (newest block rest) are.newest_is other (newest-stands drive logs block (records 0 logs) stand) stands
-
-pub same-absent : (drive : DriveState) (logs : List (List Batch)) (table : BTreeMap ℕ Rivals) (zone block : ℕ) (rivals : Rivals) → held_of table block ≡ Some rivals → rivals.newest ≡ None → HoldsRivals logs table → ShowsSame drive.geometry.block logs zone block
-same-absent drive logs table zone block rivals there none holds = by (newest block (records 0 logs)) refl
+pub same-apart : (drive : DriveState) (logs : List (List Batch)) (table : BlockRecords) (zone block : ℕ) (kept : KeptRecord) → TellsNewest table block (Some kept) → kept.zone ≢ zone → HoldsRecords logs table → IsSome (held_of table block) → ShowsSame drive.geometry.block logs zone block
+same-apart drive logs table zone block kept tells apart holds some = by (newest block (records 0 logs)) refl (tells logs holds some)
   where
-    by : (x : Option Record) → newest block (records 0 logs) ≡ x → ShowsSame drive.geometry.block logs zone block
-    by None e = same-none drive.geometry.block logs zone block e
-    by (Some r) e = absurd (let bad = sym none ∙ (holds block rivals there).newest_is ∙ ap (option_map kept_record) e in cc)
-
-pub same-apart : (drive : DriveState) (logs : List (List Batch)) (table : BTreeMap ℕ Rivals) (zone block : ℕ) (rivals : Rivals) (kept : KeptRecord) → held_of table block ≡ Some rivals → rivals.newest ≡ Some kept → kept.zone ≢ zone → HoldsRivals logs table
-    → ShowsSame drive.geometry.block logs zone block
-same-apart drive logs table zone block rivals kept there newest_kept apart holds = by (newest block (records 0 logs)) refl
-  where
-    by : (x : Option Record) → newest block (records 0 logs) ≡ x → ShowsSame drive.geometry.block logs zone block
-    by None e = absurd (let bad = sym newest_kept ∙ (holds block rivals there).newest_is ∙ ap (option_map kept_record) e in cc)
-    by (Some r) e =
-        let one : Some kept ≡ Some (kept_record r) = sym newest_kept ∙ (holds block rivals there).newest_is ∙ ap (option_map kept_record) e in
+    by : (x : Option Record) → newest block (records 0 logs) ≡ x → Some kept ≡ option_map kept_record (newest block (records 0 logs)) → ShowsSame drive.geometry.block logs zone block
+    by None e told = absurd (let bad = told ∙ ap (option_map kept_record) e in cc)
+    by (Some r) e told =
+        let one : Some kept ≡ Some (kept_record r) = told ∙ ap (option_map kept_record) e in
         let eq : kept ≡ kept_record r = cc in
         same-other drive.geometry.block logs zone block r e (λ z. apart (ap (λ (k : KeptRecord). k.zone) eq ∙ z))
 
@@ -104,33 +94,33 @@ abbrev AreSame : ℕ → List (List Batch) → ℕ → List ℕ → Type 0
 AreSame block_bytes logs zone entries = AllByRecursion (λ entry. ShowsSame block_bytes logs zone (block_in entry)) entries
 
 -- the blocks of the first entries show the same
-abbrev pub SameSoFar : DriveState → BTreeMap ℕ Rivals → ℕ → List ℕ → ℕ → Type 0
-SameSoFar drive table zone entries i = (logs : List (List Batch)) → HoldsRivals logs table → AllStand drive logs → HoldsBlocks table entries → AreSame drive.geometry.block logs zone (drop i entries) → AreSame drive.geometry.block logs zone entries
+abbrev pub SameSoFar : DriveState → BlockRecords → ℕ → List ℕ → ℕ → Type 0
+SameSoFar drive table zone entries i = (logs : List (List Batch)) → HoldsRecords logs table → AllStand drive logs → HoldsBlocks table entries → AreSame drive.geometry.block logs zone (drop i entries) → AreSame drive.geometry.block logs zone entries
 
-abbrev pub TellsBlock : DriveState → BTreeMap ℕ Rivals → ℕ → ℕ → Bool → Type 0
-TellsBlock drive table zone block same = (logs : List (List Batch)) → HoldsRivals logs table → AllStand drive logs → IsSome (held_of table block) → Tells same (ShowsSame drive.geometry.block logs zone block)
+abbrev pub TellsBlock : DriveState → BlockRecords → ℕ → ℕ → Bool → Type 0
+TellsBlock drive table zone block same = (logs : List (List Batch)) → HoldsRecords logs table → AllStand drive logs → IsSome (held_of table block) → Tells same (ShowsSame drive.geometry.block logs zone block)
 
-tells-first : (first now : DriveState) (table : BTreeMap ℕ Rivals) (zone block : ℕ) (same : Bool) → KeepsZones first now → TellsBlock now table zone block same → TellsBlock first table zone block same
+tells-first : (first now : DriveState) (table : BlockRecords) (zone block : ℕ) (same : Bool) → KeepsZones first now → TellsBlock now table zone block same → TellsBlock first table zone block same
 tells-first first now table zone block same kept tells logs holds stand some =
     rw (← kept.geometry) (tells logs holds (all-kept first now logs kept stand) some)
 
-block-held : (table : BTreeMap ℕ Rivals) (entries : List ℕ) (i d : ℕ) → HoldsBlocks table entries → i < length entries → IsSome (held_of table (block_in (get_or entries i d)))
+block-held : (table : BlockRecords) (entries : List ℕ) (i d : ℕ) → HoldsBlocks table entries → i < length entries → IsSome (held_of table (block_in (get_or entries i d)))
 block-held table entries i d holds lt = all-at (λ entry. IsSome (held_of table (block_in entry))) entries i d holds lt
 
-pub same-more : (first now : DriveState) (table : BTreeMap ℕ Rivals) (zone : ℕ) (entries : List ℕ) (i i' block : ℕ) (same : Bool) → KeepsZones first now → i < length entries → i' ≡ suc i → block ≡ block_in (get_or entries i 0) → same ≡ true → TellsBlock now table zone block same
+pub same-more : (first now : DriveState) (table : BlockRecords) (zone : ℕ) (entries : List ℕ) (i i' block : ℕ) (same : Bool) → KeepsZones first now → i < length entries → i' ≡ suc i → block ≡ block_in (get_or entries i 0) → same ≡ true → TellsBlock now table zone block same
     → SameSoFar first table zone entries i → SameSoFar first table zone entries i'
 same-more first now table zone entries i i' block same kept lt more is yes_same tells so_far logs holds stand held rest =
     let here = rw (yes_same, is) at (tells-first first now table zone block same kept tells) in
     so_far logs holds stand held (rw (drop-cons entries i 0 lt) (here logs holds stand (block-held table entries i 0 held lt), rw more at rest))
 
-pub needed-here : (first now : DriveState) (table : BTreeMap ℕ Rivals) (zone : ℕ) (entries : List ℕ) (i block : ℕ) (same : Bool) → KeepsZones first now → i < length entries → block ≡ block_in (get_or entries i 0) → same ≡ false → TellsBlock now table zone block same
-    → (logs : List (List Batch)) → HoldsRivals logs table → AllStand first logs → HoldsBlocks table entries → FindsNeeded first.geometry.block logs zone entries (Some block)
+pub needed-here : (first now : DriveState) (table : BlockRecords) (zone : ℕ) (entries : List ℕ) (i block : ℕ) (same : Bool) → KeepsZones first now → i < length entries → block ≡ block_in (get_or entries i 0) → same ≡ false → TellsBlock now table zone block same
+    → (logs : List (List Batch)) → HoldsRecords logs table → AllStand first logs → HoldsBlocks table entries → FindsNeeded first.geometry.block logs zone entries (Some block)
 needed-here first now table zone entries i block same kept lt is not_same tells logs holds stand held =
     let here = rw not_same at (tells-first first now table zone block same kept tells) in
     here logs holds stand (rw is (block-held table entries i 0 held lt))
 
-pub none-needed : (drive : DriveState) (table : BTreeMap ℕ Rivals) (zone : ℕ) (entries : List ℕ) (i : ℕ) → length entries ≤ i → SameSoFar drive table zone entries i
-    → (logs : List (List Batch)) → HoldsRivals logs table → AllStand drive logs → HoldsBlocks table entries → FindsNeeded drive.geometry.block logs zone entries None
+pub none-needed : (drive : DriveState) (table : BlockRecords) (zone : ℕ) (entries : List ℕ) (i : ℕ) → length entries ≤ i → SameSoFar drive table zone entries i
+    → (logs : List (List Batch)) → HoldsRecords logs table → AllStand drive logs → HoldsBlocks table entries → FindsNeeded drive.geometry.block logs zone entries None
 none-needed drive table zone entries i le so_far logs holds stand held = so_far logs holds stand held (rw (drop_all i entries le) tt)
 
 -- ---- two records are compared
@@ -138,20 +128,17 @@ none-needed drive table zone entries i le so_far logs holds stand held = so_far 
 abbrev pub ReadsShown : DriveState → Option KeptRecord → List ℕ → Type 0
 ReadsShown drive kept bytes = (found : Option Record) → kept ≡ option_map kept_record found → IfStands drive found → bytes ≡ shown drive.geometry.block found
 
-pub both-same : (first now : DriveState) (rivals : Rivals) (a b : List ℕ) → KeepsZones first now → ReadsShown first rivals.newest a → ReadsShown now rivals.other b → a ≡ b
-    → (newest other : Option Record) → rivals.newest ≡ option_map kept_record newest → rivals.other ≡ option_map kept_record other → IfStands first newest → IfStands first other → shown first.geometry.block other ≡ shown first.geometry.block newest
-both-same first now rivals a b kept reads reads' same newest other e f stands stands' =
-    let second = rw kept.geometry at (reads' other f (if-kept first now other kept stands')) in
-    sym second ∙ sym same ∙ reads newest e stands
+pub both-same : (first now : DriveState) (newest_kept other : Option KeptRecord) (a b : List ℕ) → KeepsZones first now → ReadsShown first newest_kept a → ReadsShown now other b → a ≡ b
+    → (new old : Option Record) → newest_kept ≡ option_map kept_record new → other ≡ option_map kept_record old → IfStands first new → IfStands first old → shown first.geometry.block old ≡ shown first.geometry.block new
+both-same first now newest_kept other a b kept reads reads' same new old e f stands stands' =
+    let second = rw kept.geometry at (reads' old f (if-kept first now old kept stands')) in
+    sym second ∙ sym same ∙ reads new e stands
 
-pub both-differ : (first now : DriveState) (rivals : Rivals) (a b : List ℕ) → KeepsZones first now → ReadsShown first rivals.newest a → ReadsShown now rivals.other b → a ≢ b
-    → (newest other : Option Record) → rivals.newest ≡ option_map kept_record newest → rivals.other ≡ option_map kept_record other → IfStands first newest → IfStands first other → shown first.geometry.block other ≡ shown first.geometry.block newest → ⊥
-both-differ first now rivals a b kept reads reads' differ newest other e f stands stands' same =
-    let second = rw kept.geometry at (reads' other f (if-kept first now other kept stands')) in
-    differ (reads newest e stands ∙ sym same ∙ sym second)
-
-abbrev pub TellsRivals : DriveState → Rivals → Bool → Type 0
-TellsRivals drive rivals same = (newest other : Option Record) → rivals.newest ≡ option_map kept_record newest → rivals.other ≡ option_map kept_record other → IfStands drive newest → IfStands drive other → Tells same (shown drive.geometry.block other ≡ shown drive.geometry.block newest)
+pub both-differ : (first now : DriveState) (newest_kept other : Option KeptRecord) (a b : List ℕ) → KeepsZones first now → ReadsShown first newest_kept a → ReadsShown now other b → a ≢ b
+    → (new old : Option Record) → newest_kept ≡ option_map kept_record new → other ≡ option_map kept_record old → IfStands first new → IfStands first old → shown first.geometry.block old ≡ shown first.geometry.block new → ⊥
+both-differ first now newest_kept other a b kept reads reads' differ new old e f stands stands' same =
+    let second = rw kept.geometry at (reads' old f (if-kept first now old kept stands')) in
+    differ (reads new e stands ∙ sym same ∙ sym second)
 
 pub told-ok : {E : Type 0} (P Q : Bool → Type 0) (result : Result Bool E) → ((same : Bool) → P same → Q same) → IfOk result P → IfOk result Q
 told-ok P Q (Ok same) f p = f same p

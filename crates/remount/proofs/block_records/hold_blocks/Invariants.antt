@@ -1,6 +1,6 @@
 use Rattle.std.proofs.Common.{drop}
-use Rattle.remount.proofs.RivalLaws.{HoldsSoFar}
-use Rattle.remount.proofs.rivals.hold_blocks.Given as goal
+use Rattle.remount.proofs.RecordHoldLaws.{HoldsSoFar}
+use Rattle.remount.proofs.block_records.hold_blocks.Given as goal
 
 abbrev pub invariant-loop-entry : goal.invariant-loop-entry
 invariant-loop-entry l = HoldsSoFar l.fn.table l.table l.heads.entries (drop l.entry-index l.heads.entries)
