@@ -63,9 +63,9 @@ fn answered(
 }
 
 // Whether a run was ended by a stop of the device: in a call, or where it was to be mounted again.
-fn is_stop(result: Result<(), RunFault>) -> bool {
-    result == Err(RunFault::Disk(DiskFault::Stopped))
-        || result == Err(RunFault::Mount(MountFault::Halted))
+fn is_stop(ended: Result<(), RunFault>) -> bool {
+    ended == Err(RunFault::Disk(DiskFault::Stopped))
+        || ended == Err(RunFault::Mount(MountFault::Halted))
 }
 
 // Whether these blocks are the flat array with a front of a line. Only a stop leaves a growth done.
