@@ -2,7 +2,7 @@
 use Rattle.std.specs.Prelude.{ℕ, ◌==◌, ◌^◌, if◌then◌else◌, Bool, true, List, [], ◌∷◌, codes, bytes_eq, Option, Some, None, option_map}
 use Rattle.disk_files.specs.Words.{below, byte_of, data_of, number_of, words_of, ◌>>=◌}
 use Rattle.disk_files.specs.declared.trace_line.TraceLine.{TraceLine}
-use Rattle.disk_files.specs.declared.trace_line.TraceLine.TheVariants.{Read, Fill, Write, Trim, Idle, Grow}
+use Rattle.disk_files.specs.declared.trace_line.TraceLine.TheVariants.{Read, Fill, Write, Trim, Idle, Grow, Remount}
 use Rattle.disk_files.specs.declared.trace_line.Name.{Name}
 use Rattle.disk_files.specs.declared.trace_line.Name.TheVariants as names
 
@@ -14,7 +14,8 @@ is_skipped (b ∷ bs) = b == 35
 -- the names of the lines without data
 abbrev pub name_of : List ℕ → Option Name
 name_of word =
-    if bytes_eq word (codes "read") then Some names.Read
+    if bytes_eq word (codes "remount") then Some names.Remount
+    else if bytes_eq word (codes "read") then Some names.Read
     else if bytes_eq word (codes "fill") then Some names.Fill
     else if bytes_eq word (codes "trim") then Some names.Trim
     else if bytes_eq word (codes "idle") then Some names.Idle
@@ -51,7 +52,7 @@ write_of (first ∷ digits ∷ []) = do
   Some (Write l, bytes)
 write_of words = None
 
--- what a line of each name says, by the words after its name
+-- what a line of each name says, by the words after its name; after `remount` there is none
 abbrev pub line_of : Name → List (List ℕ) → Option TraceLine
 line_of names.Read words = do
   range ← range_of words
@@ -67,6 +68,8 @@ line_of names.Idle words = do
 line_of names.Grow words = do
   blocks ← only_number words
   Some (Grow blocks)
+line_of names.Remount [] = Some Remount
+line_of names.Remount words = None
 
 -- what a line without data says, by its name and the words after it
 abbrev pub plain_of : List ℕ → List (List ℕ) → Option TraceLine

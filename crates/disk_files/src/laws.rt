@@ -34,6 +34,7 @@ pub fn trace_line_again()
         trace_line (codes "idle " ++ decimal turns) ≡ Some (lines.Idle turns, []) }
     ensures grow { (blocks : ℕ) → blocks < 2 ^ 64 →
         trace_line (codes "grow " ++ decimal blocks) ≡ Some (lines.Grow blocks, []) }
+    ensures remount { trace_line (codes "remount") ≡ Some (lines.Remount, []) }
 {}
 
 /// A raw line with and without data is read again, and so is a reply to one.

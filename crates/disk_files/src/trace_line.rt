@@ -1,6 +1,6 @@
-ghost use Rattle.std.specs.Prelude.{◌≡◌, ◌*◌, ◌<◌, [], IfOk, IsErrOf, OnErr, length, vec_capacity};
-ghost use Rattle.disk_files.specs.TraceLine.{fill_of, is_skipped, name_of, only_number, plain_of, range_of, trace_line, write_of};
-ghost use Rattle.disk_files.specs.Words.{words_of};
+ghost use Rattle.std.specs.Prelude.{◌≡◌, ◌*◌, ◌<◌, [], IfOk, IsErrOf, OnErr, length, option_copied, vec_capacity};
+ghost use Rattle.disk_files.specs.TraceLine.{fill_of, is_skipped, line_of, name_of, only_number, plain_of, range_of, trace_line, write_of};
+ghost use Rattle.disk_files.specs.Words.{words_after, words_of};
 
 use crate::data::{ParseFault, decode_data};
 use crate::words::{byte, number, only_word, split_word};
@@ -20,6 +20,8 @@ pub enum TraceLine {
     Idle { turns: u32 },
     /// `grow N2`: makes the disk this many blocks long.
     Grow { blocks: u64 },
+    /// `remount`: mounts the drive again.
+    Remount,
 }
 
 /// Whether a line is skipped, without a reply: an empty one, and one that begins with `#`.
@@ -40,12 +42,16 @@ enum Name {
     Trim,
     Idle,
     Grow,
+    Remount,
 }
 
 impl Name {
     fn of(word: &[u8]) -> Option<Name>
         ensures { result ≡ name_of word.now }
     {
+        if word == b"remount".as_slice() {
+            return Some(Name::Remount);
+        }
         match word {
             b"read" => Some(Name::Read),
             b"fill" => Some(Name::Fill),
@@ -86,11 +92,11 @@ fn fill_line(words: &[u8]) -> Option<TraceLine>
     })
 }
 
-/// What a line without data says, by its name and the words after it.
-fn plain_line(name: &[u8], words: &[u8]) -> Option<TraceLine>
-    ensures { result ≡ plain_of name.now (words_of words.now) }
+/// What a line without data says, by its name and the words after it, of which there is one at least.
+fn named_line(name: Name, words: &[u8]) -> Option<TraceLine>
+    ensures { result ≡ line_of name (words_of words.now) }
 {
-    match Name::of(name)? {
+    match name {
         Name::Read => {
             let (first, blocks) = range(words)?;
             Some(TraceLine::Read { first, blocks })
@@ -108,6 +114,21 @@ fn plain_line(name: &[u8], words: &[u8]) -> Option<TraceLine>
             let blocks = only_number(words)?;
             Some(TraceLine::Grow { blocks })
         }
+        Name::Remount => None,
+    }
+}
+
+/// What a line without data says, by its name and what follows it.
+fn plain_line(name: &[u8], rest: Option<&[u8]>) -> Option<TraceLine>
+    ensures { result ≡ plain_of name.now (words_after (option_copied rest.entry)) }
+{
+    let name = Name::of(name)?;
+    match rest {
+        Some(words) => named_line(name, words),
+        None => match name {
+            Name::Remount => Some(TraceLine::Remount),
+            Name::Read | Name::Fill | Name::Trim | Name::Idle | Name::Grow => None,
+        },
     }
 }
 
@@ -139,16 +160,14 @@ fn parse_over(line: &[u8], bytes: &mut Vec<u8>) -> Result<TraceLine, ParseFault>
         2 * vec_capacity bytes.old < length line.now }
 {
     let (name, rest) = split_word(line);
-    let Some(words) = rest else {
-        return Err(ParseFault::Grammar);
-    };
-    match name {
-        b"write" => write_line(words, bytes),
-        _ => {
-            bytes.clear();
-            plain_line(name, words).ok_or(ParseFault::Grammar)
-        }
+    if name == b"write".as_slice() {
+        let Some(words) = rest else {
+            return Err(ParseFault::Grammar);
+        };
+        return write_line(words, bytes);
     }
+    bytes.clear();
+    plain_line(name, rest).ok_or(ParseFault::Grammar)
 }
 
 impl TraceLine {

@@ -22,7 +22,7 @@ pub(crate) enum Wanted {
 impl Wanted {
     fn text(self) -> &'static str {
         match self {
-            Wanted::Name => "read, fill, write, trim, idle or grow",
+            Wanted::Name => "read, fill, write, trim, idle, grow or remount",
             Wanted::Number => "a number below 2^64 in 1 to 20 decimal digits",
             Wanted::Turns => "a number below 2^32 in decimal digits",
             Wanted::Byte => "two hexadecimal digits",
@@ -117,15 +117,16 @@ fn are_hex(word: &[u8]) -> bool {
     word.iter().all(|byte| byte.is_ascii_hexdigit())
 }
 
-/// What the words of a call have to be, by its name.
-fn wanted_of(name: &[u8]) -> &'static [Wanted] {
+/// What the words of a call have to be, by its name. No call has another name.
+fn wanted_of(name: &[u8]) -> Option<&'static [Wanted]> {
     match name {
-        b"read" | b"trim" => &[Wanted::Name, Wanted::Number, Wanted::Number],
-        b"fill" => &[Wanted::Name, Wanted::Number, Wanted::Number, Wanted::Byte],
-        b"write" => &[Wanted::Name, Wanted::Number, Wanted::Data],
-        b"idle" => &[Wanted::Name, Wanted::Turns],
-        b"grow" => &[Wanted::Name, Wanted::Number],
-        _ => &[Wanted::Name],
+        b"read" | b"trim" => Some(&[Wanted::Name, Wanted::Number, Wanted::Number]),
+        b"fill" => Some(&[Wanted::Name, Wanted::Number, Wanted::Number, Wanted::Byte]),
+        b"write" => Some(&[Wanted::Name, Wanted::Number, Wanted::Data]),
+        b"idle" => Some(&[Wanted::Name, Wanted::Turns]),
+        b"grow" => Some(&[Wanted::Name, Wanted::Number]),
+        b"remount" => Some(&[Wanted::Name]),
+        _ => None,
     }
 }
 
@@ -133,7 +134,7 @@ impl Wanted {
     /// Whether a word is what is wanted, as far as the word alone tells.
     fn is(self, word: &[u8]) -> bool {
         match self {
-            Wanted::Name => wanted_of(word).len() > 1,
+            Wanted::Name => wanted_of(word).is_some(),
             Wanted::Number => number(word).is_some(),
             Wanted::Turns => number(word).is_some_and(|turns| turns <= u64::from(u32::MAX)),
             Wanted::Byte => word.len() == 2 && are_hex(word),
@@ -167,7 +168,7 @@ pub(crate) fn trace_problem(line: &[u8]) -> LineProblem {
         return problem;
     }
     let name = line.split(|byte| *byte == b' ').next().unwrap_or(&[]);
-    match word_problem(line, wanted_of(name)) {
+    match word_problem(line, wanted_of(name).unwrap_or(&[Wanted::Name])) {
         Some(problem) => problem,
         // Only the data of a `write` can be wrong in another way: it is not whole blocks.
         None => LineProblem::Word(3, Wanted::Data),

@@ -1,6 +1,6 @@
 -- A run goes on by one line, ends, and stops.
 use Rattle.std.proofs.Common.{◌≡◌, ◌≢◌, ℕ, ◌+◌, ◌<◌, ◌≤◌, true, false, List, [], ◌∷◌, ◌++◌, length, take, Option, Some, None, Ok, Err, inl, inr, refl, sym, ap, subst, ◌∙◌, arith, append_assoc}
-use Rattle.std.specs.Prelude.{Bool, IfErr, IsErrAnd, IsErrOf, Result, ◌↔◌}
+use Rattle.std.specs.Prelude.{Bool, IfErr, IsErrAnd, IsErrOf, Result, ◌↔◌, ⊤}
 use Rattle.std.proofs.lemmas.Bool.{cases_lt}
 use Rattle.std.specs.Io.KnownBytes.{Appends}
 use Rattle.std.proofs.lemmas.List.{append-nil, length-append}
@@ -9,7 +9,7 @@ use Rattle.disk_files.specs.Output.{AppendsFront}
 use Rattle.disk_files.specs.declared.line_reader.TheConstants.{LONGEST_LINE}
 use Rattle.disk_files.specs.declared.line_reader.LineFault.{LineFault}
 use Rattle.disk_files.specs.declared.line_reader.LineFault.TheVariants as lines
-use Rattle.disk_runs.specs.Run.{AnswersAll, IsAnswered, IsLine, Language, LineStops, Ran, SoFar, Stopped, StopsAt, TakesLines, WhereKnown, line_fault}
+use Rattle.disk_runs.specs.Run.{AnswersAll, AreFirstLines, IsAnswered, IsLine, KeepsAll, KeepsEnd, KeepsLines, Language, LineStops, Ran, SoFar, Stopped, StopsAt, TakesLines, WhereKnown, line_fault}
 use Rattle.disk_runs.specs.declared.fault.RunFault.{RunFault}
 use Rattle.disk_runs.specs.declared.fault.RunFault.TheVariants as runs
 use Rattle.disk_runs.specs.declared.fault.RunFault.TheVariants.{Line, Long, Disk, Mount, Input, Output, Memory}
@@ -244,3 +244,50 @@ line_of language old new line reply short answered = record { short = short; leg
 pub if-fault : {T : Type 0} (r : Result T RunFault) (fault : RunFault) (P : RunFault → Type 0) → IsErrAnd r (λ e. e ≡ fault) → P fault → IfErr r P
 if-fault (Ok x) fault P is p = tt
 if-fault (Err e) fault P is p = subst P (sym is) p
+
+-- ---- what is kept from line to line
+
+-- these lines were read, and the rest is left
+abbrev pub HasRead : Option (List ℕ) → List (List ℕ) → Option (List ℕ) → Type 0
+HasRead None lines left = ⊤
+HasRead (Some input) lines left = (rest : List ℕ) × TakesLines input lines rest × (left ≡ Some rest)
+
+-- the lines that were read were answered
+pub record KeepsSoFar {A : Type 0} (Keeps : List ℕ → A → A → Type 0) (input left : Option (List ℕ)) (old new : A) : Type 0 where
+  pub lines : List (List ℕ)
+  pub read : HasRead input lines left
+  pub keeps : KeepsAll Keeps lines old new
+
+KeepsAll-more : {A : Type 0} (Keeps : List ℕ → A → A → Type 0) (lines : List (List ℕ)) (line : List ℕ) (old middle new : A) → KeepsAll Keeps lines old middle → Keeps line middle new → KeepsAll Keeps (lines ++ line ∷ []) old new
+KeepsAll-more Keeps [] line old middle new p k = (new, rw p at k, refl)
+KeepsAll-more Keeps (l ∷ ls) line old middle new p k = (p.0, p.1, KeepsAll-more Keeps ls line p.0 middle new p.2 k)
+
+read-more : (input left left' : Option (List ℕ)) (lines : List (List ℕ)) (line : List ℕ) → HasRead input lines left → ReadsLine left left' line (Ok true) → HasRead input (lines ++ line ∷ []) left'
+read-more None left left' lines line h r = tt
+read-more (Some input) left left' lines line h r =
+    let t = taken_line h.0 line left left' h.2 r in
+    (after_line h.0, TakesLines-more lines input h.0 line h.1 t.some t.line_is, t.left_is)
+
+first-lines : (input left : Option (List ℕ)) (lines : List (List ℕ)) → HasRead input lines left → AreFirstLines input lines
+first-lines None left lines h = tt
+first-lines (Some input) left lines h = (h.0, h.1)
+
+read-none : (input : Option (List ℕ)) → HasRead input [] input
+read-none None = tt
+read-none (Some input) = (input, refl, refl)
+
+pub kept_none : {A : Type 0} (Keeps : List ℕ → A → A → Type 0) (input : Option (List ℕ)) (old : A) → KeepsSoFar Keeps input input old old
+kept_none Keeps input old = record { lines = []; read = read-none input; keeps = refl }
+
+pub kept_more : {A : Type 0} (Keeps : List ℕ → A → A → Type 0) (input left left' : Option (List ℕ)) (line : List ℕ) (old middle new : A) → ReadsLine left left' line (Ok true) → Keeps line middle new → KeepsSoFar Keeps input left old middle → KeepsSoFar Keeps input left' old new
+kept_more Keeps input left left' line old middle new r k s = record {
+  lines = s.lines ++ line ∷ [];
+  read = read-more input left left' s.lines line s.read r;
+  keeps = KeepsAll-more Keeps s.lines line old middle new s.keeps k;
+}
+
+pub kept_lines : {A : Type 0} (Keeps : List ℕ → A → A → Type 0) (input left : Option (List ℕ)) (old new : A) → KeepsSoFar Keeps input left old new → KeepsLines Keeps input old new
+kept_lines Keeps input left old new s = record { lines = s.lines; first = first-lines input left s.lines s.read; keeps = s.keeps }
+
+pub kept_end : {A : Type 0} (Keeps : List ℕ → A → A → Type 0) (Leaves : RunFault → A → A → Type 0) (input left : Option (List ℕ)) (old middle new : A) (fault : RunFault) → KeepsSoFar Keeps input left old middle → Leaves fault middle new → KeepsEnd Keeps Leaves input old fault new
+kept_end Keeps Leaves input left old middle new fault s leaves = record { middle = middle; before = kept_lines Keeps input left old middle s; leaves = leaves }

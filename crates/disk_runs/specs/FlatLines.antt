@@ -1,23 +1,24 @@
 -- What a conventional disk replies to the lines of a trace. It knows nothing of zones.
-use Rattle.std.specs.Prelude.{◌≡◌, ℕ, zero, suc, ◌<◌, ◌/◌, ◌%◌, ◌==◌, ◌||◌, if◌then◌else◌, Bool, List, [], length, Option, Some, None, Result, Ok, Err, is_some, option_and_then}
+use Rattle.std.specs.Prelude.{◌≡◌, ℕ, zero, suc, ◌<◌, ◌/◌, ◌%◌, ◌==◌, ◌||◌, if◌then◌else◌, Bool, true, false, List, [], length, Option, Some, None, Result, Ok, Err, is_some, option_and_then}
 use Rattle.zone_states.specs.Zone.{cut_blocks}
 use Rattle.disk_files.specs.Reply.{out_of_range_text, read_text, reserve_text, smaller_text}
 use Rattle.disk_files.specs.TraceLine.{is_skipped, trace_line}
 use Rattle.disk_files.specs.declared.trace_line.TraceLine.{TraceLine}
-use Rattle.disk_files.specs.declared.trace_line.TraceLine.TheVariants.{Read, Fill, Write, Trim, Idle, Grow}
-use Rattle.zone_translator.specs.Flat.{Answer, Call, FlatCall, FlatDisk, fill, grow, idle, read, trim, with_nothing, write}
+use Rattle.disk_files.specs.declared.trace_line.TraceLine.TheVariants.{Read, Fill, Write, Trim, Idle, Grow, Remount}
+use Rattle.zone_translator.specs.Flat.{Answer, Call, FlatCall, FlatDisk, FlatRemount, fill, grow, idle, read, trim, with_nothing, write}
 use Rattle.zone_translator.specs.declared.fault.DiskFault.{DiskFault}
 use Rattle.zone_translator.specs.declared.fault.DiskFault.TheVariants.{OutOfRange, Smaller, Reserve}
 use Rattle.disk_runs.specs.Run.{Language}
 use Rattle.disk_runs.specs.declared.fault.RunFault.{RunFault}
-use Rattle.disk_runs.specs.declared.fault.RunFault.TheVariants.{Disk, Memory}
+use Rattle.disk_runs.specs.declared.fault.RunFault.TheVariants.{Disk, Mount, Memory}
 
 -- ---- what a line asks for
 
--- one call, or that many turns of cleaning
+-- one call, that many turns of cleaning, or to mount the drive again
 pub data Request : Type 0 where
   single : Call → Request
   turns : ℕ → Request
+  remount : Request
 
 -- data that is whole blocks of this many bytes
 abbrev pub is_whole : ℕ → List ℕ → Bool
@@ -33,10 +34,25 @@ asked size (Write first) bytes =
 asked size (Trim first n) bytes = Some (single (trim size first n))
 asked size (Idle n) bytes = Some (turns n)
 asked size (Grow n) bytes = Some (single (grow n))
+asked size Remount bytes = Some remount
 
 -- the same of the line's text
 abbrev pub asked_by : ℕ → List ℕ → Option Request
 asked_by size line = option_and_then (λ said. asked size said.0 said.1) (trace_line line)
+
+-- whether a line says to mount the drive again
+abbrev pub is_remount : TraceLine → Bool
+is_remount Remount = true
+is_remount line = false
+
+-- whether what was read says so
+abbrev pub says_remount : Option (TraceLine × List ℕ) → Bool
+says_remount None = false
+says_remount (Some said) = is_remount said.0
+
+-- whether a line's text does: one that is skipped does not
+abbrev pub asks_remount : List ℕ → Bool
+asks_remount line = if is_skipped line then false else says_remount (trace_line line)
 
 -- a line that is skipped asks for nothing
 abbrev pub request_of : ℕ → List ℕ → Option Request
@@ -66,10 +82,11 @@ abbrev pub Turns : ℕ → FlatDisk → Result (Unit {0}) DiskFault → FlatDisk
 Turns n old (Ok done) new = TurnsDone n old new
 Turns n old (Err fault) new = TurnsStop n old fault new
 
--- a call is answered as a flat disk answers it; turns show nothing
+-- a call is answered as a flat disk answers it; turns show nothing, and neither does a remount, which is answered where it is done
 abbrev pub FlatAnswer : FlatDisk → Request → Answer → FlatDisk → Type 0
 FlatAnswer old (single call) answer new = FlatCall old call answer new
 FlatAnswer old (turns n) answer new = (answer.shown ≡ []) × Turns n old answer.result new
+FlatAnswer old remount answer new = (answer ≡ with_nothing (Ok tt)) × FlatRemount old (Ok tt) new
 
 -- ---- replies
 
@@ -111,14 +128,16 @@ pub record IsRefused (old : FlatDisk) (request : Request) (fault : DiskFault) (n
   pub flat : FlatAnswer old request (with_nothing (Err fault)) new
   pub no_reply : refusal_reply fault ≡ None
 
--- a line is refused only where it asks for something, and only by the disk
+-- a line is refused only where it asks for something, and only by the disk; a remount by the fault of the mount
 abbrev pub RefusesRequest : FlatDisk → Option Request → RunFault → FlatDisk → Type 0
 RefusesRequest old (Some request) (Disk fault) new = IsRefused old request fault new
+RefusesRequest old (Some remount) (Mount fault) new = FlatRemount old (Err fault) new
 RefusesRequest old wanted fault new = ⊥
 
 -- why what a line asks for has no reply, and what it left: it was refused, or there was no memory for the reply and nothing changed
 abbrev pub RequestStops : FlatDisk → Option Request → RunFault → FlatDisk → Type 0
 RequestStops old wanted (Disk fault) new = RefusesRequest old wanted (Disk fault) new
+RequestStops old wanted (Mount fault) new = RefusesRequest old wanted (Mount fault) new
 RequestStops old wanted Memory new = new ≡ old
 RequestStops old wanted fault new = ⊥
 

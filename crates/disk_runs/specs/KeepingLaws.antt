@@ -2,7 +2,9 @@
 use Rattle.std.proofs.Common.{refl, ◌∙◌}
 use Rattle.zone_translator.specs.View.{DiskView, KeepsDisk}
 use Rattle.zone_translator.proofs.DiskLaws.{kept-join, kept-refl}
-use Rattle.disk_runs.specs.Trace.{KeepsServed}
+use Rattle.disk_runs.specs.Trace.{KeepsDrive, KeepsFault, KeepsServed}
+use Rattle.disk_runs.specs.declared.fault.RunFault.{RunFault}
+use Rattle.disk_runs.specs.declared.fault.RunFault.TheVariants.{Line, Long, Disk, Mount, Geometry, Input, Output, Memory}
 
 pub keeps_same : (disk : DiskView) → KeepsServed disk disk
 keeps_same disk = record { geometry = refl; mounted = kept-refl disk }
@@ -16,3 +18,20 @@ keeps_again a b c f s = record {
 -- what a call keeps
 pub keeps_call : (old new : DiskView) → KeepsDisk old new → KeepsServed old new
 keeps_call old new kept = record { geometry = kept.geometry; mounted = λ m. kept }
+
+drive_kept : (old new : DiskView) → KeepsDisk old new → KeepsDrive old new
+drive_kept old new kept = record { given = kept.given; geometry = kept.geometry; mountable = kept.mountable; refused = kept.refused }
+
+-- what a fault keeps after which the disk is as calls leave it
+pub fault_keeps : (fault : RunFault) (old new : DiskView) → KeepsServed old new → KeepsFault fault old new
+fault_keeps (Line m) old new kept = kept
+fault_keeps (Long m) old new kept = kept
+fault_keeps (Disk f) old new kept = kept
+fault_keeps (Mount f) old new kept = λ m. drive_kept old new (kept.mounted m)
+fault_keeps (Geometry f) old new kept = kept
+fault_keeps Input old new kept = kept
+fault_keeps Output old new kept = kept
+fault_keeps Memory old new kept = kept
+
+pub leaves_same : (fault : RunFault) (disk : DiskView) → KeepsFault fault disk disk
+leaves_same fault disk = fault_keeps fault disk disk (keeps_same disk)

@@ -23,6 +23,11 @@ abbrev pub TakesLines : List ℕ → List (List ℕ) → List ℕ → Type 0
 TakesLines bytes [] rest = bytes ≡ rest
 TakesLines bytes (line ∷ lines) rest = (bytes ≢ []) × (line ≡ first_line bytes) × TakesLines (after_line bytes) lines rest
 
+-- these are the first lines of what a reader had left, where that is known
+abbrev pub AreFirstLines : Option (List ℕ) → List (List ℕ) → Type 0
+AreFirstLines None lines = ⊤
+AreFirstLines (Some input) lines = (rest : List ℕ) × TakesLines input lines rest
+
 -- one line is answered, and what follows it is done from where it led
 pub record AnswersFirst {S : Type 0} (language : Language S) (old : S) (line text : List ℕ) (Rest : S → List ℕ → Type 0) : Type 0 where
   pub reply : List ℕ
@@ -122,3 +127,22 @@ abbrev pub WhereKnown : Option (List ℕ) → Option (List ℕ) → (List ℕ �
 WhereKnown None written P = ⊤
 WhereKnown (Some input) None P = ⊤
 WhereKnown (Some input) (Some written) P = P input written
+
+-- ---- what a run keeps of what answers the lines, by what each answer keeps
+
+-- the lines were answered, one after the other
+abbrev pub KeepsAll : {A : Type 0} → (List ℕ → A → A → Type 0) → List (List ℕ) → A → A → Type 0
+KeepsAll Keeps [] old new = new ≡ old
+KeepsAll {A} Keeps (line ∷ lines) old new = (middle : A) × Keeps line old middle × KeepsAll Keeps lines middle new
+
+-- the first lines that a reader had left were answered
+pub record KeepsLines {A : Type 0} (Keeps : List ℕ → A → A → Type 0) (input : Option (List ℕ)) (old new : A) : Type 0 where
+  pub lines : List (List ℕ)
+  pub first : AreFirstLines input lines
+  pub keeps : KeepsAll Keeps lines old new
+
+-- and then the run ended by a fault, which left the rest
+pub record KeepsEnd {A : Type 0} (Keeps : List ℕ → A → A → Type 0) (Leaves : RunFault → A → A → Type 0) (input : Option (List ℕ)) (old : A) (fault : RunFault) (new : A) : Type 0 where
+  pub middle : A
+  pub before : KeepsLines Keeps input old middle
+  pub leaves : Leaves fault middle new

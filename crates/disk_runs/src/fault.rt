@@ -21,7 +21,7 @@ pub enum RunFault {
     /// The disk refused a call, or the drive halted.
     #[error("Disk")]
     Disk(DiskFault),
-    /// The drive was not mounted.
+    /// The drive was not mounted, at first or again.
     #[error("Mount")]
     Mount(MountFault),
     /// The geometry of the drive is out of range.

@@ -14,7 +14,7 @@
 //! ```
 //!
 //! With the lines `fill 0 2 aa` and `read 1 1` the output is `ok`, `1 aa*512`, `ok`. The lines `write`,
-//! `trim`, `idle` and `grow` are answered too.
+//! `trim`, `idle`, `grow` and `remount` are answered too.
 //!
 //! What is promised, of every device, every reader and every writer:
 //!
@@ -26,7 +26,9 @@
 //! - A line is refused only where it asks for calls, and only as a flat disk may refuse one of them. After
 //!   `Memory` nothing came of the line.
 //! - Data of a `write` that is not whole blocks is refused as a line that is not in the grammar.
-//! - Each answer but `Mount` comes from a drive that was mounted, and that can be mounted again.
+//! - Each answer but `Mount` comes from a drive that was mounted, and that can be mounted again. `Mount` is the
+//!   fault of the first mount, and then nothing is written; or of a line `remount`, which is refused only where
+//!   memory ran out or the drive has stopped. Such a drive can be mounted as well.
 //! - A raw line is one step of the drive, which had not stopped.
 #![tactic(auto)]
 

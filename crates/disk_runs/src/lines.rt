@@ -2,7 +2,7 @@ ghost use Rattle.std.specs.Prelude.{◌≡◌, ℕ, List, IfErr, OnErr, OnOk};
 ghost use Rattle.std.specs.Io.KnownBytes.{Appends};
 ghost use Rattle.zone_states.specs.declared.geometry.Geometry.{Geometry};
 ghost use Rattle.disk_files.specs.Output.{AppendsFront};
-ghost use Rattle.disk_runs.specs.Run.{HasCause, IsAnswered, Language, LineStops, Ran, Stopped, WhereKnown};
+ghost use Rattle.disk_runs.specs.Run.{HasCause, IsAnswered, KeepsEnd, KeepsLines, Language, LineStops, Ran, Stopped, WhereKnown};
 ghost use Rattle.disk_runs.specs.declared.fault.RunFault.{RunFault};
 
 use crate::fault::RunFault;
@@ -26,8 +26,16 @@ pub(crate) trait Answerer {
     /// The reply that is held.
     ghost reply: { Self → List ℕ };
 
-    /// What each answer keeps.
-    ghost Keeps: { Self → Self → Type 0 };
+    /// What answers keep something of.
+    ghost Kept: { Type 0 };
+
+    ghost kept: { Self → Kept };
+
+    /// What the answer to a line keeps.
+    ghost Keeps: { List ℕ → Kept → Kept → Type 0 };
+
+    /// What a line without an answer keeps, by its fault.
+    ghost Leaves: { RunFault → Kept → Kept → Type 0 };
 
     /// Why a line was refused.
     ghost Cause: { Self → RunFault → Type 0 };
@@ -38,16 +46,15 @@ pub(crate) trait Answerer {
         ensures err { IfErr result (λ fault. LineStops (language (geometry self.old)) number (state self.old) line.now fault (state self.new)) }
         ensures cause { IfErr result (HasCause (Cause self.new)) }
         ensures geometry { geometry self.new ≡ geometry self.old }
-        ensures keeps { Keeps self.old self.new };
+        ensures keeps { OnOk result (Keeps line.now (kept self.old) (kept self.new)) }
+        ensures leaves { IfErr result (λ fault. Leaves fault (kept self.old) (kept self.new)) };
 
     /// Writes the reply that is held. After a fault a beginning of it is written.
     fn write_reply<W: Write>(&self, writer: &mut W) -> Result<(), WriteFault>
         ensures ok { OnOk result (Appends (W.contents writer.old) (W.contents writer.new) (reply self.now)) }
         ensures err { OnErr result (AppendsFront (W.contents writer.old) (W.contents writer.new) (reply self.now)) };
 
-    ghost keeps_none: { (x : Self) → Keeps x x };
-
-    ghost keeps_on: { (x y z : Self) → Keeps x y → Keeps y z → Keeps x z };
+    ghost leaves_same: { (fault : RunFault) (x : Kept) → Leaves fault x x };
 }
 
 /// Answers each line of the reader, in order, and writes its reply, until the lines end or one has no
@@ -63,7 +70,8 @@ pub(crate) fn answer_lines<R: Read + Drop, W: Write, A: Answerer>(
     ensures err { IfErr result (λ fault. WhereKnown reader.old (W.contents writer.old) (λ input written.
         Stopped (A.language (A.geometry answerer.old)) input written (A.state answerer.old) fault (W.contents writer.new) (A.state answerer.new))) }
     ensures cause { IfErr result (HasCause (A.Cause answerer.new)) }
-    ensures keeps { A.Keeps answerer.old answerer.new }
+    ensures keeps { OnOk result (KeepsLines A.Keeps reader.old (A.kept answerer.old) (A.kept answerer.new)) }
+    ensures leaves { IfErr result (λ fault. KeepsEnd A.Keeps A.Leaves reader.old (A.kept answerer.old) fault (A.kept answerer.new)) }
 {
     let mut line = Vec::new(alloc);
     for number in 1..u64::MAX {

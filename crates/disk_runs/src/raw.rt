@@ -34,13 +34,17 @@ impl<D: Device + Drop> Answerer for RawAnswerer<D> {
 
     ghost reply = { λ r. held_reply r.completion r.returned.items };
 
-    ghost Keeps = { λ _ _. Unit {0} };
+    ghost Kept = { Unit {0} };
+
+    ghost kept = { λ _. tt };
+
+    ghost Keeps = { λ _ _ _. Unit {0} };
+
+    ghost Leaves = { λ _ _ _. Unit {0} };
 
     ghost Cause = { λ r fault. DriveCause (D.drive r.device) fault };
 
-    ghost keeps_none = { λ _. tt };
-
-    ghost keeps_on = { λ _ _ _ _ _. tt };
+    ghost leaves_same = { λ _ _. tt };
 
     fn answer(&mut self, line: &[u8], number: u64) -> Result<(), RunFault> {
         self.completion = None;

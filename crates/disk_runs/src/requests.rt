@@ -1,8 +1,8 @@
 ghost use Rattle.std.specs.Prelude.{◌≡◌, ◌<◌, ◌≤◌, [], IfErr, OnOk, Some, is_some, true, vec_capacity};
 ghost use Rattle.zone_translator.specs.View.{DiskCause, flat_of};
-ghost use Rattle.disk_runs.specs.FlatLines.{AnswersRequest, IsUntold, RequestStops, Turns, asked, reply_of};
+ghost use Rattle.disk_runs.specs.FlatLines.{AnswersRequest, IsUntold, RepliesTo, RequestStops, Turns, asked, is_remount, remount, reply_of};
 ghost use Rattle.disk_runs.specs.Run.{HasCause};
-ghost use Rattle.disk_runs.specs.Trace.{EndCause, KeepsServed};
+ghost use Rattle.disk_runs.specs.Trace.{EndCause, KeepsBy, KeepsFault, KeepsServed, MountsAgain};
 
 use crate::fault::RunFault;
 use crate::reads::read_blocks;
@@ -55,6 +55,24 @@ fn clean<D: Device + Drop>(disk: &mut Disk<D>, turns: u32) -> Result<(), DiskFau
     Ok(())
 }
 
+/// Mounts the drive again, and puts the reply into `reply`, which is empty and has room for it.
+fn mount_again<D: Device + Drop>(disk: &mut Disk<D>, reply: &mut Vec<u8>) -> Result<(), RunFault>
+    requires empty { reply.old.items ≡ [] }
+    requires room { SHORT_REPLY ≤ vec_capacity reply.old }
+    ensures ok { OnOk result (RepliesTo (flat_of disk.old) remount reply.new.items (flat_of disk.new)) }
+    ensures err { IfErr result (λ fault. RequestStops (flat_of disk.old) (Some remount) fault (flat_of disk.new)) }
+    ensures cause { IfErr result (HasCause (EndCause disk.new)) }
+    ensures geometry { disk.new.drive.geometry ≡ disk.old.drive.geometry }
+    ensures keeps { OnOk result (MountsAgain disk.old disk.new) }
+    ensures leaves { IfErr result (λ fault. KeepsFault fault disk.old disk.new) }
+{
+    if let Err(fault) = disk.remount() {
+        return Err(RunFault::Mount(fault));
+    }
+    ok_reply(reply).unwrap();
+    Ok(())
+}
+
 /// Does what a line asks for, and puts the reply into `reply`, which is empty and has room for a short one.
 /// A read leaves in `block` the block that it showed last.
 pub(crate) fn answer_request<D: Device + Drop>(
@@ -70,7 +88,9 @@ pub(crate) fn answer_request<D: Device + Drop>(
     ensures ok { OnOk result (AnswersRequest (flat_of disk.old) (asked disk.old.drive.geometry.block line bytes.now) reply.new.items (flat_of disk.new)) }
     ensures err { IfErr result (λ fault. RequestStops (flat_of disk.old) (asked disk.old.drive.geometry.block line bytes.now) fault (flat_of disk.new)) }
     ensures cause { IfErr result (HasCause (EndCause disk.new)) }
-    ensures keeps { KeepsServed disk.old disk.new }
+    ensures geometry { disk.new.drive.geometry ≡ disk.old.drive.geometry }
+    ensures keeps { OnOk result (KeepsBy (is_remount line) disk.old disk.new) }
+    ensures leaves { IfErr result (λ fault. KeepsFault fault disk.old disk.new) }
 {
     match line {
         TraceLine::Read { first, blocks } => read_blocks(disk, first, blocks, block, reply),
@@ -83,5 +103,6 @@ pub(crate) fn answer_request<D: Device + Drop>(
         TraceLine::Trim { first, blocks } => tell(disk.trim(first, blocks), reply),
         TraceLine::Idle { turns } => tell(clean(disk, turns), reply),
         TraceLine::Grow { blocks } => tell(disk.grow(blocks), reply),
+        TraceLine::Remount => mount_again(disk, reply),
     }
 }

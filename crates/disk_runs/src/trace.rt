@@ -1,10 +1,10 @@
 ghost use Rattle.std.specs.Prelude.{IfErr, OnOk};
 ghost use Rattle.zone_translator.specs.Flat.{FlatDisk};
-ghost use Rattle.zone_translator.specs.View.{flat_of};
+ghost use Rattle.zone_translator.specs.View.{DiskView, flat_of};
 ghost use Rattle.disk_runs.specs.FlatLines.{flat};
-ghost use Rattle.disk_runs.specs.Run.{HasCause, Ran, Stopped, WhereKnown};
-ghost use Rattle.disk_runs.specs.Trace.{EndCause, KeepsServed, RunGives, RunLeaves};
-ghost use Rattle.disk_runs.specs.KeepingLaws.{keeps_again, keeps_same};
+ghost use Rattle.disk_runs.specs.Run.{HasCause, KeepsEnd, KeepsLines, Ran, Stopped, WhereKnown};
+ghost use Rattle.disk_runs.specs.Trace.{EndCause, KeepsFault, KeepsLine, RunGives, RunLeaves};
+ghost use Rattle.disk_runs.specs.KeepingLaws.{leaves_same};
 
 use crate::fault::RunFault;
 use crate::lines::{Answerer, answer_lines};
@@ -37,13 +37,17 @@ impl<D: Device + Drop> Answerer for TraceAnswerer<D> {
 
     ghost reply = { λ t. t.reply.items };
 
-    ghost Keeps = { λ old new. KeepsServed old.disk new.disk };
+    ghost Kept = { DiskView };
+
+    ghost kept = { λ t. t.disk };
+
+    ghost Keeps = { λ line old new. KeepsLine line old new };
+
+    ghost Leaves = { λ fault old new. KeepsFault fault old new };
 
     ghost Cause = { λ t fault. EndCause t.disk fault };
 
-    ghost keeps_none = { λ t. keeps_same t.disk };
-
-    ghost keeps_on = { λ a b c. keeps_again a.disk b.disk c.disk };
+    ghost leaves_same = { λ fault disk. leaves_same fault disk };
 
     fn answer(&mut self, line: &[u8], number: u64) -> Result<(), RunFault> {
         self.reply.clear();
@@ -90,7 +94,8 @@ pub fn answer_trace<R: Read + Drop, W: Write, D: Device + Drop>(
     ensures err { IfErr result.1 (λ fault. WhereKnown (R.remaining reader) (W.contents writer.old) (λ input written.
         Stopped (flat disk.drive.geometry.block) input written (flat_of disk) fault (W.contents writer.new) (flat_of result.0))) }
     ensures cause { IfErr result.1 (HasCause (EndCause result.0)) }
-    ensures keeps { KeepsServed disk result.0 }
+    ensures keeps { OnOk result.1 (KeepsLines KeepsLine (R.remaining reader) disk result.0) }
+    ensures leaves { IfErr result.1 (λ fault. KeepsEnd KeepsLine KeepsFault (R.remaining reader) disk fault result.0) }
 {
     let mut reader = LineReader::new(reader);
     let mut answerer = TraceAnswerer {
@@ -113,7 +118,7 @@ pub fn run_trace<R: Read + Drop, W: Write, D: Device + Drop>(
     blocks: u64,
 ) -> (D, Result<(), RunFault>)
     ensures gives { RunGives blocks (D.drive device) (R.remaining reader) (W.contents writer.old) result.1 (W.contents writer.new) (D.drive result.0) }
-    ensures leaves { RunLeaves blocks (D.drive device) result.1 (D.drive result.0) }
+    ensures leaves { RunLeaves blocks (R.remaining reader) (D.drive device) result.1 (D.drive result.0) }
 {
     let disk = match Disk::mount(alloc, device, blocks) {
         Ok(disk) => disk,

@@ -77,6 +77,8 @@ fn disk_call<D: Device + Drop>(
         TraceLine::Trim { first, blocks } => Ok(disk.trim(first, blocks)),
         TraceLine::Idle { turns } => Ok(idle_calls(disk, turns)),
         TraceLine::Grow { blocks } => Ok(disk.grow(blocks)),
+        // Its answer is a mount's, which is shown apart.
+        TraceLine::Remount => Err(ScriptFault::Words),
     }
 }
 
@@ -134,6 +136,22 @@ fn show_disk_report(
     Ok(())
 }
 
+// Mounts the drive of the disk again, and shows the commands that were sent and the answer.
+fn show_disk_remount(
+    alloc: Global,
+    disk: &mut Disk<Bench>,
+    calls: &mut Calls,
+    out: &mut String,
+) -> Result<(), ScriptFault> {
+    let answer = disk.remount();
+    calls.sent = show_new(alloc, disk.device().entries(), calls.sent, out)?;
+    match answer {
+        Ok(()) => show_done(Ok(()), out)?,
+        Err(fault) => writeln!(out, "    refused {fault:?}")?,
+    }
+    Ok(())
+}
+
 // Shows where the disk has the newest record of a block.
 fn show_place(place: Place, out: &mut String) -> Result<(), AllocError> {
     match place {
@@ -153,6 +171,7 @@ fn show_disk_line(
 ) -> Result<(), ScriptFault> {
     match line.split_once(' ') {
         None if line == "report" => show_disk_report(alloc, disk, calls, out)?,
+        None if line == "remount" => show_disk_remount(alloc, disk, calls, out)?,
         Some(("place", block)) => show_place(disk.place_of(number(block)?), out)?,
         Some(("live", zone)) => {
             let live = disk.live(part(zone)?);

@@ -165,7 +165,7 @@ impl Flat {
         match call {
             TraceLine::Read { first, blocks } => self.answer_read(first, blocks, reply),
             TraceLine::Grow { blocks } => self.answer_growth(blocks, reply),
-            TraceLine::Idle { .. } => {
+            TraceLine::Idle { .. } | TraceLine::Remount => {
                 writeln!(reply, "ok")?;
                 Ok(())
             }

@@ -30,6 +30,7 @@ fn show_call(line: &[u8], bytes: &mut Vec<u8>, out: &mut String) -> Result<(), S
         Ok(TraceLine::Trim { first, blocks }) => writeln!(out, "    trim {first} {blocks}")?,
         Ok(TraceLine::Idle { turns }) => writeln!(out, "    idle {turns}")?,
         Ok(TraceLine::Grow { blocks }) => writeln!(out, "    grow {blocks}")?,
+        Ok(TraceLine::Remount) => writeln!(out, "    remount")?,
         Err(ParseFault::Grammar) => writeln!(out, "    not in the grammar")?,
         Err(ParseFault::Memory) => return Err(ScriptFault::Memory),
     }

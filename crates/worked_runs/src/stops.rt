@@ -12,7 +12,7 @@ use disk_runs::RunFault;
 use drive_port::Device;
 use nvme_wire::Command;
 use std::alloc::{AllocError, Global};
-use zone_translator::DiskFault;
+use zone_translator::{DiskFault, MountFault};
 
 /// What happens at each command of a trace in turn.
 #[derive(Clone, Copy)]
@@ -60,6 +60,12 @@ fn answered(
         return Ok(Some((lines.len(), flat)));
     }
     Ok(None)
+}
+
+// Whether a run was ended by a stop of the device: in a call, or where it was to be mounted again.
+fn is_stop(ended: Result<(), RunFault>) -> bool {
+    ended == Err(RunFault::Disk(DiskFault::Stopped))
+        || ended == Err(RunFault::Mount(MountFault::Halted))
 }
 
 // Whether these blocks are the flat array with a front of a line. Only a stop leaves a growth done.
@@ -142,7 +148,7 @@ impl<'a> Trial<'a> {
     // What is wrong after a run that is made so.
     fn wrong(&self, alloc: Global, setting: Setting) -> Result<Option<&'static str>, ScriptFault> {
         let ran = self.run(alloc, setting)?;
-        let is_stopped = ran.result == Err(RunFault::Disk(DiskFault::Stopped));
+        let is_stopped = is_stop(ran.result);
         if setting.tear > 0 && !is_stopped {
             return Ok(Some("the trace is not stopped"));
         }

@@ -3,8 +3,8 @@ use Rattle.disk_files.specs.Words.{words_of}
 use Rattle.disk_files.proofs.WordLaws.{length-rest}
 use Rattle.disk_files.proofs.trace_line.parse_over.Goals as goal
 
-pub returns-in-write-clause-memory : goal.returns-in-write-clause-memory
-returns-in-write-clause-memory c = λ e.
+pub returns-then-eq-clause-memory : goal.returns-then-eq-clause-memory
+returns-then-eq-clause-memory c = λ e.
     let line = c.args.line.now in
     let name = c.split_word.result.0.now in
     let words = c.in-Some.words.now in

@@ -1,5 +1,5 @@
 use Rattle.std.proofs.Common.{refl, ◌∙◌}
-use Rattle.disk_runs.proofs.RunLaws.{goes_on, if-fault, line_of, not_answered, not_read, short_line, stops, stops_writing}
+use Rattle.disk_runs.proofs.RunLaws.{ends, goes_on, if-fault, kept_end, kept_lines, kept_more, line_of, not_answered, not_read, short_line, stops, stops_writing}
 use Rattle.disk_runs.proofs.lines.answer_lines.Goals as goal
 
 pub returns-in-Err-clause-err : goal.returns-in-Err-clause-err
@@ -46,9 +46,10 @@ loop-number-preserved g c =
     let line = c.next_line.new.line.items in
     let reads = rw c.in-Ok-true.field-0-test at c.in-Ok-true.ensures.reads in
     let short = short_line line c.in-Ok-true.field-0 c.next_line.result c.in-Ok-true.is c.next_line.ensures.long in
-    let done = rw (c.deref.ensures.value, c.loop-number.invariant.0) at c.in_ok-answer.ensures.ok in (
+    let done = rw (c.deref.ensures.value, c.loop-number.invariant.0) at c.in_ok-answer.ensures.ok in
+    let kept = rw c.deref.ensures.value at c.in_ok-answer.ensures.keeps in (
       c.answer.ensures.geometry ∙ c.loop-number.invariant.0,
-      g.met.A.Answerer.keeps_on c.args.answerer.now c.loop-number.answerer c.answer.new.self c.loop-number.invariant.1 c.answer.ensures.keeps,
+      kept_more a.Keeps c.args.reader.now c.loop-number.reader c.next_line.new.self line (a.kept c.args.answerer.now) (a.kept c.loop-number.answerer) (a.kept c.answer.new.self) reads kept c.loop-number.invariant.1,
       goes_on language c.args.reader.now (g.W.Write.contents c.args.writer.now) (a.state c.args.answerer.now) c.loop-number.number c.loop-number.reader c.next_line.new.self _ _ line (a.reply c.answer.new.self)
           old new reads (line_of language old new line _ short done) done.answers c.in_ok-write_reply.ensures.ok c.loop-number.invariant.2,
     )
@@ -60,3 +61,30 @@ returns-clause-err g c =
     let state = a.state c.loop-number.answerer in
     stops language c.args.reader.now (g.W.Write.contents c.args.writer.now) (a.state c.args.answerer.now) c.loop-number.number c.loop-number.reader _ state state _
     (λ rest e. (refl, refl)) c.loop-number.invariant.2
+
+pub returns-in-Ok-false-clause-keeps : goal.returns-in-Ok-false-clause-keeps
+returns-in-Ok-false-clause-keeps g c = kept_lines (g.A.Answerer.Keeps) c.args.reader.now c.loop-number.reader (g.A.Answerer.kept c.args.answerer.now) (g.A.Answerer.kept c.loop-number.answerer) c.loop-number.invariant.1
+
+pub returns-in-Ok-false-clause-ok : goal.returns-in-Ok-false-clause-ok
+returns-in-Ok-false-clause-ok g c =
+    let a = g.A.Answerer in
+    let reads = rw c.in-Ok-false.field-0-test at c.in-Ok-false.ensures.reads in
+    ends (a.language (a.geometry c.args.answerer.now)) c.args.reader.now (g.W.Write.contents c.args.writer.now) (a.state c.args.answerer.now) c.loop-number.number c.loop-number.reader c.next_line.new.self (g.W.Write.contents c.loop-number.writer) c.next_line.new.line.items (a.state c.loop-number.answerer)
+    reads c.loop-number.invariant.2
+
+pub returns-in_err-answer-clause-leaves : goal.returns-in_err-answer-clause-leaves
+returns-in_err-answer-clause-leaves g c =
+    let a = g.A.Answerer in
+    if-fault c.from_residual.result c.in_err-answer.field-0.0 _ c.from_residual.ensures.1
+    (kept_end a.Keeps a.Leaves c.args.reader.now c.loop-number.reader (a.kept c.args.answerer.now) (a.kept c.loop-number.answerer) (a.kept c.answer.new.self) c.in_err-answer.field-0.0 c.loop-number.invariant.1 c.in_err-answer.ensures.leaves)
+
+pub returns-in_err-write_reply-clause-leaves : goal.returns-in_err-write_reply-clause-leaves
+returns-in_err-write_reply-clause-leaves g c =
+    let a = g.A.Answerer in
+    let line = c.next_line.new.line.items in
+    let reads = rw c.in-Ok-true.field-0-test at c.in-Ok-true.ensures.reads in
+    let kept = rw c.deref.ensures.value at c.in_ok-answer.ensures.keeps in
+    if-fault c.from_residual-in_err-write_reply.result _ _ c.from_residual-in_err-write_reply.ensures.1
+    (kept_end a.Keeps a.Leaves c.args.reader.now c.next_line.new.self (a.kept c.args.answerer.now) (a.kept c.answer.new.self) (a.kept c.answer.new.self) _
+    (kept_more a.Keeps c.args.reader.now c.loop-number.reader c.next_line.new.self line (a.kept c.args.answerer.now) (a.kept c.loop-number.answerer) (a.kept c.answer.new.self) reads kept c.loop-number.invariant.1)
+    (g.met.A.Answerer.leaves_same _ (a.kept c.answer.new.self)))

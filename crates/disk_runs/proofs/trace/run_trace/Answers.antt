@@ -1,4 +1,4 @@
-use Rattle.disk_runs.proofs.TraceLaws.{run_gives, run_leaves, seen}
+use Rattle.disk_runs.proofs.TraceLaws.{run_given, run_gives, run_leaves, seen}
 use Rattle.disk_runs.proofs.trace.run_trace.Goals as goal
 
 pub returns-clause-gives : goal.returns-clause-gives
@@ -7,8 +7,8 @@ returns-clause-gives g c =
     let last = c.answer_trace-disk.result.0 in
     let made = c.in-Ok.ensures in
     let a = c.answer_trace-disk.ensures in
-    let kept = a.keeps.mounted made.mountable in
-    let s = seen c.args.blocks (g.D.Device.drive c.args.device) first last made.disk made.kept.geometry kept.given in
+    let given = run_given (g.R.Read.remaining c.args.reader) first last c.answer_trace-disk.result.1 made.mountable a.keeps a.leaves in
+    let s = seen c.args.blocks (g.D.Device.drive c.args.device) first last made.disk made.kept.geometry given in
     rw c.into_device.ensures
     (run_gives c.args.blocks (g.D.Device.drive c.args.device) first last (g.R.Read.remaining c.args.reader) (g.W.Write.contents c.args.writer.now) _ c.answer_trace-disk.result.1 s a.cause a.ok a.err)
 
@@ -17,4 +17,4 @@ returns-clause-leaves g c =
     let made = c.in-Ok.ensures in
     let a = c.answer_trace-disk.ensures in
     rw c.into_device.ensures
-    (run_leaves c.args.blocks (g.D.Device.drive c.args.device) c.in-Ok.disk c.answer_trace-disk.result.0 c.answer_trace-disk.result.1 made.disk made.kept (a.keeps.mounted made.mountable) a.cause)
+    (run_leaves c.args.blocks (g.R.Read.remaining c.args.reader) (g.D.Device.drive c.args.device) c.in-Ok.disk c.answer_trace-disk.result.0 c.answer_trace-disk.result.1 made.disk made.kept made.mountable a.keeps a.leaves a.cause)
