@@ -92,14 +92,14 @@ pub fn answer_trace<R: Read + Drop, W: Write, D: Device + Drop>(
     ensures cause { IfErr result.1 (HasCause (EndCause result.0)) }
     ensures keeps { KeepsServed disk result.0 }
 {
-    let mut reader = LineReader::new(reader);
+    let mut reader = LineReader::new(alloc, reader);
     let mut answerer = TraceAnswerer {
         disk,
         bytes: Vec::new(alloc),
         block: Vec::new(alloc),
         reply: Vec::new(alloc),
     };
-    let result = answer_lines(alloc, &mut reader, writer, &mut answerer);
+    let result = answer_lines(&mut reader, writer, &mut answerer);
     (answerer.disk, result)
 }
 

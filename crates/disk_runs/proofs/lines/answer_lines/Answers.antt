@@ -7,8 +7,8 @@ returns-in-Err-clause-err g c =
     let a = g.A.Answerer in
     let language = a.language (a.geometry c.args.answerer.now) in
     let state = a.state c.loop-number.answerer in
-    stops language c.args.reader.now (g.W.Write.contents c.args.writer.now) (a.state c.args.answerer.now) c.loop-number.number c.loop-number.reader _ state state c.of_line.result
-    (not_read language state c.loop-number.reader _ _ c.loop-number.number c.in-Err.fault c.of_line.result c.in-Err.ensures.reads c.of_line.ensures) c.loop-number.invariant.2
+    stops language c.args.reader.now.left (g.W.Write.contents c.args.writer.now) (a.state c.args.answerer.now) c.loop-number.number c.loop-number.reader.left _ state state c.of_line.result
+    (not_read language state c.loop-number.reader.left _ _ c.loop-number.number c.in-Err.fault c.of_line.result c.in-Err.ensures.reads c.of_line.ensures) c.loop-number.invariant.2
 
 pub returns-in_err-answer-clause-err : goal.returns-in_err-answer-clause-err
 returns-in_err-answer-clause-err g c =
@@ -17,11 +17,11 @@ returns-in_err-answer-clause-err g c =
     let old = a.state c.loop-number.answerer in
     let new = a.state c.answer.new.self in
     let reads = rw c.in-Ok-true.field-0-test at c.in-Ok-true.ensures.reads in
-    let short = short_line c.next_line.new.line.items c.in-Ok-true.field-0 c.next_line.result c.in-Ok-true.is c.next_line.ensures.long in
-    let why = rw (c.deref.ensures.value, c.loop-number.invariant.0) at c.in_err-answer.ensures.err in
+    let short = short_line c.next_line.new.self.line c.in-Ok-true.field-0 c.next_line.result c.in-Ok-true.is c.next_line.ensures.long in
+    let why = rw (c.line.ensures, c.loop-number.invariant.0) at c.in_err-answer.ensures.err in
     if-fault c.from_residual.result c.in_err-answer.field-0.0 _ c.from_residual.ensures.1
-    (stops language c.args.reader.now (g.W.Write.contents c.args.writer.now) (a.state c.args.answerer.now) c.loop-number.number c.loop-number.reader _ old new c.in_err-answer.field-0.0
-    (not_answered language old new c.loop-number.reader c.next_line.new.self c.next_line.new.line.items c.loop-number.number c.in_err-answer.field-0.0 reads short why) c.loop-number.invariant.2)
+    (stops language c.args.reader.now.left (g.W.Write.contents c.args.writer.now) (a.state c.args.answerer.now) c.loop-number.number c.loop-number.reader.left _ old new c.in_err-answer.field-0.0
+    (not_answered language old new c.loop-number.reader.left c.next_line.new.self.left c.next_line.new.self.line c.loop-number.number c.in_err-answer.field-0.0 reads short why) c.loop-number.invariant.2)
 
 pub returns-in_err-write_reply-clause-err : goal.returns-in_err-write_reply-clause-err
 returns-in_err-write_reply-clause-err g c =
@@ -29,12 +29,12 @@ returns-in_err-write_reply-clause-err g c =
     let language = a.language (a.geometry c.args.answerer.now) in
     let old = a.state c.loop-number.answerer in
     let new = a.state c.answer.new.self in
-    let line = c.next_line.new.line.items in
+    let line = c.next_line.new.self.line in
     let reads = rw c.in-Ok-true.field-0-test at c.in-Ok-true.ensures.reads in
     let short = short_line line c.in-Ok-true.field-0 c.next_line.result c.in-Ok-true.is c.next_line.ensures.long in
-    let done = rw (c.deref.ensures.value, c.loop-number.invariant.0) at c.in_ok-answer.ensures.ok in
+    let done = rw (c.line.ensures, c.loop-number.invariant.0) at c.in_ok-answer.ensures.ok in
     if-fault c.from_residual-in_err-write_reply.result _ _ c.from_residual-in_err-write_reply.ensures.1
-    (stops_writing language c.args.reader.now (g.W.Write.contents c.args.writer.now) (a.state c.args.answerer.now) c.loop-number.number c.loop-number.reader c.next_line.new.self _ _ line (a.reply c.answer.new.self)
+    (stops_writing language c.args.reader.now.left (g.W.Write.contents c.args.writer.now) (a.state c.args.answerer.now) c.loop-number.number c.loop-number.reader.left c.next_line.new.self.left _ _ line (a.reply c.answer.new.self)
     old new reads (line_of language old new line _ short done) done.answers c.in_err-write_reply.ensures.err c.loop-number.invariant.2)
 
 pub loop-number-preserved : goal.loop-number-preserved
@@ -43,13 +43,13 @@ loop-number-preserved g c =
     let language = a.language (a.geometry c.args.answerer.now) in
     let old = a.state c.loop-number.answerer in
     let new = a.state c.answer.new.self in
-    let line = c.next_line.new.line.items in
+    let line = c.next_line.new.self.line in
     let reads = rw c.in-Ok-true.field-0-test at c.in-Ok-true.ensures.reads in
     let short = short_line line c.in-Ok-true.field-0 c.next_line.result c.in-Ok-true.is c.next_line.ensures.long in
-    let done = rw (c.deref.ensures.value, c.loop-number.invariant.0) at c.in_ok-answer.ensures.ok in (
+    let done = rw (c.line.ensures, c.loop-number.invariant.0) at c.in_ok-answer.ensures.ok in (
       c.answer.ensures.geometry ∙ c.loop-number.invariant.0,
       g.met.A.Answerer.keeps_on c.args.answerer.now c.loop-number.answerer c.answer.new.self c.loop-number.invariant.1 c.answer.ensures.keeps,
-      goes_on language c.args.reader.now (g.W.Write.contents c.args.writer.now) (a.state c.args.answerer.now) c.loop-number.number c.loop-number.reader c.next_line.new.self _ _ line (a.reply c.answer.new.self)
+      goes_on language c.args.reader.now.left (g.W.Write.contents c.args.writer.now) (a.state c.args.answerer.now) c.loop-number.number c.loop-number.reader.left c.next_line.new.self.left _ _ line (a.reply c.answer.new.self)
           old new reads (line_of language old new line _ short done) done.answers c.in_ok-write_reply.ensures.ok c.loop-number.invariant.2,
     )
 
@@ -58,5 +58,5 @@ returns-clause-err g c =
     let a = g.A.Answerer in
     let language = a.language (a.geometry c.args.answerer.now) in
     let state = a.state c.loop-number.answerer in
-    stops language c.args.reader.now (g.W.Write.contents c.args.writer.now) (a.state c.args.answerer.now) c.loop-number.number c.loop-number.reader _ state state _
+    stops language c.args.reader.now.left (g.W.Write.contents c.args.writer.now) (a.state c.args.answerer.now) c.loop-number.number c.loop-number.reader.left _ state state _
     (λ rest e. (refl, refl)) c.loop-number.invariant.2

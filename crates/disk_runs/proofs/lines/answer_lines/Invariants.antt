@@ -7,5 +7,5 @@ invariant-loop-number g l =
     let contents = g.W.Write.contents in
     let a = g.A.Answerer in
     (a.geometry l.answerer ≡ a.geometry l.fn.answerer) × a.Keeps l.fn.answerer l.answerer
-    × WhereKnown l.fn.reader (contents l.fn.writer) (λ input written.
-    SoFar (a.language (a.geometry l.fn.answerer)) input written (a.state l.fn.answerer) l.number l.reader (contents l.writer) (a.state l.answerer))
+    × WhereKnown l.fn.reader.left (contents l.fn.writer) (λ input written.
+    SoFar (a.language (a.geometry l.fn.answerer)) input written (a.state l.fn.answerer) l.number l.reader.left (contents l.writer) (a.state l.answerer))
