@@ -78,11 +78,7 @@ fn read_to<R: Read>(reader: &mut R, bytes: &mut [u8], end: usize) -> Result<usiz
 }
 
 /// Reads once, behind the first `end` bytes, for which room is made.
-fn read_behind<R: Read>(
-    reader: &mut R,
-    bytes: &mut Vec<u8>,
-    end: usize,
-) -> Result<usize, LineFault>
+fn read_behind<R: Read>(reader: &mut R, bytes: &mut Vec<u8>, end: usize) -> Result<usize, LineFault>
     requires { end ≤ length bytes.old.items }
     ensures within { end ≤ length bytes.new.items }
     ensures front { take end bytes.new.items ≡ take end bytes.old.items }

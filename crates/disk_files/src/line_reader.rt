@@ -101,11 +101,7 @@ fn take_part<R: Read>(
 }
 
 /// Reads the next line. False where no byte is left.
-fn read_line<R: Read>(
-    reader: &mut R,
-    ahead: &mut Ahead,
-    reads: &mut u64,
-) -> Result<bool, LineFault>
+fn read_line<R: Read>(reader: &mut R, ahead: &mut Ahead, reads: &mut u64) -> Result<bool, LineFault>
     requires { reads.old ≤ MOST_READS }
     ensures reads { reads.new ≤ MOST_READS }
     ensures line { ReadsLine (prepend_known ahead.old.bytes (R.remaining reader.old)) (prepend_known ahead.new.bytes (R.remaining reader.new)) ahead.new.line result }
