@@ -333,6 +333,46 @@ fn explains_the_faults(rt: HostRuntime) {
     }
 }
 
+// Of a line of many reads the beginning is kept, and the lines behind it are counted as ever.
+#[test]
+fn explains_long_lines(rt: HostRuntime) -> Result<(), Fail> {
+    let job = Job::Fresh {
+        geometry: FOUR_ZONES,
+        blocks: 9,
+        report: false,
+        statistics: false,
+        stop: Stop::NEVER,
+        habit: Habit::Lazy,
+    };
+    for (first, last, text) in [
+        (
+            b"write 0 ".as_slice(),
+            b"x\n".as_slice(),
+            "line 1: word 3 has to be data: two hexadecimal digits for each byte, and whole blocks in a write",
+        ),
+        (
+            b"wrote 0 ",
+            b"\n",
+            "line 1: word 1 has to be read, fill, write, trim, idle or grow",
+        ),
+        (
+            b"# ",
+            b"\nfill 0 1 aa\nidle\n",
+            "line 3: word 2 is missing: a number below 2^32 in decimal digits",
+        ),
+    ] {
+        for digits in [100_000, 1_000_000] {
+            let mut lines = Vec::new(rt.alloc());
+            lines.extend_from_slice(first)?;
+            lines.resize(first.len() + digits, b'0')?;
+            lines.extend_from_slice(last)?;
+            let told = explained(&rt, rt.alloc(), &job, &lines);
+            assert_eq!(rt; told.as_str(), text);
+        }
+    }
+    Ok(())
+}
+
 // The image of the drive that a job leaves to be saved.
 fn image_of(rt: &impl Abort, alloc: Global, drive: Option<Drive>) -> Vec<u8> {
     let mut image = Vec::new(alloc);

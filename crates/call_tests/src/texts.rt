@@ -13,13 +13,12 @@ fn lines<R: Read + Drop>(
     alloc: Global,
     reader: R,
 ) -> Result<(Vec<u8>, Option<LineFault>), AllocError> {
-    let mut reader = LineReader::new(reader);
-    let mut line = Vec::new(alloc);
+    let mut reader = LineReader::new(alloc, reader);
     let mut all = Vec::new(alloc);
     for _ in 0..u64::MAX {
-        match reader.next_line(&mut line) {
+        match reader.next_line() {
             Ok(true) => {
-                all.extend_from_slice(&line)?;
+                all.extend_from_slice(reader.line())?;
                 all.push(b'|')?;
             }
             Ok(false) => return Ok((all, None)),
@@ -69,9 +68,8 @@ fn ends_the_longest_line(rt: HostRuntime) -> Result<(), Fail> {
         let reader = io::repeat(b'#')
             .take(length as u64)
             .chain(b"\nread 8 1".as_slice());
-        let mut reader = LineReader::new(reader);
-        let mut line = Vec::new(rt.alloc());
-        assert_eq!(rt; reader.next_line(&mut line).err(), want);
+        let mut reader = LineReader::new(rt.alloc(), reader);
+        assert_eq!(rt; reader.next_line().err(), want);
     }
     let (all, fault) = lines(rt.alloc(), io::repeat(b'a'))?;
     assert_eq!(rt; (all.len(), fault), (0, Some(LineFault::Long)));

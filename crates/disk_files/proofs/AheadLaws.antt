@@ -1,8 +1,9 @@
 -- Bytes of a line are taken from those that were read ahead.
-use Rattle.std.proofs.Common.{◌≡◌, ◌≢◌, ℕ, ◌+◌, ◌-◌, ◌<◌, ◌≤◌, List, [], ◌∷◌, ◌++◌, length, take, drop, get_or, Some, None, Ok, refl, sym, ap, ◌∙◌, arith, append_assoc}
+use Rattle.std.proofs.Common.{◌≡◌, ◌≢◌, ◌==◌, ℕ, ◌+◌, ◌-◌, ◌<◌, ◌≤◌, true, List, [], ◌∷◌, ◌++◌, length, take, drop, get_or, Some, None, Ok, refl, sym, ap, ◌∙◌, arith, append_assoc}
 use Rattle.std.specs.Prelude.{position, slice_range}
 use Rattle.std.proofs.lemmas.Bool.{eqb-true}
-use Rattle.std.proofs.lemmas.List.{drop-drop, drop-take, drop_more, get_or-take, length-take, take-append-drop, take-take, drop_min}
+use Rattle.std.proofs.lemmas.List.{drop-drop, drop-take, drop_at, drop_more, get_or-take, length-drop, length-take, take-append-drop, take-append-le, take-take, take_min, drop_min}
+use Rattle.std.proofs.Math.Seq.{take-add}
 use Rattle.std.proofs.lemmas.List.Quantifiers.{position-Some}
 use Rattle.disk_files.specs.Ahead.{ReadsPart}
 use Rattle.disk_files.specs.Line.{NoFeed, feed, is_feed}
@@ -38,29 +39,60 @@ ends_at ahead m place e =
       text = sym (take-append-drop place ahead) ∙ rw (take-take place m ahead short, append_assoc, ← fed, ← drop_more ahead place 0 inside) refl;
     }
 
-pub line_taken : (bytes before after : List ℕ) (start end m room place : ℕ) → m ≤ room → start ≤ end
-    → position is_feed (take m (slice_range bytes start end)) ≡ Some place → after ≡ before ++ take place (take m (slice_range bytes start end))
-    → ReadsPart (Some (slice_range bytes start end)) (Some (slice_range bytes (start + (place + 1)) end)) room before after (Ok Line)
-line_taken bytes before after start end m room place fits order e text =
-    let ahead = slice_range bytes start end in
-    let ends = ends_at ahead m place e in
-    let inside : start + (place + 1) ≤ end = omega (arith, ends.within, length-take m ahead, length-take (end - start) (drop start bytes)) in (
-      take place (take m ahead),
-      record { text = text; no_feed = ends.no_feed },
-      ends.text ∙ rw (slice_range-drop bytes start end (place + 1) inside) refl,
-      omega (arith, ends.below, length-take place (take m ahead)),
-    )
+module _ (bytes : List ℕ) (first last start end : ℕ) (begins : first ≤ last) (joins : (last == start) ≡ true) (order : start ≤ end) where
+  joined : last ≡ start
+  joined = eqb-true last start joins
 
-pub front_taken : (bytes before after : List ℕ) (start end m room : ℕ) → m ≤ room → start ≤ end
-    → position is_feed (take m (slice_range bytes start end)) ≡ None → length (take m (slice_range bytes start end)) ≢ 0 → after ≡ before ++ take m (slice_range bytes start end)
-    → ReadsPart (Some (slice_range bytes start end)) (Some (slice_range bytes (start + length (take m (slice_range bytes start end))) end)) room before after (Ok Front)
-front_taken bytes before after start end m room fits order e some text =
-    let ahead = slice_range bytes start end in
-    let n = length (take m ahead) in
-    let inside : start + n ≤ end = omega (arith, length-take m ahead, length-take (end - start) (drop start bytes)) in (
-      take m ahead,
-      record { text = text; no_feed = All-None is_feed (take m ahead) e },
-      sym (take-append-drop m ahead) ∙ rw (slice_range-drop bytes start end n inside, length-take m ahead, drop_min m ahead) refl,
-      λ none. some (ap length none),
-      omega (arith, length-take m ahead),
-    )
+  -- a line that goes on by the next k bytes
+  line_longer : (k : ℕ) → k ≤ end - start → slice_range bytes first (start + k) ≡ slice_range bytes first last ++ take k (slice_range bytes start end)
+  line_longer k fits =
+      let n : start + k - first ≡ (start - first) + k = omega (arith, begins, joined) in
+      let sum : first + (start - first) ≡ start = omega (arith, begins, joined) in
+      rw (n, take-add (start - first) k (drop first bytes), drop-drop, sum, joined, take-take k (end - start) (drop start bytes) fits) refl
+
+  pub line_taken : (m room place : ℕ) → m ≤ room → position is_feed (take m (slice_range bytes start end)) ≡ Some place
+      → ReadsPart (Some (slice_range bytes start end)) (Some (slice_range bytes (start + (place + 1)) end)) room (slice_range bytes first last) (slice_range bytes first (start + place)) (Ok Line)
+  line_taken m room place fits e =
+      let ahead = slice_range bytes start end in
+      let ends = ends_at ahead m place e in
+      let short : place ≤ m = omega (arith, ends.below) in
+      let inside : start + (place + 1) ≤ end = omega (arith, order, ends.within, length-take m ahead, length-take (end - start) (drop start bytes)) in (
+        take place (take m ahead),
+        record { text = rw (take-take place m ahead short) (line_longer place (omega (arith, inside))); no_feed = ends.no_feed },
+        ends.text ∙ rw (slice_range-drop bytes start end (place + 1) inside) refl,
+        omega (arith, ends.below, length-take place (take m ahead)),
+      )
+
+  pub front_taken : (m room : ℕ) → m ≤ room → position is_feed (take m (slice_range bytes start end)) ≡ None → length (take m (slice_range bytes start end)) ≢ 0
+      → ReadsPart (Some (slice_range bytes start end)) (Some (slice_range bytes (start + length (take m (slice_range bytes start end))) end)) room (slice_range bytes first last) (slice_range bytes first (start + length (take m (slice_range bytes start end)))) (Ok Front)
+  front_taken m room fits e some =
+      let ahead = slice_range bytes start end in
+      let n = length (take m ahead) in
+      let inside : start + n ≤ end = omega (arith, order, length-take m ahead, length-take (end - start) (drop start bytes)) in
+      let same : take n ahead ≡ take m ahead = rw (length-take m ahead) (take_min m ahead) in (
+        take m ahead,
+        record { text = line_longer n (omega (arith, inside)) ∙ rw same refl; no_feed = All-None is_feed (take m ahead) e },
+        sym (take-append-drop m ahead) ∙ rw (slice_range-drop bytes start end n inside, length-take m ahead, drop_min m ahead) refl,
+        λ none. some (ap length none),
+        omega (arith, length-take m ahead),
+      )
+
+-- ---- a read behind a line
+
+-- the bytes from the end on are those that were read
+pub read_part : (bytes read rest : List ℕ) (end n : ℕ) → end ≤ length bytes → n ≤ length read → slice_range (take end bytes ++ (read ++ rest)) end (end + n) ≡ take n read
+read_part bytes read rest end n inside fits =
+    let size : length (take end bytes) ≡ end = omega (arith, length-take end bytes) in
+    let count : end + n - end ≡ n = omega arith in
+    rw (count, drop_at (take end bytes) (read ++ rest) end size) (take-append-le n read rest fits)
+
+-- what stands before the end stays
+pub same_front : (old new : List ℕ) (first last end : ℕ) → take end new ≡ take end old → first ≤ last → last ≤ end → slice_range new first last ≡ slice_range old first last
+same_front old new first last end same order inside =
+    let sum : first + (last - first) ≡ last = omega (arith, order) in
+    let e : take last new ≡ take last old = sym (take-take last end new inside) ∙ ap (take last) same ∙ take-take last end old inside in
+    sym (drop-take first (last - first) new) ∙ rw sum (ap (drop first) e) ∙ drop-take first (last - first) old
+
+-- nothing is ahead where the place is the end
+pub none_ahead : (bytes : List ℕ) (start end : ℕ) → slice_range bytes start end ≡ [] → start ≤ end → end ≤ length bytes → start ≡ end
+none_ahead bytes start end none order inside = omega (arith, order, inside, ap length none, length-take (end - start) (drop start bytes), length-drop start bytes)

@@ -33,6 +33,11 @@ pub record TakesFront (bytes rest front : List ℕ) : Type 0 where
   pub no_feed : NoFeed front
   pub text : bytes ≡ front ++ rest
 
+-- what a reader of lines has left, where that is known, and the line that it read last
+pub record LinesView : Type 0 where
+  pub left : Option (List ℕ)
+  pub line : List ℕ
+
 -- a line is read, or none at the end; refused, no more is read than the front of one
 abbrev pub ReadsLine : Option (List ℕ) → Option (List ℕ) → List ℕ → Result Bool LineFault → Type 0
 ReadsLine None new line result = ⊤

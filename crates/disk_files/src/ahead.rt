@@ -1,8 +1,10 @@
-ghost use Rattle.std.specs.Prelude.{◌≡◌, ◌==◌, ◌≤◌, [], length};
+ghost use Rattle.std.specs.Prelude.{◌≡◌, ◌≢◌, ◌==◌, ◌≤◌, ◌+◌, true, [], Ok, OnOk, IfErr, IfOk, length, slice_range, take};
+ghost use Rattle.std.specs.Io.KnownBytes.{Consumes, IsAtEnd, Keeps};
 ghost use Rattle.disk_files.specs.Ahead.{ReadsPart, Refills};
 
 use crate::bytes::first_place;
 use crate::line_reader::LineFault;
+use std::alloc::{AllocError, Global};
 use std::io::Read;
 use std::marker::Model;
 
@@ -17,78 +19,164 @@ pub enum Part {
     End,
 }
 
-/// How many bytes are read ahead at most.
-const ROOM: usize = 16_384;
+/// How many bytes are read at a time at most.
+const PIECE: usize = 65_536;
 
-/// Bytes that were read ahead.
+/// A line, and the bytes that were read ahead of it. They stand one behind the other, where they were read to, so
+/// that no byte of a line is copied but those that were read with the line before.
 #[derive(Drop)]
 pub struct Ahead {
-    bytes: [u8; ROOM],
+    bytes: Vec<u8>,
+    /// The line is `bytes[first..last]`.
+    first: usize,
+    last: usize,
+    /// What is ahead of it is `bytes[start..end]`.
     start: usize,
     end: usize,
 }
 
 impl Model for Ahead {
-    ghost use Rattle.std.specs.Prelude.{List, ℕ, ◌≤◌, slice_range};
-    ghost use Rattle.disk_files.specs.declared.ahead.TheConstants.{ROOM};
+    ghost use Rattle.std.specs.Prelude.{◌≤◌, ◌==◌, length, slice_range};
+    ghost use Rattle.disk_files.specs.Ahead.{AheadView};
 
-    ghost Value = { List ℕ };
+    ghost Value = { AheadView };
 
-    ghost view = { λ a. slice_range a.bytes a.start a.end };
+    ghost view = { λ a. record {
+      line = slice_range a.bytes.items a.first a.last;
+      is_open = a.last == a.start;
+      bytes = slice_range a.bytes.items a.start a.end;
+    } };
 
-    ghost invariant = { λ a. (a.start ≤ a.end) × (a.end ≤ ROOM) };
+    ghost invariant = { λ a. (a.first ≤ a.last) × (a.last ≤ a.start) × (a.start ≤ a.end) × (a.end ≤ length a.bytes.items) };
+}
+
+/// Makes room for a read behind the first `end` bytes.
+fn make_room(bytes: &mut Vec<u8>, end: usize) -> Result<(), AllocError>
+    requires { end ≤ length bytes.old.items }
+    ensures room { OnOk result (end + PIECE ≤ length bytes.new.items) }
+    ensures within { end ≤ length bytes.new.items }
+    ensures front { take end bytes.new.items ≡ take end bytes.old.items }
+{
+    if bytes.len() - end >= PIECE {
+        return Ok(());
+    }
+    bytes.resize(end + PIECE, 0)
+}
+
+/// Reads once, behind the first `end` bytes.
+fn read_to<R: Read>(reader: &mut R, bytes: &mut [u8], end: usize) -> Result<usize, LineFault>
+    requires { end + PIECE ≤ length bytes.old }
+    ensures front { take end bytes.new ≡ take end bytes.old }
+    ensures length { length bytes.new ≡ length bytes.old }
+    ensures ok { IfOk result (λ n. (end + n ≤ length bytes.new) × Consumes (R.remaining reader.old) (R.remaining reader.new) (slice_range bytes.new end (end + n)) × (n ≡ 0 → IsAtEnd (R.remaining reader.new))) }
+    ensures err { IfErr result (λ fault. Keeps (R.remaining reader.old) (R.remaining reader.new) × (fault ≡ LineFault.Input)) }
+{
+    match reader.read(&mut bytes[end..end + PIECE]) {
+        Ok(n) => Ok(n),
+        Err(_) => Err(LineFault::Input),
+    }
+}
+
+/// Reads once, behind the first `end` bytes, for which room is made.
+fn read_behind<R: Read>(reader: &mut R, bytes: &mut Vec<u8>, end: usize) -> Result<usize, LineFault>
+    requires { end ≤ length bytes.old.items }
+    ensures within { end ≤ length bytes.new.items }
+    ensures front { take end bytes.new.items ≡ take end bytes.old.items }
+    ensures ok { IfOk result (λ n. (end + n ≤ length bytes.new.items) × Consumes (R.remaining reader.old) (R.remaining reader.new) (slice_range bytes.new.items end (end + n)) × (n ≡ 0 → IsAtEnd (R.remaining reader.new))) }
+    ensures err { IfErr result (λ fault. Keeps (R.remaining reader.old) (R.remaining reader.new) × (fault ≢ LineFault.Long)) }
+{
+    make_room(bytes, end)?;
+    read_to(reader, bytes, end)
 }
 
 impl Ahead {
-    pub fn new() -> Ahead
-        ensures { result ≡ [] }
+    /// No byte yet. It allocates nothing.
+    pub fn new(alloc: Global) -> Ahead
+        ensures { result ≡ record { line = []; is_open = true; bytes = [] } }
     {
         Ahead {
-            bytes: [0; ROOM],
+            bytes: Vec::new(alloc),
+            first: 0,
+            last: 0,
             start: 0,
             end: 0,
         }
     }
 
+    /// Whether no byte is ahead.
     pub fn is_empty(&self) -> bool
-        ensures { result ≡ (length self.now == 0) }
+        ensures { result ≡ (length self.now.bytes == 0) }
     {
         self.start == self.end
     }
 
-    /// Reads once. No byte is ahead then only if the reader has ended.
-    pub fn refill<R: Read>(&mut self, reader: &mut R) -> Result<(), LineFault>
-        requires { self.old ≡ [] }
-        ensures { Refills (R.remaining reader.old) (R.remaining reader.new) result self.new }
+    /// What was taken of the line, without its line feed.
+    pub fn line(&self) -> &[u8]
+        ensures { result.now ≡ self.now.line }
     {
-        match reader.read(&mut self.bytes) {
-            Ok(n) => {
-                self.start = 0;
-                self.end = n;
+        &self.bytes[self.first..self.last]
+    }
+
+    /// Begins a line, of which nothing was taken yet.
+    pub fn begin(&mut self)
+        ensures { self.new ≡ record { line = []; is_open = true; bytes = self.old.bytes } }
+    {
+        self.first = self.start;
+        self.last = self.start;
+    }
+
+    /// Moves the line to the front, where nothing is ahead of it.
+    fn move_line(&mut self)
+        requires empty { self.old.bytes ≡ [] }
+        requires goes_on { self.old.is_open ≡ true }
+        ensures { self.new ≡ self.old }
+    {
+        let count = self.last - self.first;
+        self.bytes.copy_within(self.first..self.last, 0);
+        self.first = 0;
+        self.last = count;
+        self.start = count;
+        self.end = count;
+    }
+
+    /// Reads once, behind the line. No byte is ahead then only if the reader has ended.
+    pub fn refill<R: Read>(&mut self, reader: &mut R) -> Result<(), LineFault>
+        requires empty { self.old.bytes ≡ [] }
+        requires goes_on { self.old.is_open ≡ true }
+        ensures bytes { Refills (R.remaining reader.old) (R.remaining reader.new) result self.new.bytes }
+        ensures line { self.new.line ≡ self.old.line }
+        ensures goes_on { self.new.is_open ≡ true }
+    {
+        self.move_line();
+        match read_behind(reader, &mut self.bytes, self.end) {
+            Ok(count) => {
+                self.end += count;
                 Ok(())
             }
-            Err(_) => Err(LineFault::Input),
+            Err(fault) => Err(fault),
         }
     }
 
-    /// Takes bytes of a line, at most `room` with its line feed, and puts them after what `line` holds.
-    pub fn take(&mut self, room: usize, line: &mut Vec<u8>) -> Result<Part, LineFault>
-        requires { 1 ≤ room }
-        ensures { ReadsPart (Some self.old) (Some self.new) room line.old.items line.new.items result }
+    /// Takes bytes of the line, at most `room` with its line feed.
+    pub fn take(&mut self, room: usize) -> Part
+        requires some { 1 ≤ room }
+        requires goes_on { self.old.is_open ≡ true }
+        ensures takes { ReadsPart (Some self.old.bytes) (Some self.new.bytes) room self.old.line self.new.line (Ok result) }
+        ensures goes_on { result ≢ Part.Line → self.new.is_open ≡ true }
     {
         let ahead = &self.bytes[self.start..self.end];
         let ahead = &ahead[..room.min(ahead.len())];
         match first_place(ahead, b'\n') {
             Some(place) => {
-                line.extend_from_slice(&ahead[..place])?;
+                self.last = self.start + place;
                 self.start += place + 1;
-                Ok(Part::Line)
+                Part::Line
             }
-            None if ahead.is_empty() => Ok(Part::End),
+            None if ahead.is_empty() => Part::End,
             None => {
-                line.extend_from_slice(ahead)?;
                 self.start += ahead.len();
-                Ok(Part::Front)
+                self.last = self.start;
+                Part::Front
             }
         }
     }

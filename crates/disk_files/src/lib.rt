@@ -1,14 +1,13 @@
 //! The texts of a disk: lines of a trace, raw lines, and the replies to them.
 //!
 //! ```text
-//! let mut reader = LineReader::new(rt.reader());
-//! let mut line = Vec::new(alloc);
+//! let mut reader = LineReader::new(alloc, rt.reader());
 //! let mut bytes = Vec::new(alloc);
-//! while reader.next_line(&mut line)? {
-//!     if is_skipped(&line) {
+//! while reader.next_line()? {
+//!     if is_skipped(reader.line()) {
 //!         continue;
 //!     }
-//!     match TraceLine::parse(&line, &mut bytes) {
+//!     match TraceLine::parse(reader.line(), &mut bytes) {
 //!         Ok(TraceLine::Read { first, blocks }) => ..,
 //!         Ok(TraceLine::Write { first }) => .., // the data is in `bytes`
 //!         Ok(..) => ..,

@@ -1,11 +1,11 @@
-ghost use Rattle.std.specs.Prelude.{◌≡◌, ◌<◌, ◌≤◌, ◌↔◌, [], IfErr, IsErrOf, OnOk, length};
+ghost use Rattle.std.specs.Prelude.{◌≡◌, ◌≢◌, ◌<◌, ◌≤◌, ◌↔◌, true, [], IfErr, IsErrOf, Ok, OnOk, length};
 ghost use Rattle.std.specs.Io.KnownBytes.{IsAtEnd, Keeps, prepend_known};
 ghost use Rattle.disk_files.specs.Ahead.{ReadsPart};
 ghost use Rattle.disk_files.specs.Line.{ReadsLine};
 ghost use Rattle.disk_files.specs.declared.line_reader.LineFault.TheVariants.{Memory};
 
 use crate::ahead::{Ahead, Part};
-use std::alloc::AllocError;
+use std::alloc::{AllocError, Global};
 use std::io::Read;
 use std::marker::Model;
 use thiserror::Error;
@@ -38,8 +38,8 @@ impl From<AllocError> for LineFault {
     }
 }
 
-/// Reads the lines of a reader, up to 16 KiB at a time. It is seen as the bytes that are left to read, where
-/// those are known.
+/// Reads the lines of a reader, up to 64 KiB at a time, and keeps the last one. It is seen as the bytes that are left
+/// to read, where those are known, and that line.
 #[derive(Drop)]
 pub struct LineReader<R: Read + Drop> {
     reader: R,
@@ -48,25 +48,29 @@ pub struct LineReader<R: Read + Drop> {
 }
 
 impl<R: Read + Drop> Model for LineReader<R> {
-    ghost use Rattle.std.specs.Prelude.{List, ℕ, Option, ◌≤◌};
+    ghost use Rattle.std.specs.Prelude.{◌≤◌};
     ghost use Rattle.std.specs.Io.KnownBytes.{prepend_known};
+    ghost use Rattle.disk_files.specs.Line.{LinesView};
     ghost use Rattle.disk_files.specs.declared.line_reader.TheConstants.{MOST_READS};
 
-    ghost Value = { Option (List ℕ) };
+    ghost Value = { LinesView };
 
-    ghost view = { λ r. prepend_known r.ahead (R.remaining r.reader) };
+    ghost view = { λ r. record { left = prepend_known r.ahead.bytes (R.remaining r.reader); line = r.ahead.line } };
 
     ghost invariant = { λ r. r.reads ≤ MOST_READS };
 }
 
 /// Reads ahead, if nothing is.
 fn fill<R: Read>(reader: &mut R, ahead: &mut Ahead, reads: &mut u64) -> Result<(), LineFault>
-    requires { reads.old ≤ MOST_READS }
+    requires reads { reads.old ≤ MOST_READS }
+    requires goes_on { ahead.old.is_open ≡ true }
     ensures reads { reads.new ≤ MOST_READS }
-    ensures kept { Keeps (prepend_known ahead.old (R.remaining reader.old))
-        (prepend_known ahead.new (R.remaining reader.new)) }
-    ensures end { OnOk result (ahead.new ≡ [] → IsAtEnd (R.remaining reader.new)) }
-    ensures err { IfErr result (λ fault. fault ≡ LineFault.Input) }
+    ensures kept { Keeps (prepend_known ahead.old.bytes (R.remaining reader.old))
+        (prepend_known ahead.new.bytes (R.remaining reader.new)) }
+    ensures end { OnOk result (ahead.new.bytes ≡ [] → IsAtEnd (R.remaining reader.new)) }
+    ensures line { ahead.new.line ≡ ahead.old.line }
+    ensures goes_on { ahead.new.is_open ≡ true }
+    ensures err { IfErr result (λ fault. fault ≢ LineFault.Long) }
 {
     if !ahead.is_empty() {
         return Ok(());
@@ -78,46 +82,73 @@ fn fill<R: Read>(reader: &mut R, ahead: &mut Ahead, reads: &mut u64) -> Result<(
     ahead.refill(reader)
 }
 
+/// Takes bytes of the line, and reads ahead before that, if nothing is.
+fn take_part<R: Read>(
+    reader: &mut R,
+    ahead: &mut Ahead,
+    reads: &mut u64,
+    room: usize,
+) -> Result<Part, LineFault>
+    requires reads { reads.old ≤ MOST_READS }
+    requires goes_on { ahead.old.is_open ≡ true }
+    requires some { 1 ≤ room }
+    ensures reads { reads.new ≤ MOST_READS }
+    ensures takes { ReadsPart (prepend_known ahead.old.bytes (R.remaining reader.old)) (prepend_known ahead.new.bytes (R.remaining reader.new)) room ahead.old.line ahead.new.line result }
+    ensures goes_on { result ≢ Ok Part.Line → ahead.new.is_open ≡ true }
+{
+    fill(reader, ahead, reads)?;
+    Ok(ahead.take(room))
+}
+
+/// Reads the next line. False where no byte is left.
+fn read_line<R: Read>(reader: &mut R, ahead: &mut Ahead, reads: &mut u64) -> Result<bool, LineFault>
+    requires { reads.old ≤ MOST_READS }
+    ensures reads { reads.new ≤ MOST_READS }
+    ensures line { ReadsLine (prepend_known ahead.old.bytes (R.remaining reader.old)) (prepend_known ahead.new.bytes (R.remaining reader.new)) ahead.new.line result }
+    ensures long { IsErrOf result LineFault.Long ↔ (LONGEST_LINE < length ahead.new.line) }
+{
+    ahead.begin();
+    while ahead.line().len() <= LONGEST_LINE {
+        let room = LONGEST_LINE + 1 - ahead.line().len();
+        match take_part(reader, ahead, reads, room)? {
+            Part::Front => {}
+            Part::Line => return Ok(true),
+            Part::End => {
+                if ahead.line().is_empty() {
+                    return Ok(false);
+                }
+                return Ok(true);
+            }
+        }
+    }
+    Err(LineFault::Long)
+}
+
 impl<R: Read + Drop> LineReader<R> {
-    /// Reads the lines of this reader.
-    pub fn new(reader: R) -> Self
-        ensures { result ≡ R.remaining reader }
+    /// Reads the lines of this reader. It allocates nothing yet.
+    pub fn new(alloc: Global, reader: R) -> Self
+        ensures { result ≡ record { left = R.remaining reader; line = [] } }
     {
         LineReader {
             reader,
-            ahead: Ahead::new(),
+            ahead: Ahead::new(alloc),
             reads: 0,
         }
     }
 
-    /// Takes bytes of a line, and puts them after what `line` holds.
-    fn take_part(&mut self, room: usize, line: &mut Vec<u8>) -> Result<Part, LineFault>
-        requires { 1 ≤ room }
-        ensures { ReadsPart self.old self.new room line.old.items line.new.items result }
+    /// The line that was read last, without its line feed. After a fault these are the bytes of the line that were
+    /// read.
+    pub fn line(&self) -> &[u8]
+        ensures { result.now ≡ self.now.line }
     {
-        fill(&mut self.reader, &mut self.ahead, &mut self.reads)?;
-        self.ahead.take(room, line)
+        self.ahead.line()
     }
 
-    /// Reads the next line into `line`, without its line feed; the last line may lack one. False where
-    /// no byte is left. After a fault `line` holds the bytes of the line that were read.
-    pub fn next_line(&mut self, line: &mut Vec<u8>) -> Result<bool, LineFault>
-        ensures reads { ReadsLine self.old self.new line.new.items result }
-        ensures long { IsErrOf result LineFault.Long ↔ (LONGEST_LINE < length line.new.items) }
+    /// Reads the next line; the last line may lack a line feed. False where no byte is left.
+    pub fn next_line(&mut self) -> Result<bool, LineFault>
+        ensures reads { ReadsLine self.old.left self.new.left self.new.line result }
+        ensures long { IsErrOf result LineFault.Long ↔ (LONGEST_LINE < length self.new.line) }
     {
-        line.clear();
-        while line.len() <= LONGEST_LINE {
-            match self.take_part(LONGEST_LINE + 1 - line.len(), line)? {
-                Part::Front => {}
-                Part::Line => return Ok(true),
-                Part::End => {
-                    if line.is_empty() {
-                        return Ok(false);
-                    }
-                    return Ok(true);
-                }
-            }
-        }
-        Err(LineFault::Long)
+        read_line(&mut self.reader, &mut self.ahead, &mut self.reads)
     }
 }

@@ -187,6 +187,7 @@ pub(crate) fn raw_problem(line: &[u8]) -> LineProblem {
     };
     match word_problem(line, wanted) {
         Some(problem) => problem,
-        None => LineProblem::Word(1, Wanted::Entry),
+        // Only the end of long data can be wrong then, which is not kept.
+        None => LineProblem::Word(2, Wanted::Data),
     }
 }

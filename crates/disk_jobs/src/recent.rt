@@ -1,13 +1,19 @@
+use memchr::{memchr, memrchr};
 use std::alloc::Global;
 use std::io;
 use std::io::Read;
 
+/// How many bytes of a line are kept at least. Of a longer one the end may be missing.
+const MOST_OF_LINE: usize = 65_536;
+
 /// A reader that keeps what was read of it last, so that the line at which a run ended can be looked at. It keeps
-/// what the last read gave, and the line that this read went on with.
+/// what the last read gave, and the line that this read went on with, of a long one the beginning.
 #[derive(Drop)]
 pub struct RecentInput<R: Read + Drop> {
     reader: R,
     bytes: Vec<u8>,
+    // How many of these bytes are lines that have ended, with their line feeds.
+    ended: usize,
     // How many lines end before these bytes. Once memory ran out for the bytes, no line can be shown.
     lines: u64,
 }
@@ -19,6 +25,7 @@ impl<R: Read + Drop> RecentInput<R> {
         RecentInput {
             reader,
             bytes: Vec::new(alloc),
+            ended: 0,
             lines: 0,
         }
     }
@@ -31,12 +38,32 @@ impl<R: Read + Drop> RecentInput<R> {
 
     /// Lets all lines go that have ended.
     fn let_go(&mut self) {
-        let lines = self.bytes.iter().filter(|byte| **byte == b'\n').count();
-        let Some(place) = self.bytes.iter().rposition(|byte| *byte == b'\n') else {
-            return;
-        };
-        self.bytes.drain(..=place);
+        let ended = self.bytes.len().min(self.ended);
+        let lines = self.bytes[..ended]
+            .iter()
+            .filter(|byte| **byte == b'\n')
+            .count();
+        self.bytes.drain(..ended);
+        self.ended = 0;
         self.lines = self.lines.saturating_add(lines as u64);
+    }
+
+    /// Keeps bytes that were read, but for those of a line of which enough is kept. Each byte is looked at once or
+    /// twice, however long its line is.
+    fn keep(&mut self, read: &[u8]) {
+        let from = if self.bytes.len() < MOST_OF_LINE {
+            0
+        } else {
+            memchr(b'\n', read).unwrap_or(read.len())
+        };
+        let kept = &read[from..];
+        if let Some(place) = memrchr(b'\n', kept) {
+            self.ended = self.bytes.len().saturating_add(place + 1);
+        }
+        if self.bytes.extend_from_slice(kept).is_err() {
+            self.bytes.clear();
+            self.lines = LOST;
+        }
     }
 }
 
@@ -44,10 +71,7 @@ impl<R: Read + Drop> Read for RecentInput<R> {
     fn read(&mut self, buf: &mut [u8]) -> io::Result<usize> {
         self.let_go();
         let count = self.reader.read(buf)?;
-        if self.bytes.extend_from_slice(&buf[..count]).is_err() {
-            self.bytes.clear();
-            self.lines = LOST;
-        }
+        self.keep(&buf[..count]);
         Ok(count)
     }
 }

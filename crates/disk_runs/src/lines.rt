@@ -7,7 +7,6 @@ ghost use Rattle.disk_runs.specs.declared.fault.RunFault.{RunFault};
 
 use crate::fault::RunFault;
 use disk_files::{LineReader, WriteFault};
-use std::alloc::Global;
 use std::io::{Read, Write};
 
 /// Answers lines, one after the other, and holds the reply to the last one.
@@ -60,27 +59,25 @@ pub(crate) trait Answerer {
 /// Answers each line of the reader, in order, and writes its reply, until the lines end or one has no
 /// reply.
 pub(crate) fn answer_lines<R: Read + Drop, W: Write, A: Answerer>(
-    alloc: Global,
     reader: &mut LineReader<R>,
     writer: &mut W,
     answerer: &mut A,
 ) -> Result<(), RunFault>
-    ensures ok { OnOk result (WhereKnown reader.old (W.contents writer.old) (λ input written.
+    ensures ok { OnOk result (WhereKnown reader.old.left (W.contents writer.old) (λ input written.
         Ran (A.language (A.geometry answerer.old)) input written (A.state answerer.old) (W.contents writer.new) (A.state answerer.new))) }
-    ensures err { IfErr result (λ fault. WhereKnown reader.old (W.contents writer.old) (λ input written.
+    ensures err { IfErr result (λ fault. WhereKnown reader.old.left (W.contents writer.old) (λ input written.
         Stopped (A.language (A.geometry answerer.old)) input written (A.state answerer.old) fault (W.contents writer.new) (A.state answerer.new))) }
     ensures cause { IfErr result (HasCause (A.Cause answerer.new)) }
-    ensures keeps { OnOk result (KeepsLines A.Keeps reader.old (A.kept answerer.old) (A.kept answerer.new)) }
-    ensures leaves { IfErr result (λ fault. KeepsEnd A.Keeps A.Leaves reader.old (A.kept answerer.old) fault (A.kept answerer.new)) }
+    ensures keeps { OnOk result (KeepsLines A.Keeps reader.old.left (A.kept answerer.old) (A.kept answerer.new)) }
+    ensures leaves { IfErr result (λ fault. KeepsEnd A.Keeps A.Leaves reader.old.left (A.kept answerer.old) fault (A.kept answerer.new)) }
 {
-    let mut line = Vec::new(alloc);
     for number in 1..u64::MAX {
-        match reader.next_line(&mut line) {
+        match reader.next_line() {
             Ok(true) => {}
             Ok(false) => return Ok(()),
             Err(fault) => return Err(RunFault::of_line(fault, number)),
         }
-        answerer.answer(&line, number)?;
+        answerer.answer(reader.line(), number)?;
         answerer.write_reply(writer)?;
     }
     Err(RunFault::Input)

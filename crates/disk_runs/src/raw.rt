@@ -91,13 +91,13 @@ pub fn run_raw<R: Read + Drop, W: Write, D: Device + Drop>(
         Stopped raw input written (D.drive device) fault (W.contents writer.new) (D.drive result.0))) }
     ensures cause { IfErr result.1 (HasCause (DriveCause (D.drive result.0))) }
 {
-    let mut reader = LineReader::new(reader);
+    let mut reader = LineReader::new(alloc, reader);
     let mut answerer = RawAnswerer {
         device,
         data: Vec::new(alloc),
         completion: None,
         returned: Vec::new(alloc),
     };
-    let result = answer_lines(alloc, &mut reader, writer, &mut answerer);
+    let result = answer_lines(&mut reader, writer, &mut answerer);
     (answerer.device, result)
 }

@@ -97,14 +97,14 @@ pub fn answer_trace<R: Read + Drop, W: Write, D: Device + Drop>(
     ensures keeps { OnOk result.1 (KeepsLines KeepsLine (R.remaining reader) disk result.0) }
     ensures leaves { IfErr result.1 (λ fault. KeepsEnd KeepsLine KeepsFault (R.remaining reader) disk fault result.0) }
 {
-    let mut reader = LineReader::new(reader);
+    let mut reader = LineReader::new(alloc, reader);
     let mut answerer = TraceAnswerer {
         disk,
         bytes: Vec::new(alloc),
         block: Vec::new(alloc),
         reply: Vec::new(alloc),
     };
-    let result = answer_lines(alloc, &mut reader, writer, &mut answerer);
+    let result = answer_lines(&mut reader, writer, &mut answerer);
     (answerer.disk, result)
 }
 

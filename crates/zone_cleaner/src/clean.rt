@@ -78,15 +78,22 @@ fn fetch<D: Device>(
 }
 
 impl Clean {
-    /// A clean of a victim, of which nothing is done yet. It allocates nothing.
-    pub fn new(alloc: Global, victim: u32) -> Clean
+    /// A clean of a victim, of which nothing is done yet. It uses the memory of the records, which it takes out of
+    /// `gathered`, and allocates nothing.
+    pub(crate) fn new(victim: u32, mut gathered: Gathered) -> Clean
         ensures { result ≡ started victim }
     {
+        gathered.clear();
         Clean {
             victim,
             cursor: 0,
-            gathered: Gathered::new(alloc),
+            gathered,
         }
+    }
+
+    /// The memory of the records, for the next clean.
+    pub(crate) fn into_gathered(self) -> Gathered {
+        self.gathered
     }
 
     /// Takes out the gathered records of the blocks that these entries name. It allocates nothing.

@@ -6,24 +6,28 @@ ghost use Rattle.zone_choice.specs.Builder.{IsBuilt, built};
 ghost use Rattle.zone_choice.specs.Changes.{CanPlace};
 ghost use Rattle.zone_choice.specs.Reserve.{batch_most};
 ghost use Rattle.zone_choice.specs.Roles.{empty_count, next_of};
-ghost use Rattle.zone_cleaner.specs.Clean.{forgotten, turns_left};
+ghost use Rattle.zone_cleaner.specs.Clean.{forgotten, started, turns_left};
 ghost use Rattle.zone_cleaner.specs.Host.{HostLeaves};
 ghost use Rattle.zone_cleaner.specs.Start.{CleanLeaves, EndLeaves, FindsDue, GoesOn, AgreesWithClean, IsCleaningCause, KeepsByCleaning, LeavesNextZone, StartLeaves, TurnLeaves, TurnsFewer};
 ghost use Rattle.zone_states.specs.Geometry.{IsInRange};
 
 use crate::clean::Clean;
 use crate::fault::CleanFault;
+use crate::gathered::Gathered;
 use crate::step::Step;
 use batch_log::Entry;
 use drive_port::{Device, Geometry, Halt};
 use std::alloc::Global;
 use std::marker::Model;
+use std::mem::replace;
 use zone_choice::{BatchBuilder, Filling, Tables, append_batch, batch_most, fill};
 
 /// Cleans the zones of a drive one after the other, in turns between the host's commands.
 #[derive(Drop)]
 pub struct Cleaner {
     clean: Option<Clean>,
+    /// The memory that the last clean used for its records: the next one uses it again.
+    gathered: Gathered,
     batch: BatchBuilder,
     alloc: Global,
 }
@@ -64,6 +68,7 @@ impl Cleaner {
     {
         Cleaner {
             clean: None,
+            gathered: Gathered::new(alloc),
             batch: BatchBuilder::new(alloc),
             alloc,
         }
@@ -127,7 +132,24 @@ impl Cleaner {
             return;
         };
         if tables.take_destination().is_some() {
-            self.clean = Some(Clean::new(self.alloc, victim));
+            self.begin(victim);
+        }
+    }
+
+    /// Begins the clean of a victim, in the memory that the last clean used.
+    fn begin(&mut self, victim: u32)
+        ensures { self.new ≡ Some (started victim) }
+    {
+        let gathered = replace(&mut self.gathered, Gathered::new(self.alloc));
+        self.clean = Some(Clean::new(victim, gathered));
+    }
+
+    /// Ends the clean that runs, if one does, and keeps its memory.
+    fn end(&mut self)
+        ensures { self.new ≡ None }
+    {
+        if let Some(clean) = self.clean.take() {
+            self.gathered = clean.into_gathered();
         }
     }
 
@@ -147,7 +169,7 @@ impl Cleaner {
             Step::Move => clean.carry(self.alloc, tables, device, &mut self.batch),
             Step::Reset => {
                 clean.empty_victim(self.alloc, tables, device)?;
-                self.clean = None;
+                self.end();
                 Ok(())
             }
         }

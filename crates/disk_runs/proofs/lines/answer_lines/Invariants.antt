@@ -7,6 +7,6 @@ abbrev pub invariant-loop-number : goal.invariant-loop-number
 invariant-loop-number g l =
     let contents = g.W.Write.contents in
     let a = g.A.Answerer in
-    (a.geometry l.answerer ≡ a.geometry l.fn.answerer) × KeepsSoFar a.Keeps l.fn.reader l.reader (a.kept l.fn.answerer) (a.kept l.answerer)
-    × WhereKnown l.fn.reader (contents l.fn.writer) (λ input written.
-    SoFar (a.language (a.geometry l.fn.answerer)) input written (a.state l.fn.answerer) l.number l.reader (contents l.writer) (a.state l.answerer))
+    (a.geometry l.answerer ≡ a.geometry l.fn.answerer) × KeepsSoFar a.Keeps l.fn.reader.left l.reader.left (a.kept l.fn.answerer) (a.kept l.answerer)
+    × WhereKnown l.fn.reader.left (contents l.fn.writer) (λ input written.
+    SoFar (a.language (a.geometry l.fn.answerer)) input written (a.state l.fn.answerer) l.number l.reader.left (contents l.writer) (a.state l.answerer))
