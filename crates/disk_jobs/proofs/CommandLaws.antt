@@ -42,6 +42,7 @@ abbrev pub asking : App → App
 asking app = record app { top = record app.top { has_version = true; subcommand_required = true } }
 
 pub named : (made about version last : Command) (app : App) {s : Option (Bor (List ℕ))} {t : Bor (List ℕ)} → app_of made ≡ app → fields_of about ≡ record (fields_of made) { about = s } → fields_of version ≡ record (fields_of about) { version = Some t } → fields_of last ≡ record (fields_of version) { subcommand_required = true } → Becomes made (asking app) last
-named made about version last app {s} {t} is e f g =
-    (ap app_of_fields g ∙ ap (λ x. app_of_fields (record x { subcommand_required = true })) f ∙ ap (λ x. app_of_fields (record x { version = Some t; subcommand_required = true })) e ∙ ap asking is,
-      ap (λ x. x.has_globals) g ∙ ap (λ x. x.has_globals) f ∙ ap (λ x. x.has_globals) e)
+named made about version last app {s} {t} is e f g = (
+  ap app_of_fields g ∙ ap (λ x. app_of_fields (record x { subcommand_required = true })) f ∙ ap (λ x. app_of_fields (record x { version = Some t; subcommand_required = true })) e ∙ ap asking is,
+  ap (λ x. x.has_globals) g ∙ ap (λ x. x.has_globals) f ∙ ap (λ x. x.has_globals) e,
+)

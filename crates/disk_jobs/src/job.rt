@@ -482,7 +482,10 @@ fn refusal(
 ) -> Result<Error, AllocError> {
     match fault {
         WordFault::Missing => {
-            program.error(ErrorKind::MissingSubcommand, "a subcommand or an option is wanted")
+            program.error(
+                ErrorKind::MissingSubcommand,
+                "a subcommand or an option is wanted",
+            )
         }
         WordFault::Digits(name) => {
             let text = format!(in alloc; "the value of '--{name}' is not in decimal digits")?;

@@ -13,5 +13,5 @@ returns c =
     let m5 = one_more old c.in_ok-arg-4.field-0 c.in_ok-arg-5.field-0 _ c.part-5.result _ m4 c.in_ok-arg-5.ensures c.part-5.ensures.rule c.part-5.ensures.local in
     let m6 = one_more old c.in_ok-arg-5.field-0 c.in_ok-arg-6.field-0 _ c.part-6.result _ m5 c.in_ok-arg-6.ensures c.part-6.ensures.rule c.part-6.ensures.local in
     IfOk-weaker c.arg-7.result _ _ (λ new adds.
-      let last = one_more old c.in_ok-arg-6.field-0 new _ c.part-7.result _ m6 adds c.part-7.ensures.rule c.part-7.ensures.local in
-      record { app = last.0; globals = last.1 }) c.arg-7.ensures
+    let last = one_more old c.in_ok-arg-6.field-0 new _ c.part-7.result _ m6 adds c.part-7.ensures.rule c.part-7.ensures.local in
+    record { app = last.0; globals = last.1 }) c.arg-7.ensures

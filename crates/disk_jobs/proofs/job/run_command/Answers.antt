@@ -11,4 +11,4 @@ returns c =
     let m3 = one_more made c.in_ok-arg-2.field-0 c.in_ok-arg-3.field-0 _ c.flag.result _ m2 c.in_ok-arg-3.ensures c.flag.ensures.rule c.flag.ensures.local in
     let m4 = one_more made c.in_ok-arg-3.field-0 c.in_ok-command.command _ c.habit_option.result _ m3 c.in_ok-command.ensures c.habit_option.ensures.rule c.habit_option.ensures.local in
     IfOk-weaker c.stop_options.result _ _ (λ new adds.
-      is_command made new _ c.new.ensures.local (options_more made c.in_ok-command.command new _ _ m4 adds)) c.stop_options.ensures
+    is_command made new _ c.new.ensures.local (options_more made c.in_ok-command.command new _ _ m4 adds)) c.stop_options.ensures
