@@ -1,3 +1,7 @@
+ghost use Rattle.std.specs.Prelude.{◌≡◌};
+ghost use Rattle.disk_runs.specs.declared.fault.RunFault.TheVariants.{Memory, Output};
+ghost use Rattle.disk_jobs.specs.declared.fault.ProgramFault.TheVariants as program;
+
 use disk_files::{WriteFault, write_out};
 use disk_runs::{RunFault, write_fault};
 use drive_images::{ImageFault, image_fault_line};
@@ -19,24 +23,32 @@ pub enum ProgramFault {
 }
 
 impl From<RunFault> for ProgramFault {
+    ghost from_gives = { λ fault told. told ≡ program.Run fault };
+
     fn from(fault: RunFault) -> ProgramFault {
         ProgramFault::Run(fault)
     }
 }
 
 impl From<ImageFault> for ProgramFault {
+    ghost from_gives = { λ fault told. told ≡ program.Image fault };
+
     fn from(fault: ImageFault) -> ProgramFault {
         ProgramFault::Image(fault)
     }
 }
 
 impl From<AllocError> for ProgramFault {
+    ghost from_gives = { λ _ told. told ≡ program.Run Memory };
+
     fn from(_error: AllocError) -> ProgramFault {
         ProgramFault::Run(RunFault::Memory)
     }
 }
 
 impl From<WriteFault> for ProgramFault {
+    ghost from_gives = { λ _ told. told ≡ program.Run Output };
+
     fn from(_fault: WriteFault) -> ProgramFault {
         ProgramFault::Run(RunFault::Output)
     }

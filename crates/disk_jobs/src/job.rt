@@ -1,3 +1,9 @@
+ghost use Rattle.std.specs.Prelude.{◌≡◌, [], ◌∷◌, ◌++◌, false, IfOk, IsSomeAnd, codes, map, option_map, string_bytes};
+ghost use Rattle.std.specs.List.{list_all};
+ghost use Rattle.std.specs.Char.{is_ascii_digit};
+ghost use Rattle.clap.specs.Words.{app_of, first_of, found_of, rows_of, rule_of, subcommand_rows_of};
+ghost use Rattle.disk_jobs.specs.CommandLine.{AddsOptions, AskFor, AsksFor, HasFlag, HasGeometry, HasHabit, HasImage, HasNumber, HasNumberOr, HasStop, IsCommand, below_2_63, blocks, flag, format, fresh, fresh_raw, habit, image, number, nvme, optional, part, parts, program, report, run, stops};
+
 use clap::builder::ValueParser;
 use clap::error::ErrorKind;
 use clap::{Arg, ArgAction, ArgMatches, Command, Error, value_parser};
@@ -81,7 +87,8 @@ impl Job {
 /// Why words that the program takes are no job.
 #[derive(Clone, Copy)]
 enum WordFault {
-    NoSubcommand,
+    /// They lack a subcommand or an option. The parser refuses such words before.
+    Missing,
     /// The value of the option with this name is not in decimal digits.
     Digits(&'static str),
     /// An allocation failed.
@@ -122,7 +129,10 @@ fn number_option<'a>(
     letter: &'a str,
     help: &'a str,
     parser: ValueParser<'a>,
-) -> Arg<'a> {
+) -> Arg<'a>
+    ensures rule { rule_of result ≡ number name.entry.now parser.entry }
+    ensures local { result.global ≡ false }
+{
     Arg::new(alloc, name)
         .long(name)
         .value_name(letter)
@@ -133,33 +143,36 @@ fn number_option<'a>(
 }
 
 /// A part of a geometry: a number below 2^32.
-fn part<'a>(alloc: Global, name: &'a str, letter: &'a str, help: &'a str) -> Arg<'a> {
+fn part<'a>(alloc: Global, name: &'a str, letter: &'a str, help: &'a str) -> Arg<'a>
+    ensures rule { rule_of result ≡ part name.entry.now }
+    ensures local { result.global ≡ false }
+{
     number_option(alloc, name, letter, help, value_parser!(u32))
 }
 
-/// The parts of a geometry: the name of each, the letter of its number, and what it is.
-const PARTS: [(&str, &str, &str); 7] = [
-    ("block", "B", "Bytes in a block: 512 or 4096"),
-    ("zones", "Z", "Zones: 3 to 65536"),
-    ("size", "S", "Blocks in a zone's addresses: C to 2^20"),
-    ("capacity", "C", "Blocks in a zone that take writes: 4 to S"),
-    ("transfer", "T", "Blocks in a transfer at most: 2 to 256"),
-    ("active", "A", "Zones active at once at most: 2 to 65536"),
-    ("open", "O", "Zones open at once at most: 1 to A"),
-];
-
-fn geometry_options<'a>(
-    alloc: Global,
-    mut command: Command<'a>,
-) -> Result<Command<'a>, AllocError> {
-    for (name, letter, help) in PARTS {
-        command = command.arg(part(alloc, name, letter, help))?;
-    }
-    Ok(command)
+/// The parts of a geometry.
+fn geometry_options<'a>(alloc: Global, command: Command<'a>) -> Result<Command<'a>, AllocError>
+    ensures { IfOk result (λ new. AddsOptions parts command.entry new) }
+{
+    let size = "Blocks in a zone's addresses: C to 2^20";
+    let capacity = "Blocks in a zone that take writes: 4 to S";
+    let transfer = "Blocks in a transfer at most: 2 to 256";
+    let active = "Zones active at once at most: 2 to 65536";
+    command
+        .arg(part(alloc, "block", "B", "Bytes in a block: 512 or 4096"))?
+        .arg(part(alloc, "zones", "Z", "Zones: 3 to 65536"))?
+        .arg(part(alloc, "size", "S", size))?
+        .arg(part(alloc, "capacity", "C", capacity))?
+        .arg(part(alloc, "transfer", "T", transfer))?
+        .arg(part(alloc, "active", "A", active))?
+        .arg(part(alloc, "open", "O", "Zones open at once at most: 1 to A"))
 }
 
 /// An option without a value.
-fn flag<'a>(alloc: Global, name: &'a str, help: &'a str) -> Arg<'a> {
+fn flag<'a>(alloc: Global, name: &'a str, help: &'a str) -> Arg<'a>
+    ensures rule { rule_of result ≡ flag name.entry.now }
+    ensures local { result.global ≡ false }
+{
     Arg::new(alloc, name)
         .long(name)
         .help(help)
@@ -167,7 +180,10 @@ fn flag<'a>(alloc: Global, name: &'a str, help: &'a str) -> Arg<'a> {
 }
 
 /// The path of an image file.
-fn image_option<'a>(alloc: Global) -> Arg<'a> {
+fn image_option<'a>(alloc: Global) -> Arg<'a>
+    ensures rule { rule_of result ≡ image }
+    ensures local { result.global ≡ false }
+{
     Arg::new(alloc, "image")
         .long("image")
         .value_name("P")
@@ -176,19 +192,32 @@ fn image_option<'a>(alloc: Global) -> Arg<'a> {
         .action(ArgAction::Set)
 }
 
+/// What takes a number below 2^63.
+fn count_parser<'a>() -> ValueParser<'a>
+    ensures { result ≡ below_2_63 }
+{
+    value_parser!(u64).range(0..=i64::MAX)
+}
+
 /// How many logical blocks the disk has: a number below 2^63.
-fn blocks_option<'a>(alloc: Global) -> Arg<'a> {
-    let blocks = value_parser!(u64).range(0..=i64::MAX);
-    number_option(alloc, "blocks", "N", "Logical blocks", blocks)
+fn blocks_option<'a>(alloc: Global) -> Arg<'a>
+    ensures rule { rule_of result ≡ blocks }
+    ensures local { result.global ≡ false }
+{
+    number_option(alloc, "blocks", "N", "Logical blocks", count_parser())
 }
 
 /// An option that takes a number below 2^63.
-fn stop_option<'a>(alloc: Global, name: &'a str, letter: &'a str, help: &'a str) -> Arg<'a> {
-    let parser = value_parser!(u64).range(0..=i64::MAX);
-    number_option(alloc, name, letter, help, parser).required(false)
+fn stop_option<'a>(alloc: Global, name: &'a str, letter: &'a str, help: &'a str) -> Arg<'a>
+    ensures rule { rule_of result ≡ optional (number name.entry.now below_2_63) }
+    ensures local { result.global ≡ false }
+{
+    number_option(alloc, name, letter, help, count_parser()).required(false)
 }
 
-fn stop_options<'a>(alloc: Global, command: Command<'a>) -> Result<Command<'a>, AllocError> {
+fn stop_options<'a>(alloc: Global, command: Command<'a>) -> Result<Command<'a>, AllocError>
+    ensures { IfOk result (λ new. AddsOptions stops command.entry new) }
+{
     let stop = "Stops the drive after K commands, the mount's included";
     let tear = "Writes J blocks of the Append at which the drive stops";
     command
@@ -199,17 +228,22 @@ fn stop_options<'a>(alloc: Global, command: Command<'a>) -> Result<Command<'a>, 
 /// The names of the habits of a drive.
 const HABITS: [&str; 3] = ["lazy", "closing", "strict"];
 
-fn habit_option<'a>(alloc: Global) -> Arg<'a> {
+fn habit_option<'a>(alloc: Global, habits: &'a [&'a str]) -> Arg<'a>
+    ensures rule { rule_of result ≡ habit habits.entry }
+    ensures local { result.global ≡ false }
+{
     Arg::new(alloc, "habit")
         .long("habit")
         .value_name("H")
         .help("Which zones the drive closes by itself")
         .action(ArgAction::Set)
-        .value_parser(HABITS.as_slice())
+        .value_parser(habits)
         .default_value("lazy")
 }
 
-fn format_command<'a>(alloc: Global) -> Result<Command<'a>, AllocError> {
+fn format_command<'a>(alloc: Global) -> Result<Command<'a>, AllocError>
+    ensures { IfOk result (λ new. IsCommand format new) }
+{
     let command = Command::new(alloc, "format")
         .about("Makes a fresh drive in a file")
         .after_help(FORMAT_EXAMPLE)
@@ -217,7 +251,9 @@ fn format_command<'a>(alloc: Global) -> Result<Command<'a>, AllocError> {
     geometry_options(alloc, command)
 }
 
-fn run_command<'a>(alloc: Global) -> Result<Command<'a>, AllocError> {
+fn run_command<'a>(alloc: Global, habits: &'a [&'a str]) -> Result<Command<'a>, AllocError>
+    ensures { IfOk result (λ new. IsCommand (run habits.entry) new) }
+{
     let zones = "Shows the zones of the drive after the replies";
     let command = Command::new(alloc, "run")
         .about("Answers the trace on standard input, over the drive in a file")
@@ -225,26 +261,32 @@ fn run_command<'a>(alloc: Global) -> Result<Command<'a>, AllocError> {
         .arg(image_option(alloc))?
         .arg(blocks_option(alloc))?
         .arg(flag(alloc, "zones", zones))?
-        .arg(habit_option(alloc))?;
+        .arg(habit_option(alloc, habits))?;
     stop_options(alloc, command)
 }
 
-fn report_command<'a>(alloc: Global) -> Result<Command<'a>, AllocError> {
+fn report_command<'a>(alloc: Global) -> Result<Command<'a>, AllocError>
+    ensures { IfOk result (λ new. IsCommand report new) }
+{
     Command::new(alloc, "report")
         .about("Shows the zones of the drive in a file")
         .after_help(REPORT_EXAMPLE)
         .arg(image_option(alloc))
 }
 
-fn nvme_command<'a>(alloc: Global) -> Result<Command<'a>, AllocError> {
+fn nvme_command<'a>(alloc: Global, habits: &'a [&'a str]) -> Result<Command<'a>, AllocError>
+    ensures { IfOk result (λ new. IsCommand (nvme habits.entry) new) }
+{
     Command::new(alloc, "nvme")
         .about("Submits the raw entries on standard input to the drive in a file")
         .after_help(NVME_EXAMPLE)
         .arg(image_option(alloc))?
-        .arg(habit_option(alloc))
+        .arg(habit_option(alloc, habits))
 }
 
-fn fresh_command<'a>(alloc: Global) -> Result<Command<'a>, AllocError> {
+fn fresh_command<'a>(alloc: Global, habits: &'a [&'a str]) -> Result<Command<'a>, AllocError>
+    ensures { IfOk result (λ new. IsCommand (fresh habits.entry) new) }
+{
     let report = "Shows the zones of the drive after the replies";
     let statistics = "Shows what was written and moved after the replies";
     let command = Command::new(alloc, "fresh")
@@ -254,55 +296,93 @@ fn fresh_command<'a>(alloc: Global) -> Result<Command<'a>, AllocError> {
         .arg(blocks_option(alloc))?
         .arg(flag(alloc, "report", report))?
         .arg(flag(alloc, "statistics", statistics))?
-        .arg(habit_option(alloc))?;
+        .arg(habit_option(alloc, habits))?;
     stop_options(alloc, command)
 }
 
-fn fresh_raw_command<'a>(alloc: Global) -> Result<Command<'a>, AllocError> {
+fn fresh_raw_command<'a>(alloc: Global, habits: &'a [&'a str]) -> Result<Command<'a>, AllocError>
+    ensures { IfOk result (λ new. IsCommand (fresh_raw habits.entry) new) }
+{
     let command = Command::new(alloc, "fresh-raw")
         .about("Submits the raw entries on standard input to a fresh drive in memory")
         .after_help(FRESH_RAW_EXAMPLE);
-    geometry_options(alloc, command)?.arg(habit_option(alloc))
+    geometry_options(alloc, command)?.arg(habit_option(alloc, habits))
 }
 
 /// The words that the program takes.
-fn program<'a>(alloc: Global) -> Result<Command<'a>, AllocError> {
+fn program<'a>(alloc: Global, habits: &'a [&'a str]) -> Result<Command<'a>, AllocError>
+    ensures { IfOk result (λ new. app_of new ≡ program habits.entry) }
+{
     Command::new(alloc, "zonedisk")
         .about("An array of logical blocks above a zoned drive")
         .version(VERSION)
         .subcommand_required(true)
         .subcommand(format_command(alloc)?)?
-        .subcommand(run_command(alloc)?)?
+        .subcommand(run_command(alloc, habits)?)?
         .subcommand(report_command(alloc)?)?
-        .subcommand(nvme_command(alloc)?)?
-        .subcommand(fresh_command(alloc)?)?
-        .subcommand(fresh_raw_command(alloc)?)
+        .subcommand(nvme_command(alloc, habits)?)?
+        .subcommand(fresh_command(alloc, habits)?)?
+        .subcommand(fresh_raw_command(alloc, habits)?)
+}
+
+/// The value that an option was given, if it was.
+fn given<'a>(matches: &ArgMatches<'a>, name: &str) -> Option<&'a str>
+    ensures { option_map (λ text. text.now) result ≡ first_of name.now (rows_of (found_of matches.now)) }
+{
+    matches.get_str(name)
+}
+
+/// Whether a flag was given.
+fn has_flag(matches: &ArgMatches<'_>, name: &str) -> bool
+    ensures { HasFlag (rows_of (found_of matches.now)) name.now result }
+{
+    matches.get_flag(name)
+}
+
+/// Whether a text has digits alone.
+fn is_decimal(text: &str) -> bool
+    ensures { result ≡ list_all is_ascii_digit text.now }
+{
+    text.as_bytes().iter().all(|byte| byte.is_ascii_digit())
 }
 
 /// The number that an option was given. It is refused where it is not spelled in decimal digits alone.
-fn number(matches: &ArgMatches<'_>, name: &'static str) -> Result<u64, WordFault> {
-    let digits = matches.get_str(name).ok_or(WordFault::Digits(name))?;
-    if !digits.bytes().all(|byte| byte.is_ascii_digit()) {
+fn number(matches: &ArgMatches<'_>, name: &'static str) -> Result<u64, WordFault>
+    ensures { IfOk result (λ n. HasNumber (rows_of (found_of matches.now)) name.entry.now n) }
+{
+    let Some(digits) = given(matches, name) else {
+        return Err(WordFault::Digits(name));
+    };
+    if !is_decimal(digits) {
         return Err(WordFault::Digits(name));
     }
-    digits.parse().or(Err(WordFault::Digits(name)))
+    match digits.parse() {
+        Ok(number) => Ok(number),
+        Err(_) => Err(WordFault::Digits(name)),
+    }
 }
 
 /// A number below 2^32.
-fn part_of(matches: &ArgMatches<'_>, name: &'static str) -> Result<u32, WordFault> {
+fn part_of(matches: &ArgMatches<'_>, name: &'static str) -> Result<u32, WordFault>
+    ensures { IfOk result (λ n. HasNumber (rows_of (found_of matches.now)) name.entry.now n) }
+{
     u32::try_from(number(matches, name)?).or(Err(WordFault::Digits(name)))
 }
 
 /// The number that an option was given, if it was.
-fn number_or(matches: &ArgMatches<'_>, name: &'static str, missing: u64) -> Result<u64, WordFault> {
-    if matches.get_str(name).is_none() {
+fn number_or(matches: &ArgMatches<'_>, name: &'static str, missing: u64) -> Result<u64, WordFault>
+    ensures { IfOk result (λ n. HasNumberOr missing (rows_of (found_of matches.now)) name.entry.now n) }
+{
+    if given(matches, name).is_none() {
         return Ok(missing);
     }
     number(matches, name)
 }
 
 /// When the drive stops. No Append has more blocks than 32 bits can count.
-fn stop_of(matches: &ArgMatches<'_>) -> Result<Stop, WordFault> {
+fn stop_of(matches: &ArgMatches<'_>) -> Result<Stop, WordFault>
+    ensures { IfOk result (λ stop. HasStop (rows_of (found_of matches.now)) stop) }
+{
     let commands = number_or(matches, "stop-after", Stop::NEVER.commands)?;
     let tear = number_or(matches, "tear", 0)?;
     Ok(Stop {
@@ -312,15 +392,19 @@ fn stop_of(matches: &ArgMatches<'_>) -> Result<Stop, WordFault> {
 }
 
 /// The habit of the drive.
-fn habit_of(matches: &ArgMatches<'_>) -> Habit {
-    match matches.get_str("habit") {
+fn habit_of(matches: &ArgMatches<'_>) -> Habit
+    ensures { HasHabit (rows_of (found_of matches.now)) result }
+{
+    match given(matches, "habit") {
         Some("closing") => Habit::Closing,
         Some("strict") => Habit::Strict,
         _ => Habit::Lazy,
     }
 }
 
-fn geometry(matches: &ArgMatches<'_>) -> Result<Geometry, WordFault> {
+fn geometry(matches: &ArgMatches<'_>) -> Result<Geometry, WordFault>
+    ensures { IfOk result (λ geometry. HasGeometry (rows_of (found_of matches.now)) geometry) }
+{
     Ok(Geometry {
         block: part_of(matches, "block")?,
         zones: part_of(matches, "zones")?,
@@ -332,13 +416,19 @@ fn geometry(matches: &ArgMatches<'_>) -> Result<Geometry, WordFault> {
     })
 }
 
-fn image(alloc: Global, matches: &ArgMatches<'_>) -> Result<String, WordFault> {
-    let path = matches.get_str("image").unwrap_or("");
+fn image(alloc: Global, matches: &ArgMatches<'_>) -> Result<String, WordFault>
+    ensures { IfOk result (λ path. HasImage (rows_of (found_of matches.now)) (string_bytes path)) }
+{
+    let Some(path) = given(matches, "image") else {
+        return Err(WordFault::Missing);
+    };
     Ok(String::from_str(alloc, path)?)
 }
 
 /// The job of a subcommand.
-fn subcommand_job(alloc: Global, name: &str, matches: &ArgMatches<'_>) -> Result<Job, WordFault> {
+fn subcommand_job(alloc: Global, name: &str, matches: &ArgMatches<'_>) -> Result<Job, WordFault>
+    ensures { IfOk result (λ job. AsksFor name.now (rows_of (found_of matches.now)) job) }
+{
     match name {
         "format" => Ok(Job::Format {
             image: image(alloc, matches)?,
@@ -347,7 +437,7 @@ fn subcommand_job(alloc: Global, name: &str, matches: &ArgMatches<'_>) -> Result
         "run" => Ok(Job::Run {
             image: image(alloc, matches)?,
             blocks: number(matches, "blocks")?,
-            zones: matches.get_flag("zones"),
+            zones: has_flag(matches, "zones"),
             stop: stop_of(matches)?,
             habit: habit_of(matches),
         }),
@@ -361,23 +451,26 @@ fn subcommand_job(alloc: Global, name: &str, matches: &ArgMatches<'_>) -> Result
         "fresh" => Ok(Job::Fresh {
             geometry: geometry(matches)?,
             blocks: number(matches, "blocks")?,
-            report: matches.get_flag("report"),
-            statistics: matches.get_flag("statistics"),
+            report: has_flag(matches, "report"),
+            statistics: has_flag(matches, "statistics"),
             stop: stop_of(matches)?,
             habit: habit_of(matches),
         }),
-        _ => Ok(Job::FreshRaw {
+        "fresh-raw" => Ok(Job::FreshRaw {
             geometry: geometry(matches)?,
             habit: habit_of(matches),
         }),
+        _ => Err(WordFault::Missing),
     }
 }
 
 /// The job of the subcommand, if there is one.
-fn asked(alloc: Global, matches: &ArgMatches<'_>) -> Result<Job, WordFault> {
+fn asked(alloc: Global, matches: &ArgMatches<'_>) -> Result<Job, WordFault>
+    ensures { IfOk result (λ job. IsSomeAnd (subcommand_rows_of matches.now) (λ met. AsksFor met.0 met.1 job)) }
+{
     match matches.subcommand() {
         Some((name, matches)) => subcommand_job(alloc, name, matches),
-        None => Err(WordFault::NoSubcommand),
+        None => Err(WordFault::Missing),
     }
 }
 
@@ -388,8 +481,11 @@ fn refusal(
     fault: WordFault,
 ) -> Result<Error, AllocError> {
     match fault {
-        WordFault::NoSubcommand => {
-            program.error(ErrorKind::MissingSubcommand, "a subcommand is wanted")
+        WordFault::Missing => {
+            program.error(
+                ErrorKind::MissingSubcommand,
+                "a subcommand or an option is wanted",
+            )
         }
         WordFault::Digits(name) => {
             let text = format!(in alloc; "the value of '--{name}' is not in decimal digits")?;
@@ -402,8 +498,10 @@ fn refusal(
 /// The job that the words ask for; the first word is the program's name.
 ///
 /// Words that the program doesn't take, and a request for help, are refused with the text to show.
-pub fn job_of(alloc: Global, words: &[String]) -> Result<Job, Error> {
-    let mut program = program(alloc)?;
+pub fn job_of(alloc: Global, words: &[String]) -> Result<Job, Error>
+    ensures ok { IfOk result (λ job. AskFor (map string_bytes words.now) job) }
+{
+    let mut program = program(alloc, HABITS.as_slice())?;
     let matches = program.try_get_matches_from_mut(words)?;
     match asked(alloc, &matches) {
         Ok(job) => Ok(job),

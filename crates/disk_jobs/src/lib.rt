@@ -10,10 +10,21 @@
 //!
 //! [`job_of`] reads the words, and refuses others with the text to show. [`run_job`] does what they ask for, and
 //! [`run_on_file`] does it on the drive of a file. [`explain`] says what a fault is in a line for people; for this a
-//! [`RecentInput`] keeps what was read last. What the replies are is promised by the runs below, `run_trace`,
-//! `answer_trace` and `run_raw` of `disk_runs`, and what the file holds by `drive_images`. The words, what `--zones`,
-//! `--report` and `--statistics` show, and the order of faults are tested in `call_tests`; what the drive closes with each
-//! `--habit` is in the rows of `worked_runs`.
+//! [`RecentInput`] keeps what was read last.
+//!
+//! # What is promised
+//!
+//! * A job holds what clap's matches of the words have: the subcommand and, for each of its options, the value under
+//!   its name; a number is spelled in digits alone. Clap refuses none of these words (`specs/CommandLine.antt`).
+//! * The drive that [`run_job`] hands back is the one that the lines left, also after a fault: of `run`, what `run_trace`
+//!   of `disk_runs` left of the drive in the image, restarted; of `nvme`, what `run_raw` left of it; of `format`, a
+//!   fresh drive. There is none only after a report, or where no drive was made or read (`specs/Saved.antt`).
+//! * The fault is that of the run, or says why there is no drive; the output is `ok` of `format`, the replies, and then
+//!   the zones if they are asked for.
+//!
+//! Of a run whose commands are counted nothing is promised but that it ends; nor of [`run_on_file`], since no contract
+//! of std says what a file of a path holds. The texts of clap, which words it refuses, and `--statistics` are tested in
+//! `call_tests`; what the drive closes with each `--habit` is in the rows of `worked_runs`.
 #![tactic(auto)]
 
 mod explanation;

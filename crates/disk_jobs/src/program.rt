@@ -1,3 +1,11 @@
+ghost use Rattle.std.specs.Prelude.{◌≡◌, Err, IfErr, IfOk, Ok, OnOk, true};
+ghost use Rattle.std.specs.Io.KnownBytes.{Appends};
+ghost use Rattle.drive_port.specs.Stop.{drive_of};
+ghost use Rattle.zone_drive.specs.declared.habit.Habit.TheVariants.{Lazy};
+ghost use Rattle.disk_files.specs.Reply.{ok_text};
+ghost use Rattle.disk_jobs.specs.Saved.{AnswersLines, HasDrive, HasNoDrive, IsNotFresh, IsNotRead, IsNotWritten, IsRestarted, IsTold, JobLeaves, RunsAndShows, RunsTrace, ShowsSaved, ThenShows, fresh_drive, stopping};
+ghost use Rattle.disk_jobs.specs.declared.fault.ProgramFault.TheVariants as program;
+
 use crate::fault::ProgramFault;
 use crate::job::{Job, Stop};
 use crate::statistics::run_counted;
@@ -14,7 +22,10 @@ use zone_report::{report_bytes, report_text};
 use zone_states::Geometry;
 use zone_translator::MountFault;
 
-fn fresh_drive(alloc: Global, geometry: Geometry, habit: Habit) -> Result<Drive, RunFault> {
+fn fresh_drive(alloc: Global, geometry: Geometry, habit: Habit) -> Result<Drive, RunFault>
+    ensures ok { IfOk result (λ drive. drive ≡ fresh_drive geometry habit) }
+    ensures err { IfErr result (λ fault. IsNotFresh geometry (program.Run fault)) }
+{
     match Drive::new(alloc, geometry) {
         Ok(mut drive) => {
             drive.set_habit(habit);
@@ -26,7 +37,9 @@ fn fresh_drive(alloc: Global, geometry: Geometry, habit: Habit) -> Result<Drive,
 }
 
 /// Writes the report text of all zones of a drive, without a command.
-fn show_zones<W: Write>(alloc: Global, drive: &Drive, output: &mut W) -> Result<(), RunFault> {
+fn show_zones<W: Write>(alloc: Global, drive: &Drive, output: &mut W) -> Result<(), RunFault>
+    ensures { ThenShows true drive.now.state (Ok tt) (W.contents output.old) result (W.contents output.new) }
+{
     let geometry = drive.geometry();
     let dwords = 16 * (geometry.zones as u64 + 1);
     let Ok(report) = report_bytes(
@@ -48,32 +61,10 @@ fn show_zones<W: Write>(alloc: Global, drive: &Drive, output: &mut W) -> Result<
 }
 
 /// A drive that stops.
-fn stopping(drive: Drive, stop: Stop) -> StopAfter<Drive> {
+fn stopping(drive: Drive, stop: Stop) -> StopAfter<Drive>
+    ensures { drive_of result ≡ stopping stop drive.state }
+{
     StopAfter::tearing(drive, stop.commands, stop.tear)
-}
-
-/// Answers a trace over a fresh drive, and then shows what was counted and its zones, if asked to.
-fn fresh<R: Read + Drop, W: Write>(
-    alloc: Global,
-    drive: Drive,
-    blocks: u64,
-    report: bool,
-    statistics: bool,
-    stop: Stop,
-    input: R,
-    output: &mut W,
-) -> (Drive, Result<(), RunFault>) {
-    let device = stopping(drive, stop);
-    let (device, mut result) = if statistics {
-        run_counted(alloc, input, output, device, blocks)
-    } else {
-        run_trace(alloc, input, output, device, blocks)
-    };
-    let drive = device.into_inner();
-    if report && result.is_ok() {
-        result = show_zones(alloc, &drive, output);
-    }
-    (drive, result)
 }
 
 /// Makes a fresh drive, and says so.
@@ -81,7 +72,11 @@ fn format<W: Write>(
     alloc: Global,
     geometry: Geometry,
     output: &mut W,
-) -> Result<Drive, ProgramFault> {
+) -> Result<Drive, ProgramFault>
+    ensures ok { IfOk result (λ drive. drive ≡ fresh_drive geometry Lazy) }
+    ensures says { OnOk result (Appends (W.contents output.old) (W.contents output.new) ok_text) }
+    ensures err { IfErr result (λ fault. IsNotWritten (IsNotFresh geometry) fault) }
+{
     let drive = fresh_drive(alloc, geometry, Habit::Lazy)?;
     let mut reply = Vec::new(alloc);
     ok_reply(&mut reply)?;
@@ -94,11 +89,30 @@ fn restarted_drive<I: Read>(
     alloc: Global,
     image: &mut I,
     habit: Habit,
-) -> Result<Drive, ProgramFault> {
+) -> Result<Drive, ProgramFault>
+    ensures ok { IfOk result (λ drive. IsRestarted (I.remaining image.old) habit drive) }
+    ensures err { IfErr result (λ fault. IsNotRead (I.remaining image.old) fault) }
+{
     let mut drive = read_image(alloc, image)?;
     drive.restart();
     drive.set_habit(habit);
     Ok(drive)
+}
+
+/// Answers a trace over a drive that stops.
+fn run_stopping<R: Read + Drop, W: Write>(
+    alloc: Global,
+    drive: Drive,
+    blocks: u64,
+    stop: Stop,
+    input: R,
+    output: &mut W,
+) -> (Drive, Result<(), RunFault>)
+    ensures { RunsTrace blocks stop drive.state (R.remaining input) (W.contents output.old) result.1 (W.contents output.new) result.0.state }
+{
+    let device = stopping(drive, stop);
+    let (device, result) = run_trace(alloc, input, output, device, blocks);
+    (device.into_inner(), result)
 }
 
 /// Answers a trace over a drive, and then shows its zones, if asked to.
@@ -110,14 +124,35 @@ fn run<R: Read + Drop, W: Write>(
     stop: Stop,
     input: R,
     output: &mut W,
+) -> (Drive, Result<(), RunFault>)
+    ensures { RunsAndShows blocks zones stop drive.state (R.remaining input) (W.contents output.old) result.1 (W.contents output.new) result.0.state }
+{
+    let (drive, result) = run_stopping(alloc, drive, blocks, stop, input, output);
+    if result.is_err() || !zones {
+        return (drive, result);
+    }
+    let shown = show_zones(alloc, &drive, output);
+    (drive, shown)
+}
+
+/// Answers a trace over a drive whose commands are counted, and then shows what was counted and its zones, if asked to.
+fn run_with_statistics<R: Read + Drop, W: Write>(
+    alloc: Global,
+    drive: Drive,
+    blocks: u64,
+    zones: bool,
+    stop: Stop,
+    input: R,
+    output: &mut W,
 ) -> (Drive, Result<(), RunFault>) {
     let device = stopping(drive, stop);
-    let (device, mut result) = run_trace(alloc, input, output, device, blocks);
+    let (device, result) = run_counted(alloc, input, output, device, blocks);
     let drive = device.into_inner();
-    if zones && result.is_ok() {
-        result = show_zones(alloc, &drive, output);
+    if result.is_err() || !zones {
+        return (drive, result);
     }
-    (drive, result)
+    let shown = show_zones(alloc, &drive, output);
+    (drive, shown)
 }
 
 /// Shows the zones of a drive as it was saved.
@@ -125,7 +160,10 @@ fn report<I: Read, W: Write>(
     alloc: Global,
     image: &mut I,
     output: &mut W,
-) -> Result<(), ProgramFault> {
+) -> Result<(), ProgramFault>
+    ensures ok { OnOk result (ShowsSaved (I.remaining image.old) (W.contents output.old) (W.contents output.new)) }
+    ensures err { IfErr result (λ fault. IsNotWritten (IsNotRead (I.remaining image.old)) fault) }
+{
     let drive = read_image(alloc, image)?;
     show_zones(alloc, &drive, output)?;
     Ok(())
@@ -137,7 +175,10 @@ fn drive_of<I: Read, W: Write>(
     job: &Job,
     image: &mut I,
     output: &mut W,
-) -> Result<Option<Drive>, ProgramFault> {
+) -> Result<Option<Drive>, ProgramFault>
+    ensures ok { IfOk result (λ found. HasDrive job.now (I.remaining image.old) (W.contents output.old) found (W.contents output.new)) }
+    ensures err { IfErr result (λ fault. HasNoDrive job.now (I.remaining image.old) fault) }
+{
     match job {
         Job::Format { geometry, .. } => Ok(Some(format(alloc, *geometry, output)?)),
         Job::Run { habit, .. } | Job::Nvme { habit, .. } => {
@@ -163,7 +204,9 @@ fn answer<R: Read + Drop, W: Write>(
     drive: Drive,
     input: R,
     output: &mut W,
-) -> (Drive, Result<(), RunFault>) {
+) -> (Drive, Result<(), RunFault>)
+    ensures { AnswersLines job.now drive.state (R.remaining input) (W.contents output.old) result.1 (W.contents output.new) result.0.state }
+{
     match job {
         Job::Run {
             blocks,
@@ -174,26 +217,26 @@ fn answer<R: Read + Drop, W: Write>(
         Job::Fresh {
             blocks,
             report,
-            statistics,
+            statistics: false,
             stop,
             ..
-        } => fresh(
-            alloc,
-            drive,
-            *blocks,
-            *report,
-            *statistics,
-            *stop,
-            input,
-            output,
-        ),
+        } => run(alloc, drive, *blocks, *report, *stop, input, output),
+        Job::Fresh {
+            blocks,
+            report,
+            statistics: true,
+            stop,
+            ..
+        } => run_with_statistics(alloc, drive, *blocks, *report, *stop, input, output),
         Job::Nvme { .. } | Job::FreshRaw { .. } => run_raw(alloc, input, output, drive),
         Job::Format { .. } | Job::Report { .. } => (drive, Ok(())),
     }
 }
 
 /// What the fault of a run over a drive of this shape is to the program.
-fn told(fault: RunFault, geometry: &Geometry) -> ProgramFault {
+fn told(fault: RunFault, geometry: &Geometry) -> ProgramFault
+    ensures { IsTold geometry.now (Err fault) (Err result) }
+{
     if fault != RunFault::Mount(MountFault::Reserve) || geometry.check().is_err() {
         return ProgramFault::Run(fault);
     }
@@ -210,12 +253,17 @@ pub fn run_job<I: Read, R: Read + Drop, W: Write>(
     image: &mut I,
     input: R,
     output: &mut W,
-) -> (Option<Drive>, Result<(), ProgramFault>) {
+) -> (Option<Drive>, Result<(), ProgramFault>)
+    ensures { JobLeaves job.now (I.remaining image.old) (R.remaining input) (W.contents output.old) result.0 result.1 (W.contents output.new) }
+{
     match drive_of(alloc, job, image, output) {
         Ok(Some(drive)) => {
             let (drive, result) = answer(alloc, job, drive, input, output);
             let geometry = drive.geometry();
-            (Some(drive), result.map_err(|fault| told(fault, &geometry)))
+            match result {
+                Ok(()) => (Some(drive), Ok(())),
+                Err(fault) => (Some(drive), Err(told(fault, &geometry))),
+            }
         }
         Ok(None) => (None, Ok(())),
         Err(fault) => (None, Err(fault)),
