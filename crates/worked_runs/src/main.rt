@@ -28,6 +28,7 @@ mod script;
 mod show;
 mod stops;
 mod survey;
+mod sweeps;
 mod words;
 mod world;
 

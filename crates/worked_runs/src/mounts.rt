@@ -147,8 +147,12 @@ fn show_right(count: u64, out: &mut String) -> Result<(), AllocError> {
     )
 }
 
-// How a mount is halted at each of these commands.
-fn settings(alloc: Global, halts: Halts, entries: &[[u8; 64]]) -> Result<Vec<Setting>, AllocError> {
+/// How a run with these entries is halted at each of its commands.
+pub fn settings(
+    alloc: Global,
+    halts: Halts,
+    entries: &[[u8; 64]],
+) -> Result<Vec<Setting>, AllocError> {
     let mut settings = Vec::new(alloc);
     for (commands, entry) in entries.iter().enumerate() {
         push_settings(halts, commands as u64, append_blocks(entry), &mut settings)?;

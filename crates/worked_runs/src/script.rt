@@ -15,6 +15,7 @@ use crate::runs::{Lines, show_run};
 use crate::show::show_answer_bytes;
 use crate::stops::{Halts, show_halts};
 use crate::survey::show_survey;
+use crate::sweeps::show_all_stops;
 use crate::words::{byte, bytes, habit, meant, number, part, shape, state};
 use crate::world::World;
 use std::alloc::Global;
@@ -59,12 +60,21 @@ fn tear(words: &[&str]) -> Result<u32, ScriptFault> {
     }
 }
 
-// What happens at each command of the next run.
-fn halts(words: &[&str]) -> Result<Halts, ScriptFault> {
+// How the next run is made again and again.
+#[derive(Clone, Copy)]
+enum Sweep {
+    // With this at each of its commands.
+    Each(Halts),
+    // With a stop everywhere, and after each of them a mount with a stop everywhere.
+    Mounts,
+}
+
+fn sweep_of(words: &[&str]) -> Result<Sweep, ScriptFault> {
     match words {
-        ["stop"] => Ok(Halts::Stop),
-        ["torn", "block"] => Ok(Halts::Tear),
-        ["halt", "for", "memory"] => Ok(Halts::Memory),
+        ["stop"] => Ok(Sweep::Each(Halts::Stop)),
+        ["torn", "block"] => Ok(Sweep::Each(Halts::Tear)),
+        ["halt", "for", "memory"] => Ok(Sweep::Each(Halts::Memory)),
+        ["stop,", "mounts", "included"] => Ok(Sweep::Mounts),
         _ => Err(ScriptFault::Words),
     }
 }
@@ -85,7 +95,7 @@ struct Session<'a> {
     zone: u64,
     // For the next run alone.
     setting: Setting,
-    halts: Option<Halts>,
+    sweep: Option<Sweep>,
 }
 
 impl<'a> Session<'a> {
@@ -219,11 +229,11 @@ impl<'a> Session<'a> {
         Ok(())
     }
 
-    fn set_halts(&mut self, words: &[&str]) -> Result<(), ScriptFault> {
+    fn set_sweep(&mut self, words: &[&str]) -> Result<(), ScriptFault> {
         let ["every", words @ ..] = words else {
             return Err(ScriptFault::Words);
         };
-        self.halts = Some(halts(words)?);
+        self.sweep = Some(sweep_of(words)?);
         Ok(())
     }
 
@@ -234,7 +244,7 @@ impl<'a> Session<'a> {
             "out" => done(self.set_no_memory(words)),
             "with" => done(self.set_entries(words)),
             "habit" => done(self.set_habit(words)),
-            "at" => done(self.set_halts(words)),
+            "at" => done(self.set_sweep(words)),
             _ => Ok(false),
         }
     }
@@ -371,17 +381,24 @@ impl<'a> Session<'a> {
         }
     }
 
-    // Runs a trace, or mounts the drive, once with each halt.
-    fn run_halts(
+    // Runs a trace, or mounts the drive, again and again.
+    fn run_sweep(
         &self,
         words: &[&str],
-        halts: Halts,
+        sweep: Sweep,
         lines: &[&str],
         out: &mut String,
     ) -> Result<(), ScriptFault> {
-        match words {
-            ["trace", n] => show_halts(self.alloc, &self.world, halts, number(n)?, lines, out),
-            ["mount", n] => show_mount_halts(self.alloc, &self.world, halts, number(n)?, out),
+        let alloc = self.alloc;
+        let world = &self.world;
+        match (words, sweep) {
+            (["trace", n], Sweep::Each(halts)) => {
+                show_halts(alloc, world, halts, number(n)?, lines, out)
+            }
+            (["trace", n], Sweep::Mounts) => show_all_stops(alloc, world, number(n)?, lines, out),
+            (["mount", n], Sweep::Each(halts)) => {
+                show_mount_halts(alloc, world, halts, number(n)?, out)
+            }
             _ => Err(ScriptFault::Words),
         }
     }
@@ -389,17 +406,17 @@ impl<'a> Session<'a> {
     // Lines that run the lines that belong to them.
     fn run(&mut self, words: &[&str], lines: &[&str], out: &mut String) -> Result<(), ScriptFault> {
         let setting = self.setting;
-        let halts = self.halts;
+        let sweep = self.sweep;
         self.setting = Setting::PLAIN;
-        self.halts = None;
+        self.sweep = None;
         if let ["changed", "images"] = words {
             return show_changed_images(self.alloc, &self.world, lines, out);
         }
         if let [name, "lines"] = words {
             return self.judge(name, lines, out);
         }
-        if let Some(halts) = halts {
-            return self.run_halts(words, halts, lines, out);
+        if let Some(sweep) = sweep {
+            return self.run_sweep(words, sweep, lines, out);
         }
         self.world = self.world_after(words, setting, lines, out)?;
         Ok(())
@@ -447,7 +464,7 @@ pub fn run_script(alloc: Global, text: &str, out: &mut String) -> Result<(), Scr
         world: World::none(alloc),
         zone: 0,
         setting: Setting::PLAIN,
-        halts: None,
+        sweep: None,
     };
     for step in &steps(alloc, text)? {
         session.step(step, out)?;

@@ -114,31 +114,41 @@ fn wrong_array(
     Ok(None)
 }
 
-// A trace over a drive, that is run again and again.
+/// A trace over a drive, that is run again and again.
 #[derive(Clone, Copy)]
-struct Trial<'a> {
-    world: &'a World,
-    n: u32,
-    lines: &'a [Vec<u8>],
-    text: &'a [u8],
+pub struct Trial<'a> {
+    pub world: &'a World,
+    pub n: u32,
+    pub lines: &'a [Vec<u8>],
+    pub text: &'a [u8],
 }
 
 impl<'a> Trial<'a> {
-    fn run(&self, alloc: Global, setting: Setting) -> Result<Ran, ScriptFault> {
+    /// Runs the trace so.
+    pub fn run(&self, alloc: Global, setting: Setting) -> Result<Ran, ScriptFault> {
         let lines = Lines::Trace(u64::from(self.n));
         run(alloc, self.world, setting, lines, self.text)
     }
 
-    // What is wrong with the replies of a run, or with what the drive holds then.
-    fn wrong_after(
+    /// How many of the lines these replies answer, and the flat array that they lead to.
+    pub fn answered(
+        &self,
+        alloc: Global,
+        replies: &[u8],
+    ) -> Result<Option<(usize, Flat)>, ScriptFault> {
+        let flat = Flat::new(alloc, &self.world.geometry, u64::from(self.n))?;
+        answered(alloc, flat, self.lines, replies)
+    }
+
+    /// What is wrong with the replies of a run, or with what the drive holds then.
+    pub fn wrong_after(
         &self,
         alloc: Global,
         left: &World,
         replies: &[u8],
         is_stopped: bool,
     ) -> Result<Option<&'static str>, ScriptFault> {
-        let flat = Flat::new(alloc, &self.world.geometry, u64::from(self.n))?;
-        let Some((number, flat)) = answered(alloc, flat, self.lines, replies)? else {
+        let Some((number, flat)) = self.answered(alloc, replies)? else {
             return Ok(Some("the replies are not those of a flat array"));
         };
         let next = self.lines.get(number).map(|line| line.as_slice());
@@ -235,8 +245,8 @@ fn show_each(
     Ok(())
 }
 
-// The lines that are meant, each of which is shown.
-fn meant_lines(
+/// The lines that are meant, each of which is shown.
+pub fn meant_lines(
     alloc: Global,
     lines: &[&str],
     out: &mut String,
@@ -249,8 +259,8 @@ fn meant_lines(
     Ok(all)
 }
 
-// The text of lines, each ended by a line feed.
-fn text_of(alloc: Global, lines: &[Vec<u8>]) -> Result<Vec<u8>, AllocError> {
+/// The text of lines, each ended by a line feed.
+pub fn text_of(alloc: Global, lines: &[Vec<u8>]) -> Result<Vec<u8>, AllocError> {
     let mut text = Vec::new(alloc);
     for line in lines {
         text.extend_from_slice(line)?;
