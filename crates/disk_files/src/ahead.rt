@@ -20,7 +20,7 @@ pub enum Part {
 }
 
 /// How many bytes are read at a time at most.
-const PIECE: usize = 65_536;
+const PIECE: usize = 16_384;
 
 /// A line, and the bytes that were read ahead of it. They stand one behind the other, where they were read to, so
 /// that no byte of a line is copied but those that were read with the line before.
@@ -131,6 +131,9 @@ impl Ahead {
         requires goes_on { self.old.is_open ≡ true }
         ensures { self.new ≡ self.old }
     {
+        if self.first == 0 {
+            return;
+        }
         let count = self.last - self.first;
         self.bytes.copy_within(self.first..self.last, 0);
         self.first = 0;
