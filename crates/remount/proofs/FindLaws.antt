@@ -83,13 +83,7 @@ finds-other block_bytes n logs zone NotMoves other finds = inl finds
 finds-other block_bytes n logs zone (NeedsBlock block) other finds = inr (inl (block, finds.1))
 finds-other block_bytes n logs zone NeedsSize other finds = inr (inr finds.1)
 
--- ---- the lowest
-
-pub count-known : (drive : DriveState) (n : ℕ) (logs : List (List Batch)) (survey : Survey) → Knows drive n logs survey → length survey.scanned.items ≡ length logs
-count-known drive n logs survey known = sym (length-map survey.scanned.items (λ (z : ScannedZone). z.heads)) ∙ ap length known.heads ∙ length-map logs heads_of
-
-pub few-known : (drive : DriveState) (n : ℕ) (logs : List (List Batch)) (survey : Survey) → Knows drive n logs survey → length survey.scanned.items < 2 ^ 32
-few-known drive n logs survey known = omega (arith, count-known drive n logs survey known, known.count, known.zones.lawful.count, known.zones.geometry.zones.1)
+-- ---- what a look at a zone tells
 
 abbrev pub TellsFinding : DriveState → ℕ → Survey → BlockRecords → ℕ → Finding → Type 0
 TellsFinding drive n survey table zone finding = (logs : List (List Batch)) → Knows drive n logs survey → HoldsRecords logs table → (IsMoved logs zone → CoversZone survey.scanned.items table zone) → Finds drive.geometry.block n logs zone finding

@@ -155,6 +155,7 @@ fn moved_zones(alloc: Global, scanned: &[ScannedZone]) -> Result<BTreeSet<u32>, 
 }
 
 impl Candidates {
+    /// All zones of Moves from an older zone wait.
     fn new(alloc: Global, survey: &Survey) -> Result<Candidates, AllocError>
         requires few { length survey.now.scanned.items < 2 ^ 32 }
         ensures are { IfOk result (λ candidates. (drive : DriveState) (n : ℕ) (logs : List (List Batch)) → Knows drive n logs survey.now → AreCandidates drive n logs survey.now candidates) }
