@@ -1,15 +1,15 @@
 -- Two records with one block and one sequence are the same.
-use Rattle.std.proofs.Common.{◌≡◌, ◌⊎◌, inl, inr, ℕ, zero, suc, ◌+◌, ◌<◌, ◌≤◌, Bool, true, false, eqb, nat_eq, List, [], ◌∷◌, ◌++◌, length, map, refl, sym, ap, subst, ◌∙◌, arith, append_assoc, append-nil}
+use Rattle.std.proofs.Common.{◌≡◌, ◌⊎◌, inl, inr, ℕ, zero, suc, ◌+◌, ◌≤◌, true, false, eqb, nat_eq, List, [], ◌∷◌, ◌++◌, length, map, refl, sym, ap, subst, ◌∙◌, arith, append_assoc}
 use Rattle.std.specs.List.{AllByRecursion, Contains, IsDistinct}
-use Rattle.std.proofs.lemmas.Bool.{eq-eqb, eqb-true}
+use Rattle.std.proofs.lemmas.Bool.{eq-eqb}
 use Rattle.std.proofs.lemmas.List.{length-map}
-use Rattle.drive_port.specs.Contents.{Content, content_at, content_of, contents, is_full, nothing}
+use Rattle.drive_port.specs.Contents.{Content, content_at, content_of, contents, nothing}
 use Rattle.drive_port.specs.Drive.{DriveState}
 use Rattle.batch_log.specs.declared.header.Entry.{Entry}
 use Rattle.batch_log.specs.Log.{Batch, IsBatch, batch_size, one_unless}
 use Rattle.zone_choice.specs.Agreement.{drive_logs}
 use Rattle.zone_choice.specs.Records.{Record, batch_records, entry_records, log_records, records}
-use Rattle.zone_choice.specs.ZoneLogs.{HasLog, log_at, log_sequences, readable, sequences, zone_log}
+use Rattle.zone_choice.specs.ZoneLogs.{HasLog, log_at, log_sequences, sequences, zone_log}
 use Rattle.zone_choice.proofs.AllLaws.{all-append, all-at, all-parts, all-weaker}
 use Rattle.zone_choice.proofs.ReadLaws.{all-among}
 use Rattle.zone_choice.proofs.ZoneLogLaws.{log_at-zone}
@@ -55,8 +55,8 @@ unfolding IsDistinct
 entries-apart sequence zone header k body [] distinct = tt
 entries-apart sequence zone header k body (e ∷ es) distinct = (
   all-weaker (λ (r : Record). eqb e.block r.block ≡ false) (λ (r : Record). e.block ≡ r.block → sequence ≡ r.sequence → ⊥) (entry_records sequence body zone header (k + one_unless e.trim) es)
-  (λ r differs same sequences_same. let yes_same : eqb e.block r.block ≡ true = eq-eqb e.block r.block same in absurd (cc))
-  (entry-blocks (λ (b : ℕ). eqb e.block b ≡ false) sequence zone header (k + one_unless e.trim) body es distinct.0),
+      (λ r differs same sequences_same. let yes_same : eqb e.block r.block ≡ true = eq-eqb e.block r.block same in absurd (cc))
+      (entry-blocks (λ (b : ℕ). eqb e.block b ≡ false) sequence zone header (k + one_unless e.trim) body es distinct.0),
   entries-apart sequence zone header (k + one_unless e.trim) body es distinct.1,
 )
 
@@ -94,8 +94,8 @@ log-apart zone offset first (b ∷ bs) logs once distinct others =
     let parts = all-parts (λ (y : ℕ). eqb s y ≡ false) (log_sequences bs) (sequences logs) distinct.0 in
     let differ = all-append (λ (r : Record). eqb s r.sequence ≡ false) rest behind (log-numbers (λ (y : ℕ). eqb s y ≡ false) zone (offset + batch_size b) bs parts.0) (records-numbers (λ (y : ℕ). eqb s y ≡ false) first logs parts.1) in
     let cross = all-weaker (λ (x : Record). x.sequence ≡ s) (λ (x : Record). AllByRecursion (Apart x) (rest ++ behind)) own
-          (λ x is. all-weaker (λ (r : Record). eqb s r.sequence ≡ false) (Apart x) (rest ++ behind) (λ r differs blocks same. let yes_same : eqb s r.sequence ≡ true = eq-eqb s r.sequence (sym is ∙ same) in absurd (cc)) differ)
-          (entries-number s zone offset 0 b.body b.heading.entries) in
+    (λ x is. all-weaker (λ (r : Record). eqb s r.sequence ≡ false) (Apart x) (rest ++ behind) (λ r differs blocks same. let yes_same : eqb s r.sequence ≡ true = eq-eqb s r.sequence (sym is ∙ same) in absurd (cc)) differ)
+    (entries-number s zone offset 0 b.body b.heading.entries) in
     subst AreApart (sym (append_assoc own rest behind))
     (apart-append own (rest ++ behind) (entries-apart s zone offset 0 b.body b.heading.entries once.0) (log-apart zone (offset + batch_size b) first bs logs once.1 distinct.1 others) cross)
 

@@ -1,5 +1,5 @@
 -- A table of the records of a drive, as a mount knows it.
-use Rattle.std.proofs.Common.{◌≡◌, ℕ, zero, suc, ◌^◌, ◌<◌, ◌≤◌, List, [], ◌∷◌, length, map, get_or, Option, Some, None, refl, sym, ap, subst, ◌∙◌, arith}
+use Rattle.std.proofs.Common.{◌≡◌, ℕ, zero, suc, ◌^◌, ◌<◌, ◌≤◌, List, [], ◌∷◌, length, get_or, Some, refl, sym, ap, subst, ◌∙◌, arith}
 use Rattle.std.specs.Prelude.{slice_get}
 use Rattle.std.specs.List.{AllByRecursion}
 use Rattle.std.proofs.lemmas.List.{length-map}
@@ -13,7 +13,7 @@ use Rattle.remount.specs.declared.scan.ScannedZone.{ScannedZone}
 use Rattle.remount.specs.declared.survey.Survey.{Survey}
 use Rattle.remount.specs.BlockRecords.{HasNoRecord, HoldsBlocks, HoldsMore, HoldsRecords, forgets, notes}
 use Rattle.remount.specs.Clearing.{AreOf, CoversMoved, CoversZone}
-use Rattle.remount.specs.Heads.{HeadsView, heads_of}
+use Rattle.remount.specs.Heads.{heads_of}
 use Rattle.remount.specs.KeptRecords.{kept_in, kept_records}
 use Rattle.remount.specs.Known.{Knows}
 use Rattle.remount.specs.Scan.{heads_in}

@@ -1,33 +1,23 @@
 -- A table holds the records of the logs that its headers are of.
-use Rattle.std.proofs.Common.{◌≡◌, ◌≢◌, ◌⊎◌, inl, inr, ℕ, zero, suc, ◌+◌, ◌<◌, ◌≤◌, not, Bool, true, false, cond, eqb, ◌&&◌, List, [], ◌∷◌, ◌++◌, length, map, Option, Some, None, refl, sym, ap, subst, ◌∙◌, arith}
-use Rattle.std.specs.Prelude.{slice_get}
+use Rattle.std.proofs.Common.{◌≡◌, ◌≢◌, ◌⊎◌, inl, inr, ℕ, zero, suc, ◌+◌, ◌≤◌, not, Bool, true, false, cond, eqb, ◌&&◌, List, [], ◌∷◌, map, Option, Some, None, refl, sym, ap, subst, ◌∙◌, arith}
 use Rattle.std.specs.BTreeMap.{BTreeMap, IsEmpty, get}
 use Rattle.std.specs.List.{AllByRecursion, Contains}
-use Rattle.std.specs.Option.{IsSome, option_map}
+use Rattle.std.specs.Option.{option_map}
 use Rattle.std.specs.Ordering.{nat_cmp}
-use Rattle.std.proofs.lemmas.Bool.{cases_eq, eq-eqb, eqb-true, ne_eqb}
+use Rattle.std.proofs.lemmas.Bool.{eq-eqb, eqb-true, ne_eqb}
 use Rattle.std.proofs.lemmas.List.Elements.{Contains-append_left, Contains-append_right}
 use Rattle.batch_log.specs.Log.{Batch}
-use Rattle.drive_port.specs.Drive.{DriveState}
 use Rattle.zone_choice.specs.Records.{Record, log_records, records, without}
 use Rattle.zone_choice.specs.ZoneLogs.{log_at}
 use Rattle.zone_choice.proofs.AllLaws.{all-append, all-weaker}
 use Rattle.zone_choice.proofs.ReadLaws.{all-among}
 use Rattle.remount.specs.declared.records.KeptRecord.{KeptRecord}
 use Rattle.remount.specs.declared.block_records.BlockRecords.{BlockRecords}
-use Rattle.remount.specs.declared.scan.ScannedZone.{ScannedZone}
-use Rattle.remount.specs.declared.survey.Survey.{Survey}
 use Rattle.remount.specs.BlockRecords.{AreRecords, HasNoRecord, HoldsRecords, forgets, held_of, notes, slot_after, slot_of}
-use Rattle.remount.specs.Heads.{HeadsView}
-use Rattle.remount.specs.KeptRecords.{kept_in, kept_record, kept_records}
-use Rattle.remount.specs.Known.{Knows}
-use Rattle.remount.specs.Scan.{heads_in}
-use Rattle.remount.proofs.HeadRecordLaws.{kept-are, kept-is}
-use Rattle.remount.proofs.MovedLaws.{found-heads}
+use Rattle.remount.specs.KeptRecords.{kept_record}
 use Rattle.remount.proofs.OutsideLaws.{is_outside, log-zone, outside, outside-is, records-from}
-use Rattle.remount.proofs.RecordKeyLaws.{AreApart, knows-apart, same-record}
+use Rattle.remount.proofs.RecordKeyLaws.{AreApart, same-record}
 use Rattle.remount.proofs.RecordTableLaws.{Changes}
-use Rattle.remount.proofs.SpareLaws.{knows-small}
 
 -- ---- one place
 
@@ -92,7 +82,7 @@ now-at : (put : KeptRecord → Option KeptRecord) (old new : BlockRecords) (rs :
     → Comes put block sequence (get nat_cmp first sequence) rs (Some (get nat_cmp held sequence))
 now-at put old new rs block sequence first held changes was there =
     let now : slot_after put block sequence (Some (get nat_cmp first sequence)) (map kept_record rs) ≡ Some (get nat_cmp held sequence) =
-      ap (λ (x : Option (Option KeptRecord)). slot_after put block sequence x (map kept_record rs)) (sym (slot-there old block sequence first was)) ∙ sym (changes block sequence) ∙ slot-there new block sequence held there in
+    ap (λ (x : Option (Option KeptRecord)). slot_after put block sequence x (map kept_record rs)) (sym (slot-there old block sequence first was)) ∙ sym (changes block sequence) ∙ slot-there new block sequence held there in
     subst (Comes put block sequence (get nat_cmp first sequence) rs) now (comes put block sequence (get nat_cmp first sequence) rs)
 
 noted-records : (logs : List (List Batch)) (block : ℕ) (held : BTreeMap ℕ KeptRecord) → AreApart (records 0 logs) → ((sequence : ℕ) → Comes notes block sequence None (records 0 logs) (Some (get nat_cmp held sequence))) → AreRecords logs block held
@@ -206,7 +196,7 @@ forgotten-records logs zone block first held apart are at = record {
         let was : get nat_cmp first sequence ≡ Some found = (let now = none.1 in cc) in
         let r = are.no_other sequence found was in
         let apart_zone : r.0.zone ≢ zone = (λ here. all-among (λ (y : Record). y.zone ≡ zone → y.block ≡ block → y.sequence ≡ sequence → ⊥) all_records r.0
-              (zone-own (λ (y : Record). y.block ≡ block → y.sequence ≡ sequence → ⊥) 0 zone zone logs (omega arith) none.0) r.1 here r.2 r.3) in
+        (zone-own (λ (y : Record). y.block ≡ block → y.sequence ≡ sequence → ⊥) 0 zone zone logs (omega arith) none.0) r.1 here r.2 r.3) in
         (r.0, subst (λ (rs : List Record). Contains rs r.0) others (outside-among zone all_records r.0 r.1 apart_zone), r.2, r.3, r.4)
 
 pub holds-forgotten : (logs : List (List Batch)) (zone : ℕ) (old new : BlockRecords) → AreApart (records 0 logs) → HoldsRecords logs old → Changes forgets old new (map kept_record (log_records zone 0 (log_at logs zone))) → HoldsRecords (without logs zone) new

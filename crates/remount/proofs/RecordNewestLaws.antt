@@ -1,5 +1,5 @@
 -- The newest record of a block, read from all its records by their sequences.
-use Rattle.std.proofs.Common.{◌≡◌, ◌≢◌, ◌⊎◌, inl, inr, ℕ, zero, suc, ◌<◌, ◌≤◌, List, [], ◌∷◌, ◌++◌, length, map, Option, Some, None, refl, sym, ap, subst, ◌∙◌, arith, append_assoc, append-nil}
+use Rattle.std.proofs.Common.{◌≡◌, ◌≢◌, ◌⊎◌, inl, inr, ℕ, ◌<◌, ◌≤◌, List, [], ◌∷◌, ◌++◌, length, Option, Some, None, refl, sym, ap, subst, ◌∙◌, arith, append_assoc}
 use Rattle.std.specs.BTreeMap.{BTreeMap, IsEmpty, IsOrdered, get}
 use Rattle.std.specs.List.{AllByRecursion, Contains}
 use Rattle.std.specs.List.Sorted.{IsStrictlySortedBy}
@@ -15,7 +15,6 @@ use Rattle.std.proofs.lemmas.Map.Lookups.{exact_unsigned}
 use Rattle.std.proofs.lemmas.Map.Views.{btree_map_get_iff}
 use Rattle.batch_log.specs.Log.{Batch}
 use Rattle.zone_choice.specs.Records.{IsNewest, Record, newest, records, without}
-use Rattle.zone_choice.proofs.AllLaws.{all-weaker}
 use Rattle.zone_choice.proofs.NewestLaws.{newest-is}
 use Rattle.zone_choice.proofs.ReadLaws.{all-among}
 use Rattle.remount.specs.declared.records.KeptRecord.{KeptRecord}

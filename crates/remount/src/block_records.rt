@@ -26,11 +26,7 @@ pub struct BlockRecords {
 }
 
 /// Puts the blocks of a zone's entries into a table that has no record yet.
-fn hold_blocks(
-    alloc: Global,
-    table: &mut BlockRecords,
-    heads: &ZoneHeads,
-) -> Result<(), AllocError>
+fn hold_blocks(alloc: Global, table: &mut BlockRecords, heads: &ZoneHeads) -> Result<(), AllocError>
     requires none { HasNoRecord table.old }
     ensures none { OnOk result (HasNoRecord table.new) }
     ensures more { OnOk result (HoldsMore table.old table.new) }
