@@ -1,20 +1,19 @@
 -- What is found of the zones.
-use Rattle.std.proofs.Common.{◌≡◌, ◌≢◌, ◌⊎◌, inl, inr, ℕ, zero, suc, ◌+◌, ◌^◌, ◌<◌, ◌≤◌, List, [], ◌∷◌, length, get_or, set, Option, Some, None, Bool, true, false, eqb, Result, Ok, Err, refl, sym, ap, subst, ◌∙◌, arith}
+use Rattle.std.proofs.Common.{◌≡◌, ◌≢◌, ◌⊎◌, inl, inr, ℕ, zero, suc, ◌<◌, ◌≤◌, List, [], ◌∷◌, length, get_or, set, Option, Some, None, Bool, true, false, eqb, Result, Ok, Err, refl, sym, ap, subst, ◌∙◌, arith}
 use Rattle.std.specs.Prelude.{IfOk, IsTrue, slice_get}
 use Rattle.std.specs.BTreeSet.{BTreeSet, IsLowerBound, Updates, btree_set_len, contains}
 use Rattle.std.specs.BTreeMap.{is_at}
 use Rattle.std.specs.Ordering.{is_gt, nat_cmp}
 use Rattle.std.specs.List.{AllByRecursion}
-use Rattle.std.proofs.lemmas.Bool.{cases_eq, cases_lt, eq-eqb, ne_eqb}
+use Rattle.std.proofs.lemmas.Bool.{cases_eq, cases_lt, ne_eqb}
 use Rattle.std.proofs.lemmas.Bool.Decides.{nat_tests}
-use Rattle.std.proofs.lemmas.List.{get_or_past, length-map, map-set, nil_from_length}
+use Rattle.std.proofs.lemmas.List.{get_or_past, map-set, nil_from_length}
 use Rattle.std.proofs.Math.Seq.{map-set_same}
 use Rattle.drive_port.specs.Drive.{DriveState}
 use Rattle.batch_log.specs.Log.{Batch}
-use Rattle.zone_choice.specs.Mountable.{IsInside}
 use Rattle.zone_choice.specs.Records.{without}
 use Rattle.zone_choice.specs.Sizes.{encoded_size}
-use Rattle.zone_choice.specs.Spare.{IsHalfClean, NoneBelow}
+use Rattle.zone_choice.specs.Spare.{IsHalfClean}
 use Rattle.zone_choice.specs.ZoneLogs.{log_at}
 use Rattle.zone_choice.proofs.ClearingLaws.{has_batch}
 use Rattle.zone_choice.proofs.SizeLaws.{same-size}
@@ -26,7 +25,7 @@ use Rattle.remount.specs.declared.survey.Survey.{Survey}
 use Rattle.remount.specs.declared.clearing.Finding.{Finding}
 use Rattle.remount.specs.declared.clearing.Finding.TheVariants.{HalfClean, NotMoves, NeedsBlock, NeedsSize}
 use Rattle.remount.specs.Clearing.{AllStand, AreOf, CoversZone, FindsLowest, FindsNeeded, ShowsSame, Tells, forgotten}
-use Rattle.remount.specs.Heads.{HeadsView, heads_of, no_heads}
+use Rattle.remount.specs.Heads.{HeadsView, no_heads}
 use Rattle.remount.specs.KeptRecords.{block_in}
 use Rattle.zone_choice.specs.Repairing.{IsMoved}
 use Rattle.remount.specs.Known.{Finds, Knows}

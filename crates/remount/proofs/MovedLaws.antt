@@ -18,7 +18,6 @@ use Rattle.remount.specs.Known.{HasVacant}
 use Rattle.remount.specs.Clearing.{AreOf, Tells, first_of, forgotten}
 use Rattle.remount.specs.Heads.{HeadsView, heads_after, heads_of, is_move, no_heads, source_with, with_heading}
 use Rattle.zone_choice.specs.Repairing.{IsMoved}
-use Rattle.remount.specs.Scan.{heads_in}
 use Rattle.remount.specs.Survey.{greatest_in}
 use Rattle.remount.proofs.HeadRecordLaws.{heads-are}
 use Rattle.remount.proofs.SurveyLaws.{greatest-heads}

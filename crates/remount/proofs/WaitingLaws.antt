@@ -1,10 +1,10 @@
 -- Which zones have to be looked at again once a half clean zone is forgotten.
-use Rattle.std.proofs.Common.{◌≡◌, ◌≢◌, ◌⊎◌, inl, inr, ℕ, zero, suc, ◌+◌, ◌<◌, ◌≤◌, Bool, true, false, cond, eqb, List, [], ◌∷◌, length, map, set, drop, get_or, Option, Some, None, Result, Ok, Err, refl, sym, ap, subst, ◌∙◌, arith}
+use Rattle.std.proofs.Common.{◌≡◌, ◌≢◌, ◌⊎◌, inl, inr, ℕ, zero, suc, ◌<◌, ◌≤◌, Bool, true, false, cond, List, [], ◌∷◌, length, map, drop, get_or, Option, Some, None, Result, Ok, Err, refl, sym, ap, subst, ◌∙◌, arith}
 use Rattle.std.specs.Prelude.{IsSome, IsTrue, OnOk, slice_get}
 use Rattle.std.specs.Option.{option_map}
 use Rattle.std.specs.BTreeSet.{BTreeSet, IsSubset, Updates, contains}
 use Rattle.std.specs.BTreeMap.{is_at}
-use Rattle.std.specs.List.{AllByRecursion, count_by, filter}
+use Rattle.std.specs.List.{AllByRecursion, count_by}
 use Rattle.std.specs.Ordering.{nat_cmp}
 use Rattle.std.proofs.lemmas.Bool.{cases_eq, cases_lt, eq-eqb}
 use Rattle.std.proofs.lemmas.List.{drop_all, get_or-set_other, length-set, set_comm}
@@ -70,7 +70,7 @@ gone-is (l ∷ ls) (suc gone) = gone-is ls gone
 before-some : (y : Option ℕ) → IsBefore None y → ⊥
 before-some y h = h
 
--- of Moves there were no more before
+-- a zone of Moves was one before
 moved-less : (logs : List (List Batch)) (gone zone : ℕ) → zone ≢ gone → IsMoved (without logs gone) zone → IsMoved logs zone
 moved-less logs gone zone apart is =
     let own : log_at (without logs gone) zone ≡ log_at logs zone = get_or-set_other logs gone zone [] [] apart in
@@ -95,7 +95,7 @@ all-outside P zone (r ∷ rs) all = by (is_outside zone r) (all-outside P zone r
 without-is : (zone : ℕ) (logs : List (List Batch)) → outside zone (records 0 logs) ≡ records 0 (without logs zone)
 without-is zone logs = outside-is 0 zone zone logs (omega arith)
 
--- What a zone shows it shows still. Nothing else shows without it what showed before, unless the zone that is gone names the block, and then it waits.
+-- A block that shows something else without a zone does so still, unless the zone that is gone names the block too: then the first one waits.
 block-needs : (block_bytes n : ℕ) (logs : List (List Batch)) (gone zone block : ℕ) (waiting : BTreeSet ℕ) → zone ≢ gone → encoded_size n (without logs gone) ≡ encoded_size n logs → AllWoken logs gone waiting
     → NeedsItsBlock block_bytes n logs zone block → IsTrue (contains nat_cmp waiting zone) ⊎ NeedsItsBlock block_bytes n (without logs gone) zone block
 block-needs block_bytes n logs gone zone block waiting apart size woken needs = by (newest block (records 0 logs)) refl

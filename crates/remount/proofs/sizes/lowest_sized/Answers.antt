@@ -1,4 +1,3 @@
-use Rattle.std.proofs.Common.{arith}
 use Rattle.remount.proofs.SizeCountLaws.{sized-more, sized-none}
 use Rattle.remount.proofs.sizes.lowest_sized.Goals as goal
 
