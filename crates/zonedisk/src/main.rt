@@ -13,8 +13,9 @@
 //! The lines are `read`, `fill`, `write`, `trim`, `idle` and `grow`, as `docs/formats.md` describes them.
 //! [`job_of`] reads the words of the command line, [`run_job`] does what they ask for, and [`run_on_file`] does it on
 //! the drive of a file. What the replies are is promised by the runs below, [`run_trace`], [`answer_trace`] and
-//! [`run_raw`], and what the file holds by `drive_images`; the words, what `--zones`, `--report` and `--statistics` show,
-//! the order of faults and the exit status are tested. [`explain`] says on standard error what a fault is.
+//! [`run_raw`]; what a job holds by [`job_of`]; which drive is saved, and what is shown of it, by [`run_job`]; and the
+//! image of a drive by `drive_images`. Which words are refused, `--statistics`, the file and the exit status are tested.
+//! [`explain`] says on standard error what a fault is.
 #![tactic(auto)]
 
 use clap::error::ErrorKind;
