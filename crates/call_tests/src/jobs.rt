@@ -333,7 +333,7 @@ fn explains_the_faults(rt: HostRuntime) {
     }
 }
 
-// Of a line of many reads the beginning is kept, and the lines behind it are counted as ever.
+// Of a line of many reads the beginning is kept, and the lines after it are counted as ever.
 #[test]
 fn explains_long_lines(rt: HostRuntime) -> Result<(), Fail> {
     let job = Job::Fresh {

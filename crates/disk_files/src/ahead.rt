@@ -22,7 +22,7 @@ pub enum Part {
 /// How many bytes are read at a time at most.
 const PIECE: usize = 16_384;
 
-/// A line, and the bytes that were read ahead of it. They stand one behind the other, where they were read to, so
+/// A line, and the bytes that were read ahead of it. They stand one after the other, where they were read to, so
 /// that no byte of a line is copied but those that were read with the line before.
 #[derive(Drop)]
 pub struct Ahead {
@@ -50,7 +50,7 @@ impl Model for Ahead {
     ghost invariant = { λ a. (a.first ≤ a.last) × (a.last ≤ a.start) × (a.start ≤ a.end) × (a.end ≤ length a.bytes.items) };
 }
 
-/// Makes room for a read behind the first `end` bytes.
+/// Makes room for a read after the first `end` bytes.
 fn make_room(bytes: &mut Vec<u8>, end: usize) -> Result<(), AllocError>
     requires { end ≤ length bytes.old.items }
     ensures room { OnOk result (end + PIECE ≤ length bytes.new.items) }
@@ -63,7 +63,7 @@ fn make_room(bytes: &mut Vec<u8>, end: usize) -> Result<(), AllocError>
     bytes.resize(end + PIECE, 0)
 }
 
-/// Reads once, behind the first `end` bytes.
+/// Reads once, after the first `end` bytes.
 fn read_to<R: Read>(reader: &mut R, bytes: &mut [u8], end: usize) -> Result<usize, LineFault>
     requires { end + PIECE ≤ length bytes.old }
     ensures front { take end bytes.new ≡ take end bytes.old }
@@ -77,8 +77,8 @@ fn read_to<R: Read>(reader: &mut R, bytes: &mut [u8], end: usize) -> Result<usiz
     }
 }
 
-/// Reads once, behind the first `end` bytes, for which room is made.
-fn read_behind<R: Read>(reader: &mut R, bytes: &mut Vec<u8>, end: usize) -> Result<usize, LineFault>
+/// Reads once, after the first `end` bytes, for which room is made.
+fn read_after<R: Read>(reader: &mut R, bytes: &mut Vec<u8>, end: usize) -> Result<usize, LineFault>
     requires { end ≤ length bytes.old.items }
     ensures within { end ≤ length bytes.new.items }
     ensures front { take end bytes.new.items ≡ take end bytes.old.items }
@@ -142,7 +142,7 @@ impl Ahead {
         self.end = count;
     }
 
-    /// Reads once, behind the line. No byte is ahead then only if the reader has ended.
+    /// Reads once, after the line. No byte is ahead then only if the reader has ended.
     pub fn refill<R: Read>(&mut self, reader: &mut R) -> Result<(), LineFault>
         requires empty { self.old.bytes ≡ [] }
         requires goes_on { self.old.is_open ≡ true }
@@ -151,7 +151,7 @@ impl Ahead {
         ensures goes_on { self.new.is_open ≡ true }
     {
         self.move_line();
-        match read_behind(reader, &mut self.bytes, self.end) {
+        match read_after(reader, &mut self.bytes, self.end) {
             Ok(count) => {
                 self.end += count;
                 Ok(())

@@ -102,7 +102,7 @@ abbrev pub remounts_in : List (List ℕ) → ℕ
 remounts_in [] = 0
 remounts_in (line ∷ lines) = if asks_remount line then suc (remounts_in lines) else remounts_in lines
 
--- The drive as it stood before its last mount, where it was mounted once and then again so many times. Each mount made a disk of it, which kept what calls keep until the next mount.
+-- The drive as it stood before its last mount, where it was mounted once, and then again as often as this number says. Each mount made a disk of it, which kept what calls keep until the next mount.
 abbrev pub IsBeforeLast : ℕ → ℕ → DriveState → DriveState → Type 0
 IsBeforeLast n zero old last = last ≡ old
 IsBeforeLast n (suc more) old last = (first : DiskView) × (served : DiskView) × MountsDisk old n first × KeepsDisk first served × IsBeforeLast n more served.drive last

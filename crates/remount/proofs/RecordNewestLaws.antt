@@ -100,7 +100,7 @@ all-inside logs zone block held ordered are others =
     newest-none block (outside zone (records 0 logs))
     (λ b c same. let both = among-outside zone (records 0 logs) b c in
     let there = (btree_map_get_iff nat_cmp_total exact_unsigned held ordered b.sequence (kept_record b)).0 (are.all_held b both.0 same) in
-    in-zone zone others.behind b others.inside (subst (λ (es : Entries). Contains es (b.sequence, kept_record b)) others.split there) both.1)
+    in-zone zone others.after b others.inside (subst (λ (es : Entries). Contains es (b.sequence, kept_record b)) others.split there) both.1)
 
 last-is : (logs : List (List Batch)) (zone block : ℕ) (held : BTreeMap ℕ KeptRecord) (front : Entries) (sequence : ℕ) (found : KeptRecord) → IsOrdered nat_cmp held → AreRecords logs block held → found.zone ≢ zone → OthersIn held zone (front ++ (sequence, found) ∷ [])
     → Some found ≡ option_map kept_record (newest block (outside zone (records 0 logs)))
@@ -115,24 +115,24 @@ last-is logs zone block held front sequence found ordered are apart others =
     get-is s k = btree_map_get_iff nat_cmp_total exact_unsigned held ordered s k
 
     there : Contains held.entries e
-    there = subst (λ (es : Entries). Contains es e) (sym others.split) (Contains-append_left (front ++ e ∷ []) others.behind e (Contains-push front e))
+    there = subst (λ (es : Entries). Contains es e) (sym others.split) (Contains-append_left (front ++ e ∷ []) others.after e (Contains-push front e))
 
     r : (r : Record) × Contains (records 0 logs) r × (r.block ≡ block) × (r.sequence ≡ sequence) × (kept_record r ≡ found)
     r = are.no_other sequence found ((get-is sequence found).1 there)
 
     before : AllByRecursion (λ (x : ℕ × KeptRecord). x.0 < sequence) front
-    before = sorted-before front others.behind e (subst (λ (es : Entries). IsStrictlySortedBy nat_cmp (keys_of es)) (others.split ∙ append_assoc front (e ∷ []) others.behind) ordered)
+    before = sorted-before front others.after e (subst (λ (es : Entries). IsStrictlySortedBy nat_cmp (keys_of es)) (others.split ∙ append_assoc front (e ∷ []) others.after) ordered)
 
     here : (b : Record) → b.zone ≢ zone → r.0.sequence ≤ b.sequence → Contains held.entries (b.sequence, kept_record b) → kept_record b ≡ found
-    here b outer le c = by (Contains-append_cases (front ++ e ∷ []) others.behind (b.sequence, kept_record b) (subst (λ (es : Entries). Contains es (b.sequence, kept_record b)) others.split c))
+    here b outer le c = by (Contains-append_cases (front ++ e ∷ []) others.after (b.sequence, kept_record b) (subst (λ (es : Entries). Contains es (b.sequence, kept_record b)) others.split c))
       where
         first : Contains front (b.sequence, kept_record b) ⊎ (e ≡ (b.sequence, kept_record b)) → kept_record b ≡ found
         first (inl d) = let lt = entry-among (λ (x : ℕ × KeptRecord). x.0 < sequence) front (b.sequence, kept_record b) before d in absurd (omega (arith, lt, le, r.3))
         first (inr same) = sym (ap (λ (x : ℕ × KeptRecord). x.1) same)
 
-        by : Contains (front ++ e ∷ []) (b.sequence, kept_record b) ⊎ Contains others.behind (b.sequence, kept_record b) → kept_record b ≡ found
+        by : Contains (front ++ e ∷ []) (b.sequence, kept_record b) ⊎ Contains others.after (b.sequence, kept_record b) → kept_record b ≡ found
         by (inl d) = first (Contains-push_cases front e (b.sequence, kept_record b) d)
-        by (inr d) = absurd (in-zone zone others.behind b others.inside d outer)
+        by (inr d) = absurd (in-zone zone others.after b others.inside d outer)
 
 pub outside-newest : (logs : List (List Batch)) (table : BlockRecords) (block zone : ℕ) (held : BTreeMap ℕ KeptRecord) (found : Option KeptRecord) → held_of table block ≡ Some held → IsOrdered nat_cmp held → IsLastOutside held zone found → HoldsRecords logs table
     → found ≡ option_map kept_record (newest block (records 0 (without logs zone)))

@@ -59,9 +59,9 @@ forgets r = None
 
 -- The entries of a block up to some sequence, where all that follow lie in a zone.
 pub record OthersIn (held : BTreeMap ℕ KeptRecord) (zone : ℕ) (rest : List (ℕ × KeptRecord)) : Type 0 where
-  pub behind : List (ℕ × KeptRecord)
-  pub split : held.entries ≡ rest ++ behind
-  pub inside : AllByRecursion (λ (e : ℕ × KeptRecord). e.1.zone ≡ zone) behind
+  pub after : List (ℕ × KeptRecord)
+  pub split : held.entries ≡ rest ++ after
+  pub inside : AllByRecursion (λ (e : ℕ × KeptRecord). e.1.zone ≡ zone) after
 
 -- the last one outside a zone, or that all lie in it
 abbrev pub IsLastOutside : BTreeMap ℕ KeptRecord → ℕ → Option KeptRecord → Type 0

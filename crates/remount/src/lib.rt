@@ -51,15 +51,9 @@ mod steps;
 mod survey;
 mod torn;
 
-pub use clearing::{Finding, clear_zones, examine_zone};
-pub use empty::{empty_zones, finish_zones, zones_to_empty};
 pub use fault::MountFault;
 pub use heads::{Head, ZoneHeads};
-pub use moves::MovePlan;
-pub use places::{mounted_tables, place_records};
-pub use repair::{Repair, repair_zone};
 pub use reported::ReportedZone;
 pub use scan::ScannedZone;
 pub use steps::mount;
 pub use survey::{Survey, survey_drive};
-pub use torn::plan_repair;

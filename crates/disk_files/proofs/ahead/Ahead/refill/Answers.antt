@@ -9,7 +9,7 @@ pub returns-in-Ok-clause-bytes : goal.returns-in-Ok-clause-bytes
 returns-in-Ok-clause-bytes g c =
     let at = c.self.inside in
     let n = c.in-Ok.count in
-    let items = c.read_behind.new.bytes.items in
+    let items = c.read_after.new.bytes.items in
     let empty : slice_range at.bytes.items at.start at.end ≡ [] = ap (λ (a : AheadView). a.bytes) (c.self.view_is ∙ c.move_line.ensures) ∙ c.requires.empty in
     let none = none_ahead at.bytes.items at.start at.end empty c.self.invariant.2 c.self.invariant.3 in
     let read = c.in-Ok.ensures.ok in
@@ -19,7 +19,7 @@ pub returns-in-Ok-clause-line : goal.returns-in-Ok-clause-line
 returns-in-Ok-clause-line g c =
     let at = c.self.inside in
     let inside : at.last ≤ at.end = omega (arith, c.self.invariant.1, c.self.invariant.2) in
-    same_front at.bytes.items c.read_behind.new.bytes.items at.first at.last at.end c.read_behind.ensures.front c.self.invariant.0 inside
+    same_front at.bytes.items c.read_after.new.bytes.items at.first at.last at.end c.read_after.ensures.front c.self.invariant.0 inside
     ∙ ap (λ (a : AheadView). a.line) (c.self.view_is ∙ c.move_line.ensures)
 
 pub returns-in-Err-clause-bytes : goal.returns-in-Err-clause-bytes
@@ -34,5 +34,5 @@ pub returns-in-Err-clause-line : goal.returns-in-Err-clause-line
 returns-in-Err-clause-line g c =
     let at = c.self.inside in
     let inside : at.last ≤ at.end = omega (arith, c.self.invariant.1, c.self.invariant.2) in
-    same_front at.bytes.items c.read_behind.new.bytes.items at.first at.last at.end c.read_behind.ensures.front c.self.invariant.0 inside
+    same_front at.bytes.items c.read_after.new.bytes.items at.first at.last at.end c.read_after.ensures.front c.self.invariant.0 inside
     ∙ ap (λ (a : AheadView). a.line) (c.self.view_is ∙ c.move_line.ensures)
