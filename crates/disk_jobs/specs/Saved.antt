@@ -119,7 +119,7 @@ stopping stop drive = drive_of (record { inner = drive; limit = stop.commands; t
 pub record RunsTrace (blocks : ℕ) (stop : Stop) (old : DriveState) (input written : Known) (ended : Result (Unit {0}) RunFault) (contents : Known) (new : DriveState) : Type 0 where
   pub seen : DriveState
   pub gives : RunGives blocks (stopping stop old) input written ended contents seen
-  pub leaves : RunLeaves blocks (stopping stop old) ended seen
+  pub leaves : RunLeaves blocks input (stopping stop old) ended seen
   pub geometry : new.geometry ≡ seen.geometry
   pub zones : new.zones ≡ seen.zones
 
