@@ -353,7 +353,7 @@ fn explains_long_lines(rt: HostRuntime) -> Result<(), Fail> {
         (
             b"wrote 0 ",
             b"\n",
-            "line 1: word 1 has to be read, fill, write, trim, idle or grow",
+            "line 1: word 1 has to be read, fill, write, trim, idle, grow or remount",
         ),
         (
             b"# ",
