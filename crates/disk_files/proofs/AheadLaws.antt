@@ -77,7 +77,7 @@ module _ (bytes : List ℕ) (first last start end : ℕ) (begins : first ≤ las
         omega (arith, length-take m ahead),
       )
 
--- ---- a read behind a line
+-- ---- a read after a line
 
 -- the bytes from the end on are those that were read
 pub read_part : (bytes read rest : List ℕ) (end n : ℕ) → end ≤ length bytes → n ≤ length read → slice_range (take end bytes ++ (read ++ rest)) end (end + n) ≡ take n read

@@ -119,7 +119,7 @@ kept_fault Memory old new can k = kept_served old new (k.mounted can)
 
 -- ---- since the last mount
 
--- the last mount of a drive, which was mounted again so many times, and what was kept since
+-- the last mount of a drive, which was mounted again that often, and what was kept since
 pub record Since (n count : ℕ) (old : DriveState) (new : DiskView) : Type 0 where
   pub before : DriveState
   pub last : IsBeforeLast n count old before

@@ -82,7 +82,7 @@ records-numbers P first (log ∷ logs) all =
     let parts = all-parts P (log_sequences log) (sequences logs) all in
     all-append (λ (r : Record). P r.sequence) (log_records first 0 log) (records (suc first) logs) (log-numbers P first 0 log parts.0) (records-numbers P (suc first) logs parts.1)
 
--- of a zone, before those of the zones behind it
+-- of a zone, before those of the zones after it
 log-apart : (zone offset first : ℕ) (log : List Batch) (logs : List (List Batch)) → AllByRecursion NamesOnce log → IsDistinct nat_eq (log_sequences log ++ sequences logs) → AreApart (records first logs) → AreApart (log_records zone offset log ++ records first logs)
 unfolding IsDistinct
 log-apart zone offset first [] logs once distinct others = others

@@ -124,7 +124,7 @@ pub struct Trial<'a> {
 }
 
 impl<'a> Trial<'a> {
-    /// Runs the trace so.
+    /// Runs the trace in this setting.
     pub fn run(&self, alloc: Global, setting: Setting) -> Result<Ran, ScriptFault> {
         let lines = Lines::Trace(u64::from(self.n));
         run(alloc, self.world, setting, lines, self.text)
