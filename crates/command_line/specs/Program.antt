@@ -1,0 +1,99 @@
+-- The words that the program takes, as clap has them.
+use Rattle.std.specs.Prelude.{◌≡◌, pos, true, false, List, [], ◌∷◌, fold, Some, codes, ◌++◌}
+use Rattle.std.specs.Borrow.{Bor}
+use Rattle.clap.specs.Words.{App, Rule, Shape, Text, app_of, new_rule, with_rule}
+use Rattle.clap.specs.Simple.{new_shape}
+use Rattle.clap.specs.declared.builder.action.ArgAction.TheVariants.{Set, SetTrue}
+use Rattle.clap.specs.declared.builder.command.Command.{Command}
+use Rattle.clap.specs.declared.builder.command.Command.TheViews.{out-Command as fields_of}
+use Rattle.clap.specs.declared.builder.value_parser.ValueParser.{ValueParser}
+use Rattle.clap.specs.declared.builder.value_parser.ValueParser.TheVariants as parsers
+
+-- ---- the options, as clap has them
+
+-- an option with one value, which has to be given
+abbrev pub valued : Text → Rule
+valued name = record (new_rule name) { long = Some name; action = Some Set; value_names = 1; required = true }
+
+abbrev pub with_parser : ValueParser → Rule → Rule
+with_parser parser rule = record rule { parser = Some parser }
+
+-- one that may be left out
+abbrev pub optional : Rule → Rule
+optional rule = record rule { required = false }
+
+-- an option without a value
+abbrev pub flag : Text → Rule
+flag name = record (new_rule name) { long = Some name; action = Some SetTrue }
+
+abbrev pub number : Text → ValueParser → Rule
+number name parser = with_parser parser (valued name)
+
+-- a number below 2^32, and one below 2^63
+abbrev pub part : Text → Rule
+part name = number name (parsers.Signed (pos 0) (pos 4294967295))
+
+abbrev pub below_2_63 : ValueParser
+below_2_63 = parsers.Unsigned 0 9223372036854775807
+
+abbrev pub image : Rule
+image = valued (codes "image")
+
+abbrev pub blocks : Rule
+blocks = number (codes "blocks") below_2_63
+
+abbrev pub parts : List Rule
+parts =
+    part (codes "block") ∷ part (codes "zones") ∷ part (codes "size") ∷ part (codes "capacity")
+    ∷ part (codes "transfer") ∷ part (codes "active") ∷ part (codes "open") ∷ []
+
+abbrev pub stops : List Rule
+stops = optional (number (codes "stop-after") below_2_63) ∷ optional (number (codes "tear") below_2_63) ∷ []
+
+-- the option of a habit, by the names that it takes; without it the habit is lazy
+abbrev pub habit : Bor (List (Bor Text)) → Rule
+habit names = record (optional (with_parser (parsers.Names names) (valued (codes "habit")))) { defaults = codes "lazy" ∷ [] }
+
+abbrev pub habit_names : List Text
+habit_names = codes "lazy" ∷ codes "closing" ∷ codes "strict" ∷ []
+
+-- ---- the program
+
+-- a subcommand with these options
+abbrev pub with_options : Text → List Rule → Shape
+with_options name rules = record (new_shape name) { rules = rules }
+
+abbrev pub format : Shape
+format = with_options (codes "format") (image ∷ parts)
+
+abbrev pub run : Bor (List (Bor Text)) → Shape
+run names = with_options (codes "run") (image ∷ blocks ∷ flag (codes "zones") ∷ habit names ∷ stops)
+
+abbrev pub report : Shape
+report = with_options (codes "report") (image ∷ [])
+
+abbrev pub nvme : Bor (List (Bor Text)) → Shape
+nvme names = with_options (codes "nvme") (image ∷ habit names ∷ [])
+
+abbrev pub fresh : Bor (List (Bor Text)) → Shape
+fresh names = with_options (codes "fresh") (parts ++ blocks ∷ flag (codes "report") ∷ flag (codes "statistics") ∷ habit names ∷ stops)
+
+abbrev pub fresh_raw : Bor (List (Bor Text)) → Shape
+fresh_raw names = with_options (codes "fresh-raw") (parts ++ habit names ∷ [])
+
+-- the program, by the names of the habits
+abbrev pub program : Bor (List (Bor Text)) → App
+program names = record {
+  top = record (new_shape (codes "zonedisk")) { is_leaf = false; has_version = true; subcommand_required = true };
+  subs = format ∷ run names ∷ report ∷ nvme names ∷ fresh names ∷ fresh_raw names ∷ [];
+}
+
+-- a command with these options more, none of which subcommands inherit
+pub record AddsOptions (rules : List Rule) (old new : Command) : Type 0 where
+  pub app : app_of new ≡ fold with_rule (app_of old) rules
+  pub globals : (fields_of new).has_globals ≡ (fields_of old).has_globals
+
+-- a command that is this one
+pub record IsCommand (shape : Shape) (new : Command) : Type 0 where
+  pub app_is : app_of new ≡ record { top = shape; subs = [] }
+  pub globals : (fields_of new).has_globals ≡ false

@@ -1,0 +1,215 @@
+ghost use Rattle.std.specs.Prelude.{◌≡◌, ◌≢◌, IfOk, IsSomeAnd, map, option_map, string_bytes};
+ghost use Rattle.std.specs.List.{list_all};
+ghost use Rattle.std.specs.Char.{is_ascii_digit};
+ghost use Rattle.clap.specs.Words.{first_of, found_of, rows_of, subcommand_rows_of};
+ghost use Rattle.command_line.specs.Words.{AsksFor, Finds, HasFlag, HasGeometry, HasHabit, HasImage, HasNumber, HasNumberOr, HasStop, IsAnswerTo};
+ghost use Rattle.command_line.specs.declared.words.WordFault.TheVariants.{Memory};
+
+use crate::command::{HABITS, program};
+use clap::error::ErrorKind;
+use clap::{ArgMatches, Command, Error};
+use disk_jobs::{Habit, Job, Stop};
+use std::alloc::{AllocError, Global};
+use zone_states::Geometry;
+
+/// Why words that the program takes are no job.
+#[derive(Clone, Copy)]
+enum WordFault {
+    /// They lack a subcommand or an option. The parser refuses such words before.
+    Missing,
+    /// The value of the option with this name is not in decimal digits, or needs too many bits.
+    Digits(&'static str),
+    /// An allocation failed.
+    Memory,
+}
+
+impl From<AllocError> for WordFault {
+    ghost from_gives = { λ _ fault. fault ≡ Memory };
+
+    fn from(_error: AllocError) -> WordFault {
+        WordFault::Memory
+    }
+}
+
+/// The value that an option was given, if it was.
+fn given<'a>(matches: &ArgMatches<'a>, name: &str) -> Option<&'a str>
+    ensures { option_map (λ text. text.now) result ≡ first_of name.now (rows_of (found_of matches.now)) }
+{
+    matches.get_str(name)
+}
+
+/// Whether a flag was given.
+fn has_flag(matches: &ArgMatches<'_>, name: &str) -> bool
+    ensures { HasFlag (rows_of (found_of matches.now)) name.now result }
+{
+    matches.get_flag(name)
+}
+
+/// Whether a text has digits alone.
+fn is_decimal(text: &str) -> bool
+    ensures { result ≡ list_all is_ascii_digit text.now }
+{
+    text.as_bytes().iter().all(|byte| byte.is_ascii_digit())
+}
+
+/// The number that an option was given. It is refused where it is not spelled in decimal digits alone, or needs more
+/// than 64 bits.
+fn number(matches: &ArgMatches<'_>, name: &'static str) -> Result<u64, WordFault>
+    ensures { Finds (HasNumber 64 (rows_of (found_of matches.now)) name.entry.now) result }
+{
+    let Some(digits) = given(matches, name) else {
+        return Err(WordFault::Digits(name));
+    };
+    if !is_decimal(digits) {
+        return Err(WordFault::Digits(name));
+    }
+    match digits.parse() {
+        Ok(number) => Ok(number),
+        Err(_) => Err(WordFault::Digits(name)),
+    }
+}
+
+/// A number below 2^32.
+fn part_of(matches: &ArgMatches<'_>, name: &'static str) -> Result<u32, WordFault>
+    ensures { Finds (HasNumber 32 (rows_of (found_of matches.now)) name.entry.now) result }
+{
+    u32::try_from(number(matches, name)?).or(Err(WordFault::Digits(name)))
+}
+
+/// The number that an option was given, if it was.
+fn number_or(matches: &ArgMatches<'_>, name: &'static str, missing: u64) -> Result<u64, WordFault>
+    ensures { Finds (HasNumberOr missing (rows_of (found_of matches.now)) name.entry.now) result }
+{
+    if given(matches, name).is_none() {
+        return Ok(missing);
+    }
+    number(matches, name)
+}
+
+/// When the drive stops. No Append has more blocks than 32 bits can count.
+fn stop_of(matches: &ArgMatches<'_>) -> Result<Stop, WordFault>
+    ensures { Finds (HasStop (rows_of (found_of matches.now))) result }
+{
+    let commands = number_or(matches, "stop-after", Stop::NEVER.commands)?;
+    let tear = number_or(matches, "tear", 0)?;
+    Ok(Stop {
+        commands,
+        tear: u32::try_from(tear).unwrap_or(u32::MAX),
+    })
+}
+
+/// The habit of the drive.
+fn habit_of(matches: &ArgMatches<'_>) -> Habit
+    ensures { HasHabit (rows_of (found_of matches.now)) result }
+{
+    match given(matches, "habit") {
+        Some("closing") => Habit::Closing,
+        Some("strict") => Habit::Strict,
+        _ => Habit::Lazy,
+    }
+}
+
+fn geometry(matches: &ArgMatches<'_>) -> Result<Geometry, WordFault>
+    ensures { Finds (HasGeometry (rows_of (found_of matches.now))) result }
+{
+    Ok(Geometry {
+        block: part_of(matches, "block")?,
+        zones: part_of(matches, "zones")?,
+        size: part_of(matches, "size")?,
+        capacity: part_of(matches, "capacity")?,
+        transfer: part_of(matches, "transfer")?,
+        active: part_of(matches, "active")?,
+        open: part_of(matches, "open")?,
+    })
+}
+
+fn image(alloc: Global, matches: &ArgMatches<'_>) -> Result<String, WordFault>
+    ensures { Finds (λ path. HasImage (rows_of (found_of matches.now)) (string_bytes path)) result }
+{
+    let Some(path) = given(matches, "image") else {
+        return Err(WordFault::Missing);
+    };
+    Ok(String::from_str(alloc, path)?)
+}
+
+/// The job of a subcommand.
+fn subcommand_job(alloc: Global, name: &str, matches: &ArgMatches<'_>) -> Result<Job, WordFault>
+    ensures { Finds (AsksFor name.now (rows_of (found_of matches.now))) result }
+{
+    match name {
+        "format" => Ok(Job::Format {
+            image: image(alloc, matches)?,
+            geometry: geometry(matches)?,
+        }),
+        "run" => Ok(Job::Run {
+            image: image(alloc, matches)?,
+            blocks: number(matches, "blocks")?,
+            zones: has_flag(matches, "zones"),
+            stop: stop_of(matches)?,
+            habit: habit_of(matches),
+        }),
+        "report" => Ok(Job::Report {
+            image: image(alloc, matches)?,
+        }),
+        "nvme" => Ok(Job::Nvme {
+            image: image(alloc, matches)?,
+            habit: habit_of(matches),
+        }),
+        "fresh" => Ok(Job::Fresh {
+            geometry: geometry(matches)?,
+            blocks: number(matches, "blocks")?,
+            report: has_flag(matches, "report"),
+            statistics: has_flag(matches, "statistics"),
+            stop: stop_of(matches)?,
+            habit: habit_of(matches),
+        }),
+        "fresh-raw" => Ok(Job::FreshRaw {
+            geometry: geometry(matches)?,
+            habit: habit_of(matches),
+        }),
+        _ => Err(WordFault::Missing),
+    }
+}
+
+/// The job of the subcommand, if there is one.
+fn asked(alloc: Global, matches: &ArgMatches<'_>) -> Result<Job, WordFault>
+    ensures { Finds (λ job. IsSomeAnd (subcommand_rows_of matches.now) (λ met. AsksFor met.0 met.1 job)) result }
+{
+    match matches.subcommand() {
+        Some((name, matches)) => subcommand_job(alloc, name, matches),
+        None => Err(WordFault::Missing),
+    }
+}
+
+/// The text to show of a refusal. There is none where memory ran out.
+fn refusal(alloc: Global, program: &mut Command<'_>, fault: WordFault) -> Result<Error, AllocError>
+    ensures { IfOk result (λ _. fault ≢ Memory) }
+{
+    match fault {
+        WordFault::Missing => {
+            program.error(
+                ErrorKind::MissingSubcommand,
+                "a subcommand or an option is wanted",
+            )
+        }
+        WordFault::Digits(name) => {
+            let text = format!(in alloc; "the value of '--{name}' is not in decimal digits")?;
+            program.error(ErrorKind::ValueValidation, &text)
+        }
+        WordFault::Memory => Err(AllocError),
+    }
+}
+
+/// The job that the words ask for; the first word is the program's name.
+///
+/// Words that ask for no job, a request for help among them, are refused with the text to show.
+pub fn job_of(alloc: Global, words: &[String]) -> Result<Job, Error>
+    ensures { IsAnswerTo (map string_bytes words.now) result }
+{
+    let mut program = program(alloc, HABITS.as_slice())?;
+    let matches = program.try_get_matches_from_mut(words)?;
+    match asked(alloc, &matches) {
+        Ok(job) => Ok(job),
+        Err(fault) => Err(refusal(alloc, &mut program, fault)?),
+    }
+}
