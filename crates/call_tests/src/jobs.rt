@@ -1,9 +1,8 @@
 // The words of the command line, and what they ask for. The stored run of `zonedisk` shows the rest.
 
 use clap::error::ErrorKind;
-use disk_jobs::{
-    Job, ProgramFault, RecentInput, Stop, explain, job_of, run_job, write_program_fault,
-};
+use command_line::job_of;
+use disk_jobs::{Job, ProgramFault, RecentInput, Stop, explain, run_job, write_program_fault};
 use disk_runs::RunFault;
 use drive_images::write_image;
 use drive_port::Geometry;

@@ -1,21 +1,18 @@
-//! The jobs of the program: what the words of its command line ask for, and doing it.
+//! The jobs of the program, and doing them.
 //!
 //! ```text
-//! let job = job_of(rt.alloc(), &words)?;
 //! let done = match job.image() {
 //!     Some(path) => run_on_file(&rt, rt.alloc(), &job, path, rt.reader(), &mut output),
 //!     None => run_job(rt.alloc(), &job, &mut io::empty(), rt.reader(), &mut output).1,
 //! };
 //! ```
 //!
-//! [`job_of`] reads the words, and refuses others with the text to show. [`run_job`] does what they ask for, and
+//! A [`Job`] is what the words of the command line ask for (`command_line` reads them). [`run_job`] does it, and
 //! [`run_on_file`] does it on the drive of a file. [`explain`] says what a fault is in a line for people; for this a
 //! [`RecentInput`] keeps what was read last.
 //!
 //! # What is promised
 //!
-//! * A job holds what clap's matches of the words have: the subcommand and, for each of its options, the value under
-//!   its name; a number is spelled in digits alone. Clap refuses none of these words (`specs/CommandLine.antt`).
 //! * The drive that [`run_job`] hands back is the one that the lines left, also after a fault: of `run`, what `run_trace`
 //!   of `disk_runs` left of the drive in the image, restarted; of `nvme`, what `run_raw` left of it; of `format`, a
 //!   fresh drive. There is none only after a report, or where no drive was made or read (`specs/Saved.antt`).
@@ -23,8 +20,8 @@
 //!   the zones if they are asked for.
 //!
 //! Of a run whose commands are counted nothing is promised but that it ends; nor of [`run_on_file`], since no contract
-//! of std says what a file of a path holds. The texts of clap, which words it refuses, and `--statistics` are tested in
-//! `call_tests`; what the drive closes with each `--habit` is in the rows of `worked_runs`.
+//! of std says what a file of a path holds. The texts of `--statistics` are tested in `call_tests`; what the drive
+//! closes with each `--habit` is in the rows of `worked_runs`.
 #![tactic(auto)]
 
 mod explanation;
@@ -39,7 +36,7 @@ mod statistics;
 pub use explanation::explain;
 pub use fault::{ProgramFault, write_program_fault};
 pub use file::run_on_file;
-pub use job::{Job, Stop, job_of};
+pub use job::{Job, Stop};
 pub use program::run_job;
 pub use recent::RecentInput;
 pub use zone_drive::Habit;

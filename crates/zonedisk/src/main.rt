@@ -19,9 +19,9 @@
 #![tactic(auto)]
 
 use clap::error::ErrorKind;
+pub use command_line::job_of;
 pub use disk_jobs::{
-    Habit, Job, ProgramFault, RecentInput, Stop, explain, job_of, run_job, run_on_file,
-    write_program_fault,
+    Habit, Job, ProgramFault, RecentInput, Stop, explain, run_job, run_on_file, write_program_fault,
 };
 pub use disk_runs::{RunFault, answer_trace, run_raw, run_trace, write_fault};
 use std::alloc::Global;
