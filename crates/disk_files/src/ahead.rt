@@ -20,7 +20,7 @@ pub enum Part {
 }
 
 /// How many bytes are read at a time at most.
-const PIECE: usize = 16_384;
+const PIECE: usize = 65_536;
 
 /// A line, and the bytes that were read ahead of it. They stand one after the other, where they were read to, so
 /// that no byte of a line is copied but those that were read with the line before.

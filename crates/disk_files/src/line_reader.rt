@@ -38,7 +38,7 @@ impl From<AllocError> for LineFault {
     }
 }
 
-/// Reads the lines of a reader, up to 16 KiB at a time, and keeps the last one. It is seen as the bytes that are left
+/// Reads the lines of a reader, up to 64 KiB at a time, and keeps the last one. It is seen as the bytes that are left
 /// to read, where those are known, and that line.
 #[derive(Drop)]
 pub struct LineReader<R: Read + Drop> {

@@ -12,8 +12,9 @@ const MOST_OF_LINE: usize = 65_536;
 pub struct RecentInput<R: Read + Drop> {
     reader: R,
     bytes: Vec<u8>,
-    // How many of these bytes are lines that have ended, with their line feeds.
+    // The lines in these bytes that have ended: how many bytes they are, with their line feeds, and how many lines.
     ended: usize,
+    ended_lines: u64,
     // How many lines end before these bytes. Once memory ran out for the bytes, no line can be shown.
     lines: u64,
 }
@@ -26,6 +27,7 @@ impl<R: Read + Drop> RecentInput<R> {
             reader,
             bytes: Vec::new(alloc),
             ended: 0,
+            ended_lines: 0,
             lines: 0,
         }
     }
@@ -38,18 +40,20 @@ impl<R: Read + Drop> RecentInput<R> {
 
     /// Lets all lines go that have ended.
     fn let_go(&mut self) {
+        if self.ended_lines == 0 {
+            return;
+        }
         let ended = self.bytes.len().min(self.ended);
-        let lines = self.bytes[..ended]
-            .iter()
-            .filter(|byte| **byte == b'\n')
-            .count();
-        self.bytes.drain(..ended);
+        let left = self.bytes.len() - ended;
+        self.bytes.copy_within(ended.., 0);
+        self.bytes.truncate(left);
+        self.lines = self.lines.saturating_add(self.ended_lines);
         self.ended = 0;
-        self.lines = self.lines.saturating_add(lines as u64);
+        self.ended_lines = 0;
     }
 
-    /// Keeps bytes that were read, but for those of a line of which enough is kept. Each byte is looked at once or
-    /// twice, however long its line is.
+    /// Keeps bytes that were read, but for those of a line of which enough is kept. Only in these bytes lines can end,
+    /// so each byte is looked at twice at most, however long its line is.
     fn keep(&mut self, read: &[u8]) {
         let from = if self.bytes.len() < MOST_OF_LINE {
             0
@@ -59,6 +63,7 @@ impl<R: Read + Drop> RecentInput<R> {
         let kept = &read[from..];
         if let Some(place) = memrchr(b'\n', kept) {
             self.ended = self.bytes.len().saturating_add(place + 1);
+            self.ended_lines = kept.iter().filter(|byte| **byte == b'\n').count() as u64;
         }
         if self.bytes.extend_from_slice(kept).is_err() {
             self.bytes.clear();
