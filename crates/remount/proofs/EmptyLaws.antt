@@ -6,7 +6,7 @@ use Rattle.std.proofs.lemmas.List.{length-map}
 use Rattle.std.proofs.lemmas.List.Elements.{Contains-append_left, Contains-append_right}
 use Rattle.nvme_wire.specs.declared.zone_state.ZoneState.TheVariants.{Empty}
 use Rattle.zone_states.specs.declared.geometry.Geometry.{Geometry}
-use Rattle.drive_port.specs.Contents.{Content, Resets, contents, emptied}
+use Rattle.drive_port.specs.Contents.{Content, Resets, content_at, contents, emptied, nothing}
 use Rattle.drive_port.specs.Drive.{DriveState}
 use Rattle.batch_log.specs.Log.{Batch}
 use Rattle.zone_choice.specs.Agreement.{drive_logs}
@@ -19,7 +19,7 @@ use Rattle.remount.specs.declared.reported.ReportedZone.{ReportedZone}
 use Rattle.remount.specs.declared.survey.Survey.{Survey}
 use Rattle.remount.specs.Known.{AreVacantEmpty, KeepsMountable, Knows}
 use Rattle.remount.specs.Mount.{AreToEmpty}
-use Rattle.remount.specs.Resets.{MayChange, MayReset, ResetsAll, reported_empty, set_all}
+use Rattle.remount.specs.Resets.{KeepsWritten, MayChange, MayReset, ResetsAll, reported_empty, set_all}
 use Rattle.remount.specs.Scan.{AreKnown, heads_in, tails_in}
 use Rattle.remount.proofs.KeepLaws.{keeps-mountable-both, keeps-mountable-none, reset-keeps, without-vacant}
 use Rattle.remount.proofs.SetAllLaws.{cleared-set_all, get-set_all, get_or-set_all_other, map-set_all, set_all-both, set_all-parts}
@@ -191,6 +191,15 @@ tails-emptied old middle new before survey after vacant half_clean one two zone 
     elim (set_all-parts (drive_logs old) (zone_tails (contents old.zones)) (vacant ++ half_clean) false false zone) as (λ _. get_or (zone_tails (contents new.zones)) zone false ≡ get_or (zone_tails (contents old.zones)) zone false) [
       | inl gone ↦ absurd (some (ap (λ (ls : List (List Batch)). log_at ls zone) logs ∙ gone))
       | inr same ↦ ap (λ (ts : List Bool). get_or ts zone false) tails ∙ same
+    ]
+
+pub written-stay : (old middle new : DriveState) (before survey after : Survey) (vacant half_clean : List ℕ) → ResetsAll old middle before survey vacant → ResetsAll middle new survey after half_clean → KeepsWritten old new
+written-stay old middle new before survey after vacant half_clean one two zone some =
+    let all = resets-both old middle new before survey after vacant half_clean one two in
+    let logs = drive-logs-reset old new before after (vacant ++ half_clean) all in
+    elim (set_all-parts (drive_logs old) (contents old.zones) (vacant ++ half_clean) emptied nothing zone) as (λ _. content_at (contents new.zones) zone ≡ content_at (contents old.zones) zone) [
+      | inl gone ↦ absurd (some (ap (λ (ls : List (List Batch)). log_at ls zone) logs ∙ gone))
+      | inr stays ↦ ap (λ (cs : List Content). content_at cs zone) all.contents_are ∙ stays
     ]
 
 pub if-ok : {P Q : Type 0} (result : Result (Unit {0}) MountFault) → (P → Q) → OnOk result P → OnOk result Q

@@ -2,7 +2,7 @@
 use Rattle.std.proofs.Common.{◌≡◌, ◌⊎◌, inl, inr, ℕ, ◌+◌, ◌<◌, ◌≤◌, ◌==◌, ◌&&◌, ◌||◌, not, ltb, Bool, true, false, List, [], ◌∷◌, ◌++◌, map, length, set, get_or, Some, refl, sym, ap, subst, ◌∙◌, arith, append-nil}
 use Rattle.std.specs.Prelude.{slice_get}
 use Rattle.std.specs.List.{AllByRecursion}
-use Rattle.std.proofs.lemmas.Bool.{cases_eq, cases_lt, lt-ltb}
+use Rattle.std.proofs.lemmas.Bool.{cases_eq, cases_lt, lt-ltb, ltb-true}
 use Rattle.std.proofs.lemmas.List.{get_or-set_other, get_or-set_same, get_or_past, length-map, length-set}
 use Rattle.std.proofs.lemmas.Option.{get_or_from_slice_get, slice_get-get_or, slice_get_within}
 use Rattle.std.proofs.Math.ListN.{get_or-map}
@@ -27,7 +27,7 @@ use Rattle.remount.specs.Known.{AreVacantEmpty, KeepsMountable, Knows}
 use Rattle.remount.specs.Known.{HasVacant}
 use Rattle.remount.specs.Mount.{AreWhole, IsRepaired}
 use Rattle.remount.specs.Reported.{IsKnown}
-use Rattle.remount.specs.Resets.{FinishesIf, FinishesOne, GoesOn, IsTested, MayChange, is_to_finish, reported_full}
+use Rattle.remount.specs.Resets.{FinishesIf, FinishesOne, GoesOn, IsTested, KeepsGoing, MayChange, is_to_finish, reported_full}
 use Rattle.remount.specs.Scan.{AreKnown, heads_in}
 use Rattle.remount.specs.Survey.{is_partly_reported}
 use Rattle.remount.proofs.KeepLaws.{CanFinishZone, finish-keeps, keeps-mountable-both, keeps-mountable-none}
@@ -41,6 +41,10 @@ and-both false b is = absurd (cc)
 or-neither : (a b : Bool) → (a || b) ≡ false → (a ≡ false) × (b ≡ false)
 or-neither true b is = absurd (cc)
 or-neither false b is = (refl, is)
+
+or-one : (a b : Bool) → (a || b) ≡ true → (a ≡ true) ⊎ (b ≡ true)
+or-one true b is = inl refl
+or-one false b is = inr is
 
 not-below : (a b : ℕ) → ltb a b ≡ false → b ≤ a
 not-below a b is = elim (cases_lt a b) as (λ _. b ≤ a) [ inl lt ↦ absurd (let yes : ltb a b ≡ true = lt-ltb a b lt in cc) | inr ge ↦ ge ]
@@ -85,6 +89,10 @@ most-few : (view : HeadsView) (most : ℕ) (log : List Batch) → (heads_after v
 most-few view most [] le = tt
 most-few view most (b ∷ bs) le = (omega (arith, le, most-least (with_heading view b.heading) bs), most-few (with_heading view b.heading) most bs le)
 
+most-most : (view : HeadsView) (most : ℕ) (log : List Batch) → view.most ≤ most → AllByRecursion (HasAtMost most) log → (heads_after view log).most ≤ most
+most-most view most [] le all = le
+most-most view most (b ∷ bs) le all = most-most (with_heading view b.heading) most bs (omega (arith, le, all.0)) all.1
+
 -- ---- a zone that is surveyed
 
 record SurveyedAt (drive : DriveState) (logs : List (List Batch)) (survey : Survey) (zone : ℕ) : Type 0 where
@@ -116,6 +124,7 @@ pub record FinishesSome (first now : DriveState) (before survey : Survey) (n zon
   pub size : survey.size ≡ before.size
   pub vacant : AreVacantEmpty survey.zones.items (drive_logs first)
   pub done : (k : ℕ) → k < zone → GoesOn now k
+  pub others : KeepsGoing first now
 
 -- what is known of the drive before
 pub record CanFinishAll (drive : DriveState) (survey : Survey) (n : ℕ) : Type 0 where
@@ -135,6 +144,7 @@ finishes-none drive survey n can = record {
   size = refl;
   vacant = can.vacant;
   done = λ k lt. absurd (omega (arith, lt));
+  others = λ k goes. refl;
 }
 
 some-at : (first now : DriveState) (before survey : Survey) (n below zone : ℕ) → CanFinishAll first before n → FinishesSome first now before survey n below → zone < length survey.zones.items → SurveyedAt now (drive_logs first) survey zone
@@ -168,6 +178,41 @@ pub finish-if-keeps : (first now new : DriveState) (before survey : Survey) (n z
 finish-if-keeps first now new before survey n zone can some lt change =
     keeps-mountable-both n first now new some.keeps (finish-keeps n now new zone (λ a b. Finishes a b zone × IsTested now.geometry.capacity (batch_most now.geometry) survey zone true) (λ a b changes. (changes.0, can-finish first now before survey n zone can some lt changes.1)) change)
 
+-- a disk does not go on with a zone that is to be finished
+due-stops : (first now : DriveState) (before survey : Survey) (n zone : ℕ) → CanFinishAll first before n → FinishesSome first now before survey n zone → zone < length survey.zones.items
+    → IsTested now.geometry.capacity (batch_most now.geometry) survey zone true → GoesOn now zone → ⊥
+due-stops first now before survey n zone can some lt tested goes = by (or-one (ltb now.geometry.capacity (at.r.blocks + 2)) (ltb (batch_most now.geometry) heads.most) both.1)
+  where
+    at : SurveyedAt now (drive_logs first) survey zone
+    at = some-at first now before survey n zone zone can some lt
+
+    heads : HeadsView
+    heads = heads_of (log_at (drive_logs first) zone)
+
+    both : (is_partly_reported at.r ≡ true) × ((ltb now.geometry.capacity (at.r.blocks + 2) || ltb (batch_most now.geometry) heads.most) ≡ true)
+    both = and-both (is_partly_reported at.r) (ltb now.geometry.capacity (at.r.blocks + 2) || ltb (batch_most now.geometry) heads.most) (tested at.r heads at.there at.heads)
+
+    content : Content
+    content = content_at (contents now.zones) zone
+
+    active_is : content.usage ≡ active
+    active_is = at.known.usage ∙ is-active (usage_of at.r.state) (and-both (is_active_usage (usage_of at.r.state)) (not (at.r.blocks == 0)) both.0).0
+
+    blocks : at.r.blocks ≡ length content.blocks
+    blocks = at.known.blocks ∙ active-blocks now.geometry content active_is
+
+    some_blocks : not (at.r.blocks == 0) ≡ true
+    some_blocks = (and-both (is_active_usage (usage_of at.r.state)) (not (at.r.blocks == 0)) both.0).1
+
+    partly : is_partly_written content ≡ true
+    partly = rw (active_is, ← blocks) some_blocks
+
+    by : (ltb now.geometry.capacity (at.r.blocks + 2) ≡ true) ⊎ (ltb (batch_most now.geometry) heads.most ≡ true) → ⊥
+    by (inl few) = absurd (omega (arith, (goes partly).0, blocks, ltb-true now.geometry.capacity (at.r.blocks + 2) few))
+    by (inr many) =
+        let all : AllByRecursion (HasAtMost (batch_most now.geometry)) (log_at (drive_logs first) zone) = rw some.logs at (goes partly).1 in
+        absurd (omega (arith, most-most no_heads (batch_most now.geometry) (log_at (drive_logs first) zone) (omega arith) all, ltb-true (batch_most now.geometry) heads.most many))
+
 -- a zone that is not to be finished
 goes-on : (first now : DriveState) (before survey : Survey) (n zone : ℕ) → CanFinishAll first before n → FinishesSome first now before survey n zone → zone < length survey.zones.items
     → IsTested now.geometry.capacity (batch_most now.geometry) survey zone false → GoesOn now zone
@@ -195,6 +240,7 @@ finishes-more first now new before survey after n zone can some lt keeps (inl is
     | inl same ↦ subst (GoesOn now) (sym same) (goes-on first now before survey n zone can some lt is.0)
     | inr other ↦ some.done k (omega (arith, below, other))
   ];
+  others = some.others;
 })
 finishes-more first now new before survey after n zone can some lt keeps (inr is) = record {
   keeps = keeps;
@@ -205,6 +251,7 @@ finishes-more first now new before survey after n zone can some lt keeps (inr is
   size = one.size ∙ some.size;
   vacant = λ k r there none. vacant-at k r (cases_eq k zone) there none;
   done = λ k below. done-at k (cases_eq k zone) below;
+  others = λ k goes. others-at k (cases_eq k zone) goes;
 }
   where
     one : FinishesOne now new survey after zone
@@ -237,6 +284,13 @@ finishes-more first now new before survey after n zone can some lt keeps (inr is
     done-at k (inr other) below =
         let here : content_at (contents new.zones) k ≡ content_at (contents now.zones) k = rw one.contents_are.zones (get_or-set_other (contents now.zones) zone k (finished (content_at (contents now.zones) zone)) nothing other) in
         λ partly. rw (here, one.geometry, kept.logs) (some.done k (omega (arith, below, other)) (rw here at partly))
+
+    others-at : (k : ℕ) → (k ≡ zone) ⊎ (k ≡ zone → ⊥) → GoesOn first k → content_at (contents new.zones) k ≡ content_at (contents first.zones) k
+    others-at k (inl same) goes =
+        let still : GoesOn now k = λ partly. rw (some.logs, some.keeps.geometry, some.others k goes) (goes (rw (some.others k goes) at partly)) in
+        absurd (due-stops first now before survey n zone can some lt is.0 (subst (GoesOn now) same still))
+    others-at k (inr other) goes =
+        rw one.contents_are.zones (get_or-set_other (contents now.zones) zone k (finished (content_at (contents now.zones) zone)) nothing other) ∙ some.others k goes
 
 -- ---- all of them
 

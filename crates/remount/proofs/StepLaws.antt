@@ -27,8 +27,9 @@ use Rattle.remount.specs.declared.survey.Survey.{Survey}
 use Rattle.remount.specs.Heads.{HeadsView, greatest_sequence, heads_of}
 use Rattle.remount.specs.Known.{AreVacantEmpty, KeepsMountable, Knows}
 use Rattle.remount.specs.Known.{HasVacant}
-use Rattle.remount.specs.Mount.{AreMountedRoles, AreToEmpty, AreWhole, CannotRepair, IsCleared, IsPlan, IsPlanned, IsRepaired, IsToMount, IsUntorn, LeavesCleared, LeavesPlanned, LeavesRepaired, MountFails, Mounts, NoneIsTorn, PlanFails, Plans}
+use Rattle.remount.specs.Mount.{AreMountedRoles, AreToEmpty, AreWhole, CannotRepair, IsCleared, IsPlan, IsPlanned, IsRepaired, IsToMount, IsUntorn, KeepsOthers, LeavesCleared, LeavesPlanned, LeavesRepaired, MountFails, Mounts, NoneIsTorn, PlanFails, Plans}
 use Rattle.remount.specs.Reported.{KeepsZones}
+use Rattle.remount.specs.Resets.{GoesOn, KeepsGoing, KeepsWritten}
 use Rattle.remount.specs.Scan.{FailsBy, heads_in}
 use Rattle.remount.specs.Torn.{sequences_in}
 use Rattle.remount.specs.Survey.{CanScan, HoldLogs, SurveyFails, Surveys, drive_size}
@@ -38,6 +39,7 @@ use Rattle.remount.proofs.KeepLaws.{keeps-mountable-both}
 use Rattle.remount.proofs.NextLaws.{fails-more}
 use Rattle.remount.proofs.TornPlanLaws.{sequences-kept}
 use Rattle.remount.proofs.ReadLaws.{keeps-both, kept-contents}
+use Rattle.remount.proofs.SetAllLaws.{cleared-set_all, set_all-parts}
 
 -- ---- what is kept
 
@@ -357,6 +359,7 @@ pub record Repaired (old new : DriveState) (n : ℕ) (survey : Survey) : Type 0 
   pub kept : KeepsMountable n old new
   pub known : Knows new n (drive_logs new) survey
   pub repaired : IsRepaired new survey
+  pub others : KeepsOthers old resets new
 
 pub to-mount : (old middle third : DriveState) (n : ℕ) (first second : Survey) (plan : Plan) → IsLawful old → KeepsZones old middle → Surveys old middle n first → KeepsZones middle third → IsPlanned third n second plan → IsToMount old n
 to-mount old middle third n first second plan lawful k is k' planned =
@@ -364,8 +367,9 @@ to-mount old middle third n first second plan lawful k is k' planned =
     record { geometry = is.can.geometry; reserve = is.can.reserve; mountable = record { lawful = lawful; holds = rw (both.geometry, kept-contents old third both) at planned.mountable.holds } }
 
 pub repairs : (old middle third new : DriveState) (n : ℕ) (first second last : Survey) (plan : Plan) → IsLawful old → KeepsZones old middle → Surveys old middle n first → KeepsZones middle third → IsPlanned third n second plan
-    → KeepsMountable n third new → Knows new n (drive_logs new) last → IsRepaired new last → LeavesCleared n third plan.half_clean.items new → Repaired old new n last
-repairs old middle third new n first second last plan lawful k is k' planned kept known repaired left =
+    → KeepsMountable n third new → Knows new n (drive_logs new) last → IsRepaired new last → LeavesCleared n third plan.half_clean.items new
+    → KeepsOthers third plan.half_clean.items new → Repaired old new n last
+repairs old middle third new n first second last plan lawful k is k' planned kept known repaired left others =
     let both = keeps-both old middle third k k' in
     record {
       can = to-mount old middle third n first second plan lawful k is k' planned;
@@ -375,6 +379,7 @@ repairs old middle third new n first second last plan lawful k is k' planned kep
       kept = keeps-mountable-both n old third new (closing-keeps old third n both) kept;
       known = known;
       repaired = repaired;
+      others = rw (kept-logs old third both, kept-contents old third both, both.geometry) at others;
     }
 
 -- the next sequence
@@ -397,7 +402,7 @@ pub mounts : (old new : DriveState) (n : ℕ) (survey : Survey) (tables : Tables
     → Mounts old new n tables
 mounts old new n survey tables is next given agrees roles = record {
   can = is.can;
-  leaves = record { resets = is.resets; clearing = is.clearing; left = is.left };
+  leaves = record { resets = is.resets; clearing = is.clearing; left = is.left; others = is.others };
   agrees = agrees;
   roles = roles;
   given = given;
@@ -441,6 +446,28 @@ pub carried-left : (old middle third new : DriveState) (n : ℕ) (resets : List 
     → LeavesPlanned middle.geometry n (drive_logs middle) plan (drive_logs third) → drive_logs new ≡ drive_logs third → LeavesCleared n old resets new
 carried-left old middle third new n resets plan survey is plans left same =
     rw same (planned-left old.geometry n (cleared (drive_logs old) resets) (drive_logs third) (zone_tails (contents old.zones)) plan plans (rw (is.logs, is.kept.geometry) at left))
+
+-- without a torn zone nothing is repaired
+no-repair : (geometry : Geometry) (n : ℕ) (logs : List (List Batch)) (tails : List Bool) (plan : Option Repair) → Plans geometry n logs tails plan → NoneIsTorn logs tails → plan ≡ None
+no-repair geometry n logs tails None is none = refl
+no-repair geometry n logs tails (Some repair) is none = absurd (none repair.zone is.torn.torn)
+
+-- a log that is left is as it was
+log-left : (logs : List (List Batch)) (resets : List ℕ) (zone : ℕ) → log_at (cleared logs resets) zone ≢ [] → log_at (cleared logs resets) zone ≡ log_at logs zone
+log-left logs resets zone some = elim (set_all-parts logs logs resets [] [] zone) as (λ _. log_at (cleared logs resets) zone ≡ log_at logs zone) [
+  | inl gone ↦ absurd (some (ap (λ (ls : List (List Batch)). log_at ls zone) (cleared-set_all logs resets) ∙ gone))
+  | inr stays ↦ ap (λ (ls : List (List Batch)). log_at ls zone) (cleared-set_all logs resets) ∙ stays
+]
+
+pub carried-others : (old middle third new : DriveState) (n : ℕ) (resets : List ℕ) (plan : Option Repair) (survey : Survey) → Empties old middle n resets survey → Plans old.geometry n (cleared (drive_logs old) resets) (zone_tails (contents old.zones)) plan
+    → KeepsWritten old middle → (plan ≡ None → third ≡ middle) → KeepsGoing third new → KeepsOthers old resets new
+carried-others old middle third new n resets plan survey is plans written same going none zone some goes =
+    let third_is : third ≡ middle = same (no-repair old.geometry n (cleared (drive_logs old) resets) (zone_tails (contents old.zones)) plan plans none) in
+    let log : log_at (drive_logs middle) zone ≡ log_at (drive_logs old) zone = ap (λ (ls : List (List Batch)). log_at ls zone) is.logs ∙ log-left (drive_logs old) resets zone some in
+    let kept : content_at (contents middle.zones) zone ≡ content_at (contents old.zones) zone = written zone (λ gone. some (ap (λ (ls : List (List Batch)). log_at ls zone) (sym is.logs) ∙ gone)) in
+    let still : GoesOn middle zone = λ partly. rw (log, is.kept.geometry, kept) (goes (rw kept at partly)) in
+    let after : content_at (contents new.zones) zone ≡ content_at (contents middle.zones) zone = subst (λ (d : DriveState). KeepsGoing d new) third_is going zone still in
+    after ∙ kept
 
 pub on-ok : (result : Result (Unit {0}) MountFault) (P Q : Type 0) → (P → Q) → OnOk result P → OnOk result Q
 on-ok (Ok done) P Q f is = f is

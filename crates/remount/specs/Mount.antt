@@ -1,5 +1,5 @@
 -- Which drives are mounted, and why others are refused.
-use Rattle.std.specs.Prelude.{◌≡◌, ◌⊎◌, ℕ, ◌+◌, ◌<◌, ◌≤◌, ◌^◌, max, Bool, true, false, List, length, slice_get, slice_index_or, Contains, Option, Some, None, count_by}
+use Rattle.std.specs.Prelude.{◌≡◌, ◌≢◌, ◌⊎◌, ℕ, ◌+◌, ◌<◌, ◌≤◌, ◌^◌, max, Bool, true, false, List, [], length, slice_get, slice_index_or, Contains, Option, Some, None, count_by}
 use Rattle.std.specs.List.{AllByRecursion}
 use Rattle.nvme_wire.specs.declared.zone_state.ZoneState.TheVariants.{Empty}
 use Rattle.zone_states.specs.declared.geometry.Geometry.{Geometry}
@@ -28,6 +28,7 @@ use Rattle.remount.specs.declared.survey.Survey.{Survey}
 use Rattle.remount.specs.declared.steps.Plan.{Plan}
 use Rattle.remount.specs.Heads.{greatest_sequence}
 use Rattle.remount.specs.Known.{AreVacantEmpty, HasVacant, Knows}
+use Rattle.remount.specs.Resets.{GoesOn}
 use Rattle.remount.specs.TornRepair.{RepairsTorn}
 use Rattle.remount.specs.Survey.{AreInside, CanScan, HoldLogs, SurveyFails, drive_size}
 
@@ -134,11 +135,18 @@ LeavesPlanned geometry n logs (Some repair) new = RepairsTorn geometry n logs re
 abbrev pub LeavesCleared : ℕ → DriveState → List ℕ → DriveState → Type 0
 LeavesCleared n old resets new = LeavesRepaired old.geometry n (cleared (drive_logs old) resets) (zone_tails (contents old.zones)) (drive_logs new)
 
--- What a mount leaves of a drive: its half clean zones were emptied, the lowest first, and then a torn zone was repaired.
+-- No zone was finished without need: where no zone of the cleared drive is torn, each zone that has a batch there is as it was, but for partly written ones that a disk does not go on with.
+abbrev pub KeepsOthers : DriveState → List ℕ → DriveState → Type 0
+KeepsOthers old resets new =
+    NoneIsTorn (cleared (drive_logs old) resets) (zone_tails (contents old.zones))
+    → (zone : ℕ) → log_at (cleared (drive_logs old) resets) zone ≢ [] → GoesOn old zone → content_at (contents new.zones) zone ≡ content_at (contents old.zones) zone
+
+-- What a mount leaves of a drive: its half clean zones were emptied, the lowest first, and then a torn zone was repaired; and no other zone was finished without need.
 pub record LeavesMounted (old new : DriveState) (n : ℕ) : Type 0 where
   pub resets : List ℕ
   pub clearing : IsClearing old.geometry.block n (drive_logs old) resets
   pub left : LeavesCleared n old resets new
+  pub others : KeepsOthers old resets new
 
 -- A drive that can be mounted is mounted, with n logical blocks where no header says how many. It was cleared and repaired. The tables agree with the drive that is left, which has the same array; and the next sequence is one more than the greatest that any batch had.
 pub record Mounts (old new : DriveState) (n : ℕ) (tables : TablesView) : Type 0 where

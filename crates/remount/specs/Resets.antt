@@ -1,5 +1,5 @@
 -- What a Reset or a Finish of a mount leaves of the drive, and of what is known of it.
-use Rattle.std.specs.Prelude.{◌≡◌, ◌⊎◌, ℕ, ◌+◌, ◌<◌, ◌≤◌, ◌&&◌, ◌||◌, nat_lt, Bool, true, false, List, [], ◌∷◌, length, slice_get, slice_set, Some}
+use Rattle.std.specs.Prelude.{◌≡◌, ◌≢◌, ◌⊎◌, ℕ, ◌+◌, ◌<◌, ◌≤◌, ◌&&◌, ◌||◌, nat_lt, Bool, true, false, List, [], ◌∷◌, length, slice_get, slice_set, Some}
 use Rattle.std.specs.List.{AllByRecursion}
 use Rattle.nvme_wire.specs.declared.zone_state.ZoneState.TheVariants.{Empty, Full}
 use Rattle.drive_port.specs.Contents.{Content, Finishes, content_at, contents, emptied}
@@ -78,8 +78,16 @@ FinishesIf old new before after zone =
     (IsTested old.geometry.capacity (batch_most old.geometry) before zone false × (new ≡ old) × (after ≡ before))
     ⊎ (IsTested old.geometry.capacity (batch_most old.geometry) before zone true × FinishesOne old new before after zone)
 
+-- each zone that has a batch now is as it was
+abbrev pub KeepsWritten : DriveState → DriveState → Type 0
+KeepsWritten old new = (zone : ℕ) → log_at (drive_logs new) zone ≢ [] → content_at (contents new.zones) zone ≡ content_at (contents old.zones) zone
+
 -- A disk goes on with a zone, if it is partly written: it has two free blocks, and no batch with more entries than ours.
 abbrev pub GoesOn : DriveState → ℕ → Type 0
 GoesOn drive zone =
     is_partly_written (content_at (contents drive.zones) zone) ≡ true
     → (length (content_at (contents drive.zones) zone).blocks + 2 ≤ drive.geometry.capacity) × AllByRecursion (HasAtMost (batch_most drive.geometry)) (log_at (drive_logs drive) zone)
+
+-- each zone that a disk goes on with, and each that is not partly written, is as it was
+abbrev pub KeepsGoing : DriveState → DriveState → Type 0
+KeepsGoing old new = (zone : ℕ) → GoesOn old zone → content_at (contents new.zones) zone ≡ content_at (contents old.zones) zone

@@ -11,7 +11,7 @@ ghost use Rattle.remount.specs.Heads.{heads_of, no_heads};
 ghost use Rattle.remount.specs.Known.{AreVacantEmpty, KeepsMountable, Knows};
 ghost use Rattle.remount.specs.Known.{HasVacant};
 ghost use Rattle.remount.specs.Mount.{AreToEmpty, AreWhole, IsRepaired};
-ghost use Rattle.remount.specs.Resets.{FinishesIf, FinishesOne, IsTested, MayChange, MayReset, ResetsAll, is_to_finish, reported_empty};
+ghost use Rattle.remount.specs.Resets.{FinishesIf, FinishesOne, IsTested, KeepsGoing, KeepsWritten, MayChange, MayReset, ResetsAll, is_to_finish, reported_empty};
 ghost use Rattle.remount.specs.Scan.{AreKnown, FailsBy, heads_in};
 
 use crate::fault::MountFault;
@@ -112,6 +112,7 @@ pub fn empty_zones<D: Device>(
     ensures known { OnOk result (Knows (D.drive device.new) blocks (drive_logs (D.drive device.new)) survey.new) }
     ensures logs { OnOk result (drive_logs (D.drive device.new) ≡ cleared (drive_logs (D.drive device.old)) half_clean.now) }
     ensures vacant { OnOk result (AreVacantEmpty survey.new.zones.items (drive_logs (D.drive device.new))) }
+    ensures others { OnOk result (KeepsWritten (D.drive device.old) (D.drive device.new)) }
     ensures tails { OnOk result ((zone : ℕ) → log_at (drive_logs (D.drive device.new)) zone ≢ [] → slice_index_or (zone_tails (contents (D.drive device.new).zones)) zone false ≡ slice_index_or (zone_tails (contents (D.drive device.old).zones)) zone false) }
     ensures err { IfErr result (FailsBy (λ _. ⊥) (D.drive device.new)) }
     ensures kept { KeepsMountable blocks (D.drive device.old) (D.drive device.new) }
@@ -193,6 +194,7 @@ pub fn finish_zones<D: Device>(
     ensures known { OnOk result (Knows (D.drive device.new) blocks (drive_logs (D.drive device.new)) survey.new) }
     ensures logs { OnOk result (drive_logs (D.drive device.new) ≡ drive_logs (D.drive device.old)) }
     ensures repaired { OnOk result (IsRepaired (D.drive device.new) survey.new) }
+    ensures others { OnOk result (KeepsGoing (D.drive device.old) (D.drive device.new)) }
     ensures err { IfErr result (FailsBy (λ _. ⊥) (D.drive device.new)) }
     ensures kept { KeepsMountable blocks (D.drive device.old) (D.drive device.new) }
 {

@@ -1,10 +1,10 @@
-ghost use Rattle.std.specs.Prelude.{◌≡◌, ◌≢◌, ◌⊎◌, IfErr, IfOk, OnOk};
+ghost use Rattle.std.specs.Prelude.{◌≡◌, ◌≢◌, ◌⊎◌, IfErr, IfOk, None, OnOk};
 ghost use Rattle.drive_port.specs.Contents.{contents};
 ghost use Rattle.zone_choice.specs.Agreement.{drive_logs};
 ghost use Rattle.zone_choice.specs.ZoneLogs.{zone_tails};
 ghost use Rattle.remount.specs.declared.fault.MountFault.TheVariants as faults;
 ghost use Rattle.remount.specs.Known.{KeepsMountable, Knows};
-ghost use Rattle.remount.specs.Mount.{IsCleared, IsPlanned, IsRepaired, IsToMount, IsUntorn, LeavesCleared, LeavesPlanned, MountFails, Mounts, PlanFails, Plans};
+ghost use Rattle.remount.specs.Mount.{IsCleared, IsPlanned, IsRepaired, IsToMount, IsUntorn, KeepsOthers, LeavesCleared, LeavesPlanned, MountFails, Mounts, PlanFails, Plans};
 ghost use Rattle.remount.specs.Reported.{KeepsZones};
 ghost use Rattle.remount.specs.Scan.{FailsBy};
 ghost use Rattle.remount.specs.Survey.{CanScan};
@@ -68,6 +68,7 @@ fn repair_torn<D: Device>(
     requires plan { Plans (D.drive device.old).geometry blocks (drive_logs (D.drive device.old)) (zone_tails (contents (D.drive device.old).zones)) repair.now }
     ensures ok { OnOk result (IsUntorn (D.drive device.new) blocks survey.new) }
     ensures left { OnOk result (LeavesPlanned (D.drive device.old).geometry blocks (drive_logs (D.drive device.old)) repair.now (drive_logs (D.drive device.new))) }
+    ensures others { OnOk result (repair.now ≡ None → D.drive device.new ≡ D.drive device.old) }
     ensures err { IfErr result (FailsBy (λ _. ⊥) (D.drive device.new)) }
     ensures kept { KeepsMountable blocks (D.drive device.old) (D.drive device.new) }
 {
@@ -89,6 +90,7 @@ fn carry_out<D: Device>(
     ensures known { OnOk result (Knows (D.drive device.new) blocks (drive_logs (D.drive device.new)) survey.new) }
     ensures repaired { OnOk result (IsRepaired (D.drive device.new) survey.new) }
     ensures left { OnOk result (LeavesCleared blocks (D.drive device.old) plan.now.half_clean.items (D.drive device.new)) }
+    ensures others { OnOk result (KeepsOthers (D.drive device.old) plan.now.half_clean.items (D.drive device.new)) }
     ensures err { IfErr result (FailsBy (λ _. ⊥) (D.drive device.new)) }
     ensures kept { KeepsMountable blocks (D.drive device.old) (D.drive device.new) }
 {

@@ -1,7 +1,7 @@
 use Rattle.zone_choice.specs.Agreement.{drive_logs}
 use Rattle.remount.specs.Resets.{ResetsAll}
 use Rattle.remount.proofs.KeepLaws.{keeps-mountable-both}
-use Rattle.remount.proofs.EmptyLaws.{CanEmpty, if-ok, knows-cleared, logs-cleared, may-clear, tails-emptied, vacant-emptied, vacant-may}
+use Rattle.remount.proofs.EmptyLaws.{CanEmpty, if-ok, knows-cleared, logs-cleared, may-clear, tails-emptied, vacant-emptied, vacant-may, written-stay}
 use Rattle.remount.proofs.empty.empty_zones.Goals as goal
 
 pub reset_zones-requires-clause-may : goal.reset_zones-requires-clause-may
@@ -65,3 +65,10 @@ returns-clause-tails g c =
     let middle = g.D.Device.drive c.reset_zones.new.device in
     let new = g.D.Device.drive c.reset_zones-2.new.device in
     if-ok c.reset_zones-2.result (λ two. tails-emptied old middle new c.args.survey.now c.reset_zones.new.survey c.reset_zones-2.new.survey c.args.vacant.now c.args.half_clean.now c.in_ok-reset_zones.ensures.ok two) c.reset_zones-2.ensures.ok
+
+pub returns-clause-others : goal.returns-clause-others
+returns-clause-others g c =
+    let old = g.D.Device.drive c.args.device.now in
+    let middle = g.D.Device.drive c.reset_zones.new.device in
+    let new = g.D.Device.drive c.reset_zones-2.new.device in
+    if-ok c.reset_zones-2.result (λ two. written-stay old middle new c.args.survey.now c.reset_zones.new.survey c.reset_zones-2.new.survey c.args.vacant.now c.args.half_clean.now c.in_ok-reset_zones.ensures.ok two) c.reset_zones-2.ensures.ok

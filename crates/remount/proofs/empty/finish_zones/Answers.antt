@@ -40,3 +40,6 @@ returns-clause-repaired g c =
     let some = c.loop-zone.invariant in
     let long = same-long first now c.args.survey.now c.loop-zone.survey c.args.blocks c.loop-zone.zone can some in
     finish-repaired first now c.args.survey.now c.loop-zone.survey c.args.blocks c.loop-zone.zone can some (omega (arith, long, c.loop-zone-test.false, c.len-zone-end.ensures))
+
+pub returns-clause-others : goal.returns-clause-others
+returns-clause-others g c = c.loop-zone.invariant.others

@@ -78,7 +78,7 @@ returns-clause-ok g c =
     let third = g.D.Device.drive c.plan_mount.new.device in
     let last = g.D.Device.drive c.carry_out.new.device in
     let is = repairs old middle third last c.args.blocks c.in_ok-survey.survey c.plan_mount.new.survey c.carry_out.new.survey c.in_ok-plan.plan c.geometry-geometry.ensures.lawful c.survey_drive.ensures.kept c.in_ok-survey.ensures.ok
-    c.plan_mount.ensures.kept c.in_ok-plan.ensures.ok c.carry_out.ensures.kept c.in_ok-carry_out.ensures.known c.in_ok-carry_out.ensures.repaired c.in_ok-carry_out.ensures.left in
+    c.plan_mount.ensures.kept c.in_ok-plan.ensures.ok c.carry_out.ensures.kept c.in_ok-carry_out.ensures.known c.in_ok-carry_out.ensures.repaired c.in_ok-carry_out.ensures.left c.in_ok-carry_out.ensures.others in
     let was = c.greatest_sequence-greatest.ensures ∙ ap (λ (zs : List ScannedZone). greatest_sequence (sequences_in (heads_in zs))) c.deref.ensures.value in
     let now = c.greatest_sequence.ensures ∙ ap (λ (zs : List ScannedZone). greatest_sequence (sequences_in (heads_in zs))) c.deref-2.ensures.value in
     let next = next-is old last c.args.blocks c.greatest_sequence-greatest.result c.greatest_sequence.result c.in_ok-tables.tables.next c.in_ok-survey.survey c.carry_out.new.survey is c.in_ok-survey.ensures.ok.scans.heads was now
