@@ -2,7 +2,8 @@
 
 use clap::error::ErrorKind;
 use command_line::job_of;
-use disk_jobs::{Job, ProgramFault, RecentInput, Stop, explain, run_job, write_program_fault};
+use disk_files::LineReader;
+use disk_jobs::{Job, ProgramFault, Stop, explain, run_job, write_program_fault};
 use disk_runs::RunFault;
 use drive_images::write_image;
 use drive_port::Geometry;
@@ -253,19 +254,20 @@ start 24 state Empty pointer 24 capacity 6
         (raw, b"fill 0 5 AA\n", b"", Err(not_a_line(1))),
     ] {
         let mut written = Vec::new(rt.alloc());
-        let (_, ended) = run_job(rt.alloc(), &job, &mut io::empty(), lines, &mut written);
+        let mut input = LineReader::new(rt.alloc(), lines);
+        let (_, ended) = run_job(rt.alloc(), &job, &mut io::empty(), &mut input, &mut written);
         assert_eq!(rt; (written.as_slice(), ended), (output, result));
     }
 }
 
 // What standard error says of the fault that ends a job; nothing where none does.
 fn explained(rt: &impl Abort, alloc: Global, job: &Job, lines: &[u8]) -> String {
-    let mut input = RecentInput::new(alloc, lines);
+    let mut input = LineReader::new(alloc, lines);
     let mut written = Vec::new(alloc);
     let (_, ended) = run_job(alloc, job, &mut io::empty(), &mut input, &mut written);
     match ended {
         Ok(()) => String::new(alloc),
-        Err(fault) => explain(alloc, job, fault, &input).expect(rt, "memory"),
+        Err(fault) => explain(alloc, job, fault, input.line()).expect(rt, "memory"),
     }
 }
 
@@ -476,7 +478,8 @@ start 24 state Empty pointer 24 capacity 6
         (&closing, b"fill 0 5 AA\n", closed, 4192),
     ] {
         let mut written = Vec::new(alloc);
-        let (drive, ended) = run_job(alloc, job, &mut image.as_slice(), lines, &mut written);
+        let mut input = LineReader::new(alloc, lines);
+        let (drive, ended) = run_job(alloc, job, &mut image.as_slice(), &mut input, &mut written);
         if let Err(fault) = ended {
             let told = write_program_fault(alloc, fault, &mut written);
             assert_eq!(rt; told, Ok(()));

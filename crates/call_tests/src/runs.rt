@@ -2,6 +2,7 @@
 
 use crate::fakes::{FailingReader, FailingWriter};
 use batch_log::LogFault;
+use disk_files::LineReader;
 use disk_runs::{RunFault, run_raw, run_trace, write_fault};
 use drive_port::Geometry;
 use std::alloc::Global;
@@ -33,14 +34,17 @@ const REPLIES: &[u8] = b"ok\n0 aa*512\nok\n";
 fn ends_where_the_reader_fails(rt: HostRuntime) {
     for left in 0..=TRACE.len() {
         for step in [1, 100] {
-            let reader = FailingReader {
-                bytes: TRACE,
-                step,
-                left,
-            };
+            let mut reader = LineReader::new(
+                rt.alloc(),
+                FailingReader {
+                    bytes: TRACE,
+                    step,
+                    left,
+                },
+            );
             let mut replies = Vec::new(rt.alloc());
             let drive = drive(&rt, rt.alloc());
-            let (_, result) = run_trace(rt.alloc(), reader, &mut replies, drive, 9);
+            let (_, result) = run_trace(rt.alloc(), &mut reader, &mut replies, drive, 9);
             let want = if left < 12 {
                 b"".as_slice()
             } else if left < 21 {
@@ -69,9 +73,11 @@ fn ends_where_the_writer_fails(rt: HostRuntime) -> Result<(), Fail> {
             };
             let drive = drive(&rt, rt.alloc());
             let (_, result) = if is_trace {
-                run_trace(rt.alloc(), TRACE, &mut writer, drive, 9)
+                let mut reader = LineReader::new(rt.alloc(), TRACE);
+                run_trace(rt.alloc(), &mut reader, &mut writer, drive, 9)
             } else {
-                run_raw(rt.alloc(), lines.as_slice(), &mut writer, drive)
+                let mut reader = LineReader::new(rt.alloc(), lines.as_slice());
+                run_raw(rt.alloc(), &mut reader, &mut writer, drive)
             };
             let want = if left < replies.len() {
                 Err(RunFault::Output)

@@ -110,6 +110,11 @@ impl Ahead {
         self.start == self.end
     }
 
+    /// Whether a whole line, with its line feed, is ahead.
+    pub fn has_line(&self) -> bool {
+        first_place(&self.bytes[self.start..self.end], b'\n').is_some()
+    }
+
     /// What was taken of the line, without its line feed.
     pub fn line(&self) -> &[u8]
         ensures { result.now ≡ self.now.line }

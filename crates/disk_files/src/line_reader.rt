@@ -144,6 +144,11 @@ impl<R: Read + Drop> LineReader<R> {
         self.ahead.line()
     }
 
+    /// Whether a whole line was read ahead, so that the next one is read without asking the reader for bytes.
+    pub fn has_line(&self) -> bool {
+        self.ahead.has_line()
+    }
+
     /// Reads the next line; the last line may lack a line feed. False where no byte is left.
     pub fn next_line(&mut self) -> Result<bool, LineFault>
         ensures reads { ReadsLine self.old.left self.new.left self.new.line result }

@@ -1,22 +1,12 @@
 use crate::fault::ProgramFault;
 use crate::job::Job;
 use crate::line_problem::{raw_problem, trace_problem};
-use crate::recent::RecentInput;
 use disk_files::LONGEST_LINE;
 use disk_runs::RunFault;
 use std::alloc::{AllocError, Global};
-use std::io::Read;
 
 /// What is wrong with the line of this number.
-fn explain_line<R: Read + Drop>(
-    alloc: Global,
-    job: &Job,
-    number: u64,
-    input: &RecentInput<R>,
-) -> Result<String, AllocError> {
-    let Some(line) = input.line(number) else {
-        return format!(in alloc; "line {number} is none that can be answered");
-    };
+fn explain_line(alloc: Global, job: &Job, number: u64, line: &[u8]) -> Result<String, AllocError> {
     let problem = match job {
         Job::Nvme { .. } | Job::FreshRaw { .. } => raw_problem(line),
         _ => trace_problem(line),
@@ -24,14 +14,14 @@ fn explain_line<R: Read + Drop>(
     format!(in alloc; "line {number}: {problem}")
 }
 
-fn explain_run<R: Read + Drop>(
+fn explain_run(
     alloc: Global,
     job: &Job,
     fault: RunFault,
-    input: &RecentInput<R>,
+    line: &[u8],
 ) -> Result<String, AllocError> {
     match fault {
-        RunFault::Line(number) => explain_line(alloc, job, number, input),
+        RunFault::Line(number) => explain_line(alloc, job, number, line),
         RunFault::Long(number) => {
             format!(in alloc; "line {number} has more than {LONGEST_LINE} bytes")
         }
@@ -44,15 +34,15 @@ fn explain_run<R: Read + Drop>(
     }
 }
 
-/// One line for people that says what a fault is, without a line feed. `input` is what the job read its lines from.
-pub fn explain<R: Read + Drop>(
+/// One line for people that says what a fault is, without a line feed. `line` is the line that the job read last.
+pub fn explain(
     alloc: Global,
     job: &Job,
     fault: ProgramFault,
-    input: &RecentInput<R>,
+    line: &[u8],
 ) -> Result<String, AllocError> {
     match fault {
-        ProgramFault::Run(fault) => explain_run(alloc, job, fault, input),
+        ProgramFault::Run(fault) => explain_run(alloc, job, fault, line),
         ProgramFault::Reserve { most } => {
             format!(in alloc; "the drive has room for 1 to {most} logical blocks")
         }

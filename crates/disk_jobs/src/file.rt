@@ -1,6 +1,7 @@
 use crate::fault::ProgramFault;
 use crate::job::Job;
 use crate::program::run_job;
+use disk_files::LineReader;
 use disk_runs::RunFault;
 use drive_images::write_image;
 use std::alloc::Global;
@@ -54,7 +55,7 @@ pub fn run_on_file<F: Files, R: Read + Drop, W: Write>(
     alloc: Global,
     job: &Job,
     path: &str,
-    input: R,
+    input: &mut LineReader<R>,
     output: &mut W,
 ) -> Result<(), ProgramFault> {
     let (drive, result) = if let Job::Format { .. } = job {

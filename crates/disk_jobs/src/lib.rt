@@ -1,15 +1,19 @@
 //! The jobs of the program, and doing them.
 //!
 //! ```text
+//! let mut input = LineReader::new(alloc, rt.reader());
 //! let done = match job.image() {
-//!     Some(path) => run_on_file(&rt, rt.alloc(), &job, path, rt.reader(), &mut output),
-//!     None => run_job(rt.alloc(), &job, &mut io::empty(), rt.reader(), &mut output).1,
+//!     Some(path) => run_on_file(&rt, alloc, &job, path, &mut input, &mut output),
+//!     None => run_job(alloc, &job, &mut io::empty(), &mut input, &mut output).1,
 //! };
+//! if let Err(fault) = done {
+//!     let text = explain(alloc, &job, fault, input.line())?;
+//! }
 //! ```
 //!
 //! A [`Job`] is what the words of the command line ask for (`command_line` reads them). [`run_job`] does it, and
-//! [`run_on_file`] does it on the drive of a file. [`explain`] says what a fault is in a line for people; for this a
-//! [`RecentInput`] keeps what was read last.
+//! [`run_on_file`] does it on the drive of a file. [`explain`] says what a fault is in a line for people; the reader of
+//! the lines has the one at which a run ended.
 //!
 //! # What is promised
 //!
@@ -30,7 +34,6 @@ mod file;
 mod job;
 mod line_problem;
 mod program;
-mod recent;
 mod statistics;
 
 pub use explanation::explain;
@@ -38,5 +41,4 @@ pub use fault::{ProgramFault, write_program_fault};
 pub use file::run_on_file;
 pub use job::{Job, Stop};
 pub use program::run_job;
-pub use recent::RecentInput;
 pub use zone_drive::Habit;

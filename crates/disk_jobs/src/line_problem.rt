@@ -187,7 +187,7 @@ pub(crate) fn raw_problem(line: &[u8]) -> LineProblem {
     };
     match word_problem(line, wanted) {
         Some(problem) => problem,
-        // Only the end of long data can be wrong then, which is not kept.
+        // Nothing else can be wrong with a raw line.
         None => LineProblem::Word(2, Wanted::Data),
     }
 }

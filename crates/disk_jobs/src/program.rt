@@ -9,7 +9,7 @@ ghost use Rattle.disk_jobs.specs.declared.fault.ProgramFault.TheVariants as prog
 use crate::fault::ProgramFault;
 use crate::job::{Job, Stop};
 use crate::statistics::run_counted;
-use disk_files::{ok_reply, write_out};
+use disk_files::{LineReader, ok_reply, write_out};
 use disk_runs::{RunFault, run_raw, run_trace};
 use drive_images::read_image;
 use drive_port::{Device, StopAfter};
@@ -105,10 +105,10 @@ fn run_stopping<R: Read + Drop, W: Write>(
     drive: Drive,
     blocks: u64,
     stop: Stop,
-    input: R,
+    input: &mut LineReader<R>,
     output: &mut W,
 ) -> (Drive, Result<(), RunFault>)
-    ensures { RunsTrace blocks stop drive.state (R.remaining input) (W.contents output.old) result.1 (W.contents output.new) result.0.state }
+    ensures { RunsTrace blocks stop drive.state input.old.left (W.contents output.old) result.1 (W.contents output.new) result.0.state }
 {
     let device = stopping(drive, stop);
     let (device, result) = run_trace(alloc, input, output, device, blocks);
@@ -122,10 +122,10 @@ fn run<R: Read + Drop, W: Write>(
     blocks: u64,
     zones: bool,
     stop: Stop,
-    input: R,
+    input: &mut LineReader<R>,
     output: &mut W,
 ) -> (Drive, Result<(), RunFault>)
-    ensures { RunsAndShows blocks zones stop drive.state (R.remaining input) (W.contents output.old) result.1 (W.contents output.new) result.0.state }
+    ensures { RunsAndShows blocks zones stop drive.state input.old.left (W.contents output.old) result.1 (W.contents output.new) result.0.state }
 {
     let (drive, result) = run_stopping(alloc, drive, blocks, stop, input, output);
     if result.is_err() || !zones {
@@ -142,7 +142,7 @@ fn run_with_statistics<R: Read + Drop, W: Write>(
     blocks: u64,
     zones: bool,
     stop: Stop,
-    input: R,
+    input: &mut LineReader<R>,
     output: &mut W,
 ) -> (Drive, Result<(), RunFault>) {
     let device = stopping(drive, stop);
@@ -202,10 +202,10 @@ fn answer<R: Read + Drop, W: Write>(
     alloc: Global,
     job: &Job,
     drive: Drive,
-    input: R,
+    input: &mut LineReader<R>,
     output: &mut W,
 ) -> (Drive, Result<(), RunFault>)
-    ensures { AnswersLines job.now drive.state (R.remaining input) (W.contents output.old) result.1 (W.contents output.new) result.0.state }
+    ensures { AnswersLines job.now drive.state input.old.left (W.contents output.old) result.1 (W.contents output.new) result.0.state }
 {
     match job {
         Job::Run {
@@ -251,10 +251,10 @@ pub fn run_job<I: Read, R: Read + Drop, W: Write>(
     alloc: Global,
     job: &Job,
     image: &mut I,
-    input: R,
+    input: &mut LineReader<R>,
     output: &mut W,
 ) -> (Option<Drive>, Result<(), ProgramFault>)
-    ensures { JobLeaves job.now (I.remaining image.old) (R.remaining input) (W.contents output.old) result.0 result.1 (W.contents output.new) }
+    ensures { JobLeaves job.now (I.remaining image.old) input.old.left (W.contents output.old) result.0 result.1 (W.contents output.new) }
 {
     match drive_of(alloc, job, image, output) {
         Ok(Some(drive)) => {

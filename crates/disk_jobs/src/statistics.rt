@@ -1,4 +1,4 @@
-use disk_files::write_out;
+use disk_files::{LineReader, write_out};
 use disk_runs::{RunFault, answer_trace};
 use drive_counter::{Counter, Spread, statistics_text};
 use drive_port::Device;
@@ -33,7 +33,7 @@ fn show_statistics<W: Write, D: Device + Drop>(
 /// Answers a trace over a device whose commands are counted, and then shows what was counted.
 pub fn run_counted<R: Read + Drop, W: Write, D: Device + Drop>(
     alloc: Global,
-    input: R,
+    input: &mut LineReader<R>,
     output: &mut W,
     device: D,
     blocks: u64,

@@ -6,8 +6,9 @@
 //! ```text
 //! let alloc = rt.alloc();
 //! let drive = zone_drive::Drive::new(alloc, geometry)?;
+//! let mut input = LineReader::new(alloc, rt.reader());
 //! let mut output = io::writer(&rt);
-//! let (drive, result) = disk_runs::run_trace(alloc, rt.reader(), &mut output, drive, 9);
+//! let (drive, result) = disk_runs::run_trace(alloc, &mut input, &mut output, drive, 9);
 //! if let Err(fault) = result {
 //!     disk_runs::write_fault(alloc, fault, &mut output)?;
 //! }

@@ -56,6 +56,24 @@ pub(crate) trait Answerer {
     ghost leaves_same: { (fault : RunFault) (x : Kept) → Leaves fault x x };
 }
 
+/// Writes the reply that is held. Where no whole line waits to be answered, the replies are sent on their way, so that
+/// whoever waits for them before the next line gets them. What fails of that fails again at the next write, or at the
+/// end.
+fn send_reply<R: Read + Drop, W: Write, A: Answerer>(
+    reader: &LineReader<R>,
+    writer: &mut W,
+    answerer: &A,
+) -> Result<(), WriteFault>
+    ensures ok { OnOk result (Appends (W.contents writer.old) (W.contents writer.new) (A.reply answerer.now)) }
+    ensures err { OnErr result (AppendsFront (W.contents writer.old) (W.contents writer.new) (A.reply answerer.now)) }
+{
+    answerer.write_reply(writer)?;
+    if !reader.has_line() {
+        let _ = writer.flush();
+    }
+    Ok(())
+}
+
 /// Answers each line of the reader, in order, and writes its reply, until the lines end or one has no
 /// reply.
 pub(crate) fn answer_lines<R: Read + Drop, W: Write, A: Answerer>(
@@ -78,7 +96,7 @@ pub(crate) fn answer_lines<R: Read + Drop, W: Write, A: Answerer>(
             Err(fault) => return Err(RunFault::of_line(fault, number)),
         }
         answerer.answer(reader.line(), number)?;
-        answerer.write_reply(writer)?;
+        send_reply(reader, writer, answerer)?;
     }
     Err(RunFault::Input)
 }

@@ -81,23 +81,22 @@ impl<D: Device + Drop> Answerer for RawAnswerer<D> {
 /// next one. A device that halts is the fault `Disk`, with `OutOfMemory` or `Stopped`.
 pub fn run_raw<R: Read + Drop, W: Write, D: Device + Drop>(
     alloc: Global,
-    reader: R,
+    reader: &mut LineReader<R>,
     writer: &mut W,
     device: D,
 ) -> (D, Result<(), RunFault>)
-    ensures ok { OnOk result.1 (WhereKnown (R.remaining reader) (W.contents writer.old) (λ input written.
+    ensures ok { OnOk result.1 (WhereKnown reader.old.left (W.contents writer.old) (λ input written.
         Ran raw input written (D.drive device) (W.contents writer.new) (D.drive result.0))) }
-    ensures err { IfErr result.1 (λ fault. WhereKnown (R.remaining reader) (W.contents writer.old) (λ input written.
+    ensures err { IfErr result.1 (λ fault. WhereKnown reader.old.left (W.contents writer.old) (λ input written.
         Stopped raw input written (D.drive device) fault (W.contents writer.new) (D.drive result.0))) }
     ensures cause { IfErr result.1 (HasCause (DriveCause (D.drive result.0))) }
 {
-    let mut reader = LineReader::new(alloc, reader);
     let mut answerer = RawAnswerer {
         device,
         data: Vec::new(alloc),
         completion: None,
         returned: Vec::new(alloc),
     };
-    let result = answer_lines(&mut reader, writer, &mut answerer);
+    let result = answer_lines(reader, writer, &mut answerer);
     (answerer.device, result)
 }

@@ -85,26 +85,25 @@ impl<D: Device + Drop> Answerer for TraceAnswerer<D> {
 /// next one.
 pub fn answer_trace<R: Read + Drop, W: Write, D: Device + Drop>(
     alloc: Global,
-    reader: R,
+    reader: &mut LineReader<R>,
     writer: &mut W,
     disk: Disk<D>,
 ) -> (Disk<D>, Result<(), RunFault>)
-    ensures ok { OnOk result.1 (WhereKnown (R.remaining reader) (W.contents writer.old) (λ input written.
+    ensures ok { OnOk result.1 (WhereKnown reader.old.left (W.contents writer.old) (λ input written.
         Ran (flat disk.drive.geometry.block) input written (flat_of disk) (W.contents writer.new) (flat_of result.0))) }
-    ensures err { IfErr result.1 (λ fault. WhereKnown (R.remaining reader) (W.contents writer.old) (λ input written.
+    ensures err { IfErr result.1 (λ fault. WhereKnown reader.old.left (W.contents writer.old) (λ input written.
         Stopped (flat disk.drive.geometry.block) input written (flat_of disk) fault (W.contents writer.new) (flat_of result.0))) }
     ensures cause { IfErr result.1 (HasCause (EndCause result.0)) }
-    ensures keeps { OnOk result.1 (KeepsLines KeepsLine (R.remaining reader) disk result.0) }
-    ensures leaves { IfErr result.1 (λ fault. KeepsEnd KeepsLine KeepsFault (R.remaining reader) disk fault result.0) }
+    ensures keeps { OnOk result.1 (KeepsLines KeepsLine reader.old.left disk result.0) }
+    ensures leaves { IfErr result.1 (λ fault. KeepsEnd KeepsLine KeepsFault reader.old.left disk fault result.0) }
 {
-    let mut reader = LineReader::new(alloc, reader);
     let mut answerer = TraceAnswerer {
         disk,
         bytes: Vec::new(alloc),
         block: Vec::new(alloc),
         reply: Vec::new(alloc),
     };
-    let result = answer_lines(&mut reader, writer, &mut answerer);
+    let result = answer_lines(reader, writer, &mut answerer);
     (answerer.disk, result)
 }
 
@@ -112,13 +111,13 @@ pub fn answer_trace<R: Read + Drop, W: Write, D: Device + Drop>(
 /// [`answer_trace`] does. The drive is given back, as it stands.
 pub fn run_trace<R: Read + Drop, W: Write, D: Device + Drop>(
     alloc: Global,
-    reader: R,
+    reader: &mut LineReader<R>,
     writer: &mut W,
     device: D,
     blocks: u64,
 ) -> (D, Result<(), RunFault>)
-    ensures gives { RunGives blocks (D.drive device) (R.remaining reader) (W.contents writer.old) result.1 (W.contents writer.new) (D.drive result.0) }
-    ensures leaves { RunLeaves blocks (R.remaining reader) (D.drive device) result.1 (D.drive result.0) }
+    ensures gives { RunGives blocks (D.drive device) reader.old.left (W.contents writer.old) result.1 (W.contents writer.new) (D.drive result.0) }
+    ensures leaves { RunLeaves blocks reader.old.left (D.drive device) result.1 (D.drive result.0) }
 {
     let disk = match Disk::mount(alloc, device, blocks) {
         Ok(disk) => disk,

@@ -10,25 +10,27 @@
 //! ok
 //! ```
 //!
-//! The lines are `read`, `fill`, `write`, `trim`, `idle` and `grow`, as `docs/formats.md` describes them.
+//! The lines are `read`, `fill`, `write`, `trim`, `idle`, `grow` and `remount`, as `docs/formats.md` describes them.
 //! [`job_of`] reads the words of the command line, [`run_job`] does what they ask for, and [`run_on_file`] does it on
 //! the drive of a file. What the replies are is promised by the runs below, [`run_trace`], [`answer_trace`] and
-//! [`run_raw`]; what a job holds by [`job_of`]; which drive is saved, and what is shown of it, by [`run_job`]; and the
-//! image of a drive by `drive_images`. Which words are refused, `--statistics`, the file and the exit status are tested.
-//! [`explain`] says on standard error what a fault is.
+//! [`run_raw`]; what a job holds, and which words ask for none, by [`job_of`]; which drive is saved, and what is shown
+//! of it, by [`run_job`]; and the image of a drive by `drive_images`. `--statistics`, the file and the exit status are
+//! tested. [`explain`] says on standard error what a fault is.
 #![tactic(auto)]
 
 use clap::error::ErrorKind;
 pub use command_line::job_of;
+use disk_files::LineReader;
 pub use disk_jobs::{
-    Habit, Job, ProgramFault, RecentInput, Stop, explain, run_job, run_on_file, write_program_fault,
+    Habit, Job, ProgramFault, Stop, explain, run_job, run_on_file, write_program_fault,
 };
 pub use disk_runs::{RunFault, answer_trace, run_raw, run_trace, write_fault};
 use std::alloc::Global;
 use std::env::Env;
 use std::io;
-use std::io::Write;
+use std::io::{BufWriter, Read, Write};
 use std::process::ExitCode;
+use std::rt::Files;
 
 /// The exit status where the words were refused.
 const REFUSED: u8 = 2;
@@ -40,16 +42,38 @@ fn words<R: Env + Alloc<A = Global>>(rt: &R) -> io::Result<Vec<String>> {
 
 const OUT_OF_MEMORY: ProgramFault = ProgramFault::Run(RunFault::Memory);
 
+/// Sends on its way what was written.
+fn flush<W: Write>(output: &mut W) -> Result<(), ProgramFault> {
+    output.flush().or(Err(ProgramFault::Run(RunFault::Output)))
+}
+
 /// Writes the line of a fault, and gives the exit status of one, also where the line can't be written.
 fn fail<W: Write>(alloc: Global, fault: ProgramFault, output: &mut W) -> ExitCode {
-    match write_program_fault(alloc, fault, output) {
-        Ok(()) | Err(_) => ExitCode::FAILURE,
+    let _ = write_program_fault(alloc, fault, output);
+    let _ = flush(output);
+    ExitCode::FAILURE
+}
+
+/// Does a job, and sends on its way what it wrote.
+fn do_job<F: Files, R: Read + Drop, W: Write>(
+    files: &F,
+    alloc: Global,
+    job: &Job,
+    input: &mut LineReader<R>,
+    output: &mut W,
+) -> Result<(), ProgramFault> {
+    match job.image() {
+        Some(path) => run_on_file(files, alloc, job, path, input, output)?,
+        None => run_job(alloc, job, &mut io::empty(), input, output).1?,
     }
+    flush(output)
 }
 
 fn main(rt: HostRuntime) -> io::Result<ExitCode> {
     let alloc = rt.alloc();
-    let mut output = io::writer(&rt);
+    let Ok(mut output) = BufWriter::new(alloc, io::writer(&rt)) else {
+        return Ok(fail(alloc, OUT_OF_MEMORY, &mut io::writer(&rt)));
+    };
     let words = match words(&rt) {
         Ok(words) => words,
         Err(error) if error.kind() == io::ErrorKind::OutOfMemory => {
@@ -70,16 +94,12 @@ fn main(rt: HostRuntime) -> io::Result<ExitCode> {
             return Ok(ExitCode::from(REFUSED));
         }
     };
-    let mut input = RecentInput::new(alloc, rt.reader());
-    let result = match job.image() {
-        Some(path) => run_on_file(&rt, alloc, &job, path, &mut input, &mut output),
-        None => run_job(alloc, &job, &mut io::empty(), &mut input, &mut output).1,
-    };
-    let Err(fault) = result else {
+    let mut input = LineReader::new(alloc, rt.reader());
+    let Err(fault) = do_job(&rt, alloc, &job, &mut input, &mut output) else {
         return Ok(ExitCode::SUCCESS);
     };
     let code = fail(alloc, fault, &mut output);
-    if let Ok(text) = explain(alloc, &job, fault, &input) {
+    if let Ok(text) = explain(alloc, &job, fault, input.line()) {
         eprintln!(rt; "zonedisk: {text}")?;
     }
     Ok(code)

@@ -23,8 +23,8 @@ returns-in_err-answer-clause-err g c =
     (stops language c.args.reader.now.left (g.W.Write.contents c.args.writer.now) (a.state c.args.answerer.now) c.loop-number.number c.loop-number.reader.left _ old new c.in_err-answer.field-0.0
     (not_answered language old new c.loop-number.reader.left c.next_line.new.self.left c.next_line.new.self.line c.loop-number.number c.in_err-answer.field-0.0 reads short why) c.loop-number.invariant.2)
 
-pub returns-in_err-write_reply-clause-err : goal.returns-in_err-write_reply-clause-err
-returns-in_err-write_reply-clause-err g c =
+pub returns-in_err-send_reply-clause-err : goal.returns-in_err-send_reply-clause-err
+returns-in_err-send_reply-clause-err g c =
     let a = g.A.Answerer in
     let language = a.language (a.geometry c.args.answerer.now) in
     let old = a.state c.loop-number.answerer in
@@ -33,9 +33,9 @@ returns-in_err-write_reply-clause-err g c =
     let reads = rw c.in-Ok-true.field-0-test at c.in-Ok-true.ensures.reads in
     let short = short_line line c.in-Ok-true.field-0 c.next_line.result c.in-Ok-true.is c.next_line.ensures.long in
     let done = rw (c.line.ensures, c.loop-number.invariant.0) at c.in_ok-answer.ensures.ok in
-    if-fault c.from_residual-in_err-write_reply.result _ _ c.from_residual-in_err-write_reply.ensures.1
+    if-fault c.from_residual-in_err-send_reply.result _ _ c.from_residual-in_err-send_reply.ensures.1
     (stops_writing language c.args.reader.now.left (g.W.Write.contents c.args.writer.now) (a.state c.args.answerer.now) c.loop-number.number c.loop-number.reader.left c.next_line.new.self.left _ _ line (a.reply c.answer.new.self)
-    old new reads (line_of language old new line _ short done) done.answers c.in_err-write_reply.ensures.err c.loop-number.invariant.2)
+    old new reads (line_of language old new line _ short done) done.answers c.in_err-send_reply.ensures.err c.loop-number.invariant.2)
 
 pub loop-number-preserved : goal.loop-number-preserved
 loop-number-preserved g c =
@@ -51,7 +51,7 @@ loop-number-preserved g c =
       c.answer.ensures.geometry ∙ c.loop-number.invariant.0,
       kept_more a.Keeps c.args.reader.now.left c.loop-number.reader.left c.next_line.new.self.left line (a.kept c.args.answerer.now) (a.kept c.loop-number.answerer) (a.kept c.answer.new.self) reads kept c.loop-number.invariant.1,
       goes_on language c.args.reader.now.left (g.W.Write.contents c.args.writer.now) (a.state c.args.answerer.now) c.loop-number.number c.loop-number.reader.left c.next_line.new.self.left _ _ line (a.reply c.answer.new.self)
-          old new reads (line_of language old new line _ short done) done.answers c.in_ok-write_reply.ensures.ok c.loop-number.invariant.2,
+          old new reads (line_of language old new line _ short done) done.answers c.in_ok-send_reply.ensures.ok c.loop-number.invariant.2,
     )
 
 pub returns-clause-err : goal.returns-clause-err
@@ -78,13 +78,13 @@ returns-in_err-answer-clause-leaves g c =
     if-fault c.from_residual.result c.in_err-answer.field-0.0 _ c.from_residual.ensures.1
     (kept_end a.Keeps a.Leaves c.args.reader.now.left c.loop-number.reader.left (a.kept c.args.answerer.now) (a.kept c.loop-number.answerer) (a.kept c.answer.new.self) c.in_err-answer.field-0.0 c.loop-number.invariant.1 c.in_err-answer.ensures.leaves)
 
-pub returns-in_err-write_reply-clause-leaves : goal.returns-in_err-write_reply-clause-leaves
-returns-in_err-write_reply-clause-leaves g c =
+pub returns-in_err-send_reply-clause-leaves : goal.returns-in_err-send_reply-clause-leaves
+returns-in_err-send_reply-clause-leaves g c =
     let a = g.A.Answerer in
     let line = c.next_line.new.self.line in
     let reads = rw c.in-Ok-true.field-0-test at c.in-Ok-true.ensures.reads in
     let kept = rw c.line.ensures at c.in_ok-answer.ensures.keeps in
-    if-fault c.from_residual-in_err-write_reply.result _ _ c.from_residual-in_err-write_reply.ensures.1
+    if-fault c.from_residual-in_err-send_reply.result _ _ c.from_residual-in_err-send_reply.ensures.1
     (kept_end a.Keeps a.Leaves c.args.reader.now.left c.next_line.new.self.left (a.kept c.args.answerer.now) (a.kept c.answer.new.self) (a.kept c.answer.new.self) _
     (kept_more a.Keeps c.args.reader.now.left c.loop-number.reader.left c.next_line.new.self.left line (a.kept c.args.answerer.now) (a.kept c.loop-number.answerer) (a.kept c.answer.new.self) reads kept c.loop-number.invariant.1)
     (g.met.A.Answerer.leaves_same _ (a.kept c.answer.new.self)))
