@@ -6,7 +6,7 @@ use Rattle.clap.specs.Simple.{app_of_fields}
 use Rattle.clap.specs.declared.builder.arg.Arg.{Arg}
 use Rattle.clap.specs.declared.builder.command.Command.{Command}
 use Rattle.clap.specs.declared.builder.command.Command.TheViews.{out-Command as fields_of}
-use Rattle.command_line.specs.Program.{AddsOptions, IsCommand}
+use Rattle.command_line.specs.Program.{AddsOptions, AddsSubcommands, IsCommand}
 
 -- a command that has become this one, with no option more that subcommands inherit
 abbrev pub Becomes : Command → App → Command → Type 0
@@ -27,6 +27,10 @@ options_more old middle new app rules before adds =
 pub subcommand_more : (old middle new : Command) (app : App) (sub : Command) (shape : Shape) → Becomes old app middle → AddsSubcommand middle sub new → IsCommand shape sub → Becomes old (with_subcommand app shape) new
 subcommand_more old middle new app sub shape before adds is =
     (adds.shape is.globals ∙ ap₂ with_subcommand before.0 (ap (λ (a : App). a.top) is.app_is), adds.globals ∙ or_false _ _ is.globals ∙ before.1)
+
+pub subcommands_more : (old middle new : Command) (app : App) (shapes : List Shape) → Becomes old app middle → AddsSubcommands shapes middle new → Becomes old (fold with_subcommand app shapes) new
+subcommands_more old middle new app shapes before adds =
+    (adds.app ∙ ap (λ a. fold with_subcommand a shapes) before.0, adds.globals ∙ before.1)
 
 -- texts for help change nothing of a command that was just made
 pub dressed : (made about help : Command) (app : App) {s t : Option (Bor (List ℕ))} → app_of made ≡ app → fields_of about ≡ record (fields_of made) { about = s } → fields_of help ≡ record (fields_of about) { after_help = t } → Becomes made app help

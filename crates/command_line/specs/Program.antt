@@ -1,7 +1,7 @@
 -- The words that the program takes, as clap has them.
 use Rattle.std.specs.Prelude.{◌≡◌, pos, true, false, List, [], ◌∷◌, fold, Some, codes, ◌++◌}
 use Rattle.std.specs.Borrow.{Bor}
-use Rattle.clap.specs.Words.{App, Rule, Shape, Text, app_of, new_rule, with_rule}
+use Rattle.clap.specs.Words.{App, Rule, Shape, Text, app_of, new_rule, with_rule, with_subcommand}
 use Rattle.clap.specs.Simple.{new_shape}
 use Rattle.clap.specs.declared.builder.action.ArgAction.TheVariants.{Set, SetTrue}
 use Rattle.clap.specs.declared.builder.command.Command.{Command}
@@ -42,10 +42,15 @@ image = valued (codes "image")
 abbrev pub blocks : Rule
 blocks = number (codes "blocks") below_2_63
 
+-- the parts of a geometry: the shape of the drive, and its limits
+abbrev pub shape : List Rule
+shape = part (codes "block") ∷ part (codes "zones") ∷ part (codes "size") ∷ part (codes "capacity") ∷ []
+
+abbrev pub limits : List Rule
+limits = part (codes "transfer") ∷ part (codes "active") ∷ part (codes "open") ∷ []
+
 abbrev pub parts : List Rule
-parts =
-    part (codes "block") ∷ part (codes "zones") ∷ part (codes "size") ∷ part (codes "capacity")
-    ∷ part (codes "transfer") ∷ part (codes "active") ∷ part (codes "open") ∷ []
+parts = shape ++ limits
 
 abbrev pub stops : List Rule
 stops = optional (number (codes "stop-after") below_2_63) ∷ optional (number (codes "tear") below_2_63) ∷ []
@@ -81,6 +86,16 @@ fresh names = with_options (codes "fresh") (parts ++ blocks ∷ flag (codes "rep
 abbrev pub fresh_raw : Bor (List (Bor Text)) → Shape
 fresh_raw names = with_options (codes "fresh-raw") (parts ++ habit names ∷ [])
 
+-- the subcommands for a disk over a drive in a file, those for that drive itself, and those over a fresh drive in memory
+abbrev pub disk_in_file : Bor (List (Bor Text)) → List Shape
+disk_in_file names = format ∷ run names ∷ []
+
+abbrev pub drive_in_file : Bor (List (Bor Text)) → List Shape
+drive_in_file names = report ∷ nvme names ∷ []
+
+abbrev pub in_memory : Bor (List (Bor Text)) → List Shape
+in_memory names = fresh names ∷ fresh_raw names ∷ []
+
 -- the program, by the names of the habits
 abbrev pub program : Bor (List (Bor Text)) → App
 program names = record {
@@ -91,6 +106,11 @@ program names = record {
 -- a command with these options more, none of which subcommands inherit
 pub record AddsOptions (rules : List Rule) (old new : Command) : Type 0 where
   pub app : app_of new ≡ fold with_rule (app_of old) rules
+  pub globals : (fields_of new).has_globals ≡ (fields_of old).has_globals
+
+-- a command with these subcommands more, none of whose options others inherit
+pub record AddsSubcommands (shapes : List Shape) (old new : Command) : Type 0 where
+  pub app : app_of new ≡ fold with_subcommand (app_of old) shapes
   pub globals : (fields_of new).has_globals ≡ (fields_of old).has_globals
 
 -- a command that is this one

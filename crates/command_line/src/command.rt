@@ -1,6 +1,6 @@
 ghost use Rattle.std.specs.Prelude.{◌≡◌, [], ◌∷◌, ◌++◌, false, IfOk, codes};
 ghost use Rattle.clap.specs.Words.{app_of, rule_of};
-ghost use Rattle.command_line.specs.Program.{AddsOptions, IsCommand, below_2_63, blocks, flag, format, fresh, fresh_raw, habit, image, number, nvme, optional, part, parts, program, report, run, stops};
+ghost use Rattle.command_line.specs.Program.{AddsOptions, AddsSubcommands, IsCommand, below_2_63, blocks, disk_in_file, drive_in_file, flag, format, fresh, fresh_raw, habit, image, in_memory, limits, number, nvme, optional, part, parts, program, report, run, shape, stops};
 
 use clap::builder::ValueParser;
 use clap::{Arg, ArgAction, Command, value_parser};
@@ -55,22 +55,37 @@ fn part<'a>(alloc: Global, name: &'a str, letter: &'a str, help: &'a str) -> Arg
     number_option(alloc, name, letter, help, value_parser!(u32))
 }
 
-/// The parts of a geometry.
-fn geometry_options<'a>(alloc: Global, command: Command<'a>) -> Result<Command<'a>, AllocError>
-    ensures { IfOk result (λ new. AddsOptions parts command.entry new) }
+/// The blocks and zones of a drive.
+fn shape_options<'a>(alloc: Global, command: Command<'a>) -> Result<Command<'a>, AllocError>
+    ensures { IfOk result (λ new. AddsOptions shape command.entry new) }
 {
     let size = "Blocks in a zone's addresses: C to 2^20";
     let capacity = "Blocks in a zone that take writes: 4 to S";
-    let transfer = "Blocks in a transfer at most: 2 to 256";
-    let active = "Zones active at once at most: 2 to 65536";
     command
         .arg(part(alloc, "block", "B", "Bytes in a block: 512 or 4096"))?
         .arg(part(alloc, "zones", "Z", "Zones: 3 to 65536"))?
         .arg(part(alloc, "size", "S", size))?
-        .arg(part(alloc, "capacity", "C", capacity))?
+        .arg(part(alloc, "capacity", "C", capacity))
+}
+
+/// The limits of a drive.
+fn limit_options<'a>(alloc: Global, command: Command<'a>) -> Result<Command<'a>, AllocError>
+    ensures { IfOk result (λ new. AddsOptions limits command.entry new) }
+{
+    let transfer = "Blocks in a transfer at most: 2 to 256";
+    let active = "Zones active at once at most: 2 to 65536";
+    command
         .arg(part(alloc, "transfer", "T", transfer))?
         .arg(part(alloc, "active", "A", active))?
         .arg(part(alloc, "open", "O", "Zones open at once at most: 1 to A"))
+}
+
+/// The parts of a geometry.
+fn geometry_options<'a>(alloc: Global, command: Command<'a>) -> Result<Command<'a>, AllocError>
+    ensures { IfOk result (λ new. AddsOptions parts command.entry new) }
+{
+    let command = shape_options(alloc, command)?;
+    limit_options(alloc, command)
 }
 
 /// An option without a value.
@@ -214,18 +229,54 @@ fn fresh_raw_command<'a>(alloc: Global, habits: &'a [&'a str]) -> Result<Command
     geometry_options(alloc, command)?.arg(habit_option(alloc, habits))
 }
 
+/// The subcommands for a disk over a drive in a file.
+fn disk_commands<'a>(
+    alloc: Global,
+    habits: &'a [&'a str],
+    command: Command<'a>,
+) -> Result<Command<'a>, AllocError>
+    ensures { IfOk result (λ new. AddsSubcommands (disk_in_file habits.entry) command.entry new) }
+{
+    command
+        .subcommand(format_command(alloc)?)?
+        .subcommand(run_command(alloc, habits)?)
+}
+
+/// The subcommands for a drive in a file.
+fn drive_commands<'a>(
+    alloc: Global,
+    habits: &'a [&'a str],
+    command: Command<'a>,
+) -> Result<Command<'a>, AllocError>
+    ensures { IfOk result (λ new. AddsSubcommands (drive_in_file habits.entry) command.entry new) }
+{
+    command
+        .subcommand(report_command(alloc)?)?
+        .subcommand(nvme_command(alloc, habits)?)
+}
+
+/// The subcommands over a fresh drive in memory.
+fn memory_commands<'a>(
+    alloc: Global,
+    habits: &'a [&'a str],
+    command: Command<'a>,
+) -> Result<Command<'a>, AllocError>
+    ensures { IfOk result (λ new. AddsSubcommands (in_memory habits.entry) command.entry new) }
+{
+    command
+        .subcommand(fresh_command(alloc, habits)?)?
+        .subcommand(fresh_raw_command(alloc, habits)?)
+}
+
 /// The words that the program takes.
 pub fn program<'a>(alloc: Global, habits: &'a [&'a str]) -> Result<Command<'a>, AllocError>
     ensures { IfOk result (λ new. app_of new ≡ program habits.entry) }
 {
-    Command::new(alloc, "zonedisk")
+    let command = Command::new(alloc, "zonedisk")
         .about("An array of logical blocks above a zoned drive")
         .version(VERSION)
-        .subcommand_required(true)
-        .subcommand(format_command(alloc)?)?
-        .subcommand(run_command(alloc, habits)?)?
-        .subcommand(report_command(alloc)?)?
-        .subcommand(nvme_command(alloc, habits)?)?
-        .subcommand(fresh_command(alloc, habits)?)?
-        .subcommand(fresh_raw_command(alloc, habits)?)
+        .subcommand_required(true);
+    let command = disk_commands(alloc, habits, command)?;
+    let command = drive_commands(alloc, habits, command)?;
+    memory_commands(alloc, habits, command)
 }

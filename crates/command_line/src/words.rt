@@ -1,4 +1,4 @@
-ghost use Rattle.std.specs.Prelude.{◌≡◌, ◌≢◌, IfOk, IsSomeAnd, map, option_map, string_bytes};
+ghost use Rattle.std.specs.Prelude.{◌≡◌, ◌≢◌, IfOk, IsSomeAnd, codes, map, option_map, string_bytes};
 ghost use Rattle.std.specs.List.{list_all};
 ghost use Rattle.std.specs.Char.{is_ascii_digit};
 ghost use Rattle.clap.specs.Words.{first_of, found_of, rows_of, subcommand_rows_of};
@@ -132,41 +132,79 @@ fn image(alloc: Global, matches: &ArgMatches<'_>) -> Result<String, WordFault>
     Ok(String::from_str(alloc, path)?)
 }
 
+fn format_job(alloc: Global, matches: &ArgMatches<'_>) -> Result<Job, WordFault>
+    ensures { Finds (AsksFor (codes "format") (rows_of (found_of matches.now))) result }
+{
+    Ok(Job::Format {
+        image: image(alloc, matches)?,
+        geometry: geometry(matches)?,
+    })
+}
+
+fn run_job(alloc: Global, matches: &ArgMatches<'_>) -> Result<Job, WordFault>
+    ensures { Finds (AsksFor (codes "run") (rows_of (found_of matches.now))) result }
+{
+    let blocks = number(matches, "blocks")?;
+    let stop = stop_of(matches)?;
+    Ok(Job::Run {
+        image: image(alloc, matches)?,
+        blocks,
+        zones: has_flag(matches, "zones"),
+        stop,
+        habit: habit_of(matches),
+    })
+}
+
+fn report_job(alloc: Global, matches: &ArgMatches<'_>) -> Result<Job, WordFault>
+    ensures { Finds (AsksFor (codes "report") (rows_of (found_of matches.now))) result }
+{
+    Ok(Job::Report {
+        image: image(alloc, matches)?,
+    })
+}
+
+fn nvme_job(alloc: Global, matches: &ArgMatches<'_>) -> Result<Job, WordFault>
+    ensures { Finds (AsksFor (codes "nvme") (rows_of (found_of matches.now))) result }
+{
+    Ok(Job::Nvme {
+        image: image(alloc, matches)?,
+        habit: habit_of(matches),
+    })
+}
+
+fn fresh_job(matches: &ArgMatches<'_>) -> Result<Job, WordFault>
+    ensures { Finds (AsksFor (codes "fresh") (rows_of (found_of matches.now))) result }
+{
+    Ok(Job::Fresh {
+        geometry: geometry(matches)?,
+        blocks: number(matches, "blocks")?,
+        report: has_flag(matches, "report"),
+        statistics: has_flag(matches, "statistics"),
+        stop: stop_of(matches)?,
+        habit: habit_of(matches),
+    })
+}
+
+fn fresh_raw_job(matches: &ArgMatches<'_>) -> Result<Job, WordFault>
+    ensures { Finds (AsksFor (codes "fresh-raw") (rows_of (found_of matches.now))) result }
+{
+    Ok(Job::FreshRaw {
+        geometry: geometry(matches)?,
+        habit: habit_of(matches),
+    })
+}
+
 /// The job of a subcommand.
 fn subcommand_job(alloc: Global, name: &str, matches: &ArgMatches<'_>) -> Result<Job, WordFault>
     ensures { Finds (AsksFor name.now (rows_of (found_of matches.now))) result }
 {
     match name {
-        "format" => Ok(Job::Format {
-            image: image(alloc, matches)?,
-            geometry: geometry(matches)?,
-        }),
-        "run" => Ok(Job::Run {
-            image: image(alloc, matches)?,
-            blocks: number(matches, "blocks")?,
-            zones: has_flag(matches, "zones"),
-            stop: stop_of(matches)?,
-            habit: habit_of(matches),
-        }),
-        "report" => Ok(Job::Report {
-            image: image(alloc, matches)?,
-        }),
-        "nvme" => Ok(Job::Nvme {
-            image: image(alloc, matches)?,
-            habit: habit_of(matches),
-        }),
-        "fresh" => Ok(Job::Fresh {
-            geometry: geometry(matches)?,
-            blocks: number(matches, "blocks")?,
-            report: has_flag(matches, "report"),
-            statistics: has_flag(matches, "statistics"),
-            stop: stop_of(matches)?,
-            habit: habit_of(matches),
-        }),
-        "fresh-raw" => Ok(Job::FreshRaw {
-            geometry: geometry(matches)?,
-            habit: habit_of(matches),
-        }),
+        "format" => format_job(alloc, matches),
+        "run" => run_job(alloc, matches),
+        "report" => report_job(alloc, matches),
+        "nvme" => nvme_job(alloc, matches),
+        "fresh" => fresh_job(matches),
+        "fresh-raw" => fresh_raw_job(matches),
         _ => Err(WordFault::Missing),
     }
 }
