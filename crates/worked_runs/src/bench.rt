@@ -84,6 +84,20 @@ pub fn bench_of(alloc: Global, world: &World, setting: Setting) -> Result<Bench,
     Ok(Recorder::new(alloc, stopping))
 }
 
+/// What a run left: the entries of its commands, and what the drive holds.
+#[derive(Drop)]
+pub struct Left {
+    pub entries: Vec<[u8; 64]>,
+    pub world: World,
+}
+
+pub fn left_by(alloc: Global, geometry: Geometry, bench: Bench) -> Result<Left, ScriptFault> {
+    Ok(Left {
+        entries: Vec::from_slice(alloc, bench.entries())?,
+        world: world_of(alloc, geometry, bench)?,
+    })
+}
+
 /// What the drive within holds.
 pub fn world_of(alloc: Global, geometry: Geometry, bench: Bench) -> Result<World, ScriptFault> {
     let drive = bench.into_inner().into_inner().device;

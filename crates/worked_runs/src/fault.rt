@@ -1,13 +1,23 @@
 use std::alloc::{AllocError, AllocFailed};
 use std::fmt;
 
-/// Why a line of a script has no answer.
+/// Why a script ends at a line: it has no answer, or a sweep found something wrong.
 #[derive(Clone, Copy)]
 pub enum ScriptFault {
     /// The words are none of a script's, or stand where they mean nothing.
     Words,
     /// An allocation failed.
     Memory,
+    /// The replies are not those of a flat array.
+    Replies,
+    /// A run that is to stop does not.
+    NotStopped,
+    /// The drive cannot be mounted.
+    NotMounted,
+    /// Some zone has no log.
+    NoLog,
+    /// The drive holds another array.
+    Array,
 }
 
 impl fmt::Display for ScriptFault {
@@ -15,6 +25,11 @@ impl fmt::Display for ScriptFault {
         match self {
             ScriptFault::Words => write!(f, "these words are none of a script's"),
             ScriptFault::Memory => write!(f, "out of memory"),
+            ScriptFault::Replies => write!(f, "the replies are not those of a flat array"),
+            ScriptFault::NotStopped => write!(f, "the run is not stopped"),
+            ScriptFault::NotMounted => write!(f, "the drive cannot be mounted"),
+            ScriptFault::NoLog => write!(f, "some zone has no log"),
+            ScriptFault::Array => write!(f, "the drive holds another array"),
         }
     }
 }

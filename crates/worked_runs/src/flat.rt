@@ -173,6 +173,34 @@ impl Flat {
         }
     }
 
+    /// Answers lines up to the place where these are the replies to them, and says how many that are.
+    pub fn answer_up_to(
+        &mut self,
+        lines: &[Vec<u8>],
+        replies: &[u8],
+    ) -> Result<usize, ScriptFault> {
+        let mut text = String::new(self.alloc);
+        for (number, line) in lines.iter().enumerate() {
+            if text.as_bytes() == replies {
+                return Ok(number);
+            }
+            self.answer(line, &mut text)?;
+        }
+        if text.as_bytes() == replies {
+            return Ok(lines.len());
+        }
+        Err(ScriptFault::Replies)
+    }
+
+    /// The replies to lines.
+    pub fn answers(&mut self, lines: &[Vec<u8>]) -> Result<String, ScriptFault> {
+        let mut replies = String::new(self.alloc);
+        for line in lines {
+            self.answer(line, &mut replies)?;
+        }
+        Ok(replies)
+    }
+
     /// In how many steps a stop can find a line: the blocks of a write, one for a growth, and none for a
     /// line that changes nothing.
     pub fn steps(&mut self, line: &[u8]) -> Result<u64, ScriptFault> {

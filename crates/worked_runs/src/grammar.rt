@@ -12,25 +12,29 @@ fn show_write(first: u64, bytes: &[u8], out: &mut String) -> Result<(), AllocErr
     writeln!(out)
 }
 
-fn show_call(line: &[u8], bytes: &mut Vec<u8>, out: &mut String) -> Result<(), ScriptFault> {
+fn show_call(call: TraceLine, bytes: &[u8], out: &mut String) -> Result<(), AllocError> {
+    match call {
+        TraceLine::Read { first, blocks } => writeln!(out, "    read {first} {blocks}"),
+        TraceLine::Fill {
+            first,
+            blocks,
+            byte,
+        } => writeln!(out, "    fill {first} {blocks} {byte:02x}"),
+        TraceLine::Write { first } => show_write(first, bytes, out),
+        TraceLine::Trim { first, blocks } => writeln!(out, "    trim {first} {blocks}"),
+        TraceLine::Idle { turns } => writeln!(out, "    idle {turns}"),
+        TraceLine::Grow { blocks } => writeln!(out, "    grow {blocks}"),
+        TraceLine::Remount => writeln!(out, "    remount"),
+    }
+}
+
+fn show_trace_line(line: &[u8], bytes: &mut Vec<u8>, out: &mut String) -> Result<(), ScriptFault> {
     if is_skipped(line) {
         writeln!(out, "    skipped")?;
         return Ok(());
     }
     match TraceLine::parse(line, bytes) {
-        Ok(TraceLine::Read { first, blocks }) => writeln!(out, "    read {first} {blocks}")?,
-        Ok(
-            TraceLine::Fill {
-                first,
-                blocks,
-                byte,
-            },
-        ) => { writeln!(out, "    fill {first} {blocks} {byte:02x}")? }
-        Ok(TraceLine::Write { first }) => show_write(first, bytes, out)?,
-        Ok(TraceLine::Trim { first, blocks }) => writeln!(out, "    trim {first} {blocks}")?,
-        Ok(TraceLine::Idle { turns }) => writeln!(out, "    idle {turns}")?,
-        Ok(TraceLine::Grow { blocks }) => writeln!(out, "    grow {blocks}")?,
-        Ok(TraceLine::Remount) => writeln!(out, "    remount")?,
+        Ok(call) => show_call(call, bytes, out)?,
         Err(ParseFault::Grammar) => writeln!(out, "    not in the grammar")?,
         Err(ParseFault::Memory) => return Err(ScriptFault::Memory),
     }
@@ -46,7 +50,7 @@ pub fn show_trace_lines(
     let mut bytes = Vec::new(alloc);
     for line in lines {
         show_line(line, out)?;
-        show_call(&meant(alloc, line)?, &mut bytes, out)?;
+        show_trace_line(&meant(alloc, line)?, &mut bytes, out)?;
     }
     Ok(())
 }

@@ -80,21 +80,43 @@ fn put(image: &mut [u8], first: usize, bytes: &[u8]) {
     }
 }
 
-// Changes an image as a line says.
-fn change(alloc: Global, line: &str, image: &mut Vec<u8>) -> Result<(), ScriptFault> {
-    let words = line.split(' ').collect::<Vec<&str>>(alloc)?;
-    let mut data = Vec::new(alloc);
-    match words.as_slice() {
-        ["whole"] => {}
-        ["first", count, "bytes"] => image.truncate(number(count)? as usize),
-        ["and", digits] => bytes(&meant(alloc, digits)?, image)?,
-        [digits, "at", place] => {
-            bytes(&meant(alloc, digits)?, &mut data)?;
-            put(image, number(place)? as usize, &data);
-        }
-        _ => return Err(ScriptFault::Words),
-    }
+fn cut(count: &str, image: &mut Vec<u8>) -> Result<(), ScriptFault> {
+    image.truncate(number(count)? as usize);
     Ok(())
+}
+
+fn overwrite(
+    alloc: Global,
+    digits: &str,
+    place: &str,
+    image: &mut [u8],
+) -> Result<(), ScriptFault> {
+    let mut data = Vec::new(alloc);
+    bytes(&meant(alloc, digits)?, &mut data)?;
+    put(image, number(place)? as usize, &data);
+    Ok(())
+}
+
+// Changes an image as the words of a line say.
+fn change(alloc: Global, words: &[&str], image: &mut Vec<u8>) -> Result<(), ScriptFault> {
+    match words {
+        ["whole"] => Ok(()),
+        ["first", count, "bytes"] => cut(count, image),
+        ["and", digits] => bytes(&meant(alloc, digits)?, image),
+        [digits, "at", place] => overwrite(alloc, digits, place, image),
+        _ => Err(ScriptFault::Words),
+    }
+}
+
+// What the image of a drive is read as when it is changed as a line says.
+fn changed_reading(alloc: Global, world: &World, line: &str) -> Result<Reading, ScriptFault> {
+    let mut image = image_of_world(alloc, world)?;
+    change(
+        alloc,
+        &line.split(' ').collect::<Vec<&str>>(alloc)?,
+        &mut image,
+    )?;
+    read_as(alloc, &image)
 }
 
 /// Changes the image of a drive as each of the lines says, and shows what is read then.
@@ -106,10 +128,9 @@ pub fn show_changed_images(
 ) -> Result<(), ScriptFault> {
     for line in lines {
         show_line(line, out)?;
-        let mut image = image_of_world(alloc, world)?;
-        change(alloc, line, &mut image)?;
+        let reading = changed_reading(alloc, world, line)?;
         write!(out, "    ")?;
-        show_reading(read_as(alloc, &image)?, out)?;
+        show_reading(reading, out)?;
         writeln!(out)?;
     }
     Ok(())

@@ -1,9 +1,9 @@
 //! Mounts of the drive: which commands are sent, and what is known of the disk then.
 
-use crate::bench::{Bench, Setting, bench_of, world_of};
+use crate::bench::{Bench, Left, Setting, bench_of, left_by, world_of};
 use crate::fault::ScriptFault;
 use crate::show::show_sent;
-use crate::stops::{Halts, append_blocks};
+use crate::stops::{Halts, checked, settings};
 use crate::world::World;
 use logical_map::Place;
 use remount::{MountFault, mount};
@@ -79,10 +79,47 @@ pub fn show_mount(
     out: &mut String,
 ) -> Result<World, ScriptFault> {
     let mut bench = bench_of(alloc, world, setting)?;
-    let answer = mount(alloc, &mut bench, n);
+    show_mounted(alloc, &mut bench, setting, n, out)?;
+    world_of(alloc, world.geometry, bench)
+}
+
+fn show_mounted(
+    alloc: Global,
+    bench: &mut Bench,
+    setting: Setting,
+    n: u64,
+    out: &mut String,
+) -> Result<(), ScriptFault> {
+    let answer = mount(alloc, bench, n);
     show_sent(alloc, bench.entries(), setting.shows_entries, out)?;
     show_answer(answer, out)?;
-    world_of(alloc, world.geometry, bench)
+    Ok(())
+}
+
+/// What a mount answered, and what it left.
+#[derive(Drop)]
+pub struct Mounted {
+    pub answer: Result<(), MountFault>,
+    pub left: Left,
+}
+
+fn mount_answer(alloc: Global, bench: &mut Bench, n: u32) -> Result<(), MountFault> {
+    mount(alloc, bench, u64::from(n))?;
+    Ok(())
+}
+
+/// Mounts a drive that holds what `world` says as `n` blocks.
+pub fn mount_over(
+    alloc: Global,
+    world: &World,
+    setting: Setting,
+    n: u32,
+) -> Result<Mounted, ScriptFault> {
+    let mut bench = bench_of(alloc, world, setting)?;
+    Ok(Mounted {
+        answer: mount_answer(alloc, &mut bench, n),
+        left: left_by(alloc, world.geometry, bench)?,
+    })
 }
 
 // A drive that is mounted again and again, and the array that it holds.
@@ -94,89 +131,47 @@ struct Trial<'a> {
 }
 
 impl<'a> Trial<'a> {
-    // The device after a mount that is made so, and whether it was mounted.
-    fn mount(
-        &self,
-        alloc: Global,
-        world: &World,
-        setting: Setting,
-    ) -> Result<(Bench, bool), ScriptFault> {
-        let mut bench = bench_of(alloc, world, setting)?;
-        let is_done = mount(alloc, &mut bench, u64::from(self.n)).is_ok();
-        Ok((bench, is_done))
+    // Checks what the next mount leaves.
+    fn check_next(&self, alloc: Global, left: &World) -> Result<(), ScriptFault> {
+        let next = mount_over(alloc, &left.restarted(alloc)?, Setting::PLAIN, self.n)?;
+        if next.answer.is_err() {
+            return Err(ScriptFault::NotMounted);
+        }
+        next.left.world.check_array(alloc, self.n, self.array)
     }
 
-    // What is wrong with what a drive holds.
-    fn wrong_array(
-        &self,
-        alloc: Global,
-        left: &World,
-    ) -> Result<Option<&'static str>, ScriptFault> {
-        if !left.can_mount(alloc, self.n)? {
-            return Ok(Some("the drive cannot be mounted"));
-        }
-        let Some(array) = left.array(alloc, self.n)? else {
-            return Ok(Some("some zone has no log"));
-        };
-        if array.as_slice() != self.array {
-            return Ok(Some("the drive holds another array"));
-        }
-        Ok(None)
+    // Checks what a mount that is made so leaves, and then the next one.
+    fn check(&self, alloc: Global, setting: Setting) -> Result<(), ScriptFault> {
+        let halted = mount_over(alloc, self.world, setting, self.n)?;
+        halted.left.world.check_array(alloc, self.n, self.array)?;
+        self.check_next(alloc, &halted.left.world)
     }
 
-    // What is wrong after a mount that is made so, and the next one.
-    fn wrong(&self, alloc: Global, setting: Setting) -> Result<Option<&'static str>, ScriptFault> {
-        let (bench, _) = self.mount(alloc, self.world, setting)?;
-        let left = world_of(alloc, self.world.geometry, bench)?;
-        if let Some(wrong) = self.wrong_array(alloc, &left)? {
-            return Ok(Some(wrong));
+    // How a mount is halted at each of its commands.
+    fn settings(&self, alloc: Global, halts: Halts) -> Result<Vec<Setting>, ScriptFault> {
+        let whole = mount_over(alloc, self.world, Setting::PLAIN, self.n)?;
+        Ok(settings(alloc, halts, &whole.left.entries)?)
+    }
+
+    // Checks a mount with each halt.
+    fn show_halts(&self, alloc: Global, halts: Halts, out: &mut String) -> Result<(), ScriptFault> {
+        let settings = self.settings(alloc, halts)?;
+        for setting in &settings {
+            checked("mount", *setting, self.check(alloc, *setting), out)?;
         }
-        let (bench, is_done) = self.mount(alloc, &left.restarted(alloc)?, Setting::PLAIN)?;
-        if !is_done {
-            return Ok(Some("the next mount refuses the drive"));
-        }
-        let last = world_of(alloc, self.world.geometry, bench)?;
-        self.wrong_array(alloc, &last)
+        show_right(settings.len(), out)?;
+        Ok(())
     }
 }
 
-fn show_right(count: u64, out: &mut String) -> Result<(), AllocError> {
+fn show_right(count: usize, out: &mut String) -> Result<(), AllocError> {
     writeln!(
         out,
         "    {count} times: the drive can be mounted, then and after the next mount, and holds the same array"
     )
 }
 
-/// How a run with these entries is halted at each of its commands.
-pub fn settings(
-    alloc: Global,
-    halts: Halts,
-    entries: &[[u8; 64]],
-) -> Result<Vec<Setting>, AllocError> {
-    let mut settings = Vec::new(alloc);
-    for (commands, entry) in entries.iter().enumerate() {
-        push_settings(halts, commands as u64, append_blocks(entry), &mut settings)?;
-    }
-    Ok(settings)
-}
-
-fn push_settings(
-    halts: Halts,
-    commands: u64,
-    blocks: u32,
-    settings: &mut Vec<Setting>,
-) -> Result<(), AllocError> {
-    if let Halts::Tear = halts {
-        for tear in 1..=blocks {
-            settings.push(halts.setting(commands, tear))?;
-        }
-        return Ok(());
-    }
-    settings.push(halts.setting(commands, 0))?;
-    Ok(())
-}
-
-/// Mounts a drive once with each halt, and says whether each time it can be mounted and holds its array, and so
+/// Mounts a drive once with each halt, and checks that each time it can be mounted and holds its array, and so
 /// after the next mount.
 pub fn show_mount_halts(
     alloc: Global,
@@ -186,23 +181,11 @@ pub fn show_mount_halts(
     out: &mut String,
 ) -> Result<(), ScriptFault> {
     let n = u32::try_from(n).or(Err(ScriptFault::Words))?;
-    let Some(array) = world.array(alloc, n)? else {
-        return Err(ScriptFault::Words);
-    };
+    let array = world.array(alloc, n)?.ok_or(ScriptFault::Words)?;
     let trial = Trial {
         world,
         n,
         array: &array,
     };
-    let (whole, _) = trial.mount(alloc, world, Setting::PLAIN)?;
-    let settings = settings(alloc, halts, whole.entries())?;
-    for setting in &settings {
-        if let Some(wrong) = trial.wrong(alloc, *setting)? {
-            let commands = setting.stop_after.unwrap_or(0);
-            writeln!(out, "    after {commands} commands: {wrong}")?;
-            return Ok(());
-        }
-    }
-    show_right(settings.len() as u64, out)?;
-    Ok(())
+    trial.show_halts(alloc, halts, out)
 }

@@ -1,11 +1,12 @@
 //! Traces, raw lines and commands, over the drive of a script.
 
-use crate::bench::{Bench, Setting, bench_of, world_of};
+use crate::bench::{Left, Setting, bench_of, left_by};
 use crate::fault::ScriptFault;
 use crate::requests::parse_request;
 use crate::show::{show_answer_bytes, show_fault, show_line, show_lines, show_sent};
 use crate::words::{bytes, meant};
 use crate::world::World;
+use disk_files::LineReader;
 use disk_runs::{RunFault, run_raw, run_trace};
 use drive_port::Device;
 use nvme_wire::Completion;
@@ -23,12 +24,12 @@ pub enum Lines {
     Commands,
 }
 
-/// What a run left.
+/// What a run answered, how it ended, and what it left.
 #[derive(Drop)]
 pub struct Ran {
     pub replies: Vec<u8>,
     pub result: Result<(), RunFault>,
-    pub bench: Bench,
+    pub left: Left,
 }
 
 // Runs a text of lines over a device, and gives it back.
@@ -39,9 +40,10 @@ fn run_over<D: Device + Drop>(
     text: &[u8],
     replies: &mut Vec<u8>,
 ) -> (D, Result<(), RunFault>) {
+    let mut reader = LineReader::new(alloc, text);
     match lines {
-        Lines::Trace(blocks) => run_trace(alloc, text, replies, device, blocks),
-        Lines::Raw | Lines::Commands => run_raw(alloc, text, replies, device),
+        Lines::Trace(blocks) => run_trace(alloc, &mut reader, replies, device, blocks),
+        Lines::Raw | Lines::Commands => run_raw(alloc, &mut reader, replies, device),
     }
 }
 
@@ -59,7 +61,7 @@ pub fn run(
     Ok(Ran {
         replies,
         result,
-        bench,
+        left: left_by(alloc, world.geometry, bench)?,
     })
 }
 
@@ -160,7 +162,7 @@ fn show_more(
     ran: &Ran,
     out: &mut String,
 ) -> Result<Shown, ScriptFault> {
-    let entries = ran.bench.entries();
+    let entries = ran.left.entries.as_slice();
     if let Lines::Trace(_) = lines {
         let sent = entries.get(shown.commands..).unwrap_or(&[]);
         show_sent(alloc, sent, setting.shows_entries, out)?;
@@ -223,13 +225,6 @@ fn text_of(
     Ok(text)
 }
 
-// What the lines of a step left: what the drive holds, and whether they ended in a fault.
-#[derive(Drop)]
-struct Left {
-    world: World,
-    is_ended: bool,
-}
-
 // Runs the first lines of a step, and shows what the last of them did.
 fn show_front(
     alloc: Global,
@@ -239,15 +234,12 @@ fn show_front(
     block: &[&str],
     shown: &mut Shown,
     out: &mut String,
-) -> Result<Left, ScriptFault> {
+) -> Result<Ran, ScriptFault> {
     let text = text_of(alloc, world, lines, block)?;
     let ran = run(alloc, world, setting, lines, &text)?;
     let last = block.last().copied().unwrap_or("");
     *shown = show_more(alloc, *shown, setting, lines, last, &ran, out)?;
-    Ok(Left {
-        is_ended: ran.result.is_err(),
-        world: world_of(alloc, world.geometry, ran.bench)?,
-    })
+    Ok(ran)
 }
 
 /// Runs the lines of a step, and shows below each of them what it did. To tell the lines apart, each
@@ -264,15 +256,16 @@ pub fn show_run(
         commands: 0,
         replies: 0,
     };
-    let mut left = show_front(alloc, world, setting, lines, &[], &mut shown, out)?;
+    let mut ran = show_front(alloc, world, setting, lines, &[], &mut shown, out)?;
     for (number, line) in block.iter().enumerate() {
-        if left.is_ended {
+        if ran.result.is_err() {
             show_unreached(&block[number..], out)?;
             break;
         }
         show_line(line, out)?;
         let (front, _) = block.split_at(number + 1);
-        left = show_front(alloc, world, setting, lines, front, &mut shown, out)?;
+        ran = show_front(alloc, world, setting, lines, front, &mut shown, out)?;
     }
+    let left = ran.left;
     Ok(left.world)
 }

@@ -1,7 +1,7 @@
 //! A trace with a stop after each number of commands, or inside each Append, or out of memory there,
 //! against a flat array.
 
-use crate::bench::{Setting, world_of};
+use crate::bench::Setting;
 use crate::fault::ScriptFault;
 use crate::flat::Flat;
 use crate::runs::{Lines, Ran, run};
@@ -9,7 +9,6 @@ use crate::show::show_line;
 use crate::words::meant;
 use crate::world::World;
 use disk_runs::RunFault;
-use drive_port::Device;
 use nvme_wire::Command;
 use std::alloc::{AllocError, Global};
 use zone_translator::{DiskFault, MountFault};
@@ -40,26 +39,6 @@ impl Halts {
             },
         }
     }
-}
-
-// How many of the lines these replies answer, and the flat array that they lead to.
-fn answered(
-    alloc: Global,
-    mut flat: Flat,
-    lines: &[Vec<u8>],
-    replies: &[u8],
-) -> Result<Option<(usize, Flat)>, ScriptFault> {
-    let mut text = String::new(alloc);
-    for (number, line) in lines.iter().enumerate() {
-        if text.as_bytes() == replies {
-            return Ok(Some((number, flat)));
-        }
-        flat.answer(line, &mut text)?;
-    }
-    if text.as_bytes() == replies {
-        return Ok(Some((lines.len(), flat)));
-    }
-    Ok(None)
 }
 
 // Whether a run was ended by a stop of the device: in a call, or where it was to be mounted again.
@@ -93,170 +72,64 @@ fn has_front(
     Ok(false)
 }
 
-// What is wrong with what the drive holds after a run, whose answered lines lead to this flat array.
-fn wrong_array(
-    alloc: Global,
-    left: &World,
-    n: u32,
-    flat: Flat,
-    next: Option<&[u8]>,
-    is_stopped: bool,
-) -> Result<Option<&'static str>, ScriptFault> {
-    if !left.can_mount(alloc, n)? {
-        return Ok(Some("the drive cannot be mounted"));
-    }
-    let Some(array) = left.array(alloc, n)? else {
-        return Ok(Some("some zone has no log"));
-    };
-    if !has_front(flat, next, is_stopped, &array)? {
-        return Ok(Some("the drive holds another array"));
-    }
-    Ok(None)
-}
-
-/// A trace over a drive, that is run again and again.
-#[derive(Clone, Copy)]
-pub struct Trial<'a> {
-    pub world: &'a World,
-    pub n: u32,
-    pub lines: &'a [Vec<u8>],
-    pub text: &'a [u8],
-}
-
-impl<'a> Trial<'a> {
-    /// Runs the trace in this setting.
-    pub fn run(&self, alloc: Global, setting: Setting) -> Result<Ran, ScriptFault> {
-        let lines = Lines::Trace(u64::from(self.n));
-        run(alloc, self.world, setting, lines, self.text)
-    }
-
-    /// How many of the lines these replies answer, and the flat array that they lead to.
-    pub fn answered(
-        &self,
-        alloc: Global,
-        replies: &[u8],
-    ) -> Result<Option<(usize, Flat)>, ScriptFault> {
-        let flat = Flat::new(alloc, &self.world.geometry, u64::from(self.n))?;
-        answered(alloc, flat, self.lines, replies)
-    }
-
-    /// What is wrong with the replies of a run, or with what the drive holds then.
-    pub fn wrong_after(
-        &self,
-        alloc: Global,
-        left: &World,
-        replies: &[u8],
-        is_stopped: bool,
-    ) -> Result<Option<&'static str>, ScriptFault> {
-        let Some((number, flat)) = self.answered(alloc, replies)? else {
-            return Ok(Some("the replies are not those of a flat array"));
-        };
-        let next = self.lines.get(number).map(|line| line.as_slice());
-        wrong_array(alloc, left, self.n, flat, next, is_stopped)
-    }
-
-    // What is wrong after a run that is made so.
-    fn wrong(&self, alloc: Global, setting: Setting) -> Result<Option<&'static str>, ScriptFault> {
-        let ran = self.run(alloc, setting)?;
-        let is_stopped = is_stop(ran.result);
-        if setting.tear > 0 && !is_stopped {
-            return Ok(Some("the trace is not stopped"));
-        }
-        let left = world_of(alloc, self.world.geometry, ran.bench)?;
-        self.wrong_after(alloc, &left, &ran.replies, is_stopped)
-    }
-
-    // What is wrong after a run that stops inside the Append after that many commands, and how many of
-    // its blocks are written then.
-    fn wrong_tear(
-        &self,
-        alloc: Global,
-        commands: u64,
-        blocks: u32,
-    ) -> Result<Option<(u32, &'static str)>, ScriptFault> {
-        for tear in 1..=blocks {
-            if let Some(wrong) = self.wrong(alloc, Halts::Tear.setting(commands, tear))? {
-                return Ok(Some((tear, wrong)));
-            }
-        }
-        Ok(None)
-    }
-}
-
-fn show_right(out: &mut String) -> Result<(), AllocError> {
-    writeln!(
-        out,
-        "the lines before are answered, the drive can be mounted,"
-    )?;
-    writeln!(
-        out,
-        "    and it holds the array with a front of the next line"
-    )
-}
-
 // How many blocks a command writes, if it is an Append.
-pub fn append_blocks(entry: &[u8; 64]) -> u32 {
+fn append_blocks(entry: &[u8; 64]) -> u32 {
     match Command::decode(entry) {
         Ok(Command::Append { blocks, .. }) => blocks,
         _ => 0,
     }
 }
 
-// Says whether something is wrong after a run that stops inside one of the commands of these entries.
-fn show_tears(
-    alloc: Global,
-    trial: Trial,
-    entries: &[[u8; 64]],
-    out: &mut String,
-) -> Result<(), ScriptFault> {
-    let mut tears: u64 = 0;
-    for (commands, entry) in entries.iter().enumerate() {
-        let blocks = append_blocks(entry);
-        if let Some((tear, wrong)) = trial.wrong_tear(alloc, commands as u64, blocks)? {
-            writeln!(
-                out,
-                "    after {commands} commands, {tear} blocks into an Append: {wrong}"
-            )?;
-            return Ok(());
-        }
-        tears = tears.saturating_add(u64::from(blocks));
-    }
-    write!(out, "    at {tears} torn blocks: ")?;
-    show_right(out)?;
-    Ok(())
-}
-
-// Says whether something is wrong after a run with the halt after each number of commands.
-fn show_each(
-    alloc: Global,
-    trial: Trial,
+fn push_settings(
     halts: Halts,
     commands: u64,
-    out: &mut String,
-) -> Result<(), ScriptFault> {
-    for before in 0..=commands {
-        if let Some(wrong) = trial.wrong(alloc, halts.setting(before, 0))? {
-            writeln!(out, "    after {before} commands: {wrong}")?;
-            return Ok(());
+    blocks: u32,
+    settings: &mut Vec<Setting>,
+) -> Result<(), AllocError> {
+    if let Halts::Tear = halts {
+        for tear in 1..=blocks {
+            settings.push(halts.setting(commands, tear))?;
         }
+        return Ok(());
     }
-    write!(out, "    after 0 to {commands} commands: ")?;
-    show_right(out)?;
+    settings.push(halts.setting(commands, 0))?;
     Ok(())
 }
 
-/// The lines that are meant, each of which is shown.
-pub fn meant_lines(
+/// How a run with these entries is halted at each of its commands.
+pub fn settings(
     alloc: Global,
-    lines: &[&str],
-    out: &mut String,
-) -> Result<Vec<Vec<u8>>, ScriptFault> {
-    let mut all = Vec::new(alloc);
-    for line in lines {
-        show_line(line, out)?;
-        all.push(meant(alloc, line)?)?;
+    halts: Halts,
+    entries: &[[u8; 64]],
+) -> Result<Vec<Setting>, AllocError> {
+    let mut settings = Vec::new(alloc);
+    for (commands, entry) in entries.iter().enumerate() {
+        push_settings(halts, commands as u64, append_blocks(entry), &mut settings)?;
     }
-    Ok(all)
+    Ok(settings)
+}
+
+// Where a run was halted.
+fn show_place(name: &str, setting: Setting, out: &mut String) -> Result<(), AllocError> {
+    let commands = setting.stop_after.or(setting.no_memory_after).unwrap_or(0);
+    let tear = setting.tear;
+    writeln!(
+        out,
+        "    wrong: {name} after {commands} commands, {tear} blocks into the next"
+    )
+}
+
+/// What a check of a run in this setting found. Says which run it was if something is wrong.
+pub fn checked(
+    name: &str,
+    setting: Setting,
+    answer: Result<(), ScriptFault>,
+    out: &mut String,
+) -> Result<(), ScriptFault> {
+    if answer.is_err() {
+        show_place(name, setting, out)?;
+    }
+    answer
 }
 
 /// The text of lines, each ended by a line feed.
@@ -269,7 +142,121 @@ pub fn text_of(alloc: Global, lines: &[Vec<u8>]) -> Result<Vec<u8>, AllocError> 
     Ok(text)
 }
 
-/// Runs a trace once with each halt, and says whether each time the lines before it are answered, and the
+/// The lines of a trace, and the text of them.
+#[derive(Drop)]
+pub struct Trace {
+    pub lines: Vec<Vec<u8>>,
+    text: Vec<u8>,
+}
+
+fn meant_lines(
+    alloc: Global,
+    lines: &[&str],
+    out: &mut String,
+) -> Result<Vec<Vec<u8>>, ScriptFault> {
+    let mut all = Vec::new(alloc);
+    for line in lines {
+        show_line(line, out)?;
+        all.push(meant(alloc, line)?)?;
+    }
+    Ok(all)
+}
+
+impl Trace {
+    /// The lines that are meant by lines of a script, each of which is shown.
+    pub fn new(alloc: Global, lines: &[&str], out: &mut String) -> Result<Trace, ScriptFault> {
+        let lines = meant_lines(alloc, lines, out)?;
+        let text = text_of(alloc, &lines)?;
+        Ok(Trace { lines, text })
+    }
+}
+
+/// A trace over a drive, that is run again and again.
+#[derive(Clone, Copy)]
+pub struct Trial<'a> {
+    pub world: &'a World,
+    pub n: u32,
+    pub trace: &'a Trace,
+}
+
+impl<'a> Trial<'a> {
+    /// Runs the trace in this setting.
+    pub fn run(&self, alloc: Global, setting: Setting) -> Result<Ran, ScriptFault> {
+        let lines = Lines::Trace(u64::from(self.n));
+        run(alloc, self.world, setting, lines, &self.trace.text)
+    }
+
+    /// How many of the lines these replies answer, and the flat array that they lead to.
+    pub fn answered(&self, alloc: Global, replies: &[u8]) -> Result<(usize, Flat), ScriptFault> {
+        let mut flat = Flat::new(alloc, &self.world.geometry, u64::from(self.n))?;
+        let number = flat.answer_up_to(&self.trace.lines, replies)?;
+        Ok((number, flat))
+    }
+
+    /// Checks the replies of a run, and that the drive can be mounted then and holds the array with a front of
+    /// the next line.
+    pub fn check_ran(&self, alloc: Global, ran: &Ran, is_stopped: bool) -> Result<(), ScriptFault> {
+        let (number, flat) = self.answered(alloc, &ran.replies)?;
+        let next = self.trace.lines.get(number).map(|line| line.as_slice());
+        let array = ran.left.world.mounted_array(alloc, self.n)?;
+        if !has_front(flat, next, is_stopped, &array)? {
+            return Err(ScriptFault::Array);
+        }
+        Ok(())
+    }
+
+    // Checks a run that is made so.
+    fn check(&self, alloc: Global, setting: Setting) -> Result<(), ScriptFault> {
+        let ran = self.run(alloc, setting)?;
+        let is_stopped = is_stop(ran.result);
+        if setting.tear > 0 && !is_stopped {
+            return Err(ScriptFault::NotStopped);
+        }
+        self.check_ran(alloc, &ran, is_stopped)
+    }
+
+    // How the trace is halted: at each of its commands, and after all of them if not inside one.
+    fn settings(&self, alloc: Global, halts: Halts) -> Result<Vec<Setting>, ScriptFault> {
+        let whole = self.run(alloc, Setting::PLAIN)?;
+        let mut settings = settings(alloc, halts, &whole.left.entries)?;
+        push_settings(halts, whole.left.entries.len() as u64, 0, &mut settings)?;
+        Ok(settings)
+    }
+
+    // Checks a run with each halt.
+    fn show_halts(&self, alloc: Global, halts: Halts, out: &mut String) -> Result<(), ScriptFault> {
+        let settings = self.settings(alloc, halts)?;
+        for setting in &settings {
+            checked("trace", *setting, self.check(alloc, *setting), out)?;
+        }
+        show_right(halts, settings.len(), out)?;
+        Ok(())
+    }
+}
+
+fn show_count(halts: Halts, count: usize, out: &mut String) -> Result<(), AllocError> {
+    match halts {
+        Halts::Tear => write!(out, "    at {count} torn blocks: "),
+        Halts::Stop | Halts::Memory => {
+            let commands = count.saturating_sub(1);
+            write!(out, "    after 0 to {commands} commands: ")
+        }
+    }
+}
+
+fn show_right(halts: Halts, count: usize, out: &mut String) -> Result<(), AllocError> {
+    show_count(halts, count, out)?;
+    writeln!(
+        out,
+        "the lines before are answered, the drive can be mounted,"
+    )?;
+    writeln!(
+        out,
+        "    and it holds the array with a front of the next line"
+    )
+}
+
+/// Runs a trace once with each halt, and checks that each time the lines before it are answered, and the
 /// drive can be mounted and holds their array with a front of the next.
 pub fn show_halts(
     alloc: Global,
@@ -280,19 +267,11 @@ pub fn show_halts(
     out: &mut String,
 ) -> Result<(), ScriptFault> {
     let n = u32::try_from(blocks).or(Err(ScriptFault::Words))?;
-    let lines = meant_lines(alloc, lines, out)?;
-    let text = text_of(alloc, &lines)?;
+    let trace = Trace::new(alloc, lines, out)?;
     let trial = Trial {
         world,
         n,
-        lines: &lines,
-        text: &text,
+        trace: &trace,
     };
-    let whole = trial.run(alloc, Setting::PLAIN)?;
-    match halts {
-        Halts::Tear => show_tears(alloc, trial, whole.bench.entries(), out),
-        Halts::Stop | Halts::Memory => {
-            show_each(alloc, trial, halts, whole.bench.completed(), out)
-        }
-    }
+    trial.show_halts(alloc, halts, out)
 }

@@ -1,18 +1,14 @@
 //! A trace that stops everywhere, and after each of its stops a mount that stops everywhere, against a flat array.
 
-use crate::bench::{Setting, bench_of, world_of};
+use crate::bench::Setting;
 use crate::fault::ScriptFault;
 use crate::flat::Flat;
-use crate::mounts::settings;
-use crate::runs::{Lines, run};
-use crate::stops::{Halts, Trial, meant_lines, text_of};
+use crate::mounts::mount_over;
+use crate::runs::{Lines, Ran, run};
+use crate::stops::{Halts, Trace, Trial, checked, settings, text_of};
 use crate::world::World;
-use drive_port::Device;
-use remount::{MountFault, mount};
+use remount::MountFault;
 use std::alloc::{AllocError, Global};
-
-// What is wrong, if something is.
-type Wrong = Option<&'static str>;
 
 // How often something stopped: between two commands, and inside an Append.
 #[derive(Clone, Copy)]
@@ -61,170 +57,101 @@ struct Rest {
     flat: Flat,
 }
 
-fn rest_of(alloc: Global, trial: Trial, replies: &[u8]) -> Result<Option<Rest>, ScriptFault> {
-    let Some((number, mut flat)) = trial.answered(alloc, replies)? else {
-        return Ok(None);
-    };
-    let lines = trial.lines.get(number..).unwrap_or(&[]);
-    let mut replies = String::new(alloc);
-    for line in lines {
-        flat.answer(line, &mut replies)?;
-    }
-    Ok(Some(Rest {
+fn rest_of(alloc: Global, trial: Trial, replies: &[u8]) -> Result<Rest, ScriptFault> {
+    let (number, mut flat) = trial.answered(alloc, replies)?;
+    let lines = trial.trace.lines.get(number..).unwrap_or(&[]);
+    Ok(Rest {
         text: text_of(alloc, lines)?,
-        replies,
+        replies: flat.answers(lines)?,
         flat,
-    }))
+    })
 }
 
 // A drive that is to be mounted after a stop: what it holds, its array, and the lines that are left.
-#[derive(Clone, Copy)]
-struct Stopped<'a> {
-    world: &'a World,
+#[derive(Drop)]
+struct Stopped {
+    world: World,
     n: u32,
-    array: &'a [Vec<u8>],
-    rest: &'a Rest,
+    array: Vec<Vec<u8>>,
+    rest: Rest,
 }
 
-impl<'a> Stopped<'a> {
-    // What is wrong with a drive after all lines.
-    fn wrong_end(&self, alloc: Global, last: &World) -> Result<Wrong, ScriptFault> {
-        if !last.can_mount(alloc, self.n)? {
-            return Ok(Some("the drive cannot be mounted after the last line"));
-        }
-        let Some(array) = last.array(alloc, self.n)? else {
-            return Ok(Some("some zone has no log after the last line"));
-        };
-        if !self.rest.flat.is_spelled(&array) {
-            return Ok(Some("the drive holds another array after the last line"));
-        }
-        Ok(None)
+impl Stopped {
+    // The drive that a stopped run left.
+    fn after(alloc: Global, trial: Trial, ran: &Ran) -> Result<Stopped, ScriptFault> {
+        Ok(Stopped {
+            world: ran.left.world.restarted(alloc)?,
+            n: trial.n,
+            array: ran.left.world.mounted_array(alloc, trial.n)?,
+            rest: rest_of(alloc, trial, &ran.replies)?,
+        })
     }
 
-    // What is wrong when the drive is restarted and the lines that are left are run.
-    fn wrong_rest(&self, alloc: Global, left: &World) -> Result<Wrong, ScriptFault> {
+    // Checks what a drive holds after all lines.
+    fn check_end(&self, alloc: Global, last: &World) -> Result<(), ScriptFault> {
+        let array = last.mounted_array(alloc, self.n)?;
+        if !self.rest.flat.is_spelled(&array) {
+            return Err(ScriptFault::Array);
+        }
+        Ok(())
+    }
+
+    // Restarts the drive, runs the lines that are left, and checks their replies and what the drive holds then.
+    fn check_rest(&self, alloc: Global, left: &World) -> Result<(), ScriptFault> {
         let lines = Lines::Trace(u64::from(self.n));
         let world = left.restarted(alloc)?;
         let ran = run(alloc, &world, Setting::PLAIN, lines, &self.rest.text)?;
-        if ran.result.is_err() {
-            return Ok(Some("the lines that are left are refused"));
+        if ran.result.is_err() || ran.replies.as_slice() != self.rest.replies.as_bytes() {
+            return Err(ScriptFault::Replies);
         }
-        if ran.replies.as_slice() != self.rest.replies.as_bytes() {
-            return Ok(Some("the lines that are left have other replies"));
-        }
-        let last = world_of(alloc, left.geometry, ran.bench)?;
-        self.wrong_end(alloc, &last)
+        self.check_end(alloc, &ran.left.world)
     }
 
-    // What is wrong with what the drive holds after a stop of the mount.
-    fn wrong_array(&self, alloc: Global, left: &World) -> Result<Wrong, ScriptFault> {
-        if !left.can_mount(alloc, self.n)? {
-            return Ok(Some("the drive cannot be mounted again"));
-        }
-        let Some(array) = left.array(alloc, self.n)? else {
-            return Ok(Some("some zone has no log"));
+    // Checks what a mount that stops so leaves, and then the lines that are left.
+    fn check_stop(&self, alloc: Global, setting: Setting) -> Result<(), ScriptFault> {
+        let halted = mount_over(alloc, &self.world, setting, self.n)?;
+        let Err(MountFault::Halted) = halted.answer else {
+            return Err(ScriptFault::NotStopped);
         };
-        if array.as_slice() != self.array {
-            return Ok(Some("the drive holds another array"));
-        }
-        self.wrong_rest(alloc, left)
+        halted.left.world.check_array(alloc, self.n, &self.array)?;
+        self.check_rest(alloc, &halted.left.world)
     }
 
-    // What is wrong after a mount that stops so.
-    fn wrong_stop(&self, alloc: Global, setting: Setting) -> Result<Wrong, ScriptFault> {
-        let mut bench = bench_of(alloc, self.world, setting)?;
-        let Err(MountFault::Halted) = mount(alloc, &mut bench, u64::from(self.n)) else {
-            return Ok(Some("the mount is not stopped"));
-        };
-        let left = world_of(alloc, self.world.geometry, bench)?;
-        self.wrong_array(alloc, &left)
-    }
-
-    // The stops of a mount that is not stopped.
+    // The stops of a mount.
     fn stops(&self, alloc: Global) -> Result<Vec<Setting>, ScriptFault> {
-        let mut bench = bench_of(alloc, self.world, Setting::PLAIN)?;
-        let Ok(_) = mount(alloc, &mut bench, u64::from(self.n)) else {
-            return Ok(Vec::new(alloc));
-        };
-        Ok(all_stops(alloc, bench.entries())?)
+        let whole = mount_over(alloc, &self.world, Setting::PLAIN, self.n)?;
+        if whole.answer.is_err() {
+            return Err(ScriptFault::NotMounted);
+        }
+        Ok(all_stops(alloc, &whole.left.entries)?)
     }
 
-    // Mounts the drive with each of these stops, and counts them. Says where something is wrong.
+    // Mounts the drive with each stop, and at last with none, and counts the stops.
     fn sweep(
         &self,
         alloc: Global,
-        stops: &[Setting],
         counts: &mut Stops,
         out: &mut String,
-    ) -> Result<bool, ScriptFault> {
-        for setting in stops {
-            if let Some(wrong) = self.wrong_stop(alloc, *setting)? {
-                show_place("mount", *setting, out)?;
-                writeln!(out, "    {wrong}")?;
-                return Ok(false);
-            }
+    ) -> Result<(), ScriptFault> {
+        for setting in &self.stops(alloc)? {
+            checked("mount", *setting, self.check_stop(alloc, *setting), out)?;
             *counts = counts.with(*setting);
         }
-        Ok(true)
-    }
-
-    // Mounts the drive with each stop, and at last with none.
-    fn sweep_all(
-        &self,
-        alloc: Global,
-        counts: &mut Stops,
-        out: &mut String,
-    ) -> Result<bool, ScriptFault> {
-        let stops = self.stops(alloc)?;
-        if !self.sweep(alloc, &stops, counts, out)? {
-            return Ok(false);
-        }
-        if let Some(wrong) = self.wrong_rest(alloc, self.world)? {
-            writeln!(out, "    {wrong}")?;
-            return Ok(false);
-        }
-        Ok(true)
+        self.check_rest(alloc, &self.world)
     }
 }
 
-// Where a run stopped.
-fn show_place(name: &str, setting: Setting, out: &mut String) -> Result<(), AllocError> {
-    let commands = setting.stop_after.unwrap_or(0);
-    let tear = setting.tear;
-    writeln!(
-        out,
-        "    {name}: after {commands} commands, {tear} blocks into the next"
-    )
-}
-
-// Runs the trace with a stop, and then the mounts after it. Says where something is wrong.
+// Runs the trace with a stop, and then the mounts after it.
 fn sweep_stop(
     alloc: Global,
     trial: Trial,
     setting: Setting,
     counts: &mut Stops,
     out: &mut String,
-) -> Result<bool, ScriptFault> {
+) -> Result<(), ScriptFault> {
     let ran = trial.run(alloc, setting)?;
-    let left = world_of(alloc, trial.world.geometry, ran.bench)?;
-    if let Some(wrong) = trial.wrong_after(alloc, &left, &ran.replies, true)? {
-        writeln!(out, "    {wrong}")?;
-        return Ok(false);
-    }
-    let Some(rest) = rest_of(alloc, trial, &ran.replies)? else {
-        return Err(ScriptFault::Words);
-    };
-    let Some(array) = left.array(alloc, trial.n)? else {
-        return Err(ScriptFault::Words);
-    };
-    let world = left.restarted(alloc)?;
-    let stopped = Stopped {
-        world: &world,
-        n: trial.n,
-        array: &array,
-        rest: &rest,
-    };
-    stopped.sweep_all(alloc, counts, out)
+    trial.check_ran(alloc, &ran, true)?;
+    Stopped::after(alloc, trial, &ran)?.sweep(alloc, counts, out)
 }
 
 fn show_right(trace: Stops, mounts: Stops, out: &mut String) -> Result<(), AllocError> {
@@ -242,28 +169,29 @@ fn show_right(trace: Stops, mounts: Stops, out: &mut String) -> Result<(), Alloc
     )
 }
 
-// Runs the trace with each of these stops. Says how many stops there were, or where something is wrong.
-fn show_sweep(
-    alloc: Global,
-    trial: Trial,
-    stops: &[Setting],
-    out: &mut String,
-) -> Result<(), ScriptFault> {
+// The stops of the trace, of which the last is after all of its commands.
+fn trace_stops(alloc: Global, trial: Trial) -> Result<Vec<Setting>, ScriptFault> {
+    let whole = trial.run(alloc, Setting::PLAIN)?;
+    let mut stops = all_stops(alloc, &whole.left.entries)?;
+    stops.push(Halts::Stop.setting(whole.left.entries.len() as u64, 0))?;
+    Ok(stops)
+}
+
+// Runs the trace with each of its stops, and says how many stops there were.
+fn show_sweep(alloc: Global, trial: Trial, out: &mut String) -> Result<(), ScriptFault> {
     let mut trace = Stops::NONE;
     let mut mounts = Stops::NONE;
-    for setting in stops {
-        if !sweep_stop(alloc, trial, *setting, &mut mounts, out)? {
-            show_place("trace", *setting, out)?;
-            return Ok(());
-        }
+    for setting in &trace_stops(alloc, trial)? {
+        let answer = sweep_stop(alloc, trial, *setting, &mut mounts, out);
+        checked("trace", *setting, answer, out)?;
         trace = trace.with(*setting);
     }
     show_right(trace, mounts, out)?;
     Ok(())
 }
 
-/// Runs a trace with each stop, and mounts the drive after each of them with each stop. Says whether each time the
-/// drive can be mounted and holds the array with a front of the next line, and whether the lines that are left are
+/// Runs a trace with each stop, and mounts the drive after each of them with each stop. Checks that each time the
+/// drive can be mounted and holds the array with a front of the next line, and that the lines that are left are
 /// answered then as by a flat array.
 pub fn show_all_stops(
     alloc: Global,
@@ -273,16 +201,11 @@ pub fn show_all_stops(
     out: &mut String,
 ) -> Result<(), ScriptFault> {
     let n = u32::try_from(blocks).or(Err(ScriptFault::Words))?;
-    let lines = meant_lines(alloc, lines, out)?;
-    let text = text_of(alloc, &lines)?;
+    let trace = Trace::new(alloc, lines, out)?;
     let trial = Trial {
         world,
         n,
-        lines: &lines,
-        text: &text,
+        trace: &trace,
     };
-    let whole = trial.run(alloc, Setting::PLAIN)?;
-    let mut stops = all_stops(alloc, whole.bench.entries())?;
-    stops.push(Halts::Stop.setting(whole.bench.completed(), 0))?;
-    show_sweep(alloc, trial, &stops, out)
+    show_sweep(alloc, trial, out)
 }

@@ -149,4 +149,20 @@ impl World {
         }
         Ok(is_mountable(alloc, &self.geometry, &self.zones, n)?)
     }
+
+    /// The array of a drive that can be mounted as `n` blocks.
+    pub fn mounted_array(&self, alloc: Global, n: u32) -> Result<Vec<Vec<u8>>, ScriptFault> {
+        if !self.can_mount(alloc, n)? {
+            return Err(ScriptFault::NotMounted);
+        }
+        self.array(alloc, n)?.ok_or(ScriptFault::NoLog)
+    }
+
+    /// Checks that the drive can be mounted, and holds this array of `n` blocks.
+    pub fn check_array(&self, alloc: Global, n: u32, array: &[Vec<u8>]) -> Result<(), ScriptFault> {
+        if self.mounted_array(alloc, n)?.as_slice() != array {
+            return Err(ScriptFault::Array);
+        }
+        Ok(())
+    }
 }
