@@ -1,4 +1,4 @@
-// A reader and a writer over memory that fail after a number of bytes.
+// A reader and a writer over memory that fail after a number of bytes, and a writer that notes when it is flushed.
 
 use std::io;
 use std::io::{ErrorKind, Read, Write};
@@ -46,6 +46,25 @@ impl Write for FailingWriter {
     }
 
     fn flush(&mut self) -> io::Result<()> {
+        Ok(())
+    }
+}
+
+/// Takes all bytes, and notes how many there were at each flush.
+#[derive(Drop)]
+pub struct FlushedWriter {
+    pub bytes: usize,
+    pub flushes: Vec<usize>,
+}
+
+impl Write for FlushedWriter {
+    fn write(&mut self, buf: &[u8]) -> io::Result<usize> {
+        self.bytes = self.bytes.saturating_add(buf.len());
+        Ok(buf.len())
+    }
+
+    fn flush(&mut self) -> io::Result<()> {
+        self.flushes.push(self.bytes)?;
         Ok(())
     }
 }

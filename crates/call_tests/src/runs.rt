@@ -1,6 +1,6 @@
 // Readers and writers that fail. `worked_runs` has the rows of traces and raw lines.
 
-use crate::fakes::{FailingReader, FailingWriter};
+use crate::fakes::{FailingReader, FailingWriter, FlushedWriter};
 use batch_log::LogFault;
 use disk_files::LineReader;
 use disk_runs::{RunFault, run_raw, run_trace, write_fault};
@@ -9,7 +9,6 @@ use std::alloc::Global;
 use std::process::Abort;
 use std::test::Fail;
 use zone_drive::Drive;
-use zone_states::GeometryFault;
 use zone_translator::{DiskFault, MountFault};
 
 // Zones of 6 blocks in 8, two of which may be active and open; 9 logical blocks are served.
@@ -57,6 +56,28 @@ fn ends_where_the_reader_fails(rt: HostRuntime) {
     }
 }
 
+// Replies are sent where no whole line waits: once for lines that come together, and after each that comes alone.
+#[test]
+fn sends_replies_where_no_line_waits(rt: HostRuntime) {
+    for (step, flushes) in [(100, [15].as_slice()), (1, [3, 15].as_slice())] {
+        let mut reader = LineReader::new(
+            rt.alloc(),
+            FailingReader {
+                bytes: TRACE,
+                step,
+                left: 100,
+            },
+        );
+        let mut writer = FlushedWriter {
+            bytes: 0,
+            flushes: Vec::new(rt.alloc()),
+        };
+        let drive = drive(&rt, rt.alloc());
+        let (_, result) = run_trace(rt.alloc(), &mut reader, &mut writer, drive, 9);
+        assert_eq!(rt; (writer.flushes.as_slice(), result), (flushes, Ok(())));
+    }
+}
+
 // The writer takes the first bytes of the replies to a trace, and to two raw lines without a command.
 #[test]
 fn ends_where_the_writer_fails(rt: HostRuntime) -> Result<(), Fail> {
@@ -91,95 +112,44 @@ fn ends_where_the_writer_fails(rt: HostRuntime) -> Result<(), Fail> {
     Ok(())
 }
 
-const FAULTS: [(RunFault, &str, &str); 17] = [
-    (RunFault::Line(3), "fault line 3\n", "Line"),
-    (
-        RunFault::Long(u64::MAX),
-        "fault long 18446744073709551615\n",
-        "Long",
-    ),
-    (
-        RunFault::Disk(DiskFault::OutOfRange),
-        "fault disk 1 OutOfRange\n",
-        "Disk",
-    ),
-    (
-        RunFault::Disk(DiskFault::OutOfMemory),
-        "fault disk 2 OutOfMemory\n",
-        "Disk",
-    ),
-    (
-        RunFault::Disk(DiskFault::Stopped),
-        "fault disk 3 Stopped\n",
-        "Disk",
-    ),
-    (
-        RunFault::Disk(DiskFault::Spent),
-        "fault disk 4 Spent\n",
-        "Disk",
-    ),
-    (
-        RunFault::Disk(DiskFault::Unmounted),
-        "fault disk 5 Unmounted\n",
-        "Disk",
-    ),
-    (
-        RunFault::Mount(MountFault::Limits),
-        "fault mount 2 Limits\n",
-        "Mount",
-    ),
-    (
-        RunFault::Mount(MountFault::Halted),
-        "fault mount 10 Halted\n",
-        "Mount",
-    ),
-    (
-        RunFault::Mount(MountFault::ZoneUnusable(3)),
-        "fault mount 3 ZoneUnusable 3\n",
-        "Mount",
-    ),
-    (
-        RunFault::Mount(MountFault::Log(0, 4, LogFault::Torn)),
-        "fault mount 4 Log 0 4 7 Torn\n",
-        "Mount",
-    ),
-    (
-        RunFault::Mount(MountFault::NoSpare),
-        "fault mount 8 NoSpare\n",
-        "Mount",
-    ),
-    (
-        RunFault::Mount(MountFault::TornZone(2)),
-        "fault mount 13 TornZone 2\n",
-        "Mount",
-    ),
-    (
-        RunFault::Geometry(GeometryFault::Open),
-        "fault geometry 7 Open\n",
-        "Geometry",
-    ),
-    (RunFault::Input, "fault input\n", "Input"),
-    (RunFault::Output, "fault output\n", "Output"),
-    (RunFault::Memory, "fault memory\n", "Memory"),
-];
-
-// The line of each fault, and a writer that takes the line without its line feed.
+// The line of a fault, and a writer that takes the line without its line feed. `worked_runs` shows the other lines.
 #[test]
 fn writes_the_line_of_a_fault(rt: HostRuntime) -> Result<(), Fail> {
-    for (fault, line, name) in FAULTS {
-        let mut output = Vec::new(rt.alloc());
-        assert_eq!(rt; write_fault(rt.alloc(), fault, &mut output), Ok(()));
-        assert_eq!(rt; output.as_slice(), line.as_bytes());
-        let message = format!(in rt.alloc(); "{fault}")?;
-        assert_eq!(rt; message.as_str(), name);
+    for (fault, line) in [
+        (
+            RunFault::Long(u64::MAX),
+            "fault long 18446744073709551615\n",
+        ),
+        (
+            RunFault::Disk(DiskFault::Unmounted),
+            "fault disk 5 Unmounted\n",
+        ),
+        (
+            RunFault::Mount(MountFault::Limits),
+            "fault mount 2 Limits\n",
+        ),
+        (
+            RunFault::Mount(MountFault::Log(0, 4, LogFault::Torn)),
+            "fault mount 4 Log 0 4 7 Torn\n",
+        ),
+        (RunFault::Input, "fault input\n"),
+        (RunFault::Output, "fault output\n"),
+        (RunFault::Memory, "fault memory\n"),
+    ] {
         let mut writer = FailingWriter {
             bytes: Vec::new(rt.alloc()),
             step: 7,
-            left: line.len() - 1,
+            left: line.len(),
         };
+        assert_eq!(rt; write_fault(rt.alloc(), fault, &mut writer), Ok(()));
+        assert_eq!(rt; writer.bytes.as_slice(), line.as_bytes());
+        writer.bytes.clear();
+        writer.left = line.len() - 1;
         let written = write_fault(rt.alloc(), fault, &mut writer);
         assert_eq!(rt; written, Err(RunFault::Output));
         assert_eq!(rt; writer.bytes.as_slice(), line.trim_end().as_bytes());
     }
+    let message = format!(in rt.alloc(); "{}", RunFault::Memory)?;
+    assert_eq!(rt; message.as_str(), "Memory");
     Ok(())
 }

@@ -103,12 +103,12 @@ program names = record {
   subs = format ∷ run names ∷ report ∷ nvme names ∷ fresh names ∷ fresh_raw names ∷ [];
 }
 
--- a command with these options more, none of which subcommands inherit
+-- these options are added to a command, none of which its subcommands inherit
 pub record AddsOptions (rules : List Rule) (old new : Command) : Type 0 where
   pub app : app_of new ≡ fold with_rule (app_of old) rules
   pub globals : (fields_of new).has_globals ≡ (fields_of old).has_globals
 
--- a command with these subcommands more, none of whose options others inherit
+-- these subcommands are added to a command, none with an option that other subcommands inherit
 pub record AddsSubcommands (shapes : List Shape) (old new : Command) : Type 0 where
   pub app : app_of new ≡ fold with_subcommand (app_of old) shapes
   pub globals : (fields_of new).has_globals ≡ (fields_of old).has_globals

@@ -132,6 +132,7 @@ fn image(alloc: Global, matches: &ArgMatches<'_>) -> Result<String, WordFault>
     Ok(String::from_str(alloc, path)?)
 }
 
+/// The job of `format`.
 fn format_job(alloc: Global, matches: &ArgMatches<'_>) -> Result<Job, WordFault>
     ensures { Finds (AsksFor (codes "format") (rows_of (found_of matches.now))) result }
 {
@@ -141,6 +142,7 @@ fn format_job(alloc: Global, matches: &ArgMatches<'_>) -> Result<Job, WordFault>
     })
 }
 
+/// The job of `run`.
 fn run_job(alloc: Global, matches: &ArgMatches<'_>) -> Result<Job, WordFault>
     ensures { Finds (AsksFor (codes "run") (rows_of (found_of matches.now))) result }
 {
@@ -155,6 +157,7 @@ fn run_job(alloc: Global, matches: &ArgMatches<'_>) -> Result<Job, WordFault>
     })
 }
 
+/// The job of `report`.
 fn report_job(alloc: Global, matches: &ArgMatches<'_>) -> Result<Job, WordFault>
     ensures { Finds (AsksFor (codes "report") (rows_of (found_of matches.now))) result }
 {
@@ -163,6 +166,7 @@ fn report_job(alloc: Global, matches: &ArgMatches<'_>) -> Result<Job, WordFault>
     })
 }
 
+/// The job of `nvme`.
 fn nvme_job(alloc: Global, matches: &ArgMatches<'_>) -> Result<Job, WordFault>
     ensures { Finds (AsksFor (codes "nvme") (rows_of (found_of matches.now))) result }
 {
@@ -172,6 +176,7 @@ fn nvme_job(alloc: Global, matches: &ArgMatches<'_>) -> Result<Job, WordFault>
     })
 }
 
+/// The job of `fresh`.
 fn fresh_job(matches: &ArgMatches<'_>) -> Result<Job, WordFault>
     ensures { Finds (AsksFor (codes "fresh") (rows_of (found_of matches.now))) result }
 {
@@ -185,6 +190,7 @@ fn fresh_job(matches: &ArgMatches<'_>) -> Result<Job, WordFault>
     })
 }
 
+/// The job of `fresh-raw`.
 fn fresh_raw_job(matches: &ArgMatches<'_>) -> Result<Job, WordFault>
     ensures { Finds (AsksFor (codes "fresh-raw") (rows_of (found_of matches.now))) result }
 {

@@ -1,10 +1,12 @@
 -- A line is read part by part.
 use Rattle.std.proofs.Common.{◌≡◌, ◌≢◌, ℕ, ◌+◌, ◌<◌, ◌≤◌, true, false, not, List, [], ◌∷◌, ◌++◌, length, Option, Some, None, Ok, Err, refl, sym, ap, ◌∙◌, arith, append_assoc}
+use Rattle.std.specs.Prelude.{IfSome, get_or, is_some, position}
 use Rattle.std.specs.List.{position_or_len}
-use Rattle.std.specs.Io.KnownBytes.{Consumes, IsAtEnd, Keeps}
+use Rattle.std.specs.Io.KnownBytes.{Consumes, IsAtEnd, Keeps, prepend_known}
 use Rattle.std.proofs.lemmas.List.{append-nil, drop-drop, drop_all, drop_at, get_or_append_left, get_or_at, length-append, length-take, take_all, take_at}
 use Rattle.std.proofs.lemmas.List.Elements.{All-append}
 use Rattle.std.proofs.lemmas.List.Folds.{prefix_len-append}
+use Rattle.std.proofs.lemmas.List.Quantifiers.{position-Some}
 use Rattle.std.proofs.lemmas.List.Sums.{position_or_len_is}
 use Rattle.std.proofs.lemmas.Bool.Decides.{nat_tests}
 use Rattle.disk_files.specs.Ahead.{PutsAfter}
@@ -77,3 +79,18 @@ pub too_long : (old new : Option (List ℕ)) (line : List ℕ) → NoFeed line �
 too_long None new line none p long = tt
 too_long (Some xs) None line none p long = absurd p
 too_long (Some xs) (Some ys) line none p long = (record { no_feed = none; text = p }, rw p (omega (arith, length-first_line line none ys)))
+
+-- ---- a line feed ahead
+
+feed_left : (ahead rest : List ℕ) (found : Option ℕ) → position is_feed ahead ≡ found → is_some found ≡ true → NoFeed (ahead ++ rest) → ⊥
+feed_left ahead rest None e some none = let bad : false ≡ true = some in cc
+feed_left ahead rest (Some place) e some none =
+    let first = position-Some is_feed ahead place 0 e in
+    let inside : place < length (ahead ++ rest) = omega (arith, first.0, length-append ahead rest) in
+    let no : is_feed (get_or ahead place 0) ≡ false = rw (get_or_append_left, first.0) at (none place 0 inside) in
+    let bad : false ≡ true = sym no ∙ first.1 in cc
+
+-- it is one of the bytes that are left
+pub feed_ahead : (ahead : List ℕ) (rest : Option (List ℕ)) → is_some (position is_feed ahead) ≡ true → IfSome (prepend_known ahead rest) (λ bytes. NoFeed bytes → ⊥)
+feed_ahead ahead None some = tt
+feed_ahead ahead (Some rest) some = feed_left ahead rest (position is_feed ahead) refl some

@@ -1,6 +1,7 @@
-ghost use Rattle.std.specs.Prelude.{◌≡◌, ◌≢◌, ◌==◌, ◌≤◌, ◌+◌, true, [], Ok, OnOk, IfErr, IfOk, length, slice_range, take};
+ghost use Rattle.std.specs.Prelude.{◌≡◌, ◌≢◌, ◌==◌, ◌≤◌, ◌+◌, true, [], Ok, OnOk, IfErr, IfOk, is_some, length, position, slice_range, take};
 ghost use Rattle.std.specs.Io.KnownBytes.{Consumes, IsAtEnd, Keeps};
 ghost use Rattle.disk_files.specs.Ahead.{ReadsPart, Refills};
+ghost use Rattle.disk_files.specs.Line.{is_feed};
 
 use crate::bytes::first_place;
 use crate::line_reader::LineFault;
@@ -111,7 +112,9 @@ impl Ahead {
     }
 
     /// Whether a whole line, with its line feed, is ahead.
-    pub fn has_line(&self) -> bool {
+    pub fn has_line(&self) -> bool
+        ensures { result ≡ is_some (position is_feed self.now.bytes) }
+    {
         first_place(&self.bytes[self.start..self.end], b'\n').is_some()
     }
 

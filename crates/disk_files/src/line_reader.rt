@@ -1,7 +1,7 @@
-ghost use Rattle.std.specs.Prelude.{◌≡◌, ◌≢◌, ◌<◌, ◌≤◌, ◌↔◌, true, [], IfErr, IsErrOf, Ok, OnOk, length};
+ghost use Rattle.std.specs.Prelude.{◌≡◌, ◌≢◌, ◌<◌, ◌≤◌, ◌↔◌, true, [], IfErr, IfSome, IsErrOf, Ok, OnOk, length};
 ghost use Rattle.std.specs.Io.KnownBytes.{IsAtEnd, Keeps, prepend_known};
 ghost use Rattle.disk_files.specs.Ahead.{ReadsPart};
-ghost use Rattle.disk_files.specs.Line.{ReadsLine};
+ghost use Rattle.disk_files.specs.Line.{NoFeed, ReadsLine};
 ghost use Rattle.disk_files.specs.declared.line_reader.LineFault.TheVariants.{Memory};
 
 use crate::ahead::{Ahead, Part};
@@ -145,7 +145,9 @@ impl<R: Read + Drop> LineReader<R> {
     }
 
     /// Whether a whole line was read ahead, so that the next one is read without asking the reader for bytes.
-    pub fn has_line(&self) -> bool {
+    pub fn has_line(&self) -> bool
+        ensures { result ≡ true → IfSome self.now.left (λ bytes. NoFeed bytes → ⊥) }
+    {
         self.ahead.has_line()
     }
 

@@ -187,7 +187,7 @@ pub(crate) fn raw_problem(line: &[u8]) -> LineProblem {
     };
     match word_problem(line, wanted) {
         Some(problem) => problem,
-        // Nothing else can be wrong with a raw line.
+        // Never: a raw line whose words are all as wanted is in the grammar.
         None => LineProblem::Word(2, Wanted::Data),
     }
 }

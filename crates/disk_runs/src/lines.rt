@@ -57,8 +57,8 @@ pub(crate) trait Answerer {
 }
 
 /// Writes the reply that is held. Where no whole line waits to be answered, the replies are sent on their way, so that
-/// whoever waits for them before the next line gets them. What fails of that fails again at the next write, or at the
-/// end.
+/// whoever waits for them before the next line gets them. If that fails, the run goes on, since the reply is written:
+/// the fault comes from the write that finds no room in the buffer, or from the flush at the end.
 fn send_reply<R: Read + Drop, W: Write, A: Answerer>(
     reader: &LineReader<R>,
     writer: &mut W,

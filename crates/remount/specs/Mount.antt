@@ -135,13 +135,13 @@ LeavesPlanned geometry n logs (Some repair) new = RepairsTorn geometry n logs re
 abbrev pub LeavesCleared : ℕ → DriveState → List ℕ → DriveState → Type 0
 LeavesCleared n old resets new = LeavesRepaired old.geometry n (cleared (drive_logs old) resets) (zone_tails (contents old.zones)) (drive_logs new)
 
--- No zone was finished without need: where no zone of the cleared drive is torn, each zone that has a batch there is as it was, but for partly written ones that a disk does not go on with.
+-- Where no zone of the cleared drive is torn, no zone was finished without need: each zone that has a batch there holds what it held, but for partly written ones that a disk does not go on with. (Beside a torn zone every other partly written zone is finished.)
 abbrev pub KeepsOthers : DriveState → List ℕ → DriveState → Type 0
 KeepsOthers old resets new =
     NoneIsTorn (cleared (drive_logs old) resets) (zone_tails (contents old.zones))
     → (zone : ℕ) → log_at (cleared (drive_logs old) resets) zone ≢ [] → GoesOn old zone → content_at (contents new.zones) zone ≡ content_at (contents old.zones) zone
 
--- What a mount leaves of a drive: its half clean zones were emptied, the lowest first, and then a torn zone was repaired; and no other zone was finished without need.
+-- What a mount leaves of a drive: its half clean zones were emptied, the lowest first, and then a torn zone was repaired; where none was torn, no zone was finished without need.
 pub record LeavesMounted (old new : DriveState) (n : ℕ) : Type 0 where
   pub resets : List ℕ
   pub clearing : IsClearing old.geometry.block n (drive_logs old) resets

@@ -78,7 +78,7 @@ FinishesIf old new before after zone =
     (IsTested old.geometry.capacity (batch_most old.geometry) before zone false × (new ≡ old) × (after ≡ before))
     ⊎ (IsTested old.geometry.capacity (batch_most old.geometry) before zone true × FinishesOne old new before after zone)
 
--- each zone that has a batch now is as it was
+-- each zone that has a batch now holds what it held
 abbrev pub KeepsWritten : DriveState → DriveState → Type 0
 KeepsWritten old new = (zone : ℕ) → log_at (drive_logs new) zone ≢ [] → content_at (contents new.zones) zone ≡ content_at (contents old.zones) zone
 
@@ -88,6 +88,6 @@ GoesOn drive zone =
     is_partly_written (content_at (contents drive.zones) zone) ≡ true
     → (length (content_at (contents drive.zones) zone).blocks + 2 ≤ drive.geometry.capacity) × AllByRecursion (HasAtMost (batch_most drive.geometry)) (log_at (drive_logs drive) zone)
 
--- each zone that a disk goes on with, and each that is not partly written, is as it was
+-- each zone that a disk goes on with, and each that is not partly written, holds what it held
 abbrev pub KeepsGoing : DriveState → DriveState → Type 0
 KeepsGoing old new = (zone : ℕ) → GoesOn old zone → content_at (contents new.zones) zone ≡ content_at (contents old.zones) zone

@@ -14,9 +14,9 @@
 //!   the size that they say, a zone is vacant or half clean, and at most one zone is torn when the half clean ones are
 //!   emptied, which can be repaired. Then the tables agree with the drive that is left, which encodes the same array
 //!   (`Mounts` in specs/Mount).
-//! * Where no zone is torn, no zone is finished without need: each zone that still has a batch is as it was, unless it
-//!   is partly written with fewer than two free blocks or with a batch of more entries than ours (`KeepsOthers` in
-//!   specs/Mount).
+//! * Where no zone is torn, no zone is finished without need: each zone that still has a batch has the blocks that it
+//!   had, and is Full only if it was, unless it is partly written with fewer than two free blocks or with a batch of
+//!   more entries than ours (`KeepsOthers` in specs/Mount).
 //! * Each fault but `Halted` and `OutOfMemory` is the first one, in the order in which a mount looks (`MountFails`),
 //!   and leaves the drive as it was, but that its controller may have closed zones (`KeepsZones` in specs/Reported).
 //! * Whatever is answered, a drive that could be mounted still can, with the same array, and no command was refused

@@ -115,11 +115,11 @@ fn show_place(name: &str, setting: Setting, out: &mut String) -> Result<(), Allo
     let tear = setting.tear;
     writeln!(
         out,
-        "    wrong: {name} after {commands} commands, {tear} blocks into the next"
+        "    ended: {name} after {commands} commands, {tear} blocks into the next"
     )
 }
 
-/// What a check of a run in this setting found. Says which run it was if something is wrong.
+/// Passes on what a check of a run in this setting found, and says which run it was if the sweep ends there.
 pub fn checked(
     name: &str,
     setting: Setting,
