@@ -27,6 +27,14 @@ fn job(rt: &impl Abort, alloc: Global, line: &str) -> Result<Job, clap::Error> {
     job_of(alloc, &words)
 }
 
+// How the words of a command line are refused, if they are.
+fn refusal(rt: &impl Abort, alloc: Global, line: &str) -> Option<ErrorKind> {
+    match job(rt, alloc, line) {
+        Ok(_) => None,
+        Err(error) => Some(error.kind()),
+    }
+}
+
 // What a command line writes, with the line of a fault, and what standard error says of that.
 fn answer<R: Files + Abort>(rt: &R, alloc: Global, line: &str, lines: &[u8]) -> (Vec<u8>, String) {
     let job = job(rt, alloc, line).ok().expect(rt, "a job");
@@ -78,11 +86,7 @@ fn reads_the_words(rt: HostRuntime) -> Result<(), Fail> {
         ("--help", Some(ErrorKind::DisplayHelp)),
     ] {
         let line = format!(in rt.alloc(); "{FRESH} {rest}")?;
-        let refused = match job(&rt, rt.alloc(), &line) {
-            Ok(_) => None,
-            Err(error) => Some(error.kind()),
-        };
-        assert_eq!(rt; refused, kind);
+        assert_eq!(rt; refusal(&rt, rt.alloc(), &line), kind);
     }
     Ok(())
 }
@@ -119,11 +123,7 @@ fn reads_other_words(rt: HostRuntime) {
         ("zonedisk --help", Some(ErrorKind::DisplayHelp)),
         ("zonedisk --version", Some(ErrorKind::DisplayVersion)),
     ] {
-        let refused = match job(&rt, rt.alloc(), line) {
-            Ok(_) => None,
-            Err(error) => Some(error.kind()),
-        };
-        assert_eq!(rt; refused, kind);
+        assert_eq!(rt; refusal(&rt, rt.alloc(), line), kind);
     }
 }
 
