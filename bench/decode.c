@@ -1,5 +1,5 @@
 /* Reads `write` lines from standard input, decodes their data, digit by digit, and prints the seconds that it
-   took: what no program that is given its blocks in hexadecimal digits can be faster than. */
+   took: what a plain loop takes that is given blocks in hexadecimal digits, and decodes them one by one. */
 #include <stdint.h>
 #include <stdio.h>
 #include <string.h>

@@ -124,7 +124,8 @@ fn blocks_option<'a>(alloc: Global) -> Arg<'a>
     ensures rule { rule_of result ≡ blocks }
     ensures local { result.global ≡ false }
 {
-    number_option(alloc, "blocks", "N", "Logical blocks", count_parser())
+    let help = "Logical blocks; where the drive has room for fewer, the refusal says for how many";
+    number_option(alloc, "blocks", "N", help, count_parser())
 }
 
 /// An option that takes a number below 2^63.

@@ -14,6 +14,22 @@ fn explain_line(alloc: Global, job: &Job, number: u64, line: &[u8]) -> Result<St
     format!(in alloc; "line {number}: {problem}")
 }
 
+/// How many bytes of a line are shown.
+const SHOWN_BYTES: usize = 60;
+
+/// Where a drive or a disk refused: at a line, of which the beginning is shown, or before the first one.
+fn place(alloc: Global, line: &[u8]) -> Result<String, AllocError> {
+    if line.is_empty() {
+        return String::from_str(alloc, "before the first line");
+    }
+    let shown = line.len().min(SHOWN_BYTES);
+    match std::str::from_utf8(&line[..shown]) {
+        Ok(text) if shown < line.len() => format!(in alloc; "at the line `{text}..`"),
+        Ok(text) => format!(in alloc; "at the line `{text}`"),
+        Err(_) => String::from_str(alloc, "at the last line"),
+    }
+}
+
 fn explain_run(
     alloc: Global,
     job: &Job,
@@ -25,8 +41,8 @@ fn explain_run(
         RunFault::Long(number) => {
             format!(in alloc; "line {number} has more than {LONGEST_LINE} bytes")
         }
-        RunFault::Disk(fault) => format!(in alloc; "{fault}"),
-        RunFault::Mount(fault) => format!(in alloc; "{fault}"),
+        RunFault::Disk(fault) => format!(in alloc; "{}: {fault}", place(alloc, line)?),
+        RunFault::Mount(fault) => format!(in alloc; "{}: {fault}", place(alloc, line)?),
         RunFault::Geometry(fault) => format!(in alloc; "{fault}"),
         RunFault::Input => String::from_str(alloc, "standard input failed"),
         RunFault::Output => String::from_str(alloc, "standard output failed"),
@@ -41,12 +57,14 @@ pub fn explain(
     fault: ProgramFault,
     line: &[u8],
 ) -> Result<String, AllocError> {
+    let path = job.image().unwrap_or("the file");
     match fault {
         ProgramFault::Run(fault) => explain_run(alloc, job, fault, line),
         ProgramFault::Reserve { most } => {
             format!(in alloc; "the drive has room for 1 to {most} logical blocks")
         }
-        ProgramFault::Image(fault) => format!(in alloc; "the image: {fault}"),
-        ProgramFault::File => String::from_str(alloc, "the file cannot be opened or saved"),
+        ProgramFault::Image(fault) => format!(in alloc; "{path}: {fault}"),
+        ProgramFault::Open => format!(in alloc; "{path} cannot be opened"),
+        ProgramFault::Save => format!(in alloc; "{path} cannot be saved"),
     }
 }

@@ -18,8 +18,10 @@ pub enum ProgramFault {
     Reserve { most: u64 },
     /// The file has no image of a drive.
     Image(ImageFault),
-    /// The file cannot be opened or saved.
-    File,
+    /// The file cannot be opened.
+    Open,
+    /// The file cannot be saved: it holds what it held before.
+    Save,
 }
 
 impl From<RunFault> for ProgramFault {
@@ -66,7 +68,7 @@ pub fn write_program_fault<W: Write>(
         ProgramFault::Run(fault) => write_fault(alloc, fault, output)?,
         ProgramFault::Reserve { .. } => write_fault(alloc, RESERVE, output)?,
         ProgramFault::Image(fault) => write_out(output, &image_fault_line(alloc, fault)?)?,
-        ProgramFault::File => write_out(output, b"fault file\n")?,
+        ProgramFault::Open | ProgramFault::Save => write_out(output, b"fault file\n")?,
     }
     Ok(())
 }

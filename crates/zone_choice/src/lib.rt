@@ -38,7 +38,8 @@ pub use append::{append_batch, halt_of};
 pub use batch::BatchBuilder;
 pub use laws::{
     a_zone_can_be_cleaned, append_first, append_logs, append_writes, empty_spare, finish_logs,
-    greatest_is, newest_is_live, one_clearing, resets_mount, spelled_blocks, torn_mounts,
+    finish_mounts, greatest_is, newest_is_live, one_clearing, repair_mounts, resets_mount,
+    spelled_blocks, torn_mounts,
 };
 pub use reserve::{batch_most, fill, fits_reserve, most_blocks};
 pub use roles::{Filling, Roles, Second};

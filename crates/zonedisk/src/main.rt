@@ -80,7 +80,7 @@ fn main(rt: HostRuntime) -> io::Result<ExitCode> {
             return Ok(fail(alloc, OUT_OF_MEMORY, &mut output));
         }
         Err(_) => {
-            eprintln!(rt; "error: a word of the command line is not UTF-8")?;
+            let _ = eprintln!(rt; "error: a word of the command line is not UTF-8");
             return Ok(ExitCode::from(REFUSED));
         }
     };
@@ -90,7 +90,7 @@ fn main(rt: HostRuntime) -> io::Result<ExitCode> {
             return Ok(fail(alloc, OUT_OF_MEMORY, &mut output));
         }
         Err(error) => {
-            eprint!(rt; "{error}")?;
+            let _ = eprint!(rt; "{error}");
             return Ok(ExitCode::from(REFUSED));
         }
     };
@@ -100,7 +100,7 @@ fn main(rt: HostRuntime) -> io::Result<ExitCode> {
     };
     let code = fail(alloc, fault, &mut output);
     if let Ok(text) = explain(alloc, &job, fault, input.line()) {
-        eprintln!(rt; "zonedisk: {text}")?;
+        let _ = eprintln!(rt; "zonedisk: {text}");
     }
     Ok(code)
 }
