@@ -1,6 +1,7 @@
 // Command lines of the program: what is written and told, and which words are refused. The stored run of `zonedisk`
 // shows the rest.
 
+use crate::runs::FINISH;
 use clap::error::ErrorKind;
 use command_line::job_of;
 use disk_files::LineReader;
@@ -182,8 +183,25 @@ fn does_its_jobs(rt: HostRuntime) -> Result<(), Fail> {
 fn explains_the_faults(rt: HostRuntime) -> Result<(), Fail> {
     let disk = format!(in rt.alloc(); "{FRESH} --blocks 9")?;
     let large = format!(in rt.alloc(); "{FRESH} --blocks 10")?;
+    let stopped = format!(in rt.alloc(); "{disk} --stop-after 0")?;
+    let stops = format!(in rt.alloc(); "{disk} --stop-after 2")?;
     for (line, lines, text) in [
         (disk.as_str(), b"read 0 1\n".as_slice(), ""),
+        (
+            &stopped,
+            b"read 0 1\n",
+            "before the first line: the drive has stopped",
+        ),
+        (
+            &stops,
+            b"fill 0 1 aa\nfill 0 1 bb\n",
+            "at the line `fill 0 1 bb`: the drive has stopped",
+        ),
+        (
+            "zonedisk report --image missing.image",
+            b"",
+            "missing.image cannot be opened",
+        ),
         (
             &disk,
             b"\xef\xbb\xbfread 0 1\n",
@@ -272,6 +290,13 @@ start 16 state Empty pointer 16 capacity 6
 start 24 state Empty pointer 24 capacity 6
 ";
 
+const FINISHED: &[u8] = b"zones 4
+start 0 state Full pointer - capacity 6
+start 8 state Closed pointer 10 capacity 6
+start 16 state Full pointer - capacity 6
+start 24 state Empty pointer 24 capacity 6
+";
+
 const FORMAT: &str =
     "zonedisk format --image drive.image --block 512 --zones 4 --size 8 --capacity 6 --transfer 4 --active 2 --open 2";
 
@@ -314,6 +339,8 @@ fn works_on_a_file(rt: HostRuntime) {
         (STRICT, b"read 0 1\n", b"0 aa*512\nok\n", 4192),
         (REPORT, b"", CLOSED, 4192),
         (NVME, b"none\n", b"fault line 1\n", 4192),
+        (NVME, FINISH, b"00000000000000000000000001000000\n", 4192),
+        (REPORT, b"", FINISHED, 4192),
     ] {
         let (written, _) = answer(&rt, alloc, line, lines);
         assert_eq!(rt; written.as_slice(), output);
@@ -323,4 +350,57 @@ fn works_on_a_file(rt: HostRuntime) {
     fs::remove_file(&rt, "drive.image").expect(&rt, "to remove the file");
     let (written, _) = answer(&rt, alloc, REPORT, b"");
     assert_eq!(rt; written.as_slice(), b"fault file\n".as_slice());
+}
+
+const EMPTY: &[u8] = b"zones 4
+start 0 state Empty pointer 0 capacity 6
+start 8 state Empty pointer 8 capacity 6
+start 16 state Empty pointer 16 capacity 6
+start 24 state Empty pointer 24 capacity 6
+";
+
+const RUN_KEPT: &str = "zonedisk run --image kept.image --blocks 9";
+
+// No folder has the image, or a folder stands where it is written: the replies come before the fault, and the image
+// stays as it was.
+#[test]
+fn keeps_the_image_where_a_save_fails(rt: HostRuntime) -> Result<(), Fail> {
+    let alloc = rt.alloc();
+    let format = FRESH.replace(alloc, "fresh", "format --image kept.image")?;
+    let missing = FRESH.replace(alloc, "fresh", "format --image missing/kept.image")?;
+    let folder = FRESH.replace(alloc, "fresh", "format --image kept.image.new")?;
+    let (written, _) = answer(&rt, alloc, &format, b"");
+    assert_eq!(rt; written.as_slice(), b"ok\n".as_slice());
+    fs::create_dir(&rt, "kept.image.new").expect(&rt, "a folder");
+    for (line, lines, output) in [
+        (
+            missing.as_str(),
+            b"".as_slice(),
+            b"ok\nfault file\n".as_slice(),
+        ),
+        (&folder, b"", b"ok\nfault file\n"),
+        (
+            "zonedisk report --image kept.image.new",
+            b"",
+            b"fault image 9 Input\n",
+        ),
+        (
+            RUN_KEPT,
+            b"fill 0 1 AA\nread 0 1\n",
+            b"ok\n0 aa*512\nok\nfault file\n",
+        ),
+        (RUN_KEPT, b"fill 0 1 AA\nnone\n", b"ok\nfault line 2\n"),
+        (
+            "zonedisk nvme --image kept.image",
+            FINISH,
+            b"00000000000000000000000001000000\nfault file\n",
+        ),
+        ("zonedisk report --image kept.image", b"", EMPTY),
+    ] {
+        let (written, _) = answer(&rt, alloc, line, lines);
+        assert_eq!(rt; written.as_slice(), output);
+    }
+    fs::remove_dir(&rt, "kept.image.new").expect(&rt, "to remove the folder");
+    fs::remove_file(&rt, "kept.image").expect(&rt, "to remove the file");
+    Ok(())
 }

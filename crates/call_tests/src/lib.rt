@@ -6,9 +6,13 @@
 #![tactic(auto)]
 
 #[cfg(test)]
+mod chance;
+#[cfg(test)]
 mod counts;
 #[cfg(test)]
 mod fakes;
+#[cfg(test)]
+mod images;
 #[cfg(test)]
 mod jobs;
 #[cfg(test)]

@@ -1,7 +1,9 @@
-ghost use Rattle.std.specs.Prelude.{◌≤◌};
+ghost use Rattle.std.specs.Prelude.{◌≡◌, ◌≤◌, ◌<◌, ◌+◌, ◌^◌, OnOk, length};
+ghost use Rattle.logical_map.specs.Places.{address_of};
 
+use crate::chance::chance;
 use logical_map::{Map, Place};
-use std::alloc::Global;
+use std::alloc::{AllocError, Global};
 use std::process::Abort;
 use std::test::Fail;
 
@@ -34,6 +36,99 @@ fn places_the_last_of_many_blocks(rt: HostRuntime) -> Result<(), Fail> {
         if most > 2 {
             places_last(&rt, rt.alloc(), most)?;
         }
+    }
+    Ok(())
+}
+
+// A place in a zone of 4 addresses, or as often none.
+fn random_place(state: &mut u64, zone: u32) -> Place
+    requires { zone < 65 }
+    ensures { address_of result + 1 < 2 ^ 63 }
+{
+    let address = (4 * zone + chance(state, 4)) as u64;
+    match chance(state, 8) {
+        0 => Place::Trimmed(address),
+        1 | 2 | 3 => Place::At(address),
+        _ => Place::None,
+    }
+}
+
+// Places a block in both, and says whether both answer the same place for it. There is not always room to note it.
+fn place_in_both(
+    map: &mut Map,
+    places: &mut [Place; 300],
+    block: u32,
+    place: Place,
+) -> Result<bool, AllocError>
+    requires length { length map.old.places ≡ 300 }
+    requires block { block < 300 }
+    requires fits { address_of place + 1 < 2 ^ 63 }
+    ensures length { OnOk result (length map.new.places ≡ 300) }
+    ensures zones { OnOk result (map.new.zones ≡ map.old.zones) }
+{
+    map.reserve_for(block)?;
+    let old = map.set(block, place);
+    let same = old == places[block as usize];
+    places[block as usize] = place;
+    Ok(same)
+}
+
+fn lies_in(place: Place, zone: u32) -> bool {
+    match place {
+        Place::None => false,
+        Place::Trimmed(address) | Place::At(address) => address / 4 == zone as u64,
+    }
+}
+
+// How many blocks lie in a zone, by a look at each.
+fn plain_live(places: &[Place; 300], zone: u32) -> u32 {
+    let mut live = 0_u32;
+    for place in places {
+        live = live.wrapping_add(u32::from(lies_in(*place, zone)));
+    }
+    live
+}
+
+// The first of the blocks from one on that lie in a zone, with its place, by a look at each.
+fn plain_first(places: &[Place; 300], zone: u32, from: u32) -> Option<(u32, Place)> {
+    for block in from..300 {
+        let place = places[block as usize];
+        if lies_in(place, zone) {
+            return Some((block, place));
+        }
+    }
+    None
+}
+
+// On 64 zones and behind them. A zone has few blocks, so that often none is left in it.
+#[test]
+fn places_as_a_plain_list(rt: HostRuntime) -> Result<(), Fail> {
+    let mut map = Map::new(rt.alloc(), 300, 64, 4);
+    let mut places = [Place::None; 300];
+    let mut state = 1;
+    for call in 0..10_000 {
+        let zone = chance(&mut state, 65);
+        let place = random_place(&mut state, zone);
+        map.reserve_in(zone, chance(&mut state, 16).min(1))?;
+        let block = chance(&mut state, 300);
+        let same = place_in_both(&mut map, &mut places, block, place)?;
+        let zone = chance(&mut state, 64);
+        let from = chance(&mut state, 300);
+        assert_eq!(rt;
+            (
+                same,
+                map.get(from),
+                map.live(zone),
+                map.records_of(zone, from)
+            ),
+            (
+                true,
+                places[from as usize],
+                plain_live(&places, zone),
+                plain_first(&places, zone, from)
+            ),
+            "after call {call}"
+        );
     }
     Ok(())
 }

@@ -9,6 +9,7 @@ use std::alloc::Global;
 use std::process::Abort;
 use std::test::Fail;
 use zone_drive::Drive;
+use zone_states::ZoneState;
 use zone_translator::{DiskFault, MountFault};
 
 // Zones of 6 blocks in 8, two of which may be active and open; 9 logical blocks are served.
@@ -54,6 +55,43 @@ fn ends_where_the_reader_fails(rt: HostRuntime) {
             assert_eq!(rt; (replies.as_slice(), result), (want, Err(RunFault::Input)));
         }
     }
+}
+
+/// A raw line that finishes the zone at the address 16.
+pub const FINISH: &[u8] =
+    b"79000100010000000000000000000000000000000000000000000000000000000000000000000000100000000000000000000000020000000000000000000000\n";
+
+const RAW_REPLIES: &[u8] = b"00000000000000000000000001000000\n00000000000000000000000007000200\n";
+
+// The reader gives the first bytes of that line and of one without a command.
+#[test]
+fn ends_where_the_reader_of_raw_lines_fails(rt: HostRuntime) -> Result<(), Fail> {
+    let mut lines = Vec::from_slice(rt.alloc(), FINISH)?;
+    lines.extend_from_slice(b"0f00070001000000")?;
+    lines.resize(257, b'0')?;
+    lines.push(b'\n')?;
+    for (left, replied, state) in [
+        (0, 0, ZoneState::Empty),
+        (128, 0, ZoneState::Empty),
+        (129, 33, ZoneState::Full),
+        (257, 33, ZoneState::Full),
+        (258, 66, ZoneState::Full),
+    ] {
+        let failing = FailingReader {
+            bytes: &lines,
+            step: 50,
+            left,
+        };
+        let mut reader = LineReader::new(rt.alloc(), failing);
+        let mut replies = Vec::new(rt.alloc());
+        let drive = drive(&rt, rt.alloc());
+        let (drive, result) = run_raw(rt.alloc(), &mut reader, &mut replies, drive);
+        assert_eq!(rt; result, Err(RunFault::Input));
+        assert_eq!(rt; replies.as_slice(), &RAW_REPLIES[..replied]);
+        let zone = drive.zone(2).expect(&rt, "the zone");
+        assert_eq!(rt; zone.state(), state);
+    }
+    Ok(())
 }
 
 // Replies are sent where no whole line waits: once for lines that come together, and after each that comes alone.
