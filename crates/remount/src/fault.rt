@@ -31,7 +31,7 @@ pub enum MountFault {
     #[error("no zone is vacant or half clean")]
     NoSpare,
     /// A batch has a sequence that is too great, or none is left for the repair of a torn zone.
-    #[error("no sequence is left")]
+    #[error("a sequence is 2^63 or more, or too few are left to repair a torn zone")]
     Spent,
     /// The drive has stopped.
     #[error("the drive has stopped")]

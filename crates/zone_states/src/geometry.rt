@@ -27,19 +27,19 @@ pub struct Geometry {
 /// The part of a geometry that is out of range.
 #[derive(Clone, Copy, Debug, PartialEq, Eq, Error)]
 pub enum GeometryFault {
-    #[error("a block has neither 512 nor 4096 bytes")]
+    #[error("the block size is neither 512 nor 4096 bytes")]
     Block,
-    #[error("there are not 3 to 65536 zones")]
+    #[error("the number of zones is not 3 to 65536")]
     Zones,
-    #[error("a zone has not 1 to 1048576 addresses")]
+    #[error("the zone size is not 1 to 1048576 blocks")]
     Size,
-    #[error("the capacity of a zone is not 4 blocks up to its size")]
+    #[error("the zone capacity is not 4 blocks to the zone size")]
     Capacity,
-    #[error("a command moves not 2 to 256 blocks at most")]
+    #[error("the largest transfer is not 2 to 256 blocks")]
     Transfer,
-    #[error("not 2 to 65536 zones may be active")]
+    #[error("the limit on active zones is not 2 to 65536")]
     Active,
-    #[error("not 1 zone up to the limit on active zones may be open")]
+    #[error("the limit on open zones is not 1 to the limit on active zones")]
     Open,
 }
 
