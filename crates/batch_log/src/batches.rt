@@ -11,6 +11,7 @@ use crate::view::{HeaderView, is_zero, read_header};
 pub struct Batch<'a> {
     /// The block of the zone where the header stands, counted from 0.
     pub offset: u32,
+    /// The header, lent from its block.
     pub header: HeaderView<'a>,
     /// The data, a block for each entry of the header that is not a trim.
     pub body: &'a [u8],

@@ -56,6 +56,7 @@ impl Error for LogFault {}
 pub struct FaultAt {
     /// Counted from 0, the first block of the zone.
     pub offset: u32,
+    /// Why the block is no part of a log.
     pub fault: LogFault,
 }
 

@@ -1,7 +1,9 @@
 /// Who wrote a batch: the host's commands, or the cleaner, which moves live records out of a zone.
 #[derive(Clone, Copy, Debug, PartialEq, Eq)]
 pub enum Kind {
+    /// The host's commands: kind 1.
     Host,
+    /// The cleaner, or the repair of a torn zone: kind 2.
     Move,
 }
 
@@ -11,12 +13,14 @@ pub enum Kind {
 pub struct Entry {
     /// The logical block, below 2^63.
     pub block: u64,
+    /// Whether the block is zeros, without data.
     pub trim: bool,
 }
 
 /// The header of a batch.
 #[derive(Debug, Drop)]
 pub struct Header {
+    /// Who wrote the batch.
     pub kind: Kind,
     /// Batches of a drive are numbered in the order in which they were written.
     pub sequence: u64,

@@ -249,6 +249,7 @@ pub fn read_header(block: &[u8]) -> Result<HeaderView<'_>, LogFault>
 
 #[tactic(auto, using(crate::proofs::EntryLaws::entries_length), unfolding(crate::specs::Reading::heading_in))]
 impl HeaderView<'_> {
+    /// Who wrote the batch.
     pub fn kind(&self) -> Kind
         ensures { result ≡ self.now.kind }
     {
@@ -258,6 +259,7 @@ impl HeaderView<'_> {
         Kind::Host
     }
 
+    /// The number of the batch, in the order in which those of a drive were written.
     pub fn sequence(&self) -> u64
         ensures { result ≡ self.now.sequence }
     {

@@ -5,11 +5,14 @@ use zone_states::Geometry;
 /// them, if there is one.
 #[derive(Clone, Copy, Debug, PartialEq, Eq)]
 pub struct Stop {
+    /// How many commands are completed before.
     pub commands: u64,
+    /// How many blocks of an Append are written then.
     pub tear: u32,
 }
 
 impl Stop {
+    /// After more commands than a run can send.
     pub const NEVER: Stop = Stop {
         commands: u64::MAX,
         tear: 0,

@@ -14,11 +14,17 @@ const KIND_END: usize = 12;
 /// wrote that it did not refuse.
 #[derive(Clone, Copy, Debug, PartialEq, Eq)]
 pub struct Counts {
+    /// Zone Appends.
     pub appends: u64,
+    /// Reads.
     pub reads: u64,
+    /// Zone Management Sends that close a zone.
     pub closes: u64,
+    /// Those that finish a zone.
     pub finishes: u64,
+    /// Those that reset a zone.
     pub resets: u64,
+    /// Zone Management Receives.
     pub reports: u64,
     /// Commands of other kinds, and entries that are no command.
     pub others: u64,

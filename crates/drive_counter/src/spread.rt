@@ -5,9 +5,11 @@ ghost use Rattle.drive_counter.specs.Spread.{spread_in};
 /// The least, the middle and the greatest of some numbers, 0 where there are none.
 #[derive(Clone, Copy, Debug, PartialEq, Eq)]
 pub struct Spread {
+    /// The least number.
     pub least: u32,
     /// Of the two numbers in the middle the lower.
     pub median: u32,
+    /// The greatest number.
     pub most: u32,
 }
 

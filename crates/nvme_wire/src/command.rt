@@ -7,10 +7,15 @@ use thiserror::Error;
 /// What a Zone Management Send does to a zone (Zoned Namespace Command Set 1.1, section 3.4.3).
 #[derive(Clone, Copy, Debug, PartialEq, Eq)]
 pub enum Action {
+    /// 01h: an opened zone becomes Closed, and keeps its blocks.
     Close,
+    /// 02h: a zone becomes Full, with the blocks that it has.
     Finish,
+    /// 03h: a zone becomes Explicitly Opened.
     Open,
+    /// 04h: a zone becomes Empty.
     Reset,
+    /// 05h: a Read Only zone becomes Offline.
     Offline,
 }
 
@@ -46,7 +51,9 @@ impl Action {
 /// Namespace Command Set 1.1, section 3.4.2).
 #[derive(Clone, Copy, Debug, PartialEq, Eq)]
 pub enum ReportingOptions {
+    /// 00h: all zones.
     AnyState,
+    /// The zones in this state.
     InState(ZoneState),
 }
 

@@ -13,6 +13,7 @@ pub struct Completion {
     pub result: u64,
     /// The identifier of the command that completed.
     pub id: u16,
+    /// Whether the command was done, and why not.
     pub status: Status,
 }
 

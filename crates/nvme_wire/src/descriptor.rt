@@ -10,6 +10,7 @@ use byteorder::{ByteOrder, LittleEndian};
 /// the type Sequential Write Required, and no attribute is ever set.
 #[derive(Clone, Copy, Debug, PartialEq, Eq)]
 pub struct Descriptor {
+    /// The state of the zone.
     pub state: ZoneState,
     /// How many blocks of the zone can be written.
     pub capacity: u64,

@@ -6,12 +6,19 @@ ghost use Rattle.nvme_wire.specs.Descriptor.{state_code, state_of};
 /// `ImplicitlyOpened`, `ExplicitlyOpened` and `Closed` zones are *active*, the first two are *open*.
 #[derive(Clone, Copy, Debug, PartialEq, Eq)]
 pub enum ZoneState {
+    /// No block is written.
     Empty,
+    /// A Write or an Append opened it.
     ImplicitlyOpened,
+    /// The host opened it by a Zone Management Send.
     ExplicitlyOpened,
+    /// It can be written again, and takes no open resource until then.
     Closed,
+    /// Its blocks can be read alone.
     ReadOnly,
+    /// It takes no Write or Append before a Reset.
     Full,
+    /// It can be neither read nor written.
     Offline,
 }
 

@@ -13,6 +13,7 @@ use std::marker::Model;
 /// The header of a batch, as a mount keeps it, in 16 bytes.
 #[derive(Clone, Copy, Debug, PartialEq, Eq)]
 pub struct Head {
+    /// The number of the batch.
     pub sequence: u64,
     /// The block of the zone where the header stands, counted from 0.
     pub offset: u32,

@@ -15,6 +15,7 @@ use std::alloc::{AllocError, Global};
 /// What a report tells of a zone.
 #[derive(Clone, Copy, Debug, PartialEq, Eq)]
 pub struct ReportedZone {
+    /// The state of the zone.
     pub state: ZoneState,
     /// How many blocks of the zone a host reads: the written ones and, in a Full zone, all up to the capacity.
     pub blocks: u32,

@@ -26,6 +26,7 @@ use std::collections::BTreeSet;
 /// What a mount keeps of a zone.
 #[derive(Drop)]
 pub struct ScannedZone {
+    /// The headers of its batches, in order.
     pub heads: ZoneHeads,
     /// Whether a torn tail follows the batches.
     pub is_torn: bool,

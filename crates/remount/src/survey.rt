@@ -18,7 +18,9 @@ use zone_choice::fits_reserve;
 /// What a mount knows of a drive once it has read all headers.
 #[derive(Drop)]
 pub struct Survey {
+    /// What the report tells of each zone, in ascending order.
     pub zones: Vec<ReportedZone>,
+    /// The headers of each zone, in the same order.
     pub scanned: Vec<ScannedZone>,
     /// How many logical blocks the drive has.
     pub size: u32,

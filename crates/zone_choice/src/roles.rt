@@ -10,6 +10,7 @@ use std::marker::Model;
 /// A zone that batches go to.
 #[derive(Clone, Copy, Debug, PartialEq, Eq)]
 pub struct Filling {
+    /// The number of the zone.
     pub zone: u32,
     /// How many of its blocks are written.
     pub written: u32,
