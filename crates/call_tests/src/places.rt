@@ -53,7 +53,7 @@ fn random_place(state: &mut u64, zone: u32) -> Place
     }
 }
 
-// Places a block in both, and says whether both answer the same place for it. There is not always room to note it.
+// Places a block in both, and says whether both answer the same old place. The zone's list may lack room for it.
 fn place_in_both(
     map: &mut Map,
     places: &mut [Place; 300],
@@ -100,7 +100,7 @@ fn plain_first(places: &[Place; 300], zone: u32, from: u32) -> Option<(u32, Plac
     None
 }
 
-// On 64 zones and behind them. A zone has few blocks, so that often none is left in it.
+// In 64 zones, and past the last of them. A zone has few blocks, so that often none is left in it.
 #[test]
 fn places_as_a_plain_list(rt: HostRuntime) -> Result<(), Fail> {
     let mut map = Map::new(rt.alloc(), 300, 64, 4);

@@ -5,9 +5,9 @@ use zone_states::Geometry;
 /// them, if there is one.
 #[derive(Clone, Copy, Debug, PartialEq, Eq)]
 pub struct Stop {
-    /// How many commands are completed before.
+    /// How many commands are completed before the drive stops.
     pub commands: u64,
-    /// How many blocks of an Append are written then.
+    /// How many blocks are written of the Append at which it stops.
     pub tear: u32,
 }
 
