@@ -12,8 +12,8 @@ use std::alloc::Global;
 use std::io::Read;
 use zone_states::{Geometry, Zone};
 
-/// How many bytes of a zone are read at a time, at most. Room is made for as many, and they are still in the
-/// processor's cache when the reader fills it.
+/// How many bytes of a zone are read at a time, at most. They are set to zero before, and are still in the
+/// processor's cache when the reader fills them.
 const PIECE: usize = 1 << 18;
 
 /// Reads that many bytes after those that `bytes` holds.
