@@ -4,6 +4,15 @@ use crate::chance::chance;
 use live_index::LiveIndex;
 use std::test::Fail;
 
+// Which zones are named, and the one of them with the fewest where zones 0 and 2 have one.
+const LEAST: [([bool; 4], Option<u32>); 5] = [
+    ([true, true, true, true], Some(1)),
+    ([true, false, true, true], Some(3)),
+    ([true, false, true, false], Some(0)),
+    ([false, false, true, false], Some(2)),
+    ([false; 4], None),
+];
+
 #[test]
 fn counts_and_finds_the_least(rt: HostRuntime) -> Result<(), Fail> {
     let mut index = LiveIndex::new(rt.alloc(), 4)?;
@@ -14,13 +23,7 @@ fn counts_and_finds_the_least(rt: HostRuntime) -> Result<(), Fail> {
     for (zone, count) in [(0, 1), (1, 0), (2, 1), (3, 0)] {
         assert_eq!(rt; index.count(zone), count);
     }
-    for (among, least) in [
-        ([true, true, true, true], Some(1)),
-        ([true, false, true, true], Some(3)),
-        ([true, false, true, false], Some(0)),
-        ([false, false, true, false], Some(2)),
-        ([false; 4], None),
-    ] {
+    for (among, least) in LEAST {
         assert_eq!(rt; index.least(&among), least);
     }
     Ok(())

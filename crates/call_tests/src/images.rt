@@ -25,15 +25,17 @@ fn image(alloc: Global) -> Result<Vec<u8>, AllocError> {
 }
 
 // In the head, the head of a zone, the blocks of one, another head, and where the image has ended.
+const FAILING_READS: [usize; 14] = [
+    0, 1, 63, 64, 71, 72, 600, 1095, 1096, 1103, 1104, 1111, 1112, 1113,
+];
+
 #[test]
 fn refuses_an_image_where_the_reader_fails(rt: HostRuntime) -> Result<(), Fail> {
     let bytes = image(rt.alloc())?;
     let job = Job::Report {
         image: String::new(rt.alloc()),
     };
-    for left in [
-        0, 1, 63, 64, 71, 72, 600, 1095, 1096, 1103, 1104, 1111, 1112, 1113,
-    ] {
+    for left in FAILING_READS {
         let mut image = FailingReader {
             bytes: &bytes,
             step: 1 + left % 50,
@@ -55,25 +57,27 @@ fn refuses_an_image_where_the_reader_fails(rt: HostRuntime) -> Result<(), Fail> 
     Ok(())
 }
 
-// The writer takes the first bytes of the image, or none.
+// How many bytes of the image the writer takes, and how many at a time.
+const FAILING_WRITES: [(usize, usize); 11] = [
+    (0, 9),
+    (63, 9),
+    (64, 9),
+    (71, 9),
+    (72, 9),
+    (600, 100),
+    (1095, 100),
+    (1111, 9),
+    (1112, 9),
+    (2000, 100),
+    (2000, 0),
+];
+
 #[test]
 fn writes_a_beginning_of_an_image(rt: HostRuntime) -> Result<(), Fail> {
     let bytes = image(rt.alloc())?;
     let drive = read_image(rt.alloc(), &mut bytes.as_slice()).ok();
     let drive = drive.expect(&rt, "a drive");
-    for (left, step) in [
-        (0, 9),
-        (63, 9),
-        (64, 9),
-        (71, 9),
-        (72, 9),
-        (600, 100),
-        (1095, 100),
-        (1111, 9),
-        (1112, 9),
-        (2000, 100),
-        (2000, 0),
-    ] {
+    for (left, step) in FAILING_WRITES {
         let mut writer = FailingWriter {
             bytes: Vec::new(rt.alloc()),
             step,

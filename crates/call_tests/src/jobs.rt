@@ -15,6 +15,9 @@ use std::{fs, io};
 const FRESH: &str =
     "zonedisk fresh --block 512 --zones 4 --size 8 --capacity 6 --transfer 4 --active 2 --open 2";
 
+const DISK: &str =
+    "zonedisk fresh --block 512 --zones 4 --size 8 --capacity 6 --transfer 4 --active 2 --open 2 --blocks 9";
+
 const RAW: &str =
     "zonedisk fresh-raw --block 512 --zones 4 --size 8 --capacity 6 --transfer 4 --active 2 --open 2";
 
@@ -53,78 +56,98 @@ fn answer<R: Files + Abort>(rt: &R, alloc: Global, line: &str, lines: &[u8]) -> 
     (written, told)
 }
 
+// Runs command lines one after the other, each on its input, and compares what they write.
+fn check_written<R: Files + Abort>(rt: &R, alloc: Global, cases: &[(&str, &[u8], &[u8])]) {
+    for (line, lines, output) in cases {
+        let (written, _) = answer(rt, alloc, line, lines);
+        assert_eq!(rt; written.as_slice(), *output);
+    }
+}
+
+// What is told of each of these command lines, on its input.
+fn check_told<R: Files + Abort>(rt: &R, alloc: Global, cases: &[(&str, &[u8], &str)]) {
+    for (line, lines, text) in cases {
+        let (_, told) = answer(rt, alloc, line, lines);
+        assert_eq!(rt; told.as_str(), *text);
+    }
+}
+
 // Which words of the command line of a fresh disk are refused, and how.
+const WORDS: [(&str, Option<ErrorKind>); 19] = [
+    ("--blocks 9", None),
+    ("--blocks=0009 --report", None),
+    ("--statistics --blocks 9223372036854775807", None),
+    ("--blocks 9 --habit strict", None),
+    ("--blocks 9 --tear 2 --stop-after=5", None),
+    ("--blocks +5", Some(ErrorKind::ValueValidation)),
+    ("--blocks -5", Some(ErrorKind::UnknownArgument)),
+    ("--blocks 0x5", Some(ErrorKind::ValueValidation)),
+    ("--blocks 5.", Some(ErrorKind::ValueValidation)),
+    (
+        "--blocks 9223372036854775808",
+        Some(ErrorKind::ValueValidation),
+    ),
+    (
+        "--blocks 99999999999999999999",
+        Some(ErrorKind::ValueValidation),
+    ),
+    (
+        "--blocks 9 --open 4294967296",
+        Some(ErrorKind::ArgumentConflict),
+    ),
+    ("--blocks 9 --blocks 9", Some(ErrorKind::ArgumentConflict)),
+    ("--blocks 9 --zone 4", Some(ErrorKind::UnknownArgument)),
+    ("--blocks 9 --habit Lazy", Some(ErrorKind::InvalidValue)),
+    ("--blocks 9 --habit", Some(ErrorKind::InvalidValue)),
+    ("--blocks 9 more", Some(ErrorKind::UnknownArgument)),
+    ("--report", Some(ErrorKind::MissingRequiredArgument)),
+    ("--help", Some(ErrorKind::DisplayHelp)),
+];
+
 #[test]
 fn reads_the_words(rt: HostRuntime) -> Result<(), Fail> {
-    for (rest, kind) in [
-        ("--blocks 9", None),
-        ("--blocks=0009 --report", None),
-        ("--statistics --blocks 9223372036854775807", None),
-        ("--blocks 9 --habit strict", None),
-        ("--blocks 9 --tear 2 --stop-after=5", None),
-        ("--blocks +5", Some(ErrorKind::ValueValidation)),
-        ("--blocks -5", Some(ErrorKind::UnknownArgument)),
-        ("--blocks 0x5", Some(ErrorKind::ValueValidation)),
-        ("--blocks 5.", Some(ErrorKind::ValueValidation)),
-        (
-            "--blocks 9223372036854775808",
-            Some(ErrorKind::ValueValidation),
-        ),
-        (
-            "--blocks 99999999999999999999",
-            Some(ErrorKind::ValueValidation),
-        ),
-        (
-            "--blocks 9 --open 4294967296",
-            Some(ErrorKind::ArgumentConflict),
-        ),
-        ("--blocks 9 --blocks 9", Some(ErrorKind::ArgumentConflict)),
-        ("--blocks 9 --zone 4", Some(ErrorKind::UnknownArgument)),
-        ("--blocks 9 --habit Lazy", Some(ErrorKind::InvalidValue)),
-        ("--blocks 9 --habit", Some(ErrorKind::InvalidValue)),
-        ("--blocks 9 more", Some(ErrorKind::UnknownArgument)),
-        ("--report", Some(ErrorKind::MissingRequiredArgument)),
-        ("--help", Some(ErrorKind::DisplayHelp)),
-    ] {
+    for (rest, kind) in &WORDS {
         let line = format!(in rt.alloc(); "{FRESH} {rest}")?;
-        assert_eq!(rt; refusal(&rt, rt.alloc(), &line), kind);
+        assert_eq!(rt; refusal(&rt, rt.alloc(), &line), *kind);
     }
     Ok(())
 }
 
 // Which other words are refused, and how.
+const OTHER_WORDS: [(&str, Option<ErrorKind>); 12] = [
+    ("zonedisk run --zones --blocks=9 --image=a/b", None),
+    ("zonedisk nvme --habit=closing --image b", None),
+    ("zonedisk", Some(ErrorKind::MissingSubcommand)),
+    ("zonedisk mount", Some(ErrorKind::InvalidSubcommand)),
+    (
+        "zonedisk run --image b",
+        Some(ErrorKind::MissingRequiredArgument),
+    ),
+    (
+        "zonedisk run --image b --blocks +9",
+        Some(ErrorKind::ValueValidation),
+    ),
+    ("zonedisk report", Some(ErrorKind::MissingRequiredArgument)),
+    (
+        "zonedisk report --image b --habit lazy",
+        Some(ErrorKind::UnknownArgument),
+    ),
+    (
+        "zonedisk nvme --image b --habit lazy --habit lazy",
+        Some(ErrorKind::ArgumentConflict),
+    ),
+    (
+        "zonedisk fresh --block 4294967296",
+        Some(ErrorKind::ValueValidation),
+    ),
+    ("zonedisk --help", Some(ErrorKind::DisplayHelp)),
+    ("zonedisk --version", Some(ErrorKind::DisplayVersion)),
+];
+
 #[test]
 fn reads_other_words(rt: HostRuntime) {
-    for (line, kind) in [
-        ("zonedisk run --zones --blocks=9 --image=a/b", None),
-        ("zonedisk nvme --habit=closing --image b", None),
-        ("zonedisk", Some(ErrorKind::MissingSubcommand)),
-        ("zonedisk mount", Some(ErrorKind::InvalidSubcommand)),
-        (
-            "zonedisk run --image b",
-            Some(ErrorKind::MissingRequiredArgument),
-        ),
-        (
-            "zonedisk run --image b --blocks +9",
-            Some(ErrorKind::ValueValidation),
-        ),
-        ("zonedisk report", Some(ErrorKind::MissingRequiredArgument)),
-        (
-            "zonedisk report --image b --habit lazy",
-            Some(ErrorKind::UnknownArgument),
-        ),
-        (
-            "zonedisk nvme --image b --habit lazy --habit lazy",
-            Some(ErrorKind::ArgumentConflict),
-        ),
-        (
-            "zonedisk fresh --block 4294967296",
-            Some(ErrorKind::ValueValidation),
-        ),
-        ("zonedisk --help", Some(ErrorKind::DisplayHelp)),
-        ("zonedisk --version", Some(ErrorKind::DisplayVersion)),
-    ] {
-        assert_eq!(rt; refusal(&rt, rt.alloc(), line), kind);
+    for (line, kind) in &OTHER_WORDS {
+        assert_eq!(rt; refusal(&rt, rt.alloc(), line), *kind);
     }
 }
 
@@ -148,130 +171,124 @@ start 16 state Empty pointer 16 capacity 6
 start 24 state Empty pointer 24 capacity 6
 ";
 
+const REPORTED: &str =
+    "zonedisk fresh --block 512 --zones 4 --size 8 --capacity 6 --transfer 4 --active 2 --open 2 --blocks 9 --report";
+
+const LARGE: &str =
+    "zonedisk fresh --block 512 --zones 4 --size 8 --capacity 6 --transfer 4 --active 2 --open 2 --blocks 10 --report";
+
+const WIDE: &str =
+    "zonedisk fresh --block 512 --zones 4 --size 8 --capacity 9 --transfer 4 --active 2 --open 2 --blocks 9";
+
 // The reports of the zones, and what ends a job.
+const JOBS: [(&str, &[u8], &[u8]); 5] = [
+    (REPORTED, b"fill 0 5 AA\n", SHOWN),
+    (DISK, b"fill 0 5 AA\n", b"ok\n"),
+    (REPORTED, b"fill 0 5 AA\nnone\n", b"ok\nfault line 2\n"),
+    (LARGE, b"read 0 0\n", b"fault mount 1 Reserve\n"),
+    (WIDE, b"read 0 0\n", b"fault geometry 4 Capacity\n"),
+];
+
 #[test]
-fn does_its_jobs(rt: HostRuntime) -> Result<(), Fail> {
-    for (rest, lines, output) in [
-        ("--blocks 9 --report", b"fill 0 5 AA\n".as_slice(), SHOWN),
-        ("--blocks 9", b"fill 0 5 AA\n", b"ok\n"),
-        (
-            "--blocks 9 --report",
-            b"fill 0 5 AA\nnone\n",
-            b"ok\nfault line 2\n",
-        ),
-        (
-            "--blocks 10 --report",
-            b"read 0 0\n",
-            b"fault mount 1 Reserve\n",
-        ),
-    ] {
-        let line = format!(in rt.alloc(); "{FRESH} {rest}")?;
-        let (written, _) = answer(&rt, rt.alloc(), &line, lines);
-        assert_eq!(rt; written.as_slice(), output);
-    }
-    let wide = FRESH.replace(rt.alloc(), "--capacity 6", "--blocks 9 --capacity 9")?;
-    let (written, _) = answer(&rt, rt.alloc(), &wide, b"read 0 0\n");
-    assert_eq!(rt;
-        written.as_slice(),
-        b"fault geometry 4 Capacity\n".as_slice()
-    );
-    Ok(())
+fn does_its_jobs(rt: HostRuntime) {
+    check_written(&rt, rt.alloc(), &JOBS);
 }
 
+const STOPPED_AT_ONCE: &str =
+    "zonedisk fresh --block 512 --zones 4 --size 8 --capacity 6 --transfer 4 --active 2 --open 2 --blocks 9 --stop-after 0";
+
+const STOPPED_LATER: &str =
+    "zonedisk fresh --block 512 --zones 4 --size 8 --capacity 6 --transfer 4 --active 2 --open 2 --blocks 9 --stop-after 2";
+
 // What standard error says of a fault: with a byte order mark, a carriage return, a tab, and words that are wrong.
+const TOLD: [(&str, &[u8], &str); 13] = [
+    (DISK, b"read 0 1\n", ""),
+    (
+        STOPPED_AT_ONCE,
+        b"read 0 1\n",
+        "before the first line: the drive has stopped",
+    ),
+    (
+        STOPPED_LATER,
+        b"fill 0 1 aa\nfill 0 1 bb\n",
+        "at the line `fill 0 1 bb`: the drive has stopped",
+    ),
+    (
+        "zonedisk report --image missing.image",
+        b"",
+        "missing.image cannot be opened",
+    ),
+    (
+        DISK,
+        b"\xef\xbb\xbfread 0 1\n",
+        "line 1: it begins with a byte order mark",
+    ),
+    (
+        DISK,
+        b"read 0 1\r\n",
+        "line 1: a carriage return stands before the line feed",
+    ),
+    (
+        DISK,
+        b"read 0\t1\n",
+        "line 1: it has a tab; words have one space between them",
+    ),
+    (
+        DISK,
+        b"#\n\nread 0  1\n",
+        "line 3: it has a second space between two words",
+    ),
+    (
+        DISK,
+        b"#\nfill 0 1 aaa\n",
+        "line 2: word 4 has to be two hexadecimal digits",
+    ),
+    (
+        DISK,
+        b"idle",
+        "line 1: word 2 is missing: a number below 2^32 in decimal digits",
+    ),
+    (DISK, b"trim 0 1 2\n", "line 1: word 4 is one too many"),
+    (LARGE, b"", "the drive has room for 1 to 9 logical blocks"),
+    (
+        RAW,
+        b"00\n",
+        "line 1: word 1 has to be the 128 hexadecimal digits of an entry",
+    ),
+];
+
 #[test]
-fn explains_the_faults(rt: HostRuntime) -> Result<(), Fail> {
-    let disk = format!(in rt.alloc(); "{FRESH} --blocks 9")?;
-    let large = format!(in rt.alloc(); "{FRESH} --blocks 10")?;
-    let stopped = format!(in rt.alloc(); "{disk} --stop-after 0")?;
-    let stops = format!(in rt.alloc(); "{disk} --stop-after 2")?;
-    for (line, lines, text) in [
-        (disk.as_str(), b"read 0 1\n".as_slice(), ""),
-        (
-            &stopped,
-            b"read 0 1\n",
-            "before the first line: the drive has stopped",
-        ),
-        (
-            &stops,
-            b"fill 0 1 aa\nfill 0 1 bb\n",
-            "at the line `fill 0 1 bb`: the drive has stopped",
-        ),
-        (
-            "zonedisk report --image missing.image",
-            b"",
-            "missing.image cannot be opened",
-        ),
-        (
-            &disk,
-            b"\xef\xbb\xbfread 0 1\n",
-            "line 1: it begins with a byte order mark",
-        ),
-        (
-            &disk,
-            b"read 0 1\r\n",
-            "line 1: a carriage return stands before the line feed",
-        ),
-        (
-            &disk,
-            b"read 0\t1\n",
-            "line 1: it has a tab; words have one space between them",
-        ),
-        (
-            &disk,
-            b"#\n\nread 0  1\n",
-            "line 3: it has a second space between two words",
-        ),
-        (
-            &disk,
-            b"#\nfill 0 1 aaa\n",
-            "line 2: word 4 has to be two hexadecimal digits",
-        ),
-        (
-            &disk,
-            b"idle",
-            "line 1: word 2 is missing: a number below 2^32 in decimal digits",
-        ),
-        (&disk, b"trim 0 1 2\n", "line 1: word 4 is one too many"),
-        (&large, b"", "the drive has room for 1 to 9 logical blocks"),
-        (
-            RAW,
-            b"00\n",
-            "line 1: word 1 has to be the 128 hexadecimal digits of an entry",
-        ),
-    ] {
-        let (_, told) = answer(&rt, rt.alloc(), line, lines);
-        assert_eq!(rt; told.as_str(), text);
-    }
-    Ok(())
+fn explains_the_faults(rt: HostRuntime) {
+    check_told(&rt, rt.alloc(), &TOLD);
 }
+
+// The front of a line, what follows a million digits, and what is told of them.
+const LONG_LINES: [(&[u8], &[u8], &str); 3] = [
+    (
+        b"write 0 ",
+        b"x\n",
+        "line 1: word 3 has to be data: two hexadecimal digits for each byte, and whole blocks in a write",
+    ),
+    (
+        b"wrote 0 ",
+        b"\n",
+        "line 1: word 1 has to be read, fill, write, trim, idle, grow or remount",
+    ),
+    (
+        b"# ",
+        b"\nfill 0 1 aa\nidle\n",
+        "line 3: word 2 is missing: a number below 2^32 in decimal digits",
+    ),
+];
 
 // A long line is explained as a short one is, and the lines after it are counted as ever.
 #[test]
 fn explains_long_lines(rt: HostRuntime) -> Result<(), Fail> {
-    let disk = format!(in rt.alloc(); "{FRESH} --blocks 9")?;
-    for (first, last, text) in [
-        (
-            b"write 0 ".as_slice(),
-            b"x\n".as_slice(),
-            "line 1: word 3 has to be data: two hexadecimal digits for each byte, and whole blocks in a write",
-        ),
-        (
-            b"wrote 0 ",
-            b"\n",
-            "line 1: word 1 has to be read, fill, write, trim, idle, grow or remount",
-        ),
-        (
-            b"# ",
-            b"\nfill 0 1 aa\nidle\n",
-            "line 3: word 2 is missing: a number below 2^32 in decimal digits",
-        ),
-    ] {
+    for (first, last, text) in &LONG_LINES {
         let mut lines = Vec::from_slice(rt.alloc(), first)?;
         lines.resize(first.len() + 1_000_000, b'0')?;
         lines.extend_from_slice(last)?;
-        let (_, told) = answer(&rt, rt.alloc(), &disk, &lines);
-        assert_eq!(rt; told.as_str(), text);
+        check_told(&rt, rt.alloc(), &[(DISK, &lines, text)]);
     }
     Ok(())
 }
@@ -313,43 +330,37 @@ const REPORT: &str = "zonedisk report --image drive.image";
 const NVME: &str = "zonedisk nvme --image drive.image";
 
 // Jobs on the file that the job before left, and how long it is then: a head of 96 bytes, and the written blocks.
+const FILE_JOBS: [(&str, &[u8], &[u8], u64); 13] = [
+    (REPORT, b"", b"fault image 7 Short\n", 0),
+    (FORMAT, b"", b"ok\n", 96),
+    (STOPPED, b"read 0 1\n", b"fault mount 10 Halted\n", 96),
+    (TORN, b"fill 0 5 AA\n", b"fault disk 3 Stopped\n", 1632),
+    (
+        RUN,
+        b"read 0 4\n",
+        b"0 00*512\n1 00*512\n2 00*512\n3 00*512\nok\n",
+        96,
+    ),
+    (FORMAT, b"", b"ok\n", 96),
+    (RUN, b"fill 0 5 AA\nnone\n", b"ok\nfault line 2\n", 4192),
+    (REPORT, b"", OPENED, 4192),
+    (STRICT, b"read 0 1\n", b"0 aa*512\nok\n", 4192),
+    (REPORT, b"", CLOSED, 4192),
+    (NVME, b"none\n", b"fault line 1\n", 4192),
+    (NVME, FINISH, b"00000000000000000000000001000000\n", 4192),
+    (REPORT, b"", FINISHED, 4192),
+];
+
 #[test]
 fn works_on_a_file(rt: HostRuntime) {
-    let alloc = rt.alloc();
     fs::write(&rt, "drive.image", b"".as_slice()).expect(&rt, "an empty file");
-    for (line, lines, output, length) in [
-        (
-            REPORT,
-            b"".as_slice(),
-            b"fault image 7 Short\n".as_slice(),
-            0,
-        ),
-        (FORMAT, b"", b"ok\n", 96),
-        (STOPPED, b"read 0 1\n", b"fault mount 10 Halted\n", 96),
-        (TORN, b"fill 0 5 AA\n", b"fault disk 3 Stopped\n", 1632),
-        (
-            RUN,
-            b"read 0 4\n",
-            b"0 00*512\n1 00*512\n2 00*512\n3 00*512\nok\n",
-            96,
-        ),
-        (FORMAT, b"", b"ok\n", 96),
-        (RUN, b"fill 0 5 AA\nnone\n", b"ok\nfault line 2\n", 4192),
-        (REPORT, b"", OPENED, 4192),
-        (STRICT, b"read 0 1\n", b"0 aa*512\nok\n", 4192),
-        (REPORT, b"", CLOSED, 4192),
-        (NVME, b"none\n", b"fault line 1\n", 4192),
-        (NVME, FINISH, b"00000000000000000000000001000000\n", 4192),
-        (REPORT, b"", FINISHED, 4192),
-    ] {
-        let (written, _) = answer(&rt, alloc, line, lines);
-        assert_eq!(rt; written.as_slice(), output);
+    for (line, lines, output, length) in &FILE_JOBS {
+        check_written(&rt, rt.alloc(), &[(line, lines, output)]);
         let file = fs::metadata(&rt, "drive.image").expect(&rt, "the file");
-        assert_eq!(rt; file.len(), length);
+        assert_eq!(rt; file.len(), *length);
     }
     fs::remove_file(&rt, "drive.image").expect(&rt, "to remove the file");
-    let (written, _) = answer(&rt, alloc, REPORT, b"");
-    assert_eq!(rt; written.as_slice(), b"fault file\n".as_slice());
+    check_written(&rt, rt.alloc(), &[(REPORT, b"", b"fault file\n")]);
 }
 
 const EMPTY: &[u8] = b"zones 4
@@ -359,48 +370,46 @@ start 16 state Empty pointer 16 capacity 6
 start 24 state Empty pointer 24 capacity 6
 ";
 
+const FORMAT_KEPT: &str =
+    "zonedisk format --image kept.image --block 512 --zones 4 --size 8 --capacity 6 --transfer 4 --active 2 --open 2";
+
+const FORMAT_MISSING: &str =
+    "zonedisk format --image missing/kept.image --block 512 --zones 4 --size 8 --capacity 6 --transfer 4 --active 2 --open 2";
+
+const FORMAT_FOLDER: &str =
+    "zonedisk format --image kept.image.new --block 512 --zones 4 --size 8 --capacity 6 --transfer 4 --active 2 --open 2";
+
 const RUN_KEPT: &str = "zonedisk run --image kept.image --blocks 9";
 
 // No folder has the image, or a folder stands where it is written: the replies come before the fault, and the image
 // stays as it was.
+const NOT_SAVED: [(&str, &[u8], &[u8]); 7] = [
+    (FORMAT_MISSING, b"", b"ok\nfault file\n"),
+    (FORMAT_FOLDER, b"", b"ok\nfault file\n"),
+    (
+        "zonedisk report --image kept.image.new",
+        b"",
+        b"fault image 9 Input\n",
+    ),
+    (
+        RUN_KEPT,
+        b"fill 0 1 AA\nread 0 1\n",
+        b"ok\n0 aa*512\nok\nfault file\n",
+    ),
+    (RUN_KEPT, b"fill 0 1 AA\nnone\n", b"ok\nfault line 2\n"),
+    (
+        "zonedisk nvme --image kept.image",
+        FINISH,
+        b"00000000000000000000000001000000\nfault file\n",
+    ),
+    ("zonedisk report --image kept.image", b"", EMPTY),
+];
+
 #[test]
-fn keeps_the_image_where_a_save_fails(rt: HostRuntime) -> Result<(), Fail> {
-    let alloc = rt.alloc();
-    let format = FRESH.replace(alloc, "fresh", "format --image kept.image")?;
-    let missing = FRESH.replace(alloc, "fresh", "format --image missing/kept.image")?;
-    let folder = FRESH.replace(alloc, "fresh", "format --image kept.image.new")?;
-    let (written, _) = answer(&rt, alloc, &format, b"");
-    assert_eq!(rt; written.as_slice(), b"ok\n".as_slice());
+fn keeps_the_image_where_a_save_fails(rt: HostRuntime) {
+    check_written(&rt, rt.alloc(), &[(FORMAT_KEPT, b"", b"ok\n")]);
     fs::create_dir(&rt, "kept.image.new").expect(&rt, "a folder");
-    for (line, lines, output) in [
-        (
-            missing.as_str(),
-            b"".as_slice(),
-            b"ok\nfault file\n".as_slice(),
-        ),
-        (&folder, b"", b"ok\nfault file\n"),
-        (
-            "zonedisk report --image kept.image.new",
-            b"",
-            b"fault image 9 Input\n",
-        ),
-        (
-            RUN_KEPT,
-            b"fill 0 1 AA\nread 0 1\n",
-            b"ok\n0 aa*512\nok\nfault file\n",
-        ),
-        (RUN_KEPT, b"fill 0 1 AA\nnone\n", b"ok\nfault line 2\n"),
-        (
-            "zonedisk nvme --image kept.image",
-            FINISH,
-            b"00000000000000000000000001000000\nfault file\n",
-        ),
-        ("zonedisk report --image kept.image", b"", EMPTY),
-    ] {
-        let (written, _) = answer(&rt, alloc, line, lines);
-        assert_eq!(rt; written.as_slice(), output);
-    }
+    check_written(&rt, rt.alloc(), &NOT_SAVED);
     fs::remove_dir(&rt, "kept.image.new").expect(&rt, "to remove the folder");
     fs::remove_file(&rt, "kept.image").expect(&rt, "to remove the file");
-    Ok(())
 }

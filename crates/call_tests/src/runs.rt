@@ -150,42 +150,52 @@ fn ends_where_the_writer_fails(rt: HostRuntime) -> Result<(), Fail> {
     Ok(())
 }
 
-// The line of a fault, and a writer that takes the line without its line feed. `worked_runs` shows the other lines.
+// Faults and their lines. `worked_runs` shows the others.
+const FAULT_LINES: [(RunFault, &str); 7] = [
+    (
+        RunFault::Long(u64::MAX),
+        "fault long 18446744073709551615\n",
+    ),
+    (
+        RunFault::Disk(DiskFault::Unmounted),
+        "fault disk 5 Unmounted\n",
+    ),
+    (
+        RunFault::Mount(MountFault::Limits),
+        "fault mount 2 Limits\n",
+    ),
+    (
+        RunFault::Mount(MountFault::Log(0, 4, LogFault::Torn)),
+        "fault mount 4 Log 0 4 7 Torn\n",
+    ),
+    (RunFault::Input, "fault input\n"),
+    (RunFault::Output, "fault output\n"),
+    (RunFault::Memory, "fault memory\n"),
+];
+
+// Writes the line of a fault to a writer that takes so many bytes, and compares what it took.
+fn check_fault_line(rt: &impl Abort, alloc: Global, fault: RunFault, left: usize, line: &str) {
+    let mut writer = FailingWriter {
+        bytes: Vec::new(alloc),
+        step: 7,
+        left,
+    };
+    let want = if left < line.len() {
+        Err(RunFault::Output)
+    } else {
+        Ok(())
+    };
+    assert_eq!(rt; write_fault(alloc, fault, &mut writer), want);
+    let taken = left.min(line.len());
+    assert_eq!(rt; writer.bytes.as_slice(), &line.as_bytes()[..taken]);
+}
+
+// The line of a fault, and a writer that takes the line without its line feed.
 #[test]
 fn writes_the_line_of_a_fault(rt: HostRuntime) -> Result<(), Fail> {
-    for (fault, line) in [
-        (
-            RunFault::Long(u64::MAX),
-            "fault long 18446744073709551615\n",
-        ),
-        (
-            RunFault::Disk(DiskFault::Unmounted),
-            "fault disk 5 Unmounted\n",
-        ),
-        (
-            RunFault::Mount(MountFault::Limits),
-            "fault mount 2 Limits\n",
-        ),
-        (
-            RunFault::Mount(MountFault::Log(0, 4, LogFault::Torn)),
-            "fault mount 4 Log 0 4 7 Torn\n",
-        ),
-        (RunFault::Input, "fault input\n"),
-        (RunFault::Output, "fault output\n"),
-        (RunFault::Memory, "fault memory\n"),
-    ] {
-        let mut writer = FailingWriter {
-            bytes: Vec::new(rt.alloc()),
-            step: 7,
-            left: line.len(),
-        };
-        assert_eq!(rt; write_fault(rt.alloc(), fault, &mut writer), Ok(()));
-        assert_eq!(rt; writer.bytes.as_slice(), line.as_bytes());
-        writer.bytes.clear();
-        writer.left = line.len() - 1;
-        let written = write_fault(rt.alloc(), fault, &mut writer);
-        assert_eq!(rt; written, Err(RunFault::Output));
-        assert_eq!(rt; writer.bytes.as_slice(), line.trim_end().as_bytes());
+    for (fault, line) in &FAULT_LINES {
+        check_fault_line(&rt, rt.alloc(), *fault, line.len(), line);
+        check_fault_line(&rt, rt.alloc(), *fault, line.len().saturating_sub(1), line);
     }
     let message = format!(in rt.alloc(); "{}", RunFault::Memory)?;
     assert_eq!(rt; message.as_str(), "Memory");

@@ -28,28 +28,31 @@ fn lines<R: Read + Drop>(
     Ok((all, None))
 }
 
-// The bytes come in pieces of each size, and the reader fails after `left` of them, or ends before.
+const TRACE: &[u8] = b"fill 0 1 AA\nread 0 1";
+
+// What a reader has, how many bytes it gives before it fails, its lines, and how reading them ends.
+const READ: [(&[u8], usize, &[u8], Option<LineFault>); 10] = [
+    (b"", 9, b"", None),
+    (b"\n", 9, b"|", None),
+    (
+        b"read 8 1\n\n# a\nread 99 0",
+        99,
+        b"read 8 1||# a|read 99 0|",
+        None,
+    ),
+    (b"\0\0\n\0", 9, b"\0\0|\0|", None),
+    (b"read 8 1\r\n", 99, b"read 8 1\r|", None),
+    (TRACE, 0, b"", Some(LineFault::Input)),
+    (TRACE, 11, b"", Some(LineFault::Input)),
+    (TRACE, 12, b"fill 0 1 AA|", Some(LineFault::Input)),
+    (TRACE, 20, b"fill 0 1 AA|", Some(LineFault::Input)),
+    (TRACE, 21, b"fill 0 1 AA|read 0 1|", None),
+];
+
+// The bytes come in pieces of each size.
 #[test]
 fn reads_lines(rt: HostRuntime) -> Result<(), Fail> {
-    let trace = b"fill 0 1 AA\nread 0 1".as_slice();
-    let failed = Some(LineFault::Input);
-    for (bytes, left, want, fault) in [
-        (b"".as_slice(), 9, b"".as_slice(), None),
-        (b"\n", 9, b"|", None),
-        (
-            b"read 8 1\n\n# a\nread 99 0",
-            99,
-            b"read 8 1||# a|read 99 0|",
-            None,
-        ),
-        (b"\0\0\n\0", 9, b"\0\0|\0|", None),
-        (b"read 8 1\r\n", 99, b"read 8 1\r|", None),
-        (trace, 0, b"", failed),
-        (trace, 11, b"", failed),
-        (trace, 12, b"fill 0 1 AA|", failed),
-        (trace, 20, b"fill 0 1 AA|", failed),
-        (trace, 21, b"fill 0 1 AA|read 0 1|", None),
-    ] {
+    for (bytes, left, want, fault) in READ {
         for step in [1, 2, 3, 5000] {
             let reader = FailingReader { bytes, step, left };
             let read = lines(rt.alloc(), reader)?;
