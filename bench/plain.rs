@@ -1,5 +1,5 @@
 //! A plain program that answers lines `fill L N HEX` over zones in memory by the rules of zonedisk, with the same
-//! batches and the same cleans, but with no commands, faults, other lines or proofs.
+//! batches and the same cleans, but without commands, faults, other lines and proofs.
 //!
 //! usage: plain ZONES CAPACITY BLOCK_BYTES BATCH BLOCKS < lines
 //!
@@ -26,7 +26,9 @@ struct Disk {
     most: usize,
     /// Where the data of each logical block is: its place among all blocks of all zones.
     places: Vec<Option<u32>>,
+    /// The zone that batches of the host go to.
     host: Option<usize>,
+    /// The zone that the last clean filled, until it is the host's.
     next: Option<usize>,
     sequence: u64,
     /// The header block of the batch that is built, and its data; and the logical blocks that it names.
@@ -105,11 +107,14 @@ impl Disk {
         (0..self.zones.len()).filter(|&zone| self.zones[zone].bytes.is_empty())
     }
 
-    /// The blocks that lie in a zone, in ascending order.
+    fn lies_in(&self, block: u32, zone: usize) -> bool {
+        self.places[block as usize].is_some_and(|place| place as usize / self.capacity == zone)
+    }
+
+    /// The blocks that lie in a zone, in ascending order. Its list of blocks is empty then.
     fn take_live(&mut self, zone: usize) -> Vec<u32> {
         let mut blocks = std::mem::take(&mut self.zones[zone].named);
-        let lies_there = |block: &u32| self.places[*block as usize].is_some_and(|place| place as usize / self.capacity == zone);
-        blocks.retain(lies_there);
+        blocks.retain(|&block| self.lies_in(block, zone));
         blocks.sort_unstable();
         blocks.dedup();
         blocks
@@ -127,11 +132,11 @@ impl Disk {
         self.append(to, MOVE, from);
     }
 
-    /// Moves the live blocks of the zone with the fewest to an empty one, and empties it. All zones but one are full.
+    /// Moves the live blocks of the zone with the fewest to the one that is empty, and empties it.
     fn clean(&mut self) {
         let to = self.empty_zones().next().unwrap();
-        let full = (0..self.zones.len()).filter(|&zone| zone != to);
-        let victim = full.min_by_key(|&zone| self.zones[zone].live).unwrap();
+        let others = (0..self.zones.len()).filter(|&zone| zone != to);
+        let victim = others.min_by_key(|&zone| self.zones[zone].live).unwrap();
         let mut blocks = self.take_live(victim);
         for some in blocks.chunks(self.most) {
             self.carry(some, victim, to);
@@ -195,6 +200,9 @@ fn main() -> io::Result<()> {
         line.clear();
     }
     replies.flush()?;
-    eprintln!("all blocks {}\nmoved blocks {}\ncleans {}", disk.appended, disk.moved, disk.cleans);
+    eprintln!(
+        "all blocks {}\nmoved blocks {}\ncleans {}",
+        disk.appended, disk.moved, disk.cleans
+    );
     Ok(())
 }

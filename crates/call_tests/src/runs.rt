@@ -173,7 +173,7 @@ const FAULT_LINES: [(RunFault, &str); 7] = [
     (RunFault::Memory, "fault memory\n"),
 ];
 
-// Writes the line of a fault to a writer that takes so many bytes, and compares what it took.
+// Writes the line of a fault to a writer that takes at most `left` bytes, and compares what it took.
 fn check_fault_line(rt: &impl Abort, alloc: Global, fault: RunFault, left: usize, line: &str) {
     let mut writer = FailingWriter {
         bytes: Vec::new(alloc),
