@@ -1,12 +1,13 @@
 -- What each step of building a command makes of it.
 use Rattle.std.proofs.Common.{◌≡◌, ◌∙◌, ◌||◌, Bool, true, false, [], List, ap, ap₂, refl, fold, Option, Some, ℕ}
 use Rattle.std.specs.Borrow.{Bor}
-use Rattle.clap.specs.Words.{AddsArg, AddsSubcommand, App, Rule, Shape, app_of, rule_of, with_rule, with_subcommand}
+use Rattle.clap.specs.Words as clap
+use Rattle.clap.specs.Words.{AddsArg, App, Rule, Shape, app_of, rule_of, with_rule, with_subcommand}
 use Rattle.clap.specs.Simple.{app_of_fields}
 use Rattle.clap.specs.declared.builder.arg.Arg.{Arg}
 use Rattle.clap.specs.declared.builder.command.Command.{Command}
 use Rattle.clap.specs.declared.builder.command.Command.TheViews.{out-Command as fields_of}
-use Rattle.command_line.specs.Program.{AddsOptions, AddsSubcommands, IsCommand}
+use Rattle.command_line.specs.Program.{AddsOptions, AddsSubcommand, IsCommand}
 
 -- a command that has become this one, with no option more that subcommands inherit
 abbrev pub Becomes : Command → App → Command → Type 0
@@ -24,13 +25,15 @@ pub options_more : (old middle new : Command) (app : App) (rules : List Rule) �
 options_more old middle new app rules before adds =
     (adds.app ∙ ap (λ a. fold with_rule a rules) before.0, adds.globals ∙ before.1)
 
-pub subcommand_more : (old middle new : Command) (app : App) (sub : Command) (shape : Shape) → Becomes old app middle → AddsSubcommand middle sub new → IsCommand shape sub → Becomes old (with_subcommand app shape) new
-subcommand_more old middle new app sub shape before adds is =
-    (adds.shape is.globals ∙ ap₂ with_subcommand before.0 (ap (λ (a : App). a.top) is.app_is), adds.globals ∙ or_false _ _ is.globals ∙ before.1)
+pub is_added : (old sub new : Command) (shape : Shape) → clap.AddsSubcommand old sub new → IsCommand shape sub → AddsSubcommand shape old new
+is_added old sub new shape adds is = record {
+  app = adds.shape is.globals ∙ ap (λ (a : App). with_subcommand (app_of old) a.top) is.app_is;
+  globals = adds.globals ∙ or_false _ _ is.globals;
+}
 
-pub subcommands_more : (old middle new : Command) (app : App) (shapes : List Shape) → Becomes old app middle → AddsSubcommands shapes middle new → Becomes old (fold with_subcommand app shapes) new
-subcommands_more old middle new app shapes before adds =
-    (adds.app ∙ ap (λ a. fold with_subcommand a shapes) before.0, adds.globals ∙ before.1)
+pub subcommand_more : (old middle new : Command) (app : App) (shape : Shape) → Becomes old app middle → AddsSubcommand shape middle new → Becomes old (with_subcommand app shape) new
+subcommand_more old middle new app shape before adds =
+    (adds.app ∙ ap (λ a. with_subcommand a shape) before.0, adds.globals ∙ before.1)
 
 -- texts for help change nothing of a command that was just made
 pub dressed : (made about help : Command) (app : App) {s t : Option (Bor (List ℕ))} → app_of made ≡ app → fields_of about ≡ record (fields_of made) { about = s } → fields_of help ≡ record (fields_of about) { after_help = t } → Becomes made app help

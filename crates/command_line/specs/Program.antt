@@ -86,16 +86,6 @@ fresh names = with_options (codes "fresh") (parts ++ blocks ∷ flag (codes "rep
 abbrev pub fresh_raw : Bor (List (Bor Text)) → Shape
 fresh_raw names = with_options (codes "fresh-raw") (parts ++ habit names ∷ [])
 
--- the subcommands for a disk over a drive in a file, those for that drive itself, and those over a fresh drive in memory
-abbrev pub disk_in_file : Bor (List (Bor Text)) → List Shape
-disk_in_file names = format ∷ run names ∷ []
-
-abbrev pub drive_in_file : Bor (List (Bor Text)) → List Shape
-drive_in_file names = report ∷ nvme names ∷ []
-
-abbrev pub in_memory : Bor (List (Bor Text)) → List Shape
-in_memory names = fresh names ∷ fresh_raw names ∷ []
-
 -- the program, by the names of the habits
 abbrev pub program : Bor (List (Bor Text)) → App
 program names = record {
@@ -108,9 +98,9 @@ pub record AddsOptions (rules : List Rule) (old new : Command) : Type 0 where
   pub app : app_of new ≡ fold with_rule (app_of old) rules
   pub globals : (fields_of new).has_globals ≡ (fields_of old).has_globals
 
--- these subcommands are added to a command, none with an option that other subcommands inherit
-pub record AddsSubcommands (shapes : List Shape) (old new : Command) : Type 0 where
-  pub app : app_of new ≡ fold with_subcommand (app_of old) shapes
+-- this subcommand is added to a command, with no option that other subcommands inherit
+pub record AddsSubcommand (shape : Shape) (old new : Command) : Type 0 where
+  pub app : app_of new ≡ with_subcommand (app_of old) shape
   pub globals : (fields_of new).has_globals ≡ (fields_of old).has_globals
 
 -- a command that is this one

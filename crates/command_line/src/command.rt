@@ -1,6 +1,6 @@
 ghost use Rattle.std.specs.Prelude.{◌≡◌, [], ◌∷◌, ◌++◌, false, IfOk, codes};
-ghost use Rattle.clap.specs.Words.{app_of, rule_of};
-ghost use Rattle.command_line.specs.Program.{AddsOptions, AddsSubcommands, IsCommand, below_2_63, blocks, disk_in_file, drive_in_file, flag, format, fresh, fresh_raw, habit, image, in_memory, limits, number, nvme, optional, part, parts, program, report, run, shape, stops};
+ghost use Rattle.clap.specs.Words.{Shape, app_of, rule_of};
+ghost use Rattle.command_line.specs.Program.{AddsOptions, AddsSubcommand, IsCommand, below_2_63, blocks, flag, format, fresh, fresh_raw, habit, image, limits, number, nvme, optional, part, parts, program, report, run, shape, stops};
 
 use clap::builder::ValueParser;
 use clap::{Arg, ArgAction, Command, value_parser};
@@ -230,43 +230,14 @@ fn fresh_raw_command<'a>(alloc: Global, habits: &'a [&'a str]) -> Result<Command
     geometry_options(alloc, command)?.arg(habit_option(alloc, habits))
 }
 
-/// The subcommands for a disk over a drive in a file.
-fn disk_commands<'a>(
-    alloc: Global,
-    habits: &'a [&'a str],
+/// Adds a subcommand, if it was made.
+fn with_subcommand<'a>(
     command: Command<'a>,
+    new: Result<Command<'a>, AllocError>,
 ) -> Result<Command<'a>, AllocError>
-    ensures { IfOk result (λ new. AddsSubcommands (disk_in_file habits.entry) command.entry new) }
+    ensures { (shape : Shape) → IfOk new.entry (IsCommand shape) → IfOk result (AddsSubcommand shape command.entry) }
 {
-    command
-        .subcommand(format_command(alloc)?)?
-        .subcommand(run_command(alloc, habits)?)
-}
-
-/// The subcommands for a drive in a file.
-fn drive_commands<'a>(
-    alloc: Global,
-    habits: &'a [&'a str],
-    command: Command<'a>,
-) -> Result<Command<'a>, AllocError>
-    ensures { IfOk result (λ new. AddsSubcommands (drive_in_file habits.entry) command.entry new) }
-{
-    command
-        .subcommand(report_command(alloc)?)?
-        .subcommand(nvme_command(alloc, habits)?)
-}
-
-/// The subcommands over a fresh drive in memory.
-fn memory_commands<'a>(
-    alloc: Global,
-    habits: &'a [&'a str],
-    command: Command<'a>,
-) -> Result<Command<'a>, AllocError>
-    ensures { IfOk result (λ new. AddsSubcommands (in_memory habits.entry) command.entry new) }
-{
-    command
-        .subcommand(fresh_command(alloc, habits)?)?
-        .subcommand(fresh_raw_command(alloc, habits)?)
+    command.subcommand(new?)
 }
 
 /// The words that the program takes.
@@ -277,7 +248,10 @@ pub fn program<'a>(alloc: Global, habits: &'a [&'a str]) -> Result<Command<'a>, 
         .about("An array of logical blocks above a zoned drive")
         .version(VERSION)
         .subcommand_required(true);
-    let command = disk_commands(alloc, habits, command)?;
-    let command = drive_commands(alloc, habits, command)?;
-    memory_commands(alloc, habits, command)
+    let command = with_subcommand(command, format_command(alloc))?;
+    let command = with_subcommand(command, run_command(alloc, habits))?;
+    let command = with_subcommand(command, report_command(alloc))?;
+    let command = with_subcommand(command, nvme_command(alloc, habits))?;
+    let command = with_subcommand(command, fresh_command(alloc, habits))?;
+    with_subcommand(command, fresh_raw_command(alloc, habits))
 }

@@ -50,7 +50,8 @@ impl LiveIndex {
         ensures { self.new ≡ slice_set self.old zone (slice_index self.old zone + 1) }
     {
         let count = self.counts[zone as usize];
-        let last = self.order.first_above(&self.counts, count) - 1;
+        let after = self.order.position(zone) + 1;
+        let last = self.order.first_above_near(&self.counts, count, after) - 1;
         self.order.put(zone, last);
         self.counts[zone as usize] += 1;
     }
@@ -62,7 +63,8 @@ impl LiveIndex {
         ensures { self.new ≡ slice_set self.old zone (slice_index self.old zone - 1) }
     {
         let count = self.counts[zone as usize];
-        let first = self.order.first_above(&self.counts, count - 1);
+        let here = self.order.position(zone);
+        let first = self.order.first_above_near(&self.counts, count - 1, here);
         self.order.put(zone, first);
         self.counts[zone as usize] -= 1;
     }

@@ -1,4 +1,4 @@
-ghost use Rattle.std.specs.Prelude.{◌≡◌, ◌<◌, ◌≤◌, IfOk, length, slice_index};
+ghost use Rattle.std.specs.Prelude.{◌≡◌, ◌<◌, ◌≤◌, IfOk, length, slice_index, true};
 ghost use Rattle.std.specs.List.{All, range_with_len, swap};
 ghost use Rattle.live_index.specs.Least.{IsNamed};
 ghost use Rattle.live_index.specs.Ordered.{AreInverse, FindsFirstNamed, IsFirstAbove, IsLowestNamed, IsOrdered};
@@ -33,6 +33,14 @@ impl Order {
         self.zones[position]
     }
 
+    /// The position of a zone.
+    pub fn position(&self, zone: u32) -> usize
+        requires { zone < length self.now.positions.items }
+        ensures { result ≡ slice_index self.now.positions.items zone }
+    {
+        self.positions[zone as usize] as usize
+    }
+
     /// Puts a zone at a position, and the zone that stood there in its place.
     pub fn put(&mut self, zone: u32, position: usize)
         requires inverse { AreInverse self.old.zones.items self.old.positions.items }
@@ -63,6 +71,31 @@ impl Order {
             }
         }
         low
+    }
+
+    /// Whether a position is the first whose zone has more live records than `count`.
+    fn is_first_above(&self, counts: &[u32], count: u32, position: usize) -> bool
+        requires ordered { IsOrdered counts.now self.now.zones.items }
+        requires within { position ≤ length self.now.zones.items }
+        ensures { result ≡ true → IsFirstAbove counts.now self.now.zones.items count position }
+    {
+        if position > 0 && counts[self.zones[position - 1] as usize] > count {
+            return false;
+        }
+        position == self.zones.len() || counts[self.zones[position] as usize] > count
+    }
+
+    /// The first position whose zone has more live records than `count`: the one that is given, where it is that,
+    /// or found by bisection.
+    pub fn first_above_near(&self, counts: &[u32], count: u32, position: usize) -> usize
+        requires ordered { IsOrdered counts.now self.now.zones.items }
+        requires within { position ≤ length self.now.zones.items }
+        ensures { IsFirstAbove counts.now self.now.zones.items count result }
+    {
+        if self.is_first_above(counts, count, position) {
+            return position;
+        }
+        self.first_above(counts, count)
     }
 
     /// The first position whose zone is named.

@@ -104,12 +104,12 @@ module _ (page : ℕ → Option (List Place)) (size zone from : ℕ) (blocks : L
   }
 
 -- what the list of a zone finds, once it is sorted
-pub listed-finds : (page : ℕ → Option (List Place)) (n size zone from : ℕ) (lists : List ListView) (list : ListView) (first : ℕ) (found : Option ℕ) → HasNoneFrom page n → (listed lists zone).whole ≡ true → AreListed page size lists → ((block : ℕ) → Contains (listed lists zone).blocks block → Contains list.blocks block) → IsNonDecreasing list.blocks
+pub listed-finds : (page : ℕ → Option (List Place)) (n size zone from : ℕ) (lists : List ListView) (list : ListView) (first : ℕ) (found : Option ℕ) → HasNoneFrom page n → (listed lists zone).whole ≡ true → AreListed page size lists → ((block : ℕ) → lies_in size zone (place_in page block) ≡ true → Contains (listed lists zone).blocks block → Contains list.blocks block) → IsNonDecreasing list.blocks
     → IsFirstFrom list.blocks from first → FindsThere page size zone list.blocks first found → option_map (λ position. get_or list.blocks position 0) found ≡ slice_get (blocks_in size zone from (drop from (shown page n))) 0
 listed-finds page n size zone from lists list first Option.None past whole are kept ascends is_first none =
-    sym (none-is page n size zone from past (none-listed page size zone from list.blocks (λ block lies. kept block (are zone block whole lies)) first is_first n none))
+    sym (none-is page n size zone from past (none-listed page size zone from list.blocks (λ block lies. kept block lies (are zone block whole lies)) first is_first n none))
 listed-finds page n size zone from lists list first (Some position) past whole are kept ascends is_first there =
-    sym (first-is page n size zone from (get_or list.blocks position 0) past (first-listed page size zone from list.blocks (λ block lies. kept block (are zone block whole lies)) first is_first position ascends there))
+    sym (first-is page n size zone from (get_or list.blocks position 0) past (first-listed page size zone from list.blocks (λ block lies. kept block lies (are zone block whole lies)) first is_first position ascends there))
 
 -- ---- lists that change
 
@@ -157,9 +157,9 @@ pub listed-other : (lists : List ListView) (i zone : ℕ) (list : ListView) → 
 listed-other lists i zone list n = get_or-set_other lists i zone list missing n
 
 -- a list that has what the old one had, of the same wholeness
-pub listed-sort : (page : ℕ → Option (List Place)) (size i : ℕ) (lists : List ListView) (list : ListView) → i < length lists → list.whole ≡ (listed lists i).whole → ((block : ℕ) → Contains (listed lists i).blocks block → Contains list.blocks block) → AreListed page size lists → AreListed page size (set lists i list)
+pub listed-sort : (page : ℕ → Option (List Place)) (size i : ℕ) (lists : List ListView) (list : ListView) → i < length lists → list.whole ≡ (listed lists i).whole → ((block : ℕ) → lies_in size i (place_in page block) ≡ true → Contains (listed lists i).blocks block → Contains list.blocks block) → AreListed page size lists → AreListed page size (set lists i list)
 listed-sort page size i lists list h whole kept are = λ zone block is_whole lies. elim (cases_eq zone i) as (λ _. Contains (listed (set lists i list) zone).blocks block) [
-  | inl e ↦ subst (λ (l : ListView). Contains l.blocks block) (sym (listed-at lists i zone list h e)) (kept block (are i block (sym whole ∙ sym (ap (λ (l : ListView). l.whole) (listed-at lists i zone list h e)) ∙ is_whole) (sym (ap (λ z. lies_in size z (place_in page block)) e) ∙ lies)))
+  | inl e ↦ subst (λ (l : ListView). Contains l.blocks block) (sym (listed-at lists i zone list h e)) (let here = sym (ap (λ z. lies_in size z (place_in page block)) e) ∙ lies in kept block here (are i block (sym whole ∙ sym (ap (λ (l : ListView). l.whole) (listed-at lists i zone list h e)) ∙ is_whole) here))
   | inr n ↦ subst (λ (l : ListView). Contains l.blocks block) (sym (listed-other lists i zone list n)) (are zone block (sym (ap (λ (l : ListView). l.whole) (listed-other lists i zone list n)) ∙ is_whole) lies)
 ]
 
@@ -177,7 +177,7 @@ listed-fresh page size i lists h none are = λ zone block is_whole lies. elim (c
 -- room is made in a list, which begins anew where no block lies in its zone
 pub listed-room : (page : ℕ → Option (List Place)) (size i : ℕ) (lists : List ListView) (empty : Bool) (list : ListView) → i < length lists → (empty ≡ true → (block : ℕ) → lies_in size i (place_in page block) ≡ false) → list ≡ cond empty fresh (listed lists i) → AreListed page size lists → AreListed page size (set lists i list)
 listed-room page size i lists true list h none e are = rw e (listed-fresh page size i lists h (none refl) are)
-listed-room page size i lists false list h none e are = rw e (listed-sort page size i lists (listed lists i) h refl (λ block had. had) are)
+listed-room page size i lists false list h none e are = rw e (listed-sort page size i lists (listed lists i) h refl (λ block lies had. had) are)
 
 -- lists from which such blocks were dropped
 pub listed-shorter : (page : ℕ → Option (List Place)) (size : ℕ) (lists lists' : List ListView) → Shortens page size lists lists' → AreListed page size lists → AreListed page size lists'

@@ -18,6 +18,8 @@ pub struct ZoneList {
     sorted: bool,
     /// Whether each block that lies in the zone is among them.
     whole: bool,
+    /// The position after the one that was asked for last.
+    next: usize,
 }
 
 impl Model for ZoneList {
@@ -41,6 +43,7 @@ impl ZoneList {
             blocks: Vec::new(alloc),
             sorted: false,
             whole: false,
+            next: 0,
         }
     }
 
@@ -87,17 +90,43 @@ impl ZoneList {
         self.blocks.as_slice()
     }
 
-    /// Brings the blocks in ascending order.
-    pub fn sort(&mut self)
+    /// Drops the blocks that lie elsewhere.
+    fn drop_others(&mut self, pages: &Pages, zone_size: u32, zone: u64)
         ensures whole { self.new.whole ≡ self.old.whole }
-        ensures kept { (block : _) → Contains self.old.blocks block → Contains self.new.blocks block }
+        ensures kept { (block : _) → lies_in zone_size zone (place_in (page_of pages.now.items) block) ≡ true → Contains self.old.blocks block → Contains self.new.blocks block }
+    {
+        self.sorted = false;
+        self.blocks
+            .retain(|block| lies_in(zone_size, zone, place_at(pages, *block)));
+    }
+
+    /// Brings the blocks in ascending order, where they are not, and drops those that lie elsewhere. This looks at
+    /// the places of all of them in a row, so that the processor has them at hand for what comes next.
+    fn sort(&mut self, pages: &Pages, zone_size: u32, zone: u64)
+        ensures whole { self.new.whole ≡ self.old.whole }
+        ensures kept { (block : _) → lies_in zone_size zone (place_in (page_of pages.now.items) block) ≡ true → Contains self.old.blocks block → Contains self.new.blocks block }
         ensures ascends { IsNonDecreasing self.new.blocks }
     {
         if self.sorted {
             return;
         }
+        self.drop_others(pages, zone_size, zone);
         self.blocks.sort_unstable();
         self.sorted = true;
+    }
+
+    /// Sorts the blocks as `sort` does, and answers the position of the first that is no lower than `from`. The
+    /// position after that of the last answer is tried before it is looked for.
+    pub fn position_from(&mut self, pages: &Pages, zone_size: u32, zone: u64, from: u32) -> usize
+        ensures whole { self.new.whole ≡ self.old.whole }
+        ensures kept { (block : _) → lies_in zone_size zone (place_in (page_of pages.now.items) block) ≡ true → Contains self.old.blocks block → Contains self.new.blocks block }
+        ensures ascends { IsNonDecreasing self.new.blocks }
+        ensures first { IsFirstFrom self.new.blocks from result }
+    {
+        self.sort(pages, zone_size, zone);
+        let position = first_from_near(&self.blocks, from, self.next);
+        self.next = position.saturating_add(1);
+        position
     }
 
     /// Drops the blocks that lie elsewhere, those that are there twice, and the room that they took. It needs
@@ -106,17 +135,39 @@ impl ZoneList {
         ensures whole { self.new.whole ≡ self.old.whole }
         ensures kept { (block : _) → lies_in zone_size zone (place_in (page_of pages.now.items) block) ≡ true → Contains self.old.blocks block → Contains self.new.blocks block }
     {
+        self.drop_others(pages, zone_size, zone);
         self.sorted = false;
-        self.blocks
-            .retain(|block| lies_in(zone_size, zone, place_at(pages, *block)));
         self.blocks.sort_unstable();
         self.blocks.dedup();
         self.blocks.shrink_to_fit();
     }
 }
 
+/// Whether a position is that of the first of ascending blocks that is no lower than `from`.
+fn is_first_from(blocks: &[u32], from: u32, position: usize) -> bool
+    requires { IsNonDecreasing blocks.now }
+    ensures { result ≡ true → IsFirstFrom blocks.now from position }
+{
+    if position > blocks.len() || (position > 0 && blocks[position - 1] >= from) {
+        return false;
+    }
+    position == blocks.len() || blocks[position] >= from
+}
+
+/// The position of the first of ascending blocks that is no lower than `from`: the one that is given, where it is that,
+/// or found by bisection.
+fn first_from_near(blocks: &[u32], from: u32, position: usize) -> usize
+    requires { IsNonDecreasing blocks.now }
+    ensures { IsFirstFrom blocks.now from result }
+{
+    if is_first_from(blocks, from, position) {
+        return position;
+    }
+    first_from(blocks, from)
+}
+
 /// The position of the first of ascending blocks that is no lower than `from`, found by bisection.
-pub fn first_from(blocks: &[u32], from: u32) -> usize
+fn first_from(blocks: &[u32], from: u32) -> usize
     requires { IsNonDecreasing blocks.now }
     ensures { IsFirstFrom blocks.now from result }
 {

@@ -6,7 +6,7 @@ ghost use Rattle.logical_map.specs.Pages.{page_of, place_in, place_of};
 ghost use Rattle.logical_map.specs.Places.{ArePlacedReady, Grows, IsReady, Reserves, address_of};
 ghost use Rattle.logical_map.specs.declared.place.Place.TheVariants as places;
 
-use crate::lists::{ZoneList, first_from, is_whole, make_lists, note, shorten};
+use crate::lists::{ZoneList, is_whole, make_lists, note, shorten};
 use crate::pages::{PAGE, Pages, change, has_page, lies_in, make_page, place_at, zone_of};
 use crate::place::Place;
 use std::alloc::{AllocError, Global};
@@ -15,7 +15,8 @@ use std::marker::Model;
 /// Where each of a number of logical blocks lies, on a drive of `zones` zones with `zone_size` addresses
 /// each. The places stand in pages, 8 bytes each; a page is made when it is wanted, and one that is missing
 /// holds no place. How many blocks lie in each zone is kept beside them, and a list of them, 4 bytes for
-/// each block that was moved there; blocks that were moved away are dropped from a long list.
+/// each block that was moved there; blocks that were moved away are dropped from a long list, and from one that is
+/// put in order.
 #[derive(Drop)]
 pub struct Map {
     /// How many blocks there are.
@@ -192,9 +193,8 @@ impl Map {
             return first_placed(&self.pages, self.zone_size, zone, from, self.count);
         }
         let index = zone as usize;
-        self.lists[index].sort();
+        let first = self.lists[index].position_from(&self.pages, self.zone_size, zone as u64, from);
         let blocks = self.lists[index].blocks();
-        let first = first_from(blocks, from);
         let position = first_listed(&self.pages, self.zone_size, zone, blocks, first)?;
         Some(blocks[position])
     }

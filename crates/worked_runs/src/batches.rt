@@ -3,8 +3,7 @@
 use crate::fault::ScriptFault;
 use crate::words::{byte, number, part};
 use batch_log::{Entry, Header, Kind, header_bytes};
-use byteorder::{ByteOrder, LittleEndian};
-use std::alloc::Global;
+use std::alloc::{AllocError, Global};
 use yardsticks::is_heading;
 
 /// A batch, whose data blocks all consist of one byte.
@@ -29,14 +28,21 @@ fn entries(alloc: Global, numbers: &[&str], trim: bool) -> Result<Vec<Entry>, Sc
     Ok(entries)
 }
 
+// The entries of a batch with data, and the byte of its data blocks.
+fn data_contents(alloc: Global, words: &[&str]) -> Result<(Vec<Entry>, u8), ScriptFault> {
+    let [numbers @ .., "data", data] = words else {
+        return Err(ScriptFault::Words);
+    };
+    let data = byte(data.as_bytes())?;
+    Ok((entries(alloc, numbers, false)?, data))
+}
+
 // The entries of a batch, and the byte of its data blocks.
 fn contents(alloc: Global, words: &[&str]) -> Result<(Vec<Entry>, u8), ScriptFault> {
     match words {
         [] => Ok((Vec::new(alloc), 0)),
         ["trims", numbers @ ..] => Ok((entries(alloc, numbers, true)?, 0)),
-        ["blocks", numbers @ .., "data", data] => {
-            Ok((entries(alloc, numbers, false)?, byte(data.as_bytes())?))
-        }
+        ["blocks", words @ ..] => data_contents(alloc, words),
         _ => Err(ScriptFault::Words),
     }
 }
@@ -66,10 +72,11 @@ pub fn parse_batch(alloc: Global, words: &[&str]) -> Result<Batch, ScriptFault> 
     };
     let (size, words) = sized(words)?;
     let (kind, source, words) = placed(words)?;
+    let sequence = number(sequence)?;
     let (entries, data) = contents(alloc, words)?;
     Ok(Batch {
         kind,
-        sequence: number(sequence)?,
+        sequence,
         source,
         size,
         entries,
@@ -77,33 +84,45 @@ pub fn parse_batch(alloc: Global, words: &[&str]) -> Result<Batch, ScriptFault> 
     })
 }
 
+fn push_numbers(numbers: &[u64], bytes: &mut Vec<u8>) -> Result<(), AllocError> {
+    for number in numbers {
+        bytes.extend_from_slice(&number.to_le_bytes())?;
+    }
+    Ok(())
+}
+
+fn push_entries(entries: &[Entry], bytes: &mut Vec<u8>) -> Result<(), AllocError> {
+    for entry in entries {
+        let trim_bit: u64 = if entry.trim { 1 << 63 } else { 0 };
+        bytes.extend_from_slice(&(entry.block | trim_bit).to_le_bytes())?;
+    }
+    Ok(())
+}
+
 impl Batch {
-    // The bytes before the entries, put together by hand.
-    fn head(&self, count: u32) -> [u8; 32] {
+    // What stands before the entries, put together by hand: the magic; version, kind and count; the
+    // sequence; source and size.
+    fn head(&self, count: u32) -> [u64; 4] {
         let version = if self.size.is_some() { 2 } else { 1 };
         let kind = match self.kind {
             Kind::Host => 1,
             Kind::Move => 2,
         };
-        let mut head = [0; 32];
-        head[..8].copy_from_slice(b"ZLOGBAT1");
-        LittleEndian::write_u16(&mut head[8..10], version);
-        LittleEndian::write_u16(&mut head[10..12], kind);
-        LittleEndian::write_u32(&mut head[12..16], count);
-        LittleEndian::write_u64(&mut head[16..24], self.sequence);
-        LittleEndian::write_u32(&mut head[24..28], self.source);
-        LittleEndian::write_u32(&mut head[28..32], self.size.unwrap_or(0));
-        head
+        let size = self.size.unwrap_or(0);
+        [
+            u64::from_le_bytes(*b"ZLOGBAT1"),
+            version | kind << 16 | u64::from(count) << 32,
+            self.sequence,
+            u64::from(self.source) | u64::from(size) << 32,
+        ]
     }
 
     /// The bytes of the header, without the zeros that follow the entries.
     pub fn front(&self, alloc: Global) -> Result<Vec<u8>, ScriptFault> {
         let count = u32::try_from(self.entries.len()).or(Err(ScriptFault::Words))?;
-        let mut bytes = Vec::from_slice(alloc, &self.head(count))?;
-        for entry in &self.entries {
-            let trim_bit: u64 = if entry.trim { 1 << 63 } else { 0 };
-            bytes.extend_from_slice(&(entry.block | trim_bit).to_le_bytes())?;
-        }
+        let mut bytes = Vec::new(alloc);
+        push_numbers(&self.head(count), &mut bytes)?;
+        push_entries(&self.entries, &mut bytes)?;
         Ok(bytes)
     }
 

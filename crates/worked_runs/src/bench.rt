@@ -103,3 +103,14 @@ pub fn world_of(alloc: Global, geometry: Geometry, bench: Bench) -> Result<World
     let drive = bench.into_inner().into_inner().device;
     Ok(World::of(alloc, geometry, &drive)?)
 }
+
+/// What the drive within holds, if what was shown of it has met no fault.
+pub fn world_after(
+    alloc: Global,
+    geometry: Geometry,
+    bench: Bench,
+    shown: Result<(), ScriptFault>,
+) -> Result<World, ScriptFault> {
+    shown?;
+    world_of(alloc, geometry, bench)
+}

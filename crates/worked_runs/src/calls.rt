@@ -1,6 +1,6 @@
 //! Calls of the libraries: those of a disk, and the typed calls to a drive.
 
-use crate::bench::{Bench, Setting, bench_of, world_of};
+use crate::bench::{Bench, Setting, bench_of, world_after};
 use crate::fault::ScriptFault;
 use crate::requests::{Request, parse_request};
 use crate::runs::{show_report, show_unreached};
@@ -105,16 +105,33 @@ fn show_disk_call(
     calls: &mut Calls,
     out: &mut String,
 ) -> Result<(), ScriptFault> {
-    let text = meant(alloc, line)?;
-    let answer = disk_call(disk, &text, &mut calls.bytes, &mut calls.shown)?;
+    let answer = disk_call(
+        disk,
+        &meant(alloc, line)?,
+        &mut calls.bytes,
+        &mut calls.shown,
+    )?;
     calls.sent = show_new(alloc, disk.device().entries(), calls.sent, out)?;
     show_data(&calls.shown, out)?;
-    show_done(answer, out)?;
-    Ok(())
+    Ok(show_done(answer, out)?)
 }
 
 fn report_of<D: Device + Drop>(disk: &mut Disk<D>) -> Result<Vec<u8>, DiskFault> {
     disk.report()
+}
+
+fn show_reported(
+    alloc: Global,
+    answer: Result<Vec<u8>, DiskFault>,
+    out: &mut String,
+) -> Result<(), ScriptFault> {
+    match answer {
+        Ok(report) => {
+            show_report(alloc, &report, out)?;
+            Ok(show_done(Ok(()), out)?)
+        }
+        Err(fault) => Ok(show_done(Err(fault), out)?),
+    }
 }
 
 // Asks the disk for a report of all zones, and shows the commands that were sent and the report.
@@ -126,14 +143,14 @@ fn show_disk_report(
 ) -> Result<(), ScriptFault> {
     let answer = report_of(disk);
     calls.sent = show_new(alloc, disk.device().entries(), calls.sent, out)?;
+    show_reported(alloc, answer, out)
+}
+
+fn show_remounted(answer: Result<(), MountFault>, out: &mut String) -> Result<(), AllocError> {
     match answer {
-        Ok(report) => {
-            show_report(alloc, &report, out)?;
-            show_done(Ok(()), out)?;
-        }
-        Err(fault) => show_done(Err(fault), out)?,
+        Ok(()) => show_done(Ok(()), out),
+        Err(fault) => writeln!(out, "    refused {fault:?}"),
     }
-    Ok(())
 }
 
 // Mounts the drive of the disk again, and shows the commands that were sent and the answer.
@@ -145,11 +162,11 @@ fn show_disk_remount(
 ) -> Result<(), ScriptFault> {
     let answer = disk.remount();
     calls.sent = show_new(alloc, disk.device().entries(), calls.sent, out)?;
-    match answer {
-        Ok(()) => show_done(Ok(()), out)?,
-        Err(fault) => writeln!(out, "    refused {fault:?}")?,
-    }
-    Ok(())
+    Ok(show_remounted(answer, out)?)
+}
+
+fn show_live(live: u32, out: &mut String) -> Result<(), AllocError> {
+    writeln!(out, "    {live}")
 }
 
 // Shows where the disk has the newest record of a block.
@@ -170,14 +187,24 @@ fn show_disk_line(
     out: &mut String,
 ) -> Result<(), ScriptFault> {
     match line.split_once(' ') {
-        None if line == "report" => show_disk_report(alloc, disk, calls, out)?,
-        None if line == "remount" => show_disk_remount(alloc, disk, calls, out)?,
-        Some(("place", block)) => show_place(disk.place_of(number(block)?), out)?,
-        Some(("live", zone)) => {
-            let live = disk.live(part(zone)?);
-            writeln!(out, "    {live}")?;
-        }
-        _ => show_disk_call(alloc, disk, line, calls, out)?,
+        None if line == "report" => show_disk_report(alloc, disk, calls, out),
+        None if line == "remount" => show_disk_remount(alloc, disk, calls, out),
+        Some(("place", block)) => Ok(show_place(disk.place_of(number(block)?), out)?),
+        Some(("live", zone)) => Ok(show_live(disk.live(part(zone)?), out)?),
+        _ => show_disk_call(alloc, disk, line, calls, out),
+    }
+}
+
+fn show_disk_lines(
+    alloc: Global,
+    disk: &mut Disk<Bench>,
+    lines: &[&str],
+    calls: &mut Calls,
+    out: &mut String,
+) -> Result<(), ScriptFault> {
+    for line in lines {
+        show_line(line, out)?;
+        show_disk_line(alloc, disk, line, calls, out)?;
     }
     Ok(())
 }
@@ -188,18 +215,15 @@ fn show_disk_calls(
     lines: &[&str],
     out: &mut String,
 ) -> Result<(), ScriptFault> {
+    let sent = show_new(alloc, disk.device().entries(), 0, out)?;
+    let blocks = disk.blocks();
+    writeln!(out, "    mounted, {blocks} blocks")?;
     let mut calls = Calls {
-        sent: show_new(alloc, disk.device().entries(), 0, out)?,
+        sent,
         bytes: Vec::new(alloc),
         shown: Vec::new(alloc),
     };
-    let blocks = disk.blocks();
-    writeln!(out, "    mounted, {blocks} blocks")?;
-    for line in lines {
-        show_line(line, out)?;
-        show_disk_line(alloc, disk, line, &mut calls, out)?;
-    }
-    Ok(())
+    show_disk_lines(alloc, disk, lines, &mut calls, out)
 }
 
 fn show_refused_mount(
@@ -225,6 +249,23 @@ fn show_mounted(
     (disk.into_device(), result)
 }
 
+// Mounts a drive as a disk and makes the calls of each line, or shows why it is refused. Gives the drive back.
+fn show_disk_over(
+    alloc: Global,
+    bench: Bench,
+    blocks: u64,
+    lines: &[&str],
+    out: &mut String,
+) -> (Bench, Result<(), ScriptFault>) {
+    match Disk::mount(alloc, bench, blocks) {
+        Ok(disk) => show_mounted(alloc, disk, lines, out),
+        Err((fault, bench)) => {
+            let result = show_refused_mount(alloc, fault, &bench, lines, out);
+            (bench, result)
+        }
+    }
+}
+
 /// Mounts the drive as a disk, and makes the calls of each line, also after a refusal. The line `report`
 /// asks it for a report of all zones, `place L` where block `L` lies, `live I` how many blocks lie in zone `I`.
 pub fn show_disk(
@@ -236,15 +277,8 @@ pub fn show_disk(
     out: &mut String,
 ) -> Result<World, ScriptFault> {
     let bench = bench_of(alloc, world, setting)?;
-    let (bench, result) = match Disk::mount(alloc, bench, blocks) {
-        Ok(disk) => show_mounted(alloc, disk, lines, out),
-        Err((fault, bench)) => {
-            let result = show_refused_mount(alloc, fault, &bench, lines, out);
-            (bench, result)
-        }
-    };
-    result?;
-    world_of(alloc, world.geometry, bench)
+    let (bench, shown) = show_disk_over(alloc, bench, blocks, lines, out);
+    world_after(alloc, world.geometry, bench, shown)
 }
 
 // What a typed call answers.
@@ -328,15 +362,31 @@ fn typed_call<D: Device>(
 }
 
 fn show_answer(answer: Answer, out: &mut String) -> Result<(), ScriptFault> {
-    match answer {
-        Answer::Done => writeln!(out, "    done")?,
-        Answer::Number(number) => writeln!(out, "    answered {number}")?,
-        Answer::Fault(PortFault::Refused(status)) => writeln!(out, "    refused {status:?}")?,
-        Answer::Fault(PortFault::Memory) => writeln!(out, "    out of memory")?,
-        Answer::Fault(PortFault::Stopped) => writeln!(out, "    stopped")?,
+    let shown = match answer {
+        Answer::Done => writeln!(out, "    done"),
+        Answer::Number(number) => writeln!(out, "    answered {number}"),
+        Answer::Fault(PortFault::Refused(status)) => writeln!(out, "    refused {status:?}"),
+        Answer::Fault(PortFault::Memory) => writeln!(out, "    out of memory"),
+        Answer::Fault(PortFault::Stopped) => writeln!(out, "    stopped"),
         Answer::None => return Err(ScriptFault::Words),
+    };
+    Ok(shown?)
+}
+
+// The entry that a line asks for, and whether it asks for the number of zones alone.
+fn typed_request(alloc: Global, line: &str, block: u32) -> Result<(Request, bool), ScriptFault> {
+    match line.strip_prefix("Count") {
+        Some(rest) => {
+            let words = format!(in alloc; "Report{rest}")?;
+            Ok((parse_request(alloc, &words, 0, block)?, true))
+        }
+        None => Ok((parse_request(alloc, line, 0, block)?, false)),
     }
-    Ok(())
+}
+
+fn show_answered(answer: Answer, data: &[u8], out: &mut String) -> Result<(), ScriptFault> {
+    show_data(data, out)?;
+    show_answer(answer, out)
 }
 
 // Makes the typed call of a line, and shows what it answers.
@@ -347,17 +397,23 @@ fn show_call(
     data: &mut Vec<u8>,
     out: &mut String,
 ) -> Result<(), ScriptFault> {
-    let block = bench.geometry().block;
-    let (request, is_count) = match line.strip_prefix("Count") {
-        Some(rest) => {
-            let words = format!(in alloc; "Report{rest}")?;
-            (parse_request(alloc, &words, 0, block)?, true)
-        }
-        None => (parse_request(alloc, line, 0, block)?, false),
-    };
+    let (request, is_count) = typed_request(alloc, line, bench.geometry().block)?;
     let answer = typed_call(alloc, bench, &request, is_count, data);
-    show_data(data, out)?;
-    show_answer(answer, out)
+    show_answered(answer, data, out)
+}
+
+fn show_call_lines(
+    alloc: Global,
+    bench: &mut Bench,
+    lines: &[&str],
+    data: &mut Vec<u8>,
+    out: &mut String,
+) -> Result<(), ScriptFault> {
+    for line in lines {
+        show_line(line, out)?;
+        show_call(alloc, bench, line, data, out)?;
+    }
+    Ok(())
 }
 
 fn show_typed_calls(
@@ -366,14 +422,9 @@ fn show_typed_calls(
     lines: &[&str],
     out: &mut String,
 ) -> Result<(), ScriptFault> {
-    let mut data = Vec::new(alloc);
-    for line in lines {
-        show_line(line, out)?;
-        show_call(alloc, bench, line, &mut data, out)?;
-    }
+    show_call_lines(alloc, bench, lines, &mut Vec::new(alloc), out)?;
     let completed = bench.completed();
-    writeln!(out, "    commands completed: {completed}")?;
-    Ok(())
+    Ok(writeln!(out, "    commands completed: {completed}")?)
 }
 
 /// Makes a typed call to the drive for each line. `Count` in place of `Report` asks for the number alone.
@@ -385,6 +436,6 @@ pub fn show_calls(
     out: &mut String,
 ) -> Result<World, ScriptFault> {
     let mut bench = bench_of(alloc, world, setting)?;
-    show_typed_calls(alloc, &mut bench, lines, out)?;
-    world_of(alloc, world.geometry, bench)
+    let shown = show_typed_calls(alloc, &mut bench, lines, out);
+    world_after(alloc, world.geometry, bench, shown)
 }

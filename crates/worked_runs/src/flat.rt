@@ -27,20 +27,20 @@ fn same_byte(block: &[u8]) -> Option<u8> {
     Some(first)
 }
 
+fn show_digits(bytes: &[u8], reply: &mut String) -> Result<(), AllocError> {
+    for byte in bytes {
+        write!(reply, "{byte:02x}")?;
+    }
+    Ok(())
+}
+
 fn show_block(place: u64, block: &[u8], reply: &mut String) -> Result<(), AllocError> {
     write!(reply, "{place} ")?;
     match same_byte(block) {
-        Some(byte) => {
-            let size = block.len();
-            writeln!(reply, "{byte:02x}*{size}")
-        }
-        None => {
-            for byte in block {
-                write!(reply, "{byte:02x}")?;
-            }
-            writeln!(reply)
-        }
+        Some(byte) => write!(reply, "{byte:02x}*{}", block.len())?,
+        None => show_digits(block, reply)?,
     }
+    writeln!(reply)
 }
 
 impl Flat {

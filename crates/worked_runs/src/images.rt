@@ -170,6 +170,18 @@ fn readings_with(alloc: Global, image: &mut [u8], byte: u8) -> Result<Vec<Readin
     Ok(readings)
 }
 
+// What an image is read as, changed at each place as a word says.
+fn readings_of_changes(
+    alloc: Global,
+    image: &mut [u8],
+    change: &str,
+) -> Result<Vec<Reading>, ScriptFault> {
+    if change == "cut" {
+        return readings_of_fronts(alloc, image);
+    }
+    readings_with(alloc, image, byte(change.as_bytes())?)
+}
+
 /// Shows what the image of a drive is read as, cut at each place or with a byte in each place.
 pub fn show_all_changes(
     alloc: Global,
@@ -177,17 +189,11 @@ pub fn show_all_changes(
     words: &[&str],
     out: &mut String,
 ) -> Result<(), ScriptFault> {
-    let mut image = image_of_world(alloc, world)?;
     let [change, "at", "each", "byte"] = words else {
         return Err(ScriptFault::Words);
     };
-    let readings = if *change == "cut" {
-        readings_of_fronts(alloc, &image)?
-    } else {
-        readings_with(alloc, &mut image, byte(change.as_bytes())?)?
-    };
-    show_counts(&readings, out)?;
-    Ok(())
+    let readings = readings_of_changes(alloc, &mut image_of_world(alloc, world)?, change)?;
+    Ok(show_counts(&readings, out)?)
 }
 
 /// Numbers that look like chance, and are the same in each run.
@@ -273,6 +279,15 @@ fn random_drive(
     Drive::from_zones(alloc, geometry, zones).or(Err(ScriptFault::Words))
 }
 
+fn random_reading(
+    alloc: Global,
+    chance: &mut Chance,
+    geometry: Geometry,
+) -> Result<Reading, ScriptFault> {
+    let drive = random_drive(alloc, chance, geometry)?;
+    read_as(alloc, &image_of(alloc, &drive)?)
+}
+
 /// Writes the images of random drives, reads them and writes them again, and shows how many of them are read as
 /// drives with the same image.
 pub fn show_random_images(
@@ -284,9 +299,7 @@ pub fn show_random_images(
     let mut chance = Chance { state: 1 };
     let mut readings = Vec::new(alloc);
     for _ in 0..count {
-        let drive = random_drive(alloc, &mut chance, geometry)?;
-        readings.push(read_as(alloc, &image_of(alloc, &drive)?)?)?;
+        readings.push(random_reading(alloc, &mut chance, geometry)?)?;
     }
-    show_counts(&readings, out)?;
-    Ok(())
+    Ok(show_counts(&readings, out)?)
 }

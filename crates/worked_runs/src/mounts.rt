@@ -1,6 +1,6 @@
 //! Mounts of the drive: which commands are sent, and what is known of the disk then.
 
-use crate::bench::{Bench, Left, Setting, bench_of, left_by, world_of};
+use crate::bench::{Bench, Left, Setting, bench_of, left_by, world_after};
 use crate::fault::ScriptFault;
 use crate::show::show_sent;
 use crate::stops::{Halts, checked, settings};
@@ -79,8 +79,8 @@ pub fn show_mount(
     out: &mut String,
 ) -> Result<World, ScriptFault> {
     let mut bench = bench_of(alloc, world, setting)?;
-    show_mounted(alloc, &mut bench, setting, n, out)?;
-    world_of(alloc, world.geometry, bench)
+    let shown = show_mounted(alloc, &mut bench, setting, n, out);
+    world_after(alloc, world.geometry, bench, shown)
 }
 
 fn show_mounted(

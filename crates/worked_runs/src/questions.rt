@@ -1,7 +1,7 @@
 //! What a script asks of its drive between two runs.
 
 use crate::fault::ScriptFault;
-use crate::requests::parse_request;
+use crate::requests::{Request, parse_request};
 use crate::show::{show_bytes, show_fault, show_lines};
 use crate::words::{number, part};
 use crate::world::World;
@@ -29,16 +29,25 @@ pub fn show_drive_fault(
     }
 }
 
-/// Shows the report of all zones, as text. The drive completes one more command.
-pub fn show_zones(alloc: Global, drive: &mut Drive, out: &mut String) -> Result<(), ScriptFault> {
-    let geometry = drive.geometry();
+// The command that asks for a report of all zones.
+fn report_request(alloc: Global, geometry: Geometry) -> Result<Request, ScriptFault> {
     let dwords = 16 * (geometry.zones as u64 + 1);
     let words = format!(in alloc; "Report from 0 in {dwords} dwords")?;
-    let request = parse_request(alloc, &words, 0, geometry.block)?;
+    parse_request(alloc, &words, 0, geometry.block)
+}
+
+fn report_of(alloc: Global, drive: &mut Drive) -> Result<Vec<u8>, ScriptFault> {
+    let request = report_request(alloc, drive.geometry())?;
     let mut report = Vec::new(alloc);
-    if drive.submit(&request.entry, &[], &mut report).is_err() {
-        return Err(ScriptFault::Memory);
+    match drive.submit(&request.entry, &[], &mut report) {
+        Ok(_) => Ok(report),
+        Err(_) => Err(ScriptFault::Memory),
     }
+}
+
+/// Shows the report of all zones, as text. The drive completes one more command.
+pub fn show_zones(alloc: Global, drive: &mut Drive, out: &mut String) -> Result<(), ScriptFault> {
+    let report = report_of(alloc, drive)?;
     let text = report_text(alloc, &report).or(Err(ScriptFault::Memory))?;
     show_lines(text.as_bytes(), out)
 }

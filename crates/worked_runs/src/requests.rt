@@ -155,8 +155,7 @@ pub fn parse_request(
         Some((command, data)) => (command, byte(data.as_bytes())?),
         None => (line, 0xaa),
     };
-    let words = command.split(' ').collect::<Vec<&str>>(alloc)?;
-    let fields = fields_of(&words)?;
+    let fields = fields_of(&command.split(' ').collect::<Vec<&str>>(alloc)?)?;
     let length = (fields.data_blocks as usize).saturating_mul(block_bytes as usize);
     Ok(Request {
         entry: entry_of(id, &fields),

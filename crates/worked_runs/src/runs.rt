@@ -85,19 +85,22 @@ fn show_raw_reply(alloc: Global, reply: &str, out: &mut String) -> Result<(), Sc
     Ok(())
 }
 
-// Shows the status and the result of a completion, given in digits.
-fn show_completion(alloc: Global, digits: &str, out: &mut String) -> Result<(), ScriptFault> {
+// The bytes of a completion, given in digits.
+fn completion_bytes(alloc: Global, digits: &str) -> Result<[u8; 16], ScriptFault> {
     let mut completion = Vec::new(alloc);
     bytes(digits.as_bytes(), &mut completion)?;
-    let mut array = [0; 16];
-    if completion.len() != 16 {
-        return Err(ScriptFault::Words);
+    <[u8; 16]>::try_from(completion.as_slice()).or(Err(ScriptFault::Words))
+}
+
+// Shows the status and the result of a completion, given in digits.
+fn show_completion(alloc: Global, digits: &str, out: &mut String) -> Result<(), ScriptFault> {
+    let completion = completion_bytes(alloc, digits)?;
+    match Completion::decode(&completion) {
+        Ok(Completion { status, result, .. }) => {
+            Ok(writeln!(out, "    {status:?}, result {result}")?)
+        }
+        Err(_) => Err(ScriptFault::Words),
     }
-    array.copy_from_slice(&completion);
-    let completion = Completion::decode(&array).or(Err(ScriptFault::Words))?;
-    let Completion { status, result, .. } = completion;
-    writeln!(out, "    {status:?}, result {result}")?;
-    Ok(())
 }
 
 /// Shows a report as text, after its length.
@@ -235,8 +238,13 @@ fn show_front(
     shown: &mut Shown,
     out: &mut String,
 ) -> Result<Ran, ScriptFault> {
-    let text = text_of(alloc, world, lines, block)?;
-    let ran = run(alloc, world, setting, lines, &text)?;
+    let ran = run(
+        alloc,
+        world,
+        setting,
+        lines,
+        &text_of(alloc, world, lines, block)?,
+    )?;
     let last = block.last().copied().unwrap_or("");
     *shown = show_more(alloc, *shown, setting, lines, last, &ran, out)?;
     Ok(ran)

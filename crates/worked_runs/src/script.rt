@@ -29,23 +29,30 @@ struct Step<'a> {
     lines: Vec<&'a str>,
 }
 
+// The text of a line that belongs to the one before, or none.
+fn inner_of(line: &str) -> Option<&str> {
+    if line == ">" {
+        return Some("");
+    }
+    line.strip_prefix("> ")
+}
+
+fn add_inner<'a>(steps: &mut [Step<'a>], inner: &'a str) -> Result<(), ScriptFault> {
+    match steps.last_mut() {
+        Some(step) => Ok(step.lines.push(inner)?),
+        None => Err(ScriptFault::Words),
+    }
+}
+
 fn steps<'a>(alloc: Global, text: &'a str) -> Result<Vec<Step<'a>>, ScriptFault> {
     let mut steps: Vec<Step> = Vec::new(alloc);
     for line in text.lines() {
-        let inner = if line == ">" {
-            Some("")
-        } else {
-            line.strip_prefix("> ")
-        };
-        match (inner, steps.last_mut()) {
-            (Some(inner), Some(step)) => step.lines.push(inner)?,
-            (Some(_), None) => return Err(ScriptFault::Words),
-            (None, _) => {
-                steps.push(Step {
-                    line,
-                    lines: Vec::new(alloc),
-                })?;
-            }
+        match inner_of(line) {
+            Some(inner) => add_inner(&mut steps, inner)?,
+            None => steps.push(Step {
+                line,
+                lines: Vec::new(alloc),
+            })?,
         }
     }
     Ok(steps)

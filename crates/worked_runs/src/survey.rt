@@ -14,6 +14,16 @@ fn show_answer(answer: Result<Survey, MountFault>, out: &mut String) -> Result<(
     }
 }
 
+fn show_surveyed(
+    alloc: Global,
+    entries: &[[u8; 64]],
+    answer: Result<Survey, MountFault>,
+    out: &mut String,
+) -> Result<(), ScriptFault> {
+    show_sent(alloc, entries, false, out)?;
+    Ok(show_answer(answer, out)?)
+}
+
 /// Shows the commands of a survey, and the size of the disk or why the drive is refused.
 pub fn show_survey(
     alloc: Global,
@@ -23,7 +33,5 @@ pub fn show_survey(
 ) -> Result<(), ScriptFault> {
     let mut bench = bench_of(alloc, world, Setting::PLAIN)?;
     let answer = survey_drive(alloc, &mut bench, n);
-    show_sent(alloc, bench.entries(), false, out)?;
-    show_answer(answer, out)?;
-    Ok(())
+    show_surveyed(alloc, bench.entries(), answer, out)
 }

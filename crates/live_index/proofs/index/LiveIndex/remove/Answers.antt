@@ -8,8 +8,8 @@ put-requires-clause-position c =
     let order = c.self.inside.order in
     let zone_in = rw (← c.self.view_is) at c.requires.in_range in
     let positive = rw (← c.self.view_is) at c.requires.above in
-    let first = rw (c.deref.ensures.value, get_or_read counts c.args.zone c.index-count.result.now zone_in c.index-count.ensures 0) at c.first_above-first.ensures in
-    start-in counts order.zones.items order.positions.items c.self.invariant.0 c.self.invariant.1 c.args.zone zone_in c.first_above-first.result positive first
+    let first = rw (c.deref.ensures.value, get_or_read counts c.args.zone c.index-count.result.now zone_in c.index-count.ensures 0) at c.first_above_near-first.ensures in
+    start-in counts order.zones.items order.positions.items c.self.invariant.0 c.self.invariant.1 c.args.zone zone_in c.first_above_near-first.result positive first
 
 pub invariant_of-self : goal.invariant_of-self
 invariant_of-self c =
@@ -17,6 +17,6 @@ invariant_of-self c =
     let order = c.self.inside.order in
     let zone_in = rw (← c.self.view_is) at c.requires.in_range in
     let positive = rw (← c.self.view_is) at c.requires.above in
-    let first = rw (c.deref.ensures.value, get_or_read counts c.args.zone c.index-count.result.now zone_in c.index-count.ensures 0) at c.first_above-first.ensures in
+    let first = rw (c.deref.ensures.value, get_or_read counts c.args.zone c.index-count.result.now zone_in c.index-count.ensures 0) at c.first_above_near-first.ensures in
     rw (c.put.ensures.zones, c.put.ensures.positions, get_or_read counts c.args.zone c.index_mut.result.now zone_in c.index_mut.ensures.value 0)
-    (put-remove counts order.zones.items order.positions.items c.self.invariant.0 c.self.invariant.1 c.args.zone zone_in c.first_above-first.result positive first)
+    (put-remove counts order.zones.items order.positions.items c.self.invariant.0 c.self.invariant.1 c.args.zone zone_in c.first_above_near-first.result positive first)

@@ -1,0 +1,11 @@
+use Rattle.std.proofs.Common.{rules}
+use Rattle.std.proofs.lemmas.Fn.{filter_same}
+use Rattle.logical_map.specs.Live.{lies_in}
+use Rattle.logical_map.specs.Pages.{page_of, place_in}
+use Rattle.logical_map.proofs.Listing.{Contains-filter}
+use Rattle.logical_map.proofs.lists.ZoneList.drop_others.Goals as goal
+
+pub returns-clause-kept : goal.returns-clause-kept
+returns-clause-kept c =
+    let kept = filter_same _ (λ block. lies_in c.args.zone_size c.args.zone (place_in (page_of c.args.pages.now.items) block)) _ (λ x b f' k. search rules) _ _ c.retain.ensures.filtered in
+    rw (← c.self.view_is) (λ block lies had. rw kept (Contains-filter _ _ block lies had))
