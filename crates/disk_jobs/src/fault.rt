@@ -7,20 +7,27 @@ use disk_runs::{RunFault, write_fault};
 use drive_images::{ImageFault, image_fault_line};
 use std::alloc::{AllocError, Global};
 use std::io::Write;
+use thiserror::Error;
 use zone_translator::MountFault;
 
-/// Why the program ends with status 1.
-#[derive(Clone, Copy, Debug, PartialEq, Eq)]
+/// Why the program ends with status 1. As text it is the name of its variant, and that of a run is the name of its
+/// fault; `write_program_fault` writes the line that the program shows, and `explain` says it to people.
+#[derive(Clone, Copy, Debug, PartialEq, Eq, Error)]
 pub enum ProgramFault {
     /// The run of the lines ended, or there is no drive to run them on.
+    #[error("{0}")]
     Run(RunFault),
     /// The drive has not room for that many logical blocks, but for `most` of them.
+    #[error("Reserve")]
     Reserve { most: u64 },
     /// The file has no image of a drive.
+    #[error("Image")]
     Image(ImageFault),
     /// The file cannot be opened.
+    #[error("Open")]
     Open,
     /// The file cannot be saved: it holds what it held before.
+    #[error("Save")]
     Save,
 }
 
