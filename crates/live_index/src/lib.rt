@@ -8,8 +8,8 @@
 //!
 //! What is promised: the counts are a list of numbers, `add` and `remove` change one of them by one, and
 //! `least` finds the lowest of the named zones with the fewest (`FindsLeast` in specs/Least). The zones are
-//! kept in order of their counts: `add` and `remove` swap two of them, of which the second is the first itself or
-//! is found by bisection, and `least` goes through the order once at most (`IsOrdered` in specs/Ordered).
+//! kept in order of their counts: `add` and `remove` swap two of them, or none where the order stays as it is; the
+//! second is found by bisection. `least` goes through the order once at most (`IsOrdered` in specs/Ordered).
 #![tactic(auto)]
 
 mod index;

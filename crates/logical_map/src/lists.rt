@@ -100,8 +100,8 @@ impl ZoneList {
             .retain(|block| lies_in(zone_size, zone, place_at(pages, *block)));
     }
 
-    /// Brings the blocks in ascending order, where they are not, and drops those that lie elsewhere. This looks at
-    /// the places of all of them in a row, so that the processor has them at hand for what comes next.
+    /// Brings the blocks in ascending order where they are not, after those that lie elsewhere are dropped. That looks
+    /// at all their places in a row, so that the places are in the processor's cache when they are asked for.
     fn sort(&mut self, pages: &Pages, zone_size: u32, zone: u64)
         ensures whole { self.new.whole ≡ self.old.whole }
         ensures kept { (block : _) → lies_in zone_size zone (place_in (page_of pages.now.items) block) ≡ true → Contains self.old.blocks block → Contains self.new.blocks block }
