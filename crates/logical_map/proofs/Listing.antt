@@ -10,7 +10,7 @@ use Rattle.std.proofs.lemmas.List.Elements.{Contains-append_right}
 use Rattle.std.proofs.lemmas.List.Sums.{get_or-le-sum_by}
 use Rattle.logical_map.specs.declared.place.Place.{Place}
 use Rattle.logical_map.specs.declared.place.Place.TheVariants as places
-use Rattle.logical_map.specs.Lists.{AreListed, FindsBlock, Follows, FindsThere, IsFirstBlock, IsFirstFrom, IsFirstThere, ListView, NoBlockLies, NoneLies, Notes, Shortens, fresh, listed, missing}
+use Rattle.logical_map.specs.Lists.{AreListed, FindsBlock, Follows, FindsThere, IsFirstBlock, IsFirstFrom, IsFirstThere, KeepsThere, ListView, NoBlockLies, NoneLies, Notes, Shortens, fresh, listed, missing}
 use Rattle.logical_map.specs.Live.{blocks_in, is_zone, lies_in, zone_of}
 use Rattle.logical_map.specs.Pages.{HasNoneFrom, place_in, shown}
 use Rattle.logical_map.proofs.Showing.{length-shown, place-reserve, place-set, shown-at, some-at}
@@ -104,7 +104,7 @@ module _ (page : ℕ → Option (List Place)) (size zone from : ℕ) (blocks : L
   }
 
 -- what the list of a zone finds, once it is sorted
-pub listed-finds : (page : ℕ → Option (List Place)) (n size zone from : ℕ) (lists : List ListView) (list : ListView) (first : ℕ) (found : Option ℕ) → HasNoneFrom page n → (listed lists zone).whole ≡ true → AreListed page size lists → ((block : ℕ) → lies_in size zone (place_in page block) ≡ true → Contains (listed lists zone).blocks block → Contains list.blocks block) → IsNonDecreasing list.blocks
+pub listed-finds : (page : ℕ → Option (List Place)) (n size zone from : ℕ) (lists : List ListView) (list : ListView) (first : ℕ) (found : Option ℕ) → HasNoneFrom page n → (listed lists zone).whole ≡ true → AreListed page size lists → KeepsThere page size zone (listed lists zone).blocks list.blocks → IsNonDecreasing list.blocks
     → IsFirstFrom list.blocks from first → FindsThere page size zone list.blocks first found → option_map (λ position. get_or list.blocks position 0) found ≡ slice_get (blocks_in size zone from (drop from (shown page n))) 0
 listed-finds page n size zone from lists list first Option.None past whole are kept ascends is_first none =
     sym (none-is page n size zone from past (none-listed page size zone from list.blocks (λ block lies. kept block lies (are zone block whole lies)) first is_first n none))
@@ -157,7 +157,7 @@ pub listed-other : (lists : List ListView) (i zone : ℕ) (list : ListView) → 
 listed-other lists i zone list n = get_or-set_other lists i zone list missing n
 
 -- a list that has what the old one had, of the same wholeness
-pub listed-sort : (page : ℕ → Option (List Place)) (size i : ℕ) (lists : List ListView) (list : ListView) → i < length lists → list.whole ≡ (listed lists i).whole → ((block : ℕ) → lies_in size i (place_in page block) ≡ true → Contains (listed lists i).blocks block → Contains list.blocks block) → AreListed page size lists → AreListed page size (set lists i list)
+pub listed-sort : (page : ℕ → Option (List Place)) (size i : ℕ) (lists : List ListView) (list : ListView) → i < length lists → list.whole ≡ (listed lists i).whole → KeepsThere page size i (listed lists i).blocks list.blocks → AreListed page size lists → AreListed page size (set lists i list)
 listed-sort page size i lists list h whole kept are = λ zone block is_whole lies. elim (cases_eq zone i) as (λ _. Contains (listed (set lists i list) zone).blocks block) [
   | inl e ↦ subst (λ (l : ListView). Contains l.blocks block) (sym (listed-at lists i zone list h e)) (let here = sym (ap (λ z. lies_in size z (place_in page block)) e) ∙ lies in kept block here (are i block (sym whole ∙ sym (ap (λ (l : ListView). l.whole) (listed-at lists i zone list h e)) ∙ is_whole) here))
   | inr n ↦ subst (λ (l : ListView). Contains l.blocks block) (sym (listed-other lists i zone list n)) (are zone block (sym (ap (λ (l : ListView). l.whole) (listed-other lists i zone list n)) ∙ is_whole) lies)
@@ -183,7 +183,7 @@ listed-room page size i lists false list h none e are = rw e (listed-sort page s
 pub listed-shorter : (page : ℕ → Option (List Place)) (size : ℕ) (lists lists' : List ListView) → Shortens page size lists lists' → AreListed page size lists → AreListed page size lists'
 listed-shorter page size lists lists' shorter are = λ zone block whole lies. shorter.kept zone block lies (are zone block (shorter.whole zone whole) lies)
 
-pub shorter-at : (page : ℕ → Option (List Place)) (size i : ℕ) (lists : List ListView) (list : ListView) → i < length lists → list.whole ≡ (listed lists i).whole → ((block : ℕ) → lies_in size i (place_in page block) ≡ true → Contains (listed lists i).blocks block → Contains list.blocks block) → Shortens page size lists (set lists i list)
+pub shorter-at : (page : ℕ → Option (List Place)) (size i : ℕ) (lists : List ListView) (list : ListView) → i < length lists → list.whole ≡ (listed lists i).whole → KeepsThere page size i (listed lists i).blocks list.blocks → Shortens page size lists (set lists i list)
 shorter-at page size i lists list h whole kept = record {
   whole = λ zone w. elim (cases_eq zone i) as (λ _. (listed lists zone).whole ≡ true) [
     | inl e ↦ ap (λ k. (listed lists k).whole) e ∙ sym whole ∙ sym (ap (λ (l : ListView). l.whole) (listed-at lists i zone list h e)) ∙ w

@@ -40,10 +40,14 @@ pub record Follows (old : List ListView) (was zone : Option ℕ) (block : ℕ) (
   pub here : (z : ℕ) → is_zone zone z ≡ true → is_zone was z ≡ false → (listed new z).whole ≡ true → Contains (listed new z).blocks block
   pub kept : (z other : ℕ) → Contains (listed old z).blocks other → Contains (listed new z).blocks other
 
+-- of blocks that were noted of a zone, each that lies there is kept
+abbrev pub KeepsThere : (ℕ → Option (List Place)) → ℕ → ℕ → List ℕ → List ℕ → Type 0
+KeepsThere page zone_size zone old new = (block : ℕ) → lies_in zone_size zone (place_in page block) ≡ true → Contains old block → Contains new block
+
 -- of the blocks on the list of a zone, at most such are dropped that lie elsewhere
 pub record Shortens (page : ℕ → Option (List Place)) (zone_size : ℕ) (old new : List ListView) : Type 0 where
   pub whole : (zone : ℕ) → (listed new zone).whole ≡ true → (listed old zone).whole ≡ true
-  pub kept : (zone block : ℕ) → lies_in zone_size zone (place_in page block) ≡ true → Contains (listed old zone).blocks block → Contains (listed new zone).blocks block
+  pub kept : (zone : ℕ) → KeepsThere page zone_size zone (listed old zone).blocks (listed new zone).blocks
 
 -- while the list of a zone is whole, it has each block that lies there
 abbrev pub AreListed : (ℕ → Option (List Place)) → ℕ → List ListView → Type 0

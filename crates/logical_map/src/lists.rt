@@ -1,9 +1,7 @@
 ghost use Rattle.std.specs.Prelude.{◌≡◌, ◌≤◌, OnOk, length, true, if◌then◌else◌};
-ghost use Rattle.std.specs.List.{Contains};
 ghost use Rattle.std.specs.List.Sorted.{IsNonDecreasing};
-ghost use Rattle.logical_map.specs.Lists.{Follows, IsFirstFrom, Notes, Shortens, fresh, listed, missing};
-ghost use Rattle.logical_map.specs.Live.{lies_in};
-ghost use Rattle.logical_map.specs.Pages.{page_of, place_in};
+ghost use Rattle.logical_map.specs.Lists.{Follows, IsFirstFrom, KeepsThere, Notes, Shortens, fresh, listed, missing};
+ghost use Rattle.logical_map.specs.Pages.{page_of};
 
 use crate::pages::{Pages, lies_in, place_at};
 use std::alloc::{AllocError, Global};
@@ -18,7 +16,7 @@ pub struct ZoneList {
     sorted: bool,
     /// Whether each block that lies in the zone is among them.
     whole: bool,
-    /// The position after the one that was asked for last.
+    /// The position that is tried first when one is asked for: that after the last answer.
     next: usize,
 }
 
@@ -93,7 +91,7 @@ impl ZoneList {
     /// Drops the blocks that lie elsewhere.
     fn drop_others(&mut self, pages: &Pages, zone_size: u32, zone: u64)
         ensures whole { self.new.whole ≡ self.old.whole }
-        ensures kept { (block : _) → lies_in zone_size zone (place_in (page_of pages.now.items) block) ≡ true → Contains self.old.blocks block → Contains self.new.blocks block }
+        ensures kept { KeepsThere (page_of pages.now.items) zone_size zone self.old.blocks self.new.blocks }
     {
         self.sorted = false;
         self.blocks
@@ -104,7 +102,7 @@ impl ZoneList {
     /// at all their places in a row, so that the places are in the processor's cache when they are asked for.
     fn sort(&mut self, pages: &Pages, zone_size: u32, zone: u64)
         ensures whole { self.new.whole ≡ self.old.whole }
-        ensures kept { (block : _) → lies_in zone_size zone (place_in (page_of pages.now.items) block) ≡ true → Contains self.old.blocks block → Contains self.new.blocks block }
+        ensures kept { KeepsThere (page_of pages.now.items) zone_size zone self.old.blocks self.new.blocks }
         ensures ascends { IsNonDecreasing self.new.blocks }
     {
         if self.sorted {
@@ -115,11 +113,10 @@ impl ZoneList {
         self.sorted = true;
     }
 
-    /// Sorts the blocks as `sort` does, and answers the position of the first that is no lower than `from`. The
-    /// position after that of the last answer is tried before it is looked for.
+    /// Sorts the blocks as `sort` does, and answers the position of the first that is no lower than `from`.
     pub fn position_from(&mut self, pages: &Pages, zone_size: u32, zone: u64, from: u32) -> usize
         ensures whole { self.new.whole ≡ self.old.whole }
-        ensures kept { (block : _) → lies_in zone_size zone (place_in (page_of pages.now.items) block) ≡ true → Contains self.old.blocks block → Contains self.new.blocks block }
+        ensures kept { KeepsThere (page_of pages.now.items) zone_size zone self.old.blocks self.new.blocks }
         ensures ascends { IsNonDecreasing self.new.blocks }
         ensures first { IsFirstFrom self.new.blocks from result }
     {
@@ -133,7 +130,7 @@ impl ZoneList {
     /// no memory.
     pub fn tidy(&mut self, pages: &Pages, zone_size: u32, zone: u64)
         ensures whole { self.new.whole ≡ self.old.whole }
-        ensures kept { (block : _) → lies_in zone_size zone (place_in (page_of pages.now.items) block) ≡ true → Contains self.old.blocks block → Contains self.new.blocks block }
+        ensures kept { KeepsThere (page_of pages.now.items) zone_size zone self.old.blocks self.new.blocks }
     {
         self.drop_others(pages, zone_size, zone);
         self.sorted = false;

@@ -1,6 +1,7 @@
 //! The flat array that a disk is compared with: a plain list of blocks.
 
 use crate::fault::ScriptFault;
+use crate::show::show_digits;
 use disk_files::{ParseFault, TraceLine};
 use std::alloc::{AllocError, Global};
 use yardsticks::quota;
@@ -25,13 +26,6 @@ fn same_byte(block: &[u8]) -> Option<u8> {
         }
     }
     Some(first)
-}
-
-fn show_digits(bytes: &[u8], reply: &mut String) -> Result<(), AllocError> {
-    for byte in bytes {
-        write!(reply, "{byte:02x}")?;
-    }
-    Ok(())
 }
 
 fn show_block(place: u64, block: &[u8], reply: &mut String) -> Result<(), AllocError> {

@@ -1,6 +1,7 @@
 //! Commands in words, as entries with the data beside them.
 
 use crate::fault::ScriptFault;
+use crate::show::show_digits;
 use crate::words::{byte, number, part, state};
 use byteorder::{ByteOrder, LittleEndian};
 use nvme_wire::ZoneState;
@@ -163,21 +164,14 @@ pub fn parse_request(
     })
 }
 
-fn push_digits(bytes: &[u8], line: &mut String) -> Result<(), AllocError> {
-    for byte in bytes {
-        write!(line, "{byte:02x}")?;
-    }
-    Ok(())
-}
-
 impl Request {
     /// The raw line of the entry and its data.
     pub fn raw_line(&self, alloc: Global) -> Result<String, AllocError> {
         let mut line = String::new(alloc);
-        push_digits(&self.entry, &mut line)?;
+        show_digits(&self.entry, &mut line)?;
         if !self.bytes.is_empty() {
             line.push(' ')?;
-            push_digits(&self.bytes, &mut line)?;
+            show_digits(&self.bytes, &mut line)?;
         }
         Ok(line)
     }

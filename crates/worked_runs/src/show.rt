@@ -16,12 +16,17 @@ fn show_repeated(repeated: Repeated, out: &mut String) -> Result<(), AllocError>
     }
 }
 
-fn show_group(group: &[u8], out: &mut String) -> Result<(), AllocError> {
-    out.push(' ')?;
-    for byte in group {
+/// Shows bytes as hexadecimal digits in lower case.
+pub fn show_digits(bytes: &[u8], out: &mut String) -> Result<(), AllocError> {
+    for byte in bytes {
         write!(out, "{byte:02x}")?;
     }
     Ok(())
+}
+
+fn show_group(group: &[u8], out: &mut String) -> Result<(), AllocError> {
+    out.push(' ')?;
+    show_digits(group, out)
 }
 
 // The byte of which a group consists, and how long it is, if it consists of one byte.
