@@ -1,7 +1,7 @@
-ghost use Rattle.std.specs.Prelude.{◌≡◌, ◌==◌, IfOk, OnErr};
+ghost use Rattle.std.specs.Prelude.{◌≡◌, ◌==◌, [], IfOk, OnErr};
 ghost use Rattle.nvme_wire.specs.Completion.{code_in};
 ghost use Rattle.drive_port.specs.Drive.{IsLawful};
-ghost use Rattle.drive_port.specs.Halting.{SubmitGives};
+ghost use Rattle.drive_port.specs.Halting.{SubmitAdds, SubmitGives};
 ghost use Rattle.drive_counter.specs.Counting.{after, none};
 
 use crate::counts::Counts;
@@ -50,6 +50,18 @@ impl<D: Device + Drop> Counter<D> {
     {
         self.device
     }
+
+    /// Counts the command of an entry that was completed.
+    fn count(&mut self, entry: &[u8; 64], bytes: &[u8], completion: &[u8; 16])
+        ensures inner { self.new.inner ≡ self.old.inner }
+        ensures counted { self.new.counts ≡ after self.old.counts entry.now bytes.now completion.now }
+    {
+        let command = Command::decode(entry);
+        self.counts.add_command(command);
+        if is_done(completion) {
+            self.counts.add_data(command, bytes);
+        }
+    }
 }
 
 /// Whether the command of this completion was not refused.
@@ -87,11 +99,19 @@ impl<D: Device + Drop> Device for Counter<D> {
         ensures halted { OnErr result (self.new.counts ≡ self.old.counts) }
     {
         let completion = self.device.submit(entry, bytes, into)?;
-        let command = Command::decode(entry);
-        self.counts.add_command(command);
-        if is_done(&completion) {
-            self.counts.add_data(command, bytes);
-        }
+        self.count(entry, bytes, &completion);
+        Ok(completion)
+    }
+
+    fn submit_behind(&mut self, entry: &[u8; 64], into: &mut Vec<u8>) -> Result<[u8; 16], Halt>
+        ensures gives { SubmitAdds self.old.inner entry.now [] into.old.items result into.new.items self.new.inner }
+        ensures was_lawful { IsLawful self.old.inner }
+        ensures lawful { IsLawful self.new.inner }
+        ensures counted { IfOk result (λ completion. self.new.counts ≡ after self.old.counts entry.now [] completion) }
+        ensures halted { OnErr result (self.new.counts ≡ self.old.counts) }
+    {
+        let completion = self.device.submit_behind(entry, into)?;
+        self.count(entry, &[], &completion);
         Ok(completion)
     }
 }

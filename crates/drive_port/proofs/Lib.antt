@@ -2,6 +2,7 @@ pub mod ClosingLaws
 pub mod CheckLaws
 pub mod StepLaws
 pub mod HaltLaws
+pub mod CallLaws
 pub mod StopLaws
 pub mod AppendLaws
 pub mod ReadLaws

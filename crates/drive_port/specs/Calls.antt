@@ -1,11 +1,13 @@
 -- What the typed calls answer: each is one submit of its command.
-use Rattle.std.specs.Prelude.{◌≡◌, ◌≢◌, ◌⊎◌, ℕ, ◌+◌, ◌-◌, ◌/◌, ◌*◌, ◌%◌, ◌≤◌, ◌<◌, Bool, true, false, List, [], length, take, count_by, slice_set, Result, Ok, Err}
+use Rattle.std.specs.Prelude.{◌≡◌, ◌≢◌, ◌⊎◌, ℕ, ◌+◌, ◌-◌, ◌/◌, ◌*◌, ◌%◌, ◌≤◌, ◌<◌, Bool, true, false, if◌then◌else◌, List, [], length, take, count_by, slice_set, Result, Ok, Err}
 use Rattle.std.specs.List.{remove}
+use Rattle.nvme_wire.specs.Completion.{Fits, completion_bytes}
 use Rattle.nvme_wire.specs.declared.command.Action.{Action}
 use Rattle.nvme_wire.specs.declared.command.Action.TheVariants.{Close, Finish, Reset}
 use Rattle.nvme_wire.specs.declared.command.ReportingOptions.{ReportingOptions}
 use Rattle.nvme_wire.specs.declared.command.Command.{Command}
 use Rattle.nvme_wire.specs.declared.command.Command.TheVariants.{Append, Read, Receive, Send}
+use Rattle.nvme_wire.specs.declared.completion.Completion.{Completion}
 use Rattle.nvme_wire.specs.declared.status.Status.TheVariants.{Success}
 use Rattle.nvme_wire.specs.declared.zone_state.ZoneState.TheVariants.{Closed, Empty, Full, Offline}
 use Rattle.zone_states.specs.declared.geometry.Geometry.{Geometry}
@@ -14,9 +16,10 @@ use Rattle.zone_states.specs.Zone.{Zone, cut_blocks, written_zone}
 use Rattle.zone_report.specs.Report.{is_chosen, report}
 use Rattle.drive_port.specs.declared.calls.PortFault.{PortFault}
 use Rattle.drive_port.specs.declared.calls.PortFault.TheVariants.{Refused, Memory, Stopped}
+use Rattle.drive_port.specs.declared.device.Halt.{Halt}
 use Rattle.drive_port.specs.declared.device.Halt.TheVariants as halts
 use Rattle.drive_port.specs.Drive.{DriveState, IsClosing, IsLawful, active_count, open_count}
-use Rattle.drive_port.specs.Step.{Performs, end_of, is_state, zone_at}
+use Rattle.drive_port.specs.Step.{Performs, end_of, is_state, is_success, zone_at}
 use Rattle.drive_port.specs.Halting.{Halts}
 use Rattle.drive_port.specs.Contents.{Appends, Counts, Finishes, Resets, SameContents, SameCounts, content_at, contents, is_usable, is_writable, usage_of}
 
@@ -26,6 +29,21 @@ CallGives old command bytes (Ok value) returned new = (old.stopped ≡ false) ×
 CallGives old command bytes (Err (Refused status)) returned new = (old.stopped ≡ false) × (status ≢ Success) × (value : ℕ) × Performs old (Ok command) bytes status value returned new
 CallGives old command bytes (Err Memory) returned new = (returned ≡ []) × Halts old (Ok command) bytes halts.Memory new
 CallGives old command bytes (Err Stopped) returned new = (returned ≡ []) × Halts old (Ok command) bytes halts.Stopped new
+
+-- the bytes of a completion
+pub record IsCompletion (bytes : List ℕ) : Type 0 where
+  pub completion : Completion
+  pub fits : Fits completion
+  pub encoded : bytes ≡ completion_bytes completion
+
+-- what a call answers to a completion
+abbrev pub answer_of : Completion → Result ℕ PortFault
+answer_of completion = if is_success completion.status then Ok completion.result else Err (Refused completion.status)
+
+-- and what to a halt
+abbrev pub fault_of : Halt → PortFault
+fault_of halts.Memory = Memory
+fault_of halts.Stopped = Stopped
 
 -- What each call keeps, whatever it answers: the drive stays lawful and has its geometry; a drive that had stopped answers just that and does not change; a drive that answers `Stopped` has stopped, and its counts are the same; and no more than one command is completed.
 pub record Obeys {V : Type 0} (old : DriveState) (result : Result V PortFault) (new : DriveState) : Type 0 where

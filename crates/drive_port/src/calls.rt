@@ -1,9 +1,11 @@
-ghost use Rattle.std.specs.Prelude.{◌≡◌, ◌*◌, ◌<◌, ◌≤◌, ◌^◌, true, false, [], length, Err, IfOk, OnOk, OnErr};
+ghost use Rattle.std.specs.Prelude.{◌≡◌, ◌+◌, ◌*◌, ◌++◌, ◌<◌, ◌≤◌, ◌^◌, true, false, [], length, Err, IfOk, OnOk, OnErr};
+ghost use Rattle.nvme_wire.specs.Completion.{Fits, completion_bytes};
 ghost use Rattle.nvme_wire.specs.Entry.{IsAdmitted};
 ghost use Rattle.drive_port.specs.Drive.{IsClosing};
+ghost use Rattle.drive_port.specs.Halting.{Adds};
 ghost use Rattle.drive_port.specs.Step.{end_of};
 ghost use Rattle.drive_port.specs.Contents.{AreEmpty, Counts, SameContents, bytes_at, contents};
-ghost use Rattle.drive_port.specs.Calls.{Appended, AppendGives, AppendKeeps, AppendLeaves, CallGives, CanAppend, CanClose, CanFinish, CanRead, CanReset, CloseGives, CloseLeaves, ClosedZone, Counted, Finished, FinishGives, FinishKeeps, FinishLeaves, IsNotRefused, IsWholeBlocks, Obeys, ReadGives, ReportGives, Reported, ResetGives, ResetKeeps, ResetLeaves, ResetZone, SendGives, block_count};
+ghost use Rattle.drive_port.specs.Calls.{Appended, AppendGives, AppendKeeps, AppendLeaves, CallGives, CanAppend, CanClose, CanFinish, CanRead, CanReset, CloseGives, CloseLeaves, ClosedZone, Counted, Finished, FinishGives, FinishKeeps, FinishLeaves, IsCompletion, IsNotRefused, IsWholeBlocks, Obeys, ReadGives, ReportGives, Reported, ResetGives, ResetKeeps, ResetLeaves, ResetZone, SendGives, answer_of, block_count, fault_of};
 
 use crate::device::{Device, Halt};
 use nvme_wire::{Action, Command, Completion, ReportHead, ReportingOptions, Status, ZoneState};
@@ -25,6 +27,32 @@ pub enum PortFault {
     Stopped,
 }
 
+impl From<Halt> for PortFault {
+    ghost from_gives = { λ halt fault. fault ≡ fault_of halt };
+
+    fn from(halt: Halt) -> PortFault {
+        match halt {
+            Halt::Memory => PortFault::Memory,
+            Halt::Stopped => PortFault::Stopped,
+        }
+    }
+}
+
+// What a call answers whose command was completed.
+#[inline]
+fn answer_of(completion: &[u8; 16]) -> Result<u64, PortFault>
+    requires { IsCompletion completion.now }
+    ensures { (c : _) → Fits c → completion.now ≡ completion_bytes c → result ≡ answer_of c }
+{
+    match Completion::decode(completion) {
+        Ok(completion) => match completion.status {
+            Status::Success => Ok(completion.result),
+            status => Err(PortFault::Refused(status)),
+        },
+        Err(_) => unreachable!(),
+    }
+}
+
 // One submit of this command, with command identifier 0.
 pub(crate) fn call<D: Device>(
     device: &mut D,
@@ -37,17 +65,24 @@ pub(crate) fn call<D: Device>(
     ensures obeys { Obeys (D.drive device.old) result (D.drive device.new) }
 {
     let entry = command.encode(0);
-    match device.submit(&entry, bytes, into) {
-        Ok(bytes) => match Completion::decode(&bytes) {
-            Ok(completion) => match completion.status {
-                Status::Success => Ok(completion.result),
-                status => Err(PortFault::Refused(status)),
-            },
-            Err(_) => unreachable!(),
-        },
-        Err(Halt::Memory) => Err(PortFault::Memory),
-        Err(Halt::Stopped) => Err(PortFault::Stopped),
-    }
+    let completion = device.submit(&entry, bytes, into)?;
+    answer_of(&completion)
+}
+
+// The same without data, with what is returned behind what `into` holds.
+#[inline]
+fn call_behind<D: Device>(
+    device: &mut D,
+    command: &Command,
+    into: &mut Vec<u8>,
+) -> Result<u64, PortFault>
+    requires { IsAdmitted command.now }
+    ensures gives { Adds into.old.items (λ returned. CallGives (D.drive device.old) command.now [] result returned (D.drive device.new)) into.new.items }
+    ensures obeys { Obeys (D.drive device.old) result (D.drive device.new) }
+{
+    let entry = command.encode(0);
+    let completion = device.submit_behind(&entry, into)?;
+    answer_of(&completion)
 }
 
 /// Appends 1 to 65,536 whole blocks to the zone that starts at `zone_start`, and answers the address of
@@ -95,7 +130,32 @@ pub fn read<D: Device>(
     ensures taken { CanRead (D.drive device.old) slba blocks → IsNotRefused result }
     ensures obeys { Obeys (D.drive device.old) result (D.drive device.new) }
 {
-    call(device, &Command::Read { slba, blocks }, &[], into)?;
+    into.clear();
+    read_behind(device, slba, blocks, into)
+}
+
+/// Reads as `read` does, and puts the bytes behind those that `into` holds. After a fault `into` is as it
+/// was.
+#[inline]
+pub fn read_behind<D: Device>(
+    device: &mut D,
+    slba: u64,
+    blocks: u32,
+    into: &mut Vec<u8>,
+) -> Result<(), PortFault>
+    requires some { 1 ≤ blocks }
+    requires few { blocks ≤ 65536 }
+    ensures gives { Adds into.old.items (λ returned. ReadGives (D.drive device.old) slba blocks result returned (D.drive device.new)) into.new.items }
+    ensures shown { OnOk result (into.new.items ≡ into.old.items ++ bytes_at (D.drive device.old).geometry (contents (D.drive device.old).zones) slba blocks) }
+    ensures length { OnOk result (length into.new.items ≡ length into.old.items + blocks * (D.drive device.old).geometry.block) }
+    ensures counts { OnOk result (Counts (D.drive device.old) (D.drive device.new) 0) }
+    ensures err { OnErr result (into.new.items ≡ into.old.items) }
+    ensures kept { SameContents (D.drive device.old) (D.drive device.new) }
+    ensures closing { IsClosing (D.drive device.old).zones (D.drive device.new).zones }
+    ensures taken { CanRead (D.drive device.old) slba blocks → IsNotRefused result }
+    ensures obeys { Obeys (D.drive device.old) result (D.drive device.new) }
+{
+    call_behind(device, &Command::Read { slba, blocks }, into)?;
     Ok(())
 }
 

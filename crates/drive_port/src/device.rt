@@ -1,6 +1,6 @@
-ghost use Rattle.std.specs.Prelude.{◌≡◌};
+ghost use Rattle.std.specs.Prelude.{◌≡◌, []};
 ghost use Rattle.drive_port.specs.Drive.{DriveState, IsLawful};
-ghost use Rattle.drive_port.specs.Halting.{SubmitGives};
+ghost use Rattle.drive_port.specs.Halting.{SubmitAdds, SubmitGives};
 ghost use Rattle.drive_port.specs.declared.device.Halt.TheVariants.{Memory};
 
 use std::alloc::AllocError;
@@ -58,6 +58,13 @@ pub trait Device {
         into: &mut Vec<u8>,
     ) -> Result<[u8; 16], Halt>
         ensures gives { SubmitGives (drive self.old) entry.now bytes.now result into.new.items (drive self.new) }
+        ensures was_lawful { IsLawful (drive self.old) }
+        ensures lawful { IsLawful (drive self.new) };
+
+    /// Submits one entry as `submit` does, without data beside it, and keeps what `into` holds: what a Read or
+    /// a Receive that succeeded returned goes behind it. In every other case `into` stays as it was.
+    fn submit_behind(&mut self, entry: &[u8; 64], into: &mut Vec<u8>) -> Result<[u8; 16], Halt>
+        ensures gives { SubmitAdds (drive self.old) entry.now [] into.old.items result into.new.items (drive self.new) }
         ensures was_lawful { IsLawful (drive self.old) }
         ensures lawful { IsLawful (drive self.new) };
 }

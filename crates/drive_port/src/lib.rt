@@ -4,10 +4,13 @@
 //! # Example
 //!
 //! ```text
-//! // Writes one block to the first zone of any device, reads it back, and makes the zone full.
+//! // Writes one block to the first zone of any device, reads it back, and again behind what was read,
+//! // and makes the zone full.
 //! let address = append(alloc, &mut device, 0, &block)?;
 //! read(&mut device, address, 1, &mut bytes)?;
 //! assert_eq!(bytes, block);
+//! read_behind(&mut device, address, 1, &mut bytes)?;
+//! assert_eq!(&bytes[block.len()..], block);
 //! finish(alloc, &mut device, 0)?;
 //! ```
 //!
@@ -23,6 +26,8 @@
 //!   (`Leaves`), and of their contents (`AppendKeeps` and its kin), also where the device stopped; when a
 //!   drive has to take it (`CanAppend` and its kin); and what every call keeps (`Obeys`). All of these
 //!   stand in `specs/Calls.antt`.
+//! * `submit_behind` and `read_behind` keep what a buffer holds, and put behind it what the command
+//!   returned (`Adds` in `specs/Halting.antt`); after a fault the buffer is as it was.
 //! * `StopAfter` stops a device after a number of commands, or inside the Append that follows them
 //!   (`specs/Stop.antt`), and `Recorder` keeps the entries of those that were completed. Both are
 //!   devices again.
@@ -35,7 +40,7 @@ mod progress;
 mod recorder;
 mod stop;
 
-pub use calls::{PortFault, append, close, count_zones, finish, read, report, reset};
+pub use calls::{PortFault, append, close, count_zones, finish, read, read_behind, report, reset};
 pub use device::{Device, Halt};
 pub use laws::{
     closing_keeps_contents, closing_takes_no_resource, closings_join, restart_keeps_contents,

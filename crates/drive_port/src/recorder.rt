@@ -1,6 +1,6 @@
 ghost use Rattle.std.specs.Prelude.{◌≡◌, ◌++◌, [], ◌∷◌, OnOk, OnErr};
 ghost use Rattle.drive_port.specs.Drive.{IsLawful};
-ghost use Rattle.drive_port.specs.Halting.{SubmitGives};
+ghost use Rattle.drive_port.specs.Halting.{SubmitAdds, SubmitGives};
 
 use crate::device::{Device, Halt};
 use std::alloc::Global;
@@ -85,6 +85,24 @@ impl<D: Device + Drop> Device for Recorder<D> {
             return Err(Halt::Memory);
         }
         let completion = self.device.submit(entry, bytes, into)?;
+        self.entries.push_reserved(*entry);
+        Ok(completion)
+    }
+
+    fn submit_behind(&mut self, entry: &[u8; 64], into: &mut Vec<u8>) -> Result<[u8; 16], Halt>
+        ensures gives { SubmitAdds self.old.inner entry.now [] into.old.items result into.new.items self.new.inner }
+        ensures was_lawful { IsLawful self.old.inner }
+        ensures lawful { IsLawful self.new.inner }
+        ensures kept { OnOk result (self.new.entries ≡ self.old.entries ++ entry.now ∷ []) }
+        ensures halted { OnErr result (self.new.entries ≡ self.old.entries) }
+    {
+        if self.device.stopped() {
+            return Err(Halt::Stopped);
+        }
+        if self.entries.reserve(1).is_err() {
+            return Err(Halt::Memory);
+        }
+        let completion = self.device.submit_behind(entry, into)?;
         self.entries.push_reserved(*entry);
         Ok(completion)
     }

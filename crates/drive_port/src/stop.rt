@@ -1,7 +1,7 @@
 ghost use Rattle.std.specs.Prelude.{◌≡◌, ◌≤◌, ◌<◌, true, false, [], Err, length};
 ghost use Rattle.nvme_wire.specs.Entry.{decode_of};
 ghost use Rattle.drive_port.specs.Drive.{IsLawful};
-ghost use Rattle.drive_port.specs.Halting.{Halts, SubmitGives};
+ghost use Rattle.drive_port.specs.Halting.{Halts, SubmitAdds, SubmitGives};
 ghost use Rattle.drive_port.specs.Stop.{HaltsBy, TearsAt, drive_of, torn_at};
 
 use crate::calls::{PortFault, call};
@@ -186,5 +186,28 @@ impl<D: Device + Drop> Device for StopAfter<D> {
             return Err(self.stop_at(entry, bytes, into));
         }
         self.device.submit(entry, bytes, into)
+    }
+
+    /// Without data beside it no Append is torn: after the last command it just stops.
+    #[inline]
+    fn submit_behind(&mut self, entry: &[u8; 64], into: &mut Vec<u8>) -> Result<[u8; 16], Halt>
+        ensures gives { SubmitAdds (drive_of self.old) entry.now [] into.old.items result into.new.items (drive_of self.new) }
+        ensures was_lawful { IsLawful (drive_of self.old) }
+        ensures lawful { IsLawful (drive_of self.new) }
+        ensures settings { (self.new.limit ≡ self.old.limit) × (self.new.tear ≡ self.old.tear) }
+        ensures over { (drive_of self.old).stopped ≡ true → (result ≡ Err Halt.Stopped) × (self.new ≡ self.old) }
+        ensures before { (drive_of self.old).stopped ≡ false → self.old.completed < self.old.limit
+            → SubmitAdds self.old.inner entry.now [] into.old.items result into.new.items self.new.inner }
+        ensures after { (drive_of self.old).stopped ≡ false → self.old.limit ≤ self.old.completed
+            → (result ≡ Err Halt.Stopped) × (self.new.inner ≡ self.old.inner) }
+    {
+        if self.stopped() {
+            return Err(Halt::Stopped);
+        }
+        if self.limit <= self.completed() {
+            self.progress = Progress::Over;
+            return Err(Halt::Stopped);
+        }
+        self.device.submit_behind(entry, into)
     }
 }

@@ -43,6 +43,15 @@ impl<D: Device + Drop> Device for OnceWithoutMemory<D> {
         self.others = self.others.saturating_sub(1);
         self.device.submit(entry, bytes, into)
     }
+
+    fn submit_behind(&mut self, entry: &[u8; 64], into: &mut Vec<u8>) -> Result<[u8; 16], Halt> {
+        if self.others == 0 && !self.device.stopped() {
+            self.others = u64::MAX;
+            return Err(Halt::Memory);
+        }
+        self.others = self.others.saturating_sub(1);
+        self.device.submit_behind(entry, into)
+    }
 }
 
 /// How a run is made and shown: after how many commands the device stops or is out of memory, if ever;

@@ -15,7 +15,7 @@ use Rattle.zone_states.specs.Writing.{append_bytes_checks}
 use Rattle.zone_states.specs.Zone.{IsLawfulZone, Zone, opened_by_write}
 use Rattle.zone_states.proofs.Cutting.{stored_write-after}
 use Rattle.drive_port.specs.Drive.{active_count, open_count}
-use Rattle.drive_port.specs.Step.{end_of, one_if, resource_checks, write_effect, zone_at}
+use Rattle.drive_port.specs.Step.{one_if, resource_checks, write_effect, zone_at}
 use Rattle.zone_drive.specs.declared.habit.Habit.{Habit}
 use Rattle.zone_drive.specs.Choice.{RoomGives, with_room}
 use Rattle.zone_drive.specs.Sending.{sent_to}
@@ -24,7 +24,7 @@ use Rattle.zone_drive.specs.Table.{closed_in, sent_in, stored_at}
 use Rattle.zone_drive.proofs.OpeningLaws.{closing-passes}
 use Rattle.zone_drive.proofs.RoomLaws.{apart, closes-one}
 use Rattle.zone_drive.proofs.SendLaws.{are-sent, lawful-after, whole-after, zone_of-after, zones_of-sent_in}
-use Rattle.zone_drive.proofs.WriteLaws.{Takes, all-passed, are-set, lawful-at, lawful-written, whole-at, whole-checked, zone-in_range, zone_at-is}
+use Rattle.zone_drive.proofs.WriteLaws.{Takes, all-passed, are-set, lawful-at, lawful-written, whole-at, whole-checked, zone_at-is}
 
 -- ---- the resources that a zone needs
 
@@ -116,16 +116,15 @@ same_zone geometry zones index closing are lt closes =
     let below : index < length (closed_in zones closing) = omega (arith, lt, are.count, closes.are.count) in
     rw (← closes.in_blocks) (zone_at-is b (closed_in zones closing) index below ∙ ap (zone_of b) closes.same)
 
-pub leaves-written : (habit : Habit) (geometry : Geometry) (zones : List StoredZone) (address : ℕ) (bytes : List ℕ) (closing : Option ℕ) → IsInRange geometry → AreZones geometry zones → address < end_of geometry
-    → None ≡ first_failing (append_bytes_checks geometry (zone_at (zones_of geometry.block zones) (address / geometry.size)) bytes)
-    → RoomGives habit geometry (zones_of geometry.block zones) (zone_at (zones_of geometry.block zones) (address / geometry.size)) (Ok closing)
-    → Leaves geometry (closed_in (set zones (address / geometry.size) (stored_write geometry (stored_at zones (address / geometry.size)) bytes)) closing)
-    (write_effect geometry (with_room (zones_of geometry.block zones) closing) (address / geometry.size) (length bytes / geometry.block) bytes)
-leaves-written habit geometry zones address bytes closing in_range are below checks gives =
+pub leaves-written : (habit : Habit) (geometry : Geometry) (zones : List StoredZone) (index : ℕ) (bytes : List ℕ) (closing : Option ℕ) → IsInRange geometry → AreZones geometry zones → index < geometry.zones
+    → None ≡ first_failing (append_bytes_checks geometry (zone_at (zones_of geometry.block zones) index) bytes)
+    → RoomGives habit geometry (zones_of geometry.block zones) (zone_at (zones_of geometry.block zones) index) (Ok closing)
+    → Leaves geometry (closed_in (set zones index (stored_write geometry (stored_at zones index) bytes)) closing)
+    (write_effect geometry (with_room (zones_of geometry.block zones) closing) index (length bytes / geometry.block) bytes)
+leaves-written habit geometry zones index bytes closing in_range are below checks gives =
     let b = geometry.block in
-    let index = address / geometry.size in
     let zone = stored_at zones index in
-    let lt = zone-in_range geometry zones address in_range are below in
+    let lt : index < length zones = omega (arith, below, are.count) in
     let here = zone_at-is b zones index lt in
     let closes = closes-first habit geometry zones index closing in_range are gives in
     let passed = rw here at checks in
@@ -136,15 +135,14 @@ leaves-written habit geometry zones address bytes closing in_range are below che
     rw (same_zone geometry zones index closing are lt closes, ← after.zone)
     (leaves-changed geometry zones index (stored_write geometry zone bytes) closing are lt closes after.whole lawful needs)
 
-pub leaves-opened : (habit : Habit) (geometry : Geometry) (zones : List StoredZone) (address : ℕ) (closing : Option ℕ) → IsInRange geometry → AreZones geometry zones → address < end_of geometry
-    → RoomGives habit geometry (zones_of geometry.block zones) (zone_at (zones_of geometry.block zones) (address / geometry.size)) (Ok closing)
-    → Leaves geometry (closed_in (sent_in zones (address / geometry.size) Open) closing) (sent_to (with_room (zones_of geometry.block zones) closing) (address / geometry.size) Open)
-leaves-opened habit geometry zones address closing in_range are below gives =
+pub leaves-opened : (habit : Habit) (geometry : Geometry) (zones : List StoredZone) (index : ℕ) (closing : Option ℕ) → IsInRange geometry → AreZones geometry zones → index < geometry.zones
+    → RoomGives habit geometry (zones_of geometry.block zones) (zone_at (zones_of geometry.block zones) index) (Ok closing)
+    → Leaves geometry (closed_in (sent_in zones index Open) closing) (sent_to (with_room (zones_of geometry.block zones) closing) index Open)
+leaves-opened habit geometry zones index closing in_range are below gives =
     let b = geometry.block in
-    let index = address / geometry.size in
     let zone = stored_at zones index in
     let next = state_after zone.state Open in
-    let lt = zone-in_range geometry zones address in_range are below in
+    let lt : index < length zones = omega (arith, below, are.count) in
     let closes = closes-first habit geometry zones index closing in_range are gives in
     let after = zone_of-after b Open zone next in
     let was = rw (zone_at-is b zones index lt) at (lawful-at geometry zones index are lt) in
@@ -153,8 +151,8 @@ leaves-opened habit geometry zones address closing in_range are below gives =
     (leaves-changed geometry zones index (stored_after Open zone next) closing are lt closes (whole-after b Open zone next (whole-at geometry zones index are lt)) lawful (needs-open zone))
 
 -- any other action on one zone
-pub leaves-sent : (geometry : Geometry) (zones : List StoredZone) (address : ℕ) (action : Action) → action ≢ Open → IsInRange geometry → AreZones geometry zones → address < end_of geometry
-    → Leaves geometry (sent_in zones (address / geometry.size) action) (sent_to (zones_of geometry.block zones) (address / geometry.size) action)
-leaves-sent geometry zones address action other in_range are below =
-    let lt = zone-in_range geometry zones address in_range are below in
-    record { are = are-sent geometry zones (address / geometry.size) action other in_range are lt; in_blocks = zones_of-sent_in geometry.block zones (address / geometry.size) action lt }
+pub leaves-sent : (geometry : Geometry) (zones : List StoredZone) (index : ℕ) (action : Action) → action ≢ Open → IsInRange geometry → AreZones geometry zones → index < geometry.zones
+    → Leaves geometry (sent_in zones index action) (sent_to (zones_of geometry.block zones) index action)
+leaves-sent geometry zones index action other in_range are below =
+    let lt : index < length zones = omega (arith, below, are.count) in
+    record { are = are-sent geometry zones index action other in_range are lt; in_blocks = zones_of-sent_in geometry.block zones index action lt }

@@ -1,5 +1,5 @@
 -- What a command gives, by its checks and its effect.
-use Rattle.std.proofs.Common.{◌≡◌, ◌≢◌, ℕ, false, true, map, ◌+◌, ◌-◌, ◌*◌, ◌/◌, ◌%◌, ◌≤◌, List, [], ◌++◌, length, take, drop, replicate, Option, Some, None, Result, Ok, Err, refl, ap, ◌∙◌}
+use Rattle.std.proofs.Common.{◌≡◌, ◌≢◌, ℕ, false, true, map, ◌+◌, ◌/◌, ◌%◌, ◌≤◌, List, [], length, Option, Some, None, Result, Ok, Err, refl, ◌∙◌}
 use Rattle.nvme_wire.specs.declared.command.Command.{Command}
 use Rattle.nvme_wire.specs.declared.command.DecodeFault.{DecodeFault}
 use Rattle.nvme_wire.specs.declared.command.Command.TheVariants.{Append, Flush, Read, Send, Write}
@@ -10,7 +10,6 @@ use Rattle.nvme_wire.specs.declared.status.Status.{Status}
 use Rattle.nvme_wire.specs.declared.status.Status.TheVariants.{Success}
 use Rattle.zone_states.specs.declared.geometry.Geometry.{Geometry}
 use Rattle.zone_states.specs.Checks.{first_failing}
-use Rattle.zone_states.specs.Stored.{IsWhole, StoredZone, zone_of}
 use Rattle.zone_states.specs.Zone.{Zone}
 use Rattle.drive_port.specs.Drive.{open_count}
 use Rattle.drive_port.specs.Step.{Outcome, bytes_from, decode_status, done, outcome, read_checks, sent_zone, unless_refused, write_effect, zone_at}
@@ -22,7 +21,6 @@ use Rattle.zone_drive.specs.Sending.{Opens, send_first, sent_to}
 use Rattle.zone_drive.specs.Writing.{WritesAfter, append_first, write_first}
 use Rattle.zone_drive.proofs.OpeningLaws.{AllOther, by_choice, opening, opening-done, opening-no_room, opening-refused, other}
 use Rattle.zone_drive.proofs.RoomLaws.{apart, zone_at-closing}
-use Rattle.zone_drive.proofs.ReadLaws.{read-copies}
 
 pub outcome-Read : (geometry : Geometry) (zones : List Zone) (slba blocks : ℕ) (bytes : List ℕ) (refusal : Option Status)
     → refusal ≡ first_failing (read_checks geometry (zone_at zones (slba / geometry.size)) slba blocks)
@@ -221,18 +219,13 @@ read-refused old slba blocks bytes status e =
     gives-same old (Ok (Read slba blocks)) bytes status
     (performed-plain old.habit old.state.geometry old.state.zones (Ok (Read slba blocks)) bytes _ is (other (read_checks old.state.geometry zone slba blocks) status (read-other old.state.geometry zone slba blocks) e))
 
--- a Read that is done returns what is copied of the bytes that are stored
-pub read-copied : (old : MemoryDrive) (slba blocks : ℕ) (bytes : List ℕ) (zone : StoredZone) (returned : List ℕ)
+-- a Read that is done returns what the blocks hold
+pub read-done : (old : MemoryDrive) (slba blocks : ℕ) (bytes returned : List ℕ)
     → None ≡ first_failing (read_checks old.state.geometry (zone_at old.state.zones (slba / old.state.geometry.size)) slba blocks)
-    → zone_of old.state.geometry.block zone ≡ zone_at old.state.zones (slba / old.state.geometry.size) → IsWhole old.state.geometry.block zone.bytes
-    → (let long = blocks * old.state.geometry.block in
-    let written = drop (slba % old.state.geometry.size * old.state.geometry.block) zone.bytes in
-    returned ≡ take long written ++ replicate (long - length written) 0)
+    → returned ≡ bytes_from old.state.geometry.block (zone_at old.state.zones (slba / old.state.geometry.size)).blocks (slba % old.state.geometry.size) blocks
     → Gives old (Ok (Read slba blocks)) bytes (record { status = Success; value = 0 }) returned old
-read-copied old slba blocks bytes zone returned passed stored whole copied =
-    let shown = copied ∙ read-copies old.state.geometry.block (length zone.bytes / old.state.geometry.block) (slba % old.state.geometry.size) blocks _ _ zone.bytes whole refl refl in
-    let blocks_are = ap (λ (zone : Zone). zone.blocks) stored in
-    let is : outcome old.state.geometry old.state.zones (Ok (Read slba blocks)) bytes ≡ done returned old.state.zones = outcome-Read old.state.geometry old.state.zones slba blocks bytes None passed ∙ rw (shown, blocks_are) refl in
+read-done old slba blocks bytes returned passed shown =
+    let is : outcome old.state.geometry old.state.zones (Ok (Read slba blocks)) bytes ≡ done returned old.state.zones = outcome-Read old.state.geometry old.state.zones slba blocks bytes None passed ∙ rw shown refl in
     record { outcome = performed-plain old.habit old.state.geometry old.state.zones (Ok (Read slba blocks)) bytes _ is refl; others = refl }
 
 -- ---- the other commands

@@ -1,8 +1,11 @@
 -- What a Read shows of stored bytes: those that are written, and zeros after them.
-use Rattle.std.proofs.Common.{◌≡◌, ℕ, zero, suc, ◌+◌, ◌-◌, ◌*◌, ◌≤◌, List, [], ◌∷◌, ◌++◌, length, take, drop, replicate, refl, sym, ap, ◌∙◌, arith}
+use Rattle.std.proofs.Common.{◌≡◌, ℕ, zero, suc, ◌+◌, ◌-◌, ◌*◌, ◌/◌, ◌≤◌, ◌<◌, Bool, true, false, not, eqb, ltb, List, [], ◌∷◌, ◌++◌, length, take, drop, replicate, refl, sym, ap, ◌∙◌, arith}
+use Rattle.std.proofs.Math.Nat.{div-eq_of_lt-le, div-mul-le_self, lt-div-mul-add}
+use Rattle.std.proofs.lemmas.Bool.{eq-eqb, eqb-true, ltb-false, ltb-true}
 use Rattle.std.proofs.lemmas.List.{drop-drop, length-drop}
 use Rattle.zone_states.specs.Zone.{cut_blocks}
 use Rattle.drive_port.specs.Step.{block_in, bytes_from}
+use Rattle.zone_drive.specs.Stored.{with_zeros}
 
 -- the first bytes, zeros where there are no more
 abbrev pub padded : ℕ → List ℕ → List ℕ
@@ -53,7 +56,33 @@ bytes_from-cut size n offset (suc count) from long bytes whole e f =
     rw (block_in-cut size n offset from bytes whole e, bytes_from-cut size n (offset + 1) count (from + size) (count * size) bytes whole next refl)
     (sym (padded-add size (count * size) long (drop from bytes) all ∙ ap (λ (xs : List ℕ). padded size (drop from bytes) ++ padded (count * size) xs) (drop-drop size from bytes)))
 
--- what a Read copies
-pub read-copies : (size n offset count from long : ℕ) (bytes : List ℕ) → length bytes ≡ n * size → from ≡ offset * size → long ≡ count * size
-    → take long (drop from bytes) ++ replicate (long - length (drop from bytes)) 0 ≡ bytes_from size (cut_blocks size n bytes) offset count
-read-copies size n offset count from long bytes whole e f = padded-short long _ (drop from bytes) refl ∙ sym (bytes_from-cut size n offset count from long bytes whole e f)
+-- what a Read shows
+pub read-shows : (size n offset count from long : ℕ) (bytes : List ℕ) → length bytes ≡ n * size → from ≡ offset * size → long ≡ count * size
+    → with_zeros long (drop from bytes) ≡ bytes_from size (cut_blocks size n bytes) offset count
+read-shows size n offset count from long bytes whole e f = padded-short long _ (drop from bytes) refl ∙ sym (bytes_from-cut size n offset count from long bytes whole e f)
+
+-- ---- the end of a zone
+
+-- blocks lie in more than one zone where they end past that of the first
+pub passes-end : (size slba blocks : ℕ) → 1 ≤ size → 1 ≤ blocks → not (eqb (slba / size) ((slba + blocks - 1) / size)) ≡ ltb (slba / size * size + size) (slba + blocks)
+passes-end size slba blocks wide some = by_end (ltb (zone * size + size) (slba + blocks)) refl
+  where
+    zone : ℕ
+    zone = slba / size
+
+    last : ℕ
+    last = slba + blocks - 1
+
+    apart : (same : Bool) → eqb zone (last / size) ≡ same → zone * size + size < slba + blocks → not same ≡ true
+    apart true e past =
+        let there = rw (← eqb-true zone (last / size) e) at (lt-div-mul-add {a = last} {b = size} wide) in
+        absurd (omega (arith, there, past, some))
+    apart false e past = refl
+
+    by_end : (past : Bool) → ltb (zone * size + size) (slba + blocks) ≡ past → not (eqb zone (last / size)) ≡ past
+    by_end true e = apart (eqb zone (last / size)) refl (ltb-true _ _ e)
+    by_end false e =
+        let low = div-mul-le_self slba size in
+        let within = ltb-false _ _ e in
+        let same : last / size ≡ zone = div-eq_of_lt-le {k = zone} size {m = last} (omega (arith, low, some)) (omega (arith, within, some)) in
+        rw (eq-eqb zone (last / size) (sym same)) refl

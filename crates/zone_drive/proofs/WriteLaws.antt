@@ -1,20 +1,18 @@
 -- What a Write or an Append keeps and leaves of what is stored.
 use Rattle.std.proofs.Common.{◌≡◌, ◌≢◌, ℕ, zero, suc, ◌+◌, ◌*◌, ◌/◌, ◌<◌, ◌≤◌, Bool, true, false, cond, not, eqb, List, [], ◌∷◌, ◌++◌, length, drop, set, get_or, None, refl, ap, ◌∙◌, arith}
 use Rattle.std.specs.List.{AllByRecursion}
-use Rattle.std.proofs.Math.Nat.{div-lt_iff_lt-mul}
 use Rattle.std.proofs.lemmas.Bool.{eqb-false, eqb-true, ltb-false}
 use Rattle.std.proofs.lemmas.List.{get_or-map, length-append, length-drop, length-map, length-take-le, length-set, map-set}
 use Rattle.nvme_wire.specs.declared.zone_state.ZoneState.{ZoneState}
 use Rattle.nvme_wire.specs.declared.zone_state.ZoneState.TheVariants.{Empty, ImplicitlyOpened, ExplicitlyOpened, Closed, ReadOnly, Full, Offline}
 use Rattle.zone_states.specs.declared.geometry.Geometry.{Geometry}
 use Rattle.zone_states.specs.Checks.{first_failing}
-use Rattle.zone_states.specs.Geometry.{IsInRange}
 use Rattle.zone_states.specs.Transition.{is_active, is_open}
 use Rattle.zone_states.specs.Zone.{Zone, IsLawfulZone, MayHold, cut_blocks, opened_by_write, written_zone}
 use Rattle.zone_states.specs.Writing.{append_bytes_checks}
 use Rattle.zone_states.specs.Stored.{StoredZone, IsWhole, zone_of}
 use Rattle.drive_port.specs.Drive.{active_count, open_count}
-use Rattle.drive_port.specs.Step.{end_of, nowhere, one_if, zone_at}
+use Rattle.drive_port.specs.Step.{nowhere, one_if, zone_at}
 use Rattle.zone_drive.specs.Stored.{AreZones, zones_of}
 use Rattle.zone_drive.specs.Table.{stored_at}
 use Rattle.zone_states.proofs.Cutting.{length-cut}
@@ -138,9 +136,3 @@ may_hold-le Closed capacity n h = omega arith
 may_hold-le ReadOnly capacity n h = h
 may_hold-le Full capacity n h = h
 may_hold-le Offline capacity n h = h
-
-pub zone-in_range : (geometry : Geometry) (zones : List StoredZone) (address : ℕ) → IsInRange geometry → AreZones geometry zones → address < end_of geometry → address / geometry.size < length zones
-zone-in_range geometry zones address in_range are lt =
-    let some : 0 < geometry.size = omega (arith, in_range.size.0) in
-    let below : address / geometry.size < geometry.zones = (div-lt_iff_lt-mul some).1 lt in
-    omega (arith, below, are.count)

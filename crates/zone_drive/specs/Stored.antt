@@ -1,5 +1,5 @@
 -- How a drive is stored, and what a fresh one holds.
-use Rattle.std.specs.Prelude.{◌≡◌, ℕ, ◌/◌, ◌%◌, ◌≤◌, ◌==◌, nat_lt, nat_le, ◌&&◌, Bool, false, List, [], map, length, replicate}
+use Rattle.std.specs.Prelude.{◌≡◌, ℕ, ◌-◌, ◌/◌, ◌%◌, ◌≤◌, ◌==◌, nat_lt, nat_le, ◌&&◌, Bool, false, List, [], ◌++◌, map, length, take, replicate}
 use Rattle.std.specs.List.{AllByRecursion}
 use Rattle.nvme_wire.specs.declared.zone_state.ZoneState.{ZoneState}
 use Rattle.nvme_wire.specs.declared.zone_state.ZoneState.TheVariants.{Empty, ImplicitlyOpened, ExplicitlyOpened, Closed}
@@ -11,6 +11,10 @@ use Rattle.drive_port.specs.Drive.{DriveState, active_count, open_count}
 -- the zones that are stored, in blocks of a size
 abbrev pub zones_of : ℕ → List StoredZone → List Zone
 zones_of block zones = map (zone_of block) zones
+
+-- the first bytes, with zeros where there are fewer
+abbrev pub with_zeros : ℕ → List ℕ → List ℕ
+with_zeros long bytes = take long bytes ++ replicate (long - length bytes) 0
 
 -- a drive of these zones, which has completed no command
 abbrev pub unused : Geometry → List Zone → DriveState

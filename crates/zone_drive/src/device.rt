@@ -1,7 +1,7 @@
 ghost use Rattle.std.specs.Prelude.{◌≡◌, ◌<◌, ◌^◌, [], true, IfOk, IfErr, IsErrOf, OnErr, Ok, nat_le};
 ghost use Rattle.nvme_wire.specs.Entry.{IsAdmitted, decode_of};
 ghost use Rattle.drive_port.specs.Drive.{IsLawful};
-ghost use Rattle.drive_port.specs.Halting.{SubmitGives};
+ghost use Rattle.drive_port.specs.Halting.{Adds, SubmitAdds, SubmitGives};
 ghost use Rattle.drive_port.specs.Step.{decode_status};
 ghost use Rattle.zone_drive.specs.Choice.{AnswersByChoice, Gives};
 ghost use Rattle.zone_drive.specs.Memory.{may_allocate};
@@ -23,16 +23,15 @@ fn fault_status(fault: DecodeFault) -> Status
 }
 
 impl Drive {
-    // Does a command.
+    // Does a command. What it returns goes behind what `into` holds.
     fn execute(&mut self, command: Command, bytes: &[u8], into: &mut Vec<u8>) -> Result<Reply, Halt>
-        requires nothing { into.old.items ≡ [] }
         requires admitted { IsAdmitted command }
-        ensures ok { IfOk result (λ reply.
-            Gives self.old (Ok command) bytes.now reply into.new.items self.new) }
+        ensures ok { IfOk result (λ reply. Adds into.old.items
+            (λ returned. Gives self.old (Ok command) bytes.now reply returned self.new) into.new.items) }
         ensures err { IfErr result (λ halt. halt ≡ Halt.Memory) }
         ensures allocates { OnErr result (may_allocate (Ok command) ≡ true) }
         ensures kept { OnErr result (self.new ≡ self.old) }
-        ensures returned { OnErr result (into.new.items ≡ []) }
+        ensures returned { OnErr result (into.new.items ≡ into.old.items) }
     {
         match command {
             Command::Flush => Ok(Reply::done(0)),
@@ -56,14 +55,13 @@ impl Drive {
         bytes: &[u8],
         into: &mut Vec<u8>,
     ) -> Result<Reply, Halt>
-        requires nothing { into.old.items ≡ [] }
         requires admitted { IfOk command IsAdmitted }
-        ensures ok { IfOk result (λ reply.
-            Gives self.old command bytes.now reply into.new.items self.new) }
+        ensures ok { IfOk result (λ reply. Adds into.old.items
+            (λ returned. Gives self.old command bytes.now reply returned self.new) into.new.items) }
         ensures err { IfErr result (λ halt. halt ≡ Halt.Memory) }
         ensures allocates { OnErr result (may_allocate command ≡ true) }
         ensures kept { OnErr result (self.new ≡ self.old) }
-        ensures returned { OnErr result (into.new.items ≡ []) }
+        ensures returned { OnErr result (into.new.items ≡ into.old.items) }
     {
         match command {
             Ok(command) => self.execute(command, bytes, into),
@@ -85,6 +83,37 @@ impl Drive {
         if let Ok(Command::Append { .. }) = command {
             self.appended += 1;
         }
+    }
+
+    // Answers an entry, and counts its command. What it returns goes behind what `into` holds.
+    fn answer(
+        &mut self,
+        entry: &[u8; 64],
+        bytes: &[u8],
+        into: &mut Vec<u8>,
+    ) -> Result<[u8; 16], Halt>
+        ensures gives { SubmitAdds self.old.state entry.now bytes.now into.old.items result into.new.items self.new.state }
+        ensures was_lawful { IsLawful self.old.state }
+        ensures lawful { IsLawful self.new.state }
+        ensures memory { IsErrOf result Halt.Memory → may_allocate (decode_of entry.now) ≡ true }
+        ensures choice { IfOk result (λ completion. Adds into.old.items
+            (λ returned. AnswersByChoice self.old entry.now bytes.now completion returned self.new) into.new.items) }
+        ensures stops { self.new.state.stopped ≡ nat_le (2 ^ 63) self.new.state.completed }
+        ensures kept { OnErr result (self.new ≡ self.old) }
+    {
+        if self.stopped() {
+            return Err(Halt::Stopped);
+        }
+        let command = Command::decode(entry);
+        let reply = self.perform(command, bytes, into)?;
+        self.settle();
+        self.count(command, reply.status);
+        let completion = Completion {
+            result: reply.value,
+            id: entry_id(entry),
+            status: reply.status,
+        };
+        Ok(completion.encode())
     }
 }
 
@@ -127,18 +156,22 @@ impl Device for Drive {
         ensures kept { OnErr result (self.new ≡ self.old) }
     {
         into.clear();
-        if self.stopped() {
-            return Err(Halt::Stopped);
-        }
-        let command = Command::decode(entry);
-        let reply = self.perform(command, bytes, into)?;
-        self.settle();
-        self.count(command, reply.status);
-        let completion = Completion {
-            result: reply.value,
-            id: entry_id(entry),
-            status: reply.status,
-        };
-        Ok(completion.encode())
+        self.answer(entry, bytes, into)
+    }
+
+    #[inline]
+    fn submit_behind(&mut self, entry: &[u8; 64], into: &mut Vec<u8>) -> Result<[u8; 16], Halt>
+        ensures gives { SubmitAdds self.old.state entry.now [] into.old.items result into.new.items self.new.state }
+        ensures was_lawful { IsLawful self.old.state }
+        ensures lawful { IsLawful self.new.state }
+
+        // Of the memory, of what it closes and of when it stops, it keeps what `submit` does.
+        ensures memory { IsErrOf result Halt.Memory → may_allocate (decode_of entry.now) ≡ true }
+        ensures choice { IfOk result (λ completion. Adds into.old.items
+            (λ returned. AnswersByChoice self.old entry.now [] completion returned self.new) into.new.items) }
+        ensures stops { self.new.state.stopped ≡ nat_le (2 ^ 63) self.new.state.completed }
+        ensures kept { OnErr result (self.new ≡ self.old) }
+    {
+        self.answer(entry, &[], into)
     }
 }

@@ -1,7 +1,9 @@
-ghost use Rattle.std.specs.Prelude.{◌≡◌, ℕ, ◌-◌, ◌/◌, ◌≤◌, List, [], ◌++◌, length, take, drop, replicate, Ok, IfOk, OnOk, IfErr, OnErr};
+ghost use Rattle.std.specs.Prelude.{◌≡◌, ℕ, ◌*◌, ◌/◌, ◌%◌, ◌≤◌, List, ◌++◌, drop, Some, None, Ok, IfOk, OnOk, IfErr, OnErr};
 ghost use Rattle.zone_states.specs.Checks.{first_failing};
-ghost use Rattle.drive_port.specs.Step.{read_checks, zone_at};
+ghost use Rattle.drive_port.specs.Halting.{Adds};
+ghost use Rattle.drive_port.specs.Step.{bytes_from, read_checks, zone_at};
 ghost use Rattle.zone_drive.specs.Choice.{Gives};
+ghost use Rattle.zone_drive.specs.Stored.{with_zeros};
 
 use crate::drive::Drive;
 use crate::reply::Reply;
@@ -11,51 +13,58 @@ use std::alloc::AllocError;
 use zone_states::ZoneState;
 
 impl Drive {
-    // The status of the first check that a Read fails.
-    fn read_refusal(&self, slba: u64, blocks: u32) -> Option<Status>
+    // What is written of a zone from an address on, for a Read of that many blocks; or the status of the
+    // first check that the Read fails.
+    fn written_from(&self, slba: u64, blocks: u32) -> Result<&[u8], Status>
         requires { 1 ≤ blocks }
-        ensures { result ≡ first_failing
+        ensures passed { OnOk result (None ≡ first_failing (read_checks self.now.state.geometry
+            (zone_at self.now.state.zones (slba / self.now.state.geometry.size)) slba blocks)) }
+        ensures shown { IfOk result (λ written.
+            with_zeros (blocks * self.now.state.geometry.block) written.now
+            ≡ bytes_from self.now.state.geometry.block
+            (zone_at self.now.state.zones (slba / self.now.state.geometry.size)).blocks
+            (slba % self.now.state.geometry.size) blocks) }
+        ensures refused { IfErr result (λ status. Some status ≡ first_failing
             (read_checks self.now.state.geometry
-            (zone_at self.now.state.zones (slba / self.now.state.geometry.size)) slba blocks) }
+            (zone_at self.now.state.zones (slba / self.now.state.geometry.size)) slba blocks)) }
     {
-        let size = u64::from(self.geometry.size);
+        let geometry = self.geometry;
         let end = slba.saturating_add(u64::from(blocks));
-        if blocks > self.geometry.transfer {
-            return Some(Status::InvalidField);
+        if blocks > geometry.transfer {
+            return Err(Status::InvalidField);
         }
-        if end > self.geometry.end() {
-            return Some(Status::LbaOutOfRange);
+        if end > geometry.end() {
+            return Err(Status::LbaOutOfRange);
         }
-        if slba / size != end.saturating_sub(1) / size {
-            return Some(Status::ZoneBoundaryError);
+        let number = geometry.zone_of(slba);
+        let start = u64::from(number) * u64::from(geometry.size);
+        if end > start + u64::from(geometry.size) {
+            return Err(Status::ZoneBoundaryError);
         }
-        if self.zone_holding(slba).state() == ZoneState::Offline {
-            return Some(Status::ZoneIsOffline);
+        let zone = self.zone_numbered(number);
+        if zone.state() == ZoneState::Offline {
+            return Err(Status::ZoneIsOffline);
         }
-        None
+        let from = (slba - start) as usize * geometry.block as usize;
+        Ok(bytes_from(zone.written(), from))
     }
 
-    /// A Read: `into` gets the bytes of the blocks, zeros for those that are not written.
+    /// A Read: the bytes of the blocks go behind what `into` holds, zeros for those that are not written.
     pub(crate) fn read(&self, slba: u64, blocks: u32, into: &mut Vec<u8>) -> Result<Reply, Halt>
         requires some { 1 ≤ blocks }
-        requires nothing { into.old.items ≡ [] }
-        ensures ok { (bytes : List ℕ) → IfOk result (λ reply.
-            Gives self.now (Ok (Command.Read slba blocks)) bytes reply into.new.items self.now) }
+        ensures ok { (bytes : List ℕ) → IfOk result (λ reply. Adds into.old.items
+            (λ returned. Gives self.now (Ok (Command.Read slba blocks)) bytes reply returned self.now)
+            into.new.items) }
         ensures err { IfErr result (λ halt. halt ≡ Halt.Memory) }
-        ensures nothing { OnErr result (into.new.items ≡ []) }
+        ensures returned { OnErr result (into.new.items ≡ into.old.items) }
     {
-        if let Some(status) = self.read_refusal(slba, blocks) {
-            return Ok(Reply::refused(status));
-        }
-        let block = self.geometry.block as usize;
-        let from = (slba % u64::from(self.geometry.size)) as usize * block;
-        let written = self.zone_holding(slba).written();
-        match copy(bytes_from(written, from), blocks as usize * block, into) {
-            Ok(()) => Ok(Reply::done(0)),
-            Err(_) => {
-                into.clear();
-                Err(Halt::Memory)
+        match self.written_from(slba, blocks) {
+            Ok(written) => {
+                let len = blocks as usize * self.geometry.block as usize;
+                add_with_zeros(written, len, into)?;
+                Ok(Reply::done(0))
             }
+            Err(status) => Ok(Reply::refused(status)),
         }
     }
 }
@@ -67,13 +76,14 @@ fn bytes_from(bytes: &[u8], from: usize) -> &[u8]
     &bytes[bytes.len().min(from)..]
 }
 
-// The first `len` of the stored bytes, and zeros where there are fewer.
-fn copy(stored: &[u8], len: usize, into: &mut Vec<u8>) -> Result<(), AllocError>
-    requires { into.old.items ≡ [] }
-    ensures { OnOk result (into.new.items
-        ≡ take len stored.now ++ replicate (len - length stored.now) 0) }
+// Puts the first `len` of the stored bytes behind what `into` holds, and zeros where there are fewer.
+fn add_with_zeros(stored: &[u8], len: usize, into: &mut Vec<u8>) -> Result<(), AllocError>
+    ensures ok { OnOk result (into.new.items ≡ into.old.items ++ with_zeros len stored.now) }
+    ensures err { OnErr result (into.new.items ≡ into.old.items) }
 {
+    into.reserve(len)?;
+    let end = into.len() + len;
     into.extend_from_slice(&stored[..stored.len().min(len)])?;
-    into.resize(len, 0)?;
+    into.resize(end, 0)?;
     Ok(())
 }

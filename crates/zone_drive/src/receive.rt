@@ -1,4 +1,5 @@
-ghost use Rattle.std.specs.Prelude.{◌≡◌, ◌≤◌, ℕ, List, [], Ok, IfOk, IfErr, OnErr};
+ghost use Rattle.std.specs.Prelude.{◌≡◌, ◌≤◌, ℕ, List, Ok, IfOk, IfErr, OnErr};
+ghost use Rattle.drive_port.specs.Halting.{Adds};
 ghost use Rattle.zone_drive.specs.Choice.{Gives};
 
 use crate::drive::Drive;
@@ -20,7 +21,8 @@ impl ReportedZones for Drive {
 }
 
 impl Drive {
-    /// A Zone Management Receive: `into` gets the report of the zones from the one that holds `slba` on.
+    /// A Zone Management Receive: the report of the zones from the one that holds `slba` on goes behind
+    /// what `into` holds.
     pub(crate) fn receive(
         &self,
         slba: u64,
@@ -29,18 +31,17 @@ impl Drive {
         partial: bool,
         into: &mut Vec<u8>,
     ) -> Result<Reply, Halt>
-        requires nothing { into.old.items ≡ [] }
         requires room { 16 ≤ dwords }
-        ensures ok { (bytes : List ℕ) → IfOk result (λ reply.
-            Gives self.now (Ok (Command.Receive slba dwords options partial)) bytes
-            reply into.new.items self.now) }
+        ensures ok { (bytes : List ℕ) → IfOk result (λ reply. Adds into.old.items
+            (λ returned. Gives self.now (Ok (Command.Receive slba dwords options partial)) bytes
+            reply returned self.now) into.new.items) }
         ensures err { IfErr result (λ halt. halt ≡ Halt.Memory) }
-        ensures returned { OnErr result (into.new.items ≡ []) }
+        ensures returned { OnErr result (into.new.items ≡ into.old.items) }
     {
         let geometry = self.geometry;
         match report_bytes(self.alloc, self, geometry, slba, options, partial, dwords) {
             Ok(bytes) => {
-                *into = bytes;
+                into.extend_from_slice(&bytes)?;
                 Ok(Reply::done(0))
             }
             Err(ReportFault::Range) => Ok(Reply::refused(Status::LbaOutOfRange)),

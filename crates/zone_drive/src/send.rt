@@ -1,7 +1,7 @@
 ghost use Rattle.std.specs.Prelude.{◌≡◌, ◌≢◌, ◌/◌, ◌<◌, ◌≤◌, false, map, List, ℕ, [], Some, None, Ok};
 ghost use Rattle.zone_states.specs.Checks.{first_failing};
 ghost use Rattle.drive_port.specs.Drive.{open_count};
-ghost use Rattle.drive_port.specs.Step.{end_of, sent_zone, zone_at};
+ghost use Rattle.drive_port.specs.Step.{sent_zone, zone_at};
 ghost use Rattle.zone_drive.specs.Choice.{Gives};
 ghost use Rattle.zone_drive.specs.Habits.{with_zones};
 ghost use Rattle.zone_drive.specs.Sending.{Opens, send_first, sent_to};
@@ -29,31 +29,28 @@ impl Drive {
         }
     }
 
-    // Opens the zone that holds an address, which can be opened. A status says which resource is missing.
-    fn open(&mut self, address: u64) -> Option<Status>
-        requires { address < end_of self.old.state.geometry }
-        ensures opens { Opens self.old (address / self.old.state.geometry.size) result self.new }
+    // Opens a zone that can be opened. A status says which resource is missing.
+    fn open(&mut self, number: u32) -> Option<Status>
+        requires { number < self.old.state.geometry.zones }
+        ensures opens { Opens self.old number result self.new }
         ensures limit { open_count self.old.state.zones ≤ self.old.state.geometry.open }
     {
-        let closing = match self.room_for(address) {
+        let closing = match self.room_for(number) {
             Ok(closing) => closing,
             Err(status) => return Some(status),
         };
-        let index = self.geometry.zone_of(address) as usize;
-        self.zones.apply(index, Action::Open);
+        self.zones.apply(number as usize, Action::Open);
         self.zones.close(closing);
         None
     }
 
-    // Does an action that is no Open on the zone that holds an address.
-    fn apply(&mut self, address: u64, action: Action)
-        requires in_range { address < end_of self.old.state.geometry }
+    // Does an action that is no Open on a zone.
+    fn apply(&mut self, number: u32, action: Action)
+        requires in_range { number < self.old.state.geometry.zones }
         requires other { action ≢ Action.Open }
-        ensures { self.new ≡ with_zones self.old
-            (sent_to self.old.state.zones (address / self.old.state.geometry.size) action) }
+        ensures { self.new ≡ with_zones self.old (sent_to self.old.state.zones number action) }
     {
-        let index = self.geometry.zone_of(address) as usize;
-        self.zones.apply(index, action);
+        self.zones.apply(number as usize, action);
     }
 
     // A Zone Management Send to one zone.
@@ -64,13 +61,14 @@ impl Drive {
         if let Some(status) = self.send_refusal(slba, action) {
             return Reply::refused(status);
         }
+        let number = self.geometry.zone_of(slba);
         match action {
-            Action::Open => match self.open(slba) {
+            Action::Open => match self.open(number) {
                 Some(status) => Reply::refused(status),
                 None => Reply::done(0),
             },
             action => {
-                self.apply(slba, action);
+                self.apply(number, action);
                 Reply::done(0)
             }
         }

@@ -2,7 +2,7 @@ ghost use Rattle.std.specs.Prelude.{◌≡◌, ◌/◌, ◌<◌, ◌≤◌, [], 
 ghost use Rattle.zone_states.specs.Checks.{first_failing};
 ghost use Rattle.zone_states.specs.Writing.{append_bytes_checks, data_checks};
 ghost use Rattle.drive_port.specs.Drive.{open_count};
-ghost use Rattle.drive_port.specs.Step.{end_of, zone_at};
+ghost use Rattle.drive_port.specs.Step.{zone_at};
 ghost use Rattle.zone_drive.specs.Choice.{Gives};
 ghost use Rattle.zone_drive.specs.Writing.{WritesAfter, append_first, write_first};
 
@@ -63,24 +63,21 @@ impl Drive {
         zone.write_refusal(&self.geometry, offset, u64::from(blocks))
     }
 
-    // Writes whole blocks after those of the zone that holds an address, which takes them. A status says
-    // which resource is missing.
-    fn write_after(&mut self, address: u64, bytes: &[u8]) -> Result<Option<Status>, Halt>
-        requires in_range { address < end_of self.old.state.geometry }
+    // Writes whole blocks after those of a zone that takes them. A status says which resource is missing.
+    fn write_after(&mut self, number: u32, bytes: &[u8]) -> Result<Option<Status>, Halt>
+        requires in_range { number < self.old.state.geometry.zones }
         requires checks { None ≡ first_failing (append_bytes_checks self.old.state.geometry
-            (zone_at self.old.state.zones (address / self.old.state.geometry.size)) bytes.now) }
-        ensures ok { IfOk result (λ refusal.
-            WritesAfter self.old (address / self.old.state.geometry.size) bytes.now refusal self.new) }
+            (zone_at self.old.state.zones number) bytes.now) }
+        ensures ok { IfOk result (λ refusal. WritesAfter self.old number bytes.now refusal self.new) }
         ensures limit { open_count self.old.state.zones ≤ self.old.state.geometry.open }
         ensures err { IfErr result (λ halt. halt ≡ Halt.Memory) }
         ensures kept { OnErr result (self.new ≡ self.old) }
     {
-        let closing = match self.room_for(address) {
+        let closing = match self.room_for(number) {
             Ok(closing) => closing,
             Err(status) => return Ok(Some(status)),
         };
-        let index = self.geometry.zone_of(address) as usize;
-        self.zones.write(&self.geometry, index, bytes)?;
+        self.zones.write(&self.geometry, number as usize, bytes)?;
         self.zones.close(closing);
         Ok(None)
     }
@@ -95,8 +92,9 @@ impl Drive {
         if let Some(status) = self.append_refusal(zslba, blocks, bytes) {
             return Ok(Reply::refused(status));
         }
-        let pointer = zslba + self.written_in(zslba);
-        match self.write_after(zslba, bytes)? {
+        let number = self.geometry.zone_of(zslba);
+        let pointer = zslba + self.written_in(number);
+        match self.write_after(number, bytes)? {
             Some(status) => Ok(Reply::refused(status)),
             None => Ok(Reply::done(pointer)),
         }
@@ -113,7 +111,8 @@ impl Drive {
         if let Some(status) = self.write_refusal(slba, blocks, bytes) {
             return Ok(Reply::refused(status));
         }
-        match self.write_after(slba, bytes)? {
+        let number = self.geometry.zone_of(slba);
+        match self.write_after(number, bytes)? {
             Some(status) => Ok(Reply::refused(status)),
             None => Ok(Reply::done(0)),
         }

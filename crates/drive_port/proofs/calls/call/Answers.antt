@@ -1,21 +1,11 @@
-use Rattle.std.proofs.Common.{◌≡◌, ◌<◌, ◌^◌, ap, arith}
-use Rattle.nvme_wire.specs.Entry.{id_of}
-use Rattle.nvme_wire.specs.declared.completion.Completion.{Completion}
+use Rattle.drive_port.proofs.CallLaws.{call-completed, call-obeys, is-completion}
 use Rattle.drive_port.proofs.calls.call.Goals as goal
 
-pub unreachable-requires : goal.unreachable-requires
-unreachable-requires g c =
-    let done = c.in-Ok.ensures.gives.1 in
-    let id : id_of c.encode-entry.result < 2 ^ 16 = omega (arith, c.encode-entry.ensures.id) in
-    let e = c.in-Err.ensures.encoded _ (done.fits, id) done.encoded in
-    cc
+pub answer_of-requires : goal.answer_of-requires
+answer_of-requires g c = is-completion _ _ _ _ _ _ c.encode-entry.ensures.id c.in_ok-completion.ensures.gives.1
 
-pub returns-in_default-clause-gives : goal.returns-in_default-clause-gives
-returns-in_default-clause-gives g c =
-    let done = c.in-Ok.ensures.gives.1 in
-    let id : id_of c.encode-entry.result < 2 ^ 16 = omega (arith, c.encode-entry.ensures.id) in
-    let made : Completion = record { result = done.value; id = id_of c.encode-entry.result; status = done.status } in
-    let e = c.in-Ok-decode.ensures.encoded made (done.fits, id) done.encoded in
-    let same : c.in-Ok-decode.completion ≡ made = cc in
-    let status = ap (λ (k : Completion). k.status) same in
-    (c.in-Ok.ensures.gives.0, c.in_default.not-Success, done.value, rw (status, ← c.encode-entry.ensures.again) done.performs)
+pub returns-clause-gives : goal.returns-clause-gives
+returns-clause-gives g c = call-completed _ _ _ _ _ _ _ _ c.encode-entry.ensures.id c.encode-entry.ensures.again c.answer_of.ensures c.in_ok-completion.ensures.gives
+
+pub returns-clause-obeys : goal.returns-clause-obeys
+returns-clause-obeys g c = call-obeys _ _ c.args.command.now c.args.bytes.now _ _ c.submit.ensures.was_lawful c.submit.ensures.lawful (returns-clause-gives g c)

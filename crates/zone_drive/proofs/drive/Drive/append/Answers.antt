@@ -1,4 +1,6 @@
-use Rattle.std.proofs.Common.{None, Some}
+use Rattle.std.proofs.Common.{None, Some, ℕ, ap, subst}
+use Rattle.zone_drive.specs.Habits.{MemoryDrive}
+use Rattle.zone_drive.specs.Writing.{WritesAfter}
 use Rattle.zone_drive.proofs.OutcomeLaws.{append-ended, append-refused}
 use Rattle.zone_drive.proofs.drive.Drive.append.Goals as goal
 
@@ -7,12 +9,16 @@ returns-in-Some-clause-ok c = rw c.refused.ensures (append-refused c.args.self.n
 
 pub returns-in-Some-2-clause-ok : goal.returns-in-Some-2-clause-ok
 returns-in-Some-2-clause-ok c =
-    let after = rw c.in-Some-2.is at c.in_ok-status.ensures.ok in
+    let geometry = ap (λ (d : MemoryDrive). d.state.geometry) c.self.view_is in
+    let number = rw geometry at c.zone_of-number.ensures.value in
+    let after = rw (c.in-Some-2.is, number) at c.in_ok-status.ensures.ok in
     rw c.refused-in-Some-2.ensures
     (append-ended c.args.self.now c.write_after.new.self c.args.zslba c.args.blocks c.args.bytes.now (Some c.in-Some-2.status) c.in_default.ensures.checks c.in_default.ensures.count c.write_after.ensures.limit after)
 
 pub returns-in-None-clause-ok : goal.returns-in-None-clause-ok
 returns-in-None-clause-ok c =
-    let after = rw c.in-None.is at c.in_ok-status.ensures.ok in
-    rw (c.done.ensures, c.written_in.ensures.value)
+    let geometry = ap (λ (d : MemoryDrive). d.state.geometry) c.self.view_is in
+    let number = rw geometry at c.zone_of-number.ensures.value in
+    let after = subst (λ (n : ℕ). WritesAfter c.args.self.now n c.args.bytes.now None c.write_after.new.self) number (rw c.in-None.is at c.in_ok-status.ensures.ok) in
+    rw (c.done.ensures, c.written_in.ensures.value, number)
     (append-ended c.args.self.now c.write_after.new.self c.args.zslba c.args.blocks c.args.bytes.now None c.in_default.ensures.checks c.in_default.ensures.count c.write_after.ensures.limit after)
