@@ -1,8 +1,13 @@
-ghost use Rattle.std.specs.Prelude.{◌≡◌, ◌⊎◌, ◌++◌, ◌+◌, ◌≤◌, ◌<◌, ◌^◌, ℕ, [], OnOk, length, replicate};
-ghost use Rattle.batch_log.specs.Header.{IsHeading, header_block};
+ghost use Rattle.std.specs.Prelude.{◌≡◌, ◌⊎◌, ◌++◌, ◌+◌, ◌*◌, ◌≤◌, ◌<◌, ◌^◌, [], OnOk, OnErr, drop, length, replicate, take};
+ghost use Rattle.batch_log.specs.Header.{IsHeading, header_block, heading_of};
+ghost use Rattle.drive_port.specs.Calls.{CanRead, IsNotRefused, Obeys, ReadGives};
+ghost use Rattle.drive_port.specs.Contents.{Counts, SameContents, bytes_at, contents};
+ghost use Rattle.drive_port.specs.Drive.{IsClosing};
+ghost use Rattle.drive_port.specs.Halting.{Adds};
 ghost use Rattle.zone_choice.specs.Builder.{data_entries, entries_from, trim_entries};
 
 use batch_log::{Entry, Header, Kind, header_bytes};
+use drive_port::{Device, PortFault, read_behind};
 use std::alloc::{AllocError, Global};
 use std::marker::Model;
 
@@ -10,7 +15,8 @@ use std::marker::Model;
 /// from one batch to the next.
 ///
 /// A batch is built in this order: `start`, a call of `name_data` or `name_trims` for each run of blocks that it
-/// names, `encode`, and `fill` or `copy` for the data.
+/// names, `encode`, and `fill` or `copy` for the data. Where its data comes first, it is built in this order:
+/// `make_room`, `read` for each block of data, `start`, the names, and `encode_before_data`.
 #[derive(Drop)]
 pub struct BatchBuilder {
     header: Header,
@@ -28,7 +34,9 @@ impl Model for BatchBuilder {
 
 impl BatchBuilder {
     /// A builder of no batch yet.
-    pub fn new(alloc: Global) -> BatchBuilder {
+    pub fn new(alloc: Global) -> BatchBuilder
+        ensures { result.bytes ≡ [] }
+    {
         BatchBuilder {
             header: Header {
                 kind: Kind::Host,
@@ -45,7 +53,8 @@ impl BatchBuilder {
     /// `size` is the number of logical blocks that the header says: it has version 2, or version 1 if it
     /// says none.
     pub fn start(&mut self, kind: Kind, sequence: u64, source: u32, size: Option<u32>)
-        ensures { self.new.heading ≡ record { kind = kind; sequence = sequence; source = source; size = size; entries = [] } }
+        ensures heading { self.new.heading ≡ record { kind = kind; sequence = sequence; source = source; size = size; entries = [] } }
+        ensures bytes { self.new.bytes ≡ self.old.bytes }
     {
         self.header.kind = kind;
         self.header.sequence = sequence;
@@ -57,7 +66,8 @@ impl BatchBuilder {
     /// Names `count` blocks more, from `first` on, that the batch has data of.
     pub fn name_data(&mut self, first: u32, count: u32) -> Result<(), AllocError>
         requires { first + count < 2 ^ 32 }
-        ensures { OnOk result (self.new.heading ≡ record self.old.heading { entries = self.old.heading.entries ++ data_entries first count }) }
+        ensures heading { OnOk result (self.new.heading ≡ record self.old.heading { entries = self.old.heading.entries ++ data_entries first count }) }
+        ensures bytes { self.new.bytes ≡ self.old.bytes }
     {
         self.name(first, count, false)
     }
@@ -65,7 +75,8 @@ impl BatchBuilder {
     /// Names `count` blocks more, from `first` on, that the batch trims.
     pub fn name_trims(&mut self, first: u32, count: u32) -> Result<(), AllocError>
         requires { first + count < 2 ^ 32 }
-        ensures { OnOk result (self.new.heading ≡ record self.old.heading { entries = self.old.heading.entries ++ trim_entries first count }) }
+        ensures heading { OnOk result (self.new.heading ≡ record self.old.heading { entries = self.old.heading.entries ++ trim_entries first count }) }
+        ensures bytes { self.new.bytes ≡ self.old.bytes }
     {
         self.name(first, count, true)
     }
@@ -80,6 +91,65 @@ impl BatchBuilder {
         self.bytes.resize(block_bytes as usize, 0)?;
         header_bytes(&self.header, &mut self.bytes);
         Ok(())
+    }
+
+    /// Makes room for the header block, `block_bytes` bytes, and drops all data. Where an allocation fails, the bytes
+    /// stay.
+    pub fn make_room(&mut self, block_bytes: u32) -> Result<(), AllocError>
+        ensures heading { self.new.heading ≡ self.old.heading }
+        ensures ok { OnOk result (length self.new.bytes ≡ block_bytes) }
+        ensures err { OnErr result (self.new.bytes ≡ self.old.bytes) }
+    {
+        self.bytes.resize(block_bytes as usize, 0)
+    }
+
+    /// Writes the header block of the batch into its room, before the data that is there: 512 or 4,096 bytes. It
+    /// allocates nothing.
+    pub fn encode_before_data(&mut self, block_bytes: u32)
+        requires block { (block_bytes ≡ 512) ⊎ (block_bytes ≡ 4096) }
+        requires room { block_bytes ≤ length self.old.bytes }
+        requires heading { IsHeading block_bytes self.old.heading }
+        ensures heading { self.new.heading ≡ self.old.heading }
+        ensures bytes { self.new.bytes ≡ header_block block_bytes self.old.heading ++ drop block_bytes self.old.bytes }
+    {
+        write_front(&self.header, &mut self.bytes, block_bytes as usize);
+    }
+
+    /// Adds data: the block at an address of the drive. After a fault the bytes are as they were.
+    #[inline]
+    pub fn read<D: Device>(&mut self, device: &mut D, address: u64) -> Result<(), PortFault>
+        ensures heading { self.new.heading ≡ self.old.heading }
+        ensures gives { Adds self.old.bytes (λ returned. ReadGives (D.drive device.old) address 1 result returned (D.drive device.new)) self.new.bytes }
+        ensures shown { OnOk result (self.new.bytes ≡ self.old.bytes ++ bytes_at (D.drive device.old).geometry (contents (D.drive device.old).zones) address 1) }
+        ensures length { OnOk result (length self.new.bytes ≡ length self.old.bytes + (D.drive device.old).geometry.block) }
+        ensures err { OnErr result (self.new.bytes ≡ self.old.bytes) }
+        ensures counts { OnOk result (Counts (D.drive device.old) (D.drive device.new) 0) }
+        ensures kept { SameContents (D.drive device.old) (D.drive device.new) }
+        ensures closing { IsClosing (D.drive device.old).zones (D.drive device.new).zones }
+        ensures taken { CanRead (D.drive device.old) address 1 → IsNotRefused result }
+        ensures obeys { Obeys (D.drive device.old) result (D.drive device.new) }
+    {
+        read_behind(device, address, 1, &mut self.bytes)
+    }
+
+    /// Drops all bytes behind the first `count`.
+    pub fn truncate(&mut self, count: usize)
+        ensures heading { self.new.heading ≡ self.old.heading }
+        ensures bytes { self.new.bytes ≡ take count self.old.bytes }
+    {
+        self.bytes.truncate(count);
+    }
+
+    /// Takes the block at an index out, where each block has `block_bytes` bytes. That of the header has index 0.
+    pub fn cut_block(&mut self, index: usize, block_bytes: usize)
+        requires { index * block_bytes + block_bytes ≤ length self.old.bytes }
+        ensures heading { self.new.heading ≡ self.old.heading }
+        ensures bytes { self.new.bytes ≡ take (index * block_bytes) self.old.bytes ++ drop (index * block_bytes + block_bytes) self.old.bytes }
+    {
+        let left = self.bytes.len() - block_bytes;
+        let from = index * block_bytes;
+        self.bytes.copy_within(from + block_bytes.., from);
+        self.bytes.truncate(left);
     }
 
     /// Adds data: `count` bytes, all alike.
@@ -103,7 +173,8 @@ impl BatchBuilder {
 
     fn name(&mut self, first: u32, count: u32, trim: bool) -> Result<(), AllocError>
         requires { first + count < 2 ^ 32 }
-        ensures { OnOk result (self.new.heading ≡ record self.old.heading { entries = self.old.heading.entries ++ entries_from trim first count }) }
+        ensures heading { OnOk result (self.new.heading ≡ record self.old.heading { entries = self.old.heading.entries ++ entries_from trim first count }) }
+        ensures bytes { self.new.bytes ≡ self.old.bytes }
     {
         for i in 0..count {
             let block = first as u64 + i as u64;
@@ -131,4 +202,15 @@ impl BatchBuilder {
     {
         &self.bytes
     }
+}
+
+/// Writes a header block over the first bytes.
+fn write_front(header: &Header, bytes: &mut [u8], block_bytes: usize)
+    requires block { (block_bytes ≡ 512) ⊎ (block_bytes ≡ 4096) }
+    requires room { block_bytes ≤ length bytes.old }
+    requires heading { IsHeading block_bytes (heading_of header.now) }
+    ensures { bytes.new ≡ header_block block_bytes (heading_of header.now) ++ drop block_bytes bytes.old }
+{
+    let (room, _) = bytes.split_at_mut(block_bytes);
+    header_bytes(header, room);
 }

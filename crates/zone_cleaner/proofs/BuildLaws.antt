@@ -26,6 +26,7 @@ use Rattle.zone_choice.proofs.AllLaws.{all-at, all-weaker}
 use Rattle.zone_choice.proofs.ChangeLaws.{large-block}
 use Rattle.zone_choice.proofs.WholeLaws.{whole-spelled}
 use Rattle.zone_cleaner.specs.Clean.{CleanView, IsClean}
+use Rattle.zone_cleaner.specs.Gathered.{AreOfLength}
 use Rattle.zone_cleaner.specs.LiveRecords.{LiveRecord, content_of, data_of, entries_of, entry_of, move_of, records_in}
 use Rattle.zone_cleaner.proofs.CarryLaws.{data-entries, entries-below, fits-move, gathered-below, gathered-distinct, gathered-say}
 use Rattle.zone_cleaner.proofs.CleanLaws.{clean_spare}
@@ -38,17 +39,14 @@ use Rattle.zone_cleaner.proofs.StepLaws.{MoveDue}
 abbrev batch_with : Heading → List (List ℕ) → Batch
 batch_with heading body = record { heading = heading; body = body }
 
-abbrev AreWhole : ℕ → List (List ℕ) → Type 0
-AreWhole size blocks = AllByRecursion (λ block. length block ≡ size) blocks
-
-cut-concat : (size : ℕ) (blocks : List (List ℕ)) → AreWhole size blocks → cut_blocks size (length blocks) (concat blocks) ≡ blocks
+cut-concat : (size : ℕ) (blocks : List (List ℕ)) → AreOfLength size blocks → cut_blocks size (length blocks) (concat blocks) ≡ blocks
 cut-concat size [] whole = refl
 cut-concat size (b ∷ bs) whole =
     let first : take size (b ++ concat bs) ≡ b = take_at b (concat bs) size whole.0 in
     let rest : drop size (b ++ concat bs) ≡ concat bs = drop_at b (concat bs) size whole.0 in
     rw (first, rest) (ap (λ (xs : List (List ℕ)). b ∷ xs) (cut-concat size bs whole.1))
 
-length-concat : (size : ℕ) (blocks : List (List ℕ)) → AreWhole size blocks → length (concat blocks) ≡ length blocks * size
+length-concat : (size : ℕ) (blocks : List (List ℕ)) → AreOfLength size blocks → length (concat blocks) ≡ length blocks * size
 length-concat size [] whole = omega arith
 length-concat size (b ∷ bs) whole = omega (arith, length-append b (concat bs), whole.0, length-concat size bs whole.1, add-mul 1 (length bs) size)
 
@@ -62,15 +60,15 @@ length-data (r ∷ rs) = one (length-data rs) r.block r.content
 
 -- ---- the data are whole blocks
 
-gathered-whole : (array : List (List ℕ)) (size high : ℕ) (rs : List LiveRecord) → AreWhole size array → high ≤ length array → AreBetween 0 high rs → SayTheArray array size rs → AreWhole size (data_of rs)
+gathered-whole : (array : List (List ℕ)) (size high : ℕ) (rs : List LiveRecord) → AreOfLength size array → high ≤ length array → AreBetween 0 high rs → SayTheArray array size rs → AreOfLength size (data_of rs)
 gathered-whole array size high [] whole le all says = tt
 gathered-whole array size high (r ∷ rs) whole le all says = one (gathered-whole array size high rs whole le all.1 says.1) r.block r.content all.0.1 says.0
   where
-    one : AreWhole size (data_of rs) → (block : ℕ) (content : Option (List ℕ)) → block < high → get_or array block [] ≡ shown_content size content → AreWhole size (data_of (record { block = block; content = content } ∷ rs))
+    one : AreOfLength size (data_of rs) → (block : ℕ) (content : Option (List ℕ)) → block < high → get_or array block [] ≡ shown_content size content → AreOfLength size (data_of (record { block = block; content = content } ∷ rs))
     one rest block None lt same = rest
     one rest block (Some bytes) lt same = (ap length (sym same) ∙ all-at (λ (b : List ℕ). length b ≡ size) array block [] whole (omega (arith, lt, le)), rest)
 
-pub data-whole : (disk : Mounted) (c : CleanView) → Agrees disk → IsClean disk c → AreWhole disk.drive.geometry.block (data_of c.gathered)
+pub data-whole : (disk : Mounted) (c : CleanView) → Agrees disk → IsClean disk c → AreOfLength disk.drive.geometry.block (data_of c.gathered)
 data-whole disk c agrees is =
     let whole = whole-spelled disk.drive disk.tables.given (agrees_mountable disk.drive disk.tables agrees (clean_spare disk c agrees is)) in
     gathered-whole (mounted_array disk) disk.drive.geometry.block c.cursor c.gathered whole (omega (arith, is.gathers.within, length-spelled disk.drive disk.tables.given, size-encoded disk agrees)) (gathered-below disk c is) (gathered-say disk c agrees is)

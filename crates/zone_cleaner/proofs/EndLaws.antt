@@ -1,7 +1,6 @@
 -- What each step leaves, by its answer.
-use Rattle.std.proofs.Common.{◌≡◌, ◌⊎◌, ℕ, ◌*◌, ◌/◌, ◌<◌, List, [], ◌∷◌, ◌++◌, length, Option, Some, Result, Ok, Err, refl, sym, ap, subst, ◌∙◌, inl, inr, arith}
+use Rattle.std.proofs.Common.{◌≡◌, ◌⊎◌, ℕ, ◌*◌, ◌/◌, ◌<◌, List, [], ◌∷◌, ◌++◌, length, Some, Ok, Err, refl, sym, ap, subst, ◌∙◌, inl, inr, arith}
 use Rattle.std.specs.List.{concat}
-use Rattle.std.specs.Prelude.{IfErr, OnOk}
 use Rattle.std.proofs.lemmas.List.{length-set}
 use Rattle.zone_states.specs.declared.geometry.Geometry.{Geometry}
 use Rattle.drive_port.specs.Calls.{CanReset, IsNotRefused, Obeys, ResetContents, ResetGives, ResetKeeps, ResetLeaves, ResetZone}
@@ -12,12 +11,11 @@ use Rattle.drive_port.specs.declared.calls.PortFault.TheVariants as port
 use Rattle.drive_port.specs.declared.device.Halt.{Halt}
 use Rattle.drive_port.specs.declared.device.Halt.TheVariants as halt
 use Rattle.batch_log.specs.Log.{Batch}
-use Rattle.logical_map.specs.declared.place.Place.{Place}
 use Rattle.zone_choice.specs.declared.roles.Filling.{Filling}
 use Rattle.zone_choice.specs.declared.roles.Second.TheVariants.{Destination}
 use Rattle.zone_choice.specs.Agreement.{Agrees, Mounted, drive_logs, mounted, mounted_array, spelled}
 use Rattle.zone_choice.specs.Builder.{BuilderView, IsBuilt, built}
-use Rattle.zone_choice.specs.Changes.{AppendLeaves, CanPlace, IsHalt, KeepsArray, Places, StopsInside, halt_of, sequence_end}
+use Rattle.zone_choice.specs.Changes.{AppendLeaves, CanPlace, IsHalt, Places, StopsInside, halt_of, sequence_end}
 use Rattle.zone_choice.specs.Records.{append_log}
 use Rattle.zone_choice.specs.Reserve.{batch_most}
 use Rattle.zone_choice.specs.Roles.{clean_ended}
@@ -31,12 +29,10 @@ use Rattle.zone_choice.proofs.ChangeLaws.{keeps-halt, keeps-same}
 use Rattle.zone_choice.proofs.CommandLaws.{content-zone, filling-in_range, start-below, zone-start}
 use Rattle.zone_choice.proofs.OpenLaws.{OpensNone, reset-opens}
 use Rattle.zone_choice.proofs.ReserveLaws.{positive-most}
-use Rattle.zone_cleaner.specs.declared.fault.CleanFault.{CleanFault}
-use Rattle.zone_cleaner.specs.declared.fault.CleanFault.TheVariants as faults
-use Rattle.zone_cleaner.specs.declared.step.Step.TheVariants.{Gather, Move, Reset}
+use Rattle.zone_cleaner.specs.declared.step.Step.TheVariants.{Move, Reset}
 use Rattle.zone_cleaner.specs.Clean.{CleanView, IsClean}
-use Rattle.zone_cleaner.specs.LiveRecords.{content_of, data_of, move_of}
-use Rattle.zone_cleaner.specs.Turns.{EmptiesVictim, MovesRecords, OnlyMoves, StepFails, StepLeaves, StopsClean, clean_fault, next_step, with_record}
+use Rattle.zone_cleaner.specs.LiveRecords.{data_of, move_of}
+use Rattle.zone_cleaner.specs.Turns.{EmptiesVictim, MovesRecords, OnlyMoves, StepFails, StopsClean, clean_fault, next_step}
 use Rattle.zone_cleaner.proofs.OnlyLaws.{only-more, only-same, only-without}
 use Rattle.zone_cleaner.proofs.CarryLaws.{told_same}
 use Rattle.zone_cleaner.proofs.CleanLaws.{clean_spare}
@@ -52,11 +48,6 @@ use Rattle.batch_log.specs.Header.{header_block}
 use Rattle.logical_map.specs.Places.{ArePlacedReady}
 
 -- ---- a record is gathered
-
-pub gathered_leaves : (before after : Mounted) (c new : CleanView) (block : ℕ) (place : Place) (content : Option (List ℕ)) (result : Result (Unit {0}) CleanFault) → KeepsArray before after → after.tables ≡ before.tables → content ≡ content_of (mounted_array before) block place
-    → OnOk result (new ≡ with_record c block content) → IfErr result (λ fault. (fault ≡ faults.OutOfMemory) × (new ≡ c)) → StepLeaves (Gather block place) before c result after (Some new)
-gathered_leaves before after c new block place content (Ok done) kept tables same ok err = (kept, tables, ap (λ (v : CleanView). Some v) (ok ∙ ap (with_record c block) same))
-gathered_leaves before after c new block place content (Err fault) kept tables same ok err = (rw err.0 (kept, inl tables), ap (λ (v : CleanView). Some v) err.1)
 
 -- ---- a Move stops
 

@@ -1,5 +1,5 @@
 -- One record is read.
-use Rattle.std.proofs.Common.{◌≡◌, ℕ, ◌<◌, List, [], get_or, Some, None, Err, refl, ap, ◌∙◌, append-nil}
+use Rattle.std.proofs.Common.{◌≡◌, ℕ, ◌<◌, List, [], get_or, Err, refl, ◌∙◌, append-nil}
 use Rattle.drive_port.specs.Calls.{CanRead, IsNotRefused, Obeys, ReadGives}
 use Rattle.drive_port.specs.Contents.{SameContents, block_at, bytes_at, contents}
 use Rattle.drive_port.specs.Drive.{DriveState, IsClosing}
@@ -13,7 +13,6 @@ use Rattle.zone_choice.specs.Tables.{TablesView, size_of}
 use Rattle.zone_choice.proofs.ChangeLaws.{keeps-halt, keeps-same}
 use Rattle.zone_choice.proofs.OpenLaws.{closing-opens}
 use Rattle.zone_choice.proofs.ReadLaws.{HoldsPlace, holds_place}
-use Rattle.zone_cleaner.specs.LiveRecords.{content_of}
 use Rattle.zone_cleaner.specs.Turns.{IsReadFault, clean_fault}
 
 holds : (drive : DriveState) (tables : TablesView) (block : ℕ) (p : Place) → Agrees (mounted drive tables) → block < size_of tables → p ≡ get_or tables.map.places block places.None → HoldsPlace drive (spelled drive tables.given) block p
@@ -36,13 +35,6 @@ fetch_halts old new tables block address returned port.Stopped agrees lt at give
 }
 
 -- what it showed is the array's
-pub fetch_shown : (drive : DriveState) (tables : TablesView) (block address : ℕ) (shown : List ℕ) → Agrees (mounted drive tables) → block < size_of tables → places.At address ≡ get_or tables.map.places block places.None
-    → shown ≡ bytes_at drive.geometry (contents drive.zones) address 1 → Some shown ≡ Some (get_or (spelled drive tables.given) block [])
-fetch_shown drive tables block address shown agrees lt at e =
-    ap (λ (bytes : List ℕ). Some bytes) (e ∙ append-nil (block_at drive.geometry (contents drive.zones) address) ∙ (holds drive tables block (places.At address) agrees lt at).shown)
-
--- a place without data
-pub fetch_none : (array : List (List ℕ)) (block : ℕ) (p : Place) → ((address : ℕ) → p ≡ places.At address → ⊥) → None ≡ content_of array block p
-fetch_none array block places.None other = refl
-fetch_none array block (places.Trimmed address) other = refl
-fetch_none array block (places.At address) other = absurd (other address refl)
+pub fetch_shown : (drive : DriveState) (tables : TablesView) (block address : ℕ) → Agrees (mounted drive tables) → block < size_of tables → places.At address ≡ get_or tables.map.places block places.None
+    → bytes_at drive.geometry (contents drive.zones) address 1 ≡ get_or (spelled drive tables.given) block []
+fetch_shown drive tables block address agrees lt at = append-nil (block_at drive.geometry (contents drive.zones) address) ∙ (holds drive tables block (places.At address) agrees lt at).shown

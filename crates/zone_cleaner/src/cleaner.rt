@@ -1,4 +1,4 @@
-ghost use Rattle.std.specs.Prelude.{◌≡◌, ◌≢◌, ◌≤◌, ◌<◌, ◌+◌, ◌*◌, ◌^◌, true, Err, IfErr, IfOk, OnErr, OnOk, None, Some, is_some, length};
+ghost use Rattle.std.specs.Prelude.{◌≡◌, ◌≤◌, ◌<◌, ◌+◌, ◌*◌, ◌^◌, true, Err, IfErr, OnErr, OnOk, None, Some, is_some, length};
 ghost use Rattle.std.specs.List.{AllByRecursion};
 ghost use Rattle.std.specs.Option.{option_map};
 ghost use Rattle.zone_choice.specs.Agreement.{mounted};
@@ -28,7 +28,6 @@ pub struct Cleaner {
     clean: Option<Clean>,
     /// The memory that the last clean used for its records: the next one uses it again.
     gathered: Gathered,
-    batch: BatchBuilder,
     alloc: Global,
 }
 
@@ -69,7 +68,6 @@ impl Cleaner {
         Cleaner {
             clean: None,
             gathered: Gathered::new(alloc),
-            batch: BatchBuilder::new(alloc),
             alloc,
         }
     }
@@ -165,8 +163,8 @@ impl Cleaner {
             return Ok(());
         };
         match clean.next_step(tables, batch_most(&geometry)) {
-            Step::Gather(block, place) => clean.gather(self.alloc, tables, device, block, place),
-            Step::Move => clean.carry(self.alloc, tables, device, &mut self.batch),
+            Step::Gather(block, place) => clean.gather(tables, device, block, place),
+            Step::Move => clean.carry(self.alloc, tables, device),
             Step::Reset => {
                 clean.empty_victim(self.alloc, tables, device)?;
                 self.end();

@@ -15,4 +15,4 @@ pub returns-clause-built : goal.returns-clause-built
 returns-clause-built g c =
     on-two c.copy_records.result
     (λ bytes whole. build-done (g.D.Device.drive c.args.device.now) c.args.tables.now c.args.plan.now c.args.number _ _ _ c.blocks_of-blocks.result.now c.start.new.self c.name_records.new.batch c.encode.new.self c.copy_records.new.batch c.requires.known.geometry c.requires.heading
-    (ap (λ (x : Geometry). x.block) c.geometry.ensures.value) c.blocks_of-blocks.ensures c.size_of.ensures refl c.start.ensures c.in_ok-name_records.ensures c.in_ok-encode.ensures.heading c.in_ok-encode.ensures.bytes c.copy_records.ensures.heading bytes whole) c.copy_records.ensures.bytes c.copy_records.ensures.whole
+    (ap (λ (x : Geometry). x.block) c.geometry.ensures.value) c.blocks_of-blocks.ensures c.size_of.ensures refl c.start.ensures.heading c.in_ok-name_records.ensures c.in_ok-encode.ensures.heading c.in_ok-encode.ensures.bytes c.copy_records.ensures.heading bytes whole) c.copy_records.ensures.bytes c.copy_records.ensures.whole

@@ -9,3 +9,4 @@ invariant-loop-i l =
     × (l.self-inside.header.source ≡ l.fn.self.heading.source)
     × (l.self-inside.header.size ≡ l.fn.self.heading.size)
     × (l.self-inside.header.entries.items ≡ l.fn.self.heading.entries ++ entries_from l.fn.trim l.fn.first l.i)
+    × (l.self-inside.bytes.items ≡ l.fn.self.bytes)

@@ -3,4 +3,4 @@ use Rattle.zone_cleaner.specs.LiveRecords.{without_all}
 use Rattle.zone_cleaner.proofs.gathered.Gathered.forget.Given as goal
 
 abbrev pub invariant-loop-entry : goal.invariant-loop-entry
-invariant-loop-entry l = without_all (drop l.entry-index l.fn.entries) l.self ≡ without_all l.fn.entries l.fn.self
+invariant-loop-entry l = without_all (drop l.entry-index l.fn.entries) l.self.records ≡ without_all l.fn.entries l.fn.self.records
