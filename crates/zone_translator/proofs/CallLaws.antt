@@ -3,7 +3,6 @@ use Rattle.std.proofs.Common.{◌≡◌, ◌==◌, ℕ, nat_lt, zero, suc, ◌+�
 use Rattle.std.specs.Prelude.{Result}
 use Rattle.std.specs.Int.{div_ceil}
 use Rattle.std.specs.List.{concat}
-use Rattle.std.specs.Result.{IfErr, OnErr, OnOk}
 use Rattle.std.proofs.lemmas.Bool.{cases_lt}
 use Rattle.std.proofs.lemmas.Bool.Decides.{nat_tests}
 use Rattle.std.proofs.lemmas.List.{get_or-drop, length-drop, length-take, take_all, take_more}
@@ -271,16 +270,6 @@ shown-more array first count block shown more block-is lt is more-is =
     let long : count < length (drop first array) = omega (arith, length-drop first array) in
     let at : get_or (drop first array) count [] ≡ get_or array block [] = get_or-drop first array count [] ∙ ap (λ (k : ℕ). get_or array k []) (omega arith) in
     more-is ∙ rw (is, ← at) (sym (concat-append (blocks_from array first count) (get_or (drop first array) count [])) ∙ ap concat (sym (take_more (drop first array) count [] long)))
-
--- a read of one block
-pub one-shown : (array : List (List ℕ)) (first n : ℕ) (bytes : List ℕ) → n ≡ 1 → first < length array → bytes ≡ get_or array first [] → bytes ≡ concat (blocks_from array first n)
-one-shown array first n bytes one lt shown = rw one (shown-more array first 0 first [] bytes (omega arith) lt refl shown)
-
-pub read-one : (old new : DiskView) (first n : ℕ) (result : Result (Unit {0}) DiskFault) (bytes : List ℕ) → known_range (flat_of old) first n ≡ None → old.status ≡ statuses.Serving → n ≡ 1 → first < length (array_of old) → array_of new ≡ array_of old → disk_size new ≡ disk_size old
-    → new.drive.geometry ≡ old.drive.geometry → OnOk result (bytes ≡ get_or (array_of old) first []) → OnOk result (new.status ≡ statuses.Serving) → IfErr result (λ fault. new.status ≡ status_of fault) → IfErr result (IsReadFault new.drive) → OnErr result (bytes ≡ [])
-    → Reads (flat_of old) first n result bytes (flat_of new)
-read-one old new first n (Ok done) bytes known was one lt same size geometry ok serves status err nothing = read-done old new first n bytes known was (one-shown (array_of old) first n bytes one lt ok) same size serves geometry
-read-one old new first n (Err fault) bytes known was one lt same size geometry ok serves status err nothing = read-refused old new first n fault bytes known nothing same size status geometry err
 
 -- ---- the answers of a turn
 

@@ -21,7 +21,7 @@ ghost use Rattle.zone_translator.specs.Read.{IsReadFault};
 ghost use Rattle.zone_translator.specs.View.{Completes, DiskCause, DiskView, KeepsDisk, array_of, disk_size, flat_of, disk_turns, given_size, logs_of, most_batches, next_sequence, places_of, size_on};
 
 use crate::fault::DiskFault;
-use crate::read::{read_block, read_into};
+use crate::read::read_block;
 use crate::report::report_all;
 use crate::status::DiskStatus;
 use crate::write::{Content, grow_batch, next_batch};
@@ -41,7 +41,6 @@ pub struct Disk<D: Device + Drop> {
     cleaner: Cleaner,
     status: DiskStatus,
     batch: BatchBuilder,
-    block: Vec<u8>,
     alloc: Global,
 }
 
@@ -85,7 +84,6 @@ impl<D: Device + Drop> Disk<D> {
                 cleaner: Cleaner::new(alloc),
                 status: DiskStatus::Serving,
                 batch: BatchBuilder::new(alloc),
-                block: Vec::new(alloc),
                 alloc,
             }),
             Err(fault) => Err((fault, device)),
@@ -230,34 +228,9 @@ impl<D: Device + Drop> Disk<D> {
         ensures status { IfErr result (λ fault. self.new.status ≡ status_of fault) }
         ensures err { IfErr result (IsReadFault self.new.drive) }
     {
-        match read_block(&self.tables, &mut self.device, &mut self.block, block, into) {
+        match read_block(&self.tables, &mut self.device, block, into) {
             Ok(()) => Ok(()),
             Err(fault) => {
-                self.status = status_of(fault);
-                Err(fault)
-            }
-        }
-    }
-
-    /// A read of one block, shown in place of what `into` holds. `into` is empty after a refusal.
-    fn read_alone(&mut self, block: u32, into: &mut Vec<u8>) -> Result<(), DiskFault>
-        requires in_range { block < disk_size self.old }
-        requires serving { self.old.status ≡ Serving }
-        ensures kept { KeepsDisk self.old self.new }
-        ensures array { array_of self.new ≡ array_of self.old }
-        ensures size { disk_size self.new ≡ disk_size self.old }
-        ensures ok { OnOk result (into.new.items ≡ slice_index_or (array_of self.old) block []) }
-        ensures turns { disk_turns self.new ≡ disk_turns self.old }
-        ensures completed { Completes self.old 1 self.new }
-        ensures serving { OnOk result (self.new.status ≡ Serving) }
-        ensures status { IfErr result (λ fault. self.new.status ≡ status_of fault) }
-        ensures err { IfErr result (IsReadFault self.new.drive) }
-        ensures nothing { OnErr result (into.new.items ≡ []) }
-    {
-        match read_into(&self.tables, &mut self.device, block, into) {
-            Ok(()) => Ok(()),
-            Err(fault) => {
-                into.clear();
                 self.status = status_of(fault);
                 Err(fault)
             }
@@ -497,9 +470,6 @@ impl<D: Device + Drop> Disk<D> {
         into.clear();
         if self.is_done(first, blocks)? {
             return Ok(());
-        }
-        if blocks == 1 {
-            return self.read_alone(first as u32, into);
         }
         for i in 0..blocks as u32 {
             if let Err(fault) = self.read_one(first as u32 + i, into) {

@@ -6,7 +6,7 @@ ghost use Rattle.zone_translator.specs.Read.{IsReadFault};
 
 use crate::fault::DiskFault;
 use crate::room::fault_of;
-use drive_port::{Device, read};
+use drive_port::{Device, read_behind};
 use logical_map::Place;
 use std::alloc::AllocError;
 use zone_choice::{Tables, halt_of};
@@ -20,36 +20,10 @@ fn extend_zeros(into: &mut Vec<u8>, count: usize) -> Result<(), AllocError>
     Ok(())
 }
 
-/// Shows one block in place of what `into` holds: the data at its place, or zeros where it has none.
-pub(crate) fn read_into<D: Device>(
-    tables: &Tables,
-    device: &mut D,
-    block: u32,
-    into: &mut Vec<u8>,
-) -> Result<(), DiskFault>
-    requires agrees { Agrees (mounted (D.drive device.old) tables.now) }
-    requires in_range { block < size_of tables.now }
-    ensures kept { KeepsArray (mounted (D.drive device.old) tables.now) (mounted (D.drive device.new) tables.now) }
-    ensures ok { OnOk result (into.new.items ≡ slice_index_or (spelled (D.drive device.old) tables.now.given) block []) }
-    ensures err { IfErr result (IsReadFault (D.drive device.new)) }
-    ensures completed { (D.drive device.new).completed ≤ (D.drive device.old).completed + 1 }
-{
-    let Place::At(address) = tables.place_of(block) else {
-        into.clear();
-        extend_zeros(into, device.geometry().block as usize)?;
-        return Ok(());
-    };
-    if let Err(fault) = read(device, address, 1, into) {
-        return Err(fault_of(halt_of(fault)));
-    }
-    Ok(())
-}
-
 /// Shows one block after what `into` holds: the data at its place, or zeros where it has none.
 pub(crate) fn read_block<D: Device>(
     tables: &Tables,
     device: &mut D,
-    buffer: &mut Vec<u8>,
     block: u32,
     into: &mut Vec<u8>,
 ) -> Result<(), DiskFault>
@@ -60,7 +34,12 @@ pub(crate) fn read_block<D: Device>(
     ensures err { IfErr result (IsReadFault (D.drive device.new)) }
     ensures completed { (D.drive device.new).completed ≤ (D.drive device.old).completed + 1 }
 {
-    read_into(tables, device, block, buffer)?;
-    into.extend_from_slice(buffer)?;
+    let Place::At(address) = tables.place_of(block) else {
+        extend_zeros(into, device.geometry().block as usize)?;
+        return Ok(());
+    };
+    if let Err(fault) = read_behind(device, address, 1, into) {
+        return Err(fault_of(halt_of(fault)));
+    }
     Ok(())
 }

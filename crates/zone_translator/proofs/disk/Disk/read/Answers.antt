@@ -1,6 +1,6 @@
 use Rattle.std.proofs.Common.{◌≡◌, ◌∙◌, refl, arith}
 use Rattle.zone_translator.specs.View.{array_of}
-use Rattle.zone_translator.proofs.CallLaws.{goes-begun, read-done, read-one, read-refused, shown-more}
+use Rattle.zone_translator.proofs.CallLaws.{goes-begun, read-done, read-refused, shown-more}
 use Rattle.zone_translator.proofs.DiskLaws.{kept-join}
 use Rattle.zone_translator.proofs.disk.Disk.read.Goals as goal
 
@@ -21,13 +21,6 @@ loop-i-preserved g c =
       omega (arith, so_far.5, c.read_one.ensures.completed),
       c.read_one.ensures.turns ∙ so_far.6,
     )
-
-pub returns-then-blocks-eq1-clause-flat : goal.returns-then-blocks-eq1-clause-flat
-returns-then-blocks-eq1-clause-flat g c =
-    let range = c.in_ok-is_done.ensures.in_range c.if-branch.false in
-    let e = c.read_alone.ensures in
-    read-one c.args.self.now c.read_alone.new.self c.args.first c.args.blocks c.read_alone.result _ (goes-begun c.args.self.now c.args.first c.args.blocks c.in_ok-is_done.field-0 c.in_ok-is_done.ensures.known c.if-branch.false) range.2
-    c.if-blocks-eq1.true (omega (arith, range.1, range.0, c.in_ok-is_done.ensures.long c.if-branch.false)) e.array e.size e.kept.geometry e.ok e.serving e.status e.err e.nothing
 
 pub returns-in-Err-clause-flat : goal.returns-in-Err-clause-flat
 returns-in-Err-clause-flat g c =
