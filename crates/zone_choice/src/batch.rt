@@ -1,4 +1,4 @@
-ghost use Rattle.std.specs.Prelude.{◌≡◌, ◌⊎◌, ◌++◌, ◌+◌, ◌*◌, ◌≤◌, ◌<◌, ◌^◌, [], OnOk, OnErr, drop, length, replicate, take};
+ghost use Rattle.std.specs.Prelude.{◌≡◌, ◌⊎◌, ◌++◌, ◌+◌, ◌≤◌, ◌<◌, ◌^◌, [], OnOk, OnErr, drop, length, replicate, take};
 ghost use Rattle.batch_log.specs.Header.{IsHeading, header_block, heading_of};
 ghost use Rattle.drive_port.specs.Calls.{CanRead, IsNotRefused, Obeys, ReadGives};
 ghost use Rattle.drive_port.specs.Contents.{Counts, SameContents, bytes_at, contents};
@@ -138,18 +138,6 @@ impl BatchBuilder {
         ensures bytes { self.new.bytes ≡ take count self.old.bytes }
     {
         self.bytes.truncate(count);
-    }
-
-    /// Takes the block at an index out, where each block has `block_bytes` bytes. That of the header has index 0.
-    pub fn cut_block(&mut self, index: usize, block_bytes: usize)
-        requires { index * block_bytes + block_bytes ≤ length self.old.bytes }
-        ensures heading { self.new.heading ≡ self.old.heading }
-        ensures bytes { self.new.bytes ≡ take (index * block_bytes) self.old.bytes ++ drop (index * block_bytes + block_bytes) self.old.bytes }
-    {
-        let left = self.bytes.len() - block_bytes;
-        let from = index * block_bytes;
-        self.bytes.copy_within(from + block_bytes.., from);
-        self.bytes.truncate(left);
     }
 
     /// Adds data: `count` bytes, all alike.

@@ -1,7 +1,10 @@
--- Gathered records, as they are kept: which blocks they are of, and the Move that takes them, with room for its header and with their data.
-use Rattle.std.specs.Prelude.{◌≡◌, ℕ, Bool, not, if◌then◌else◌, List, [], ◌∷◌, count_by, drop, length, map, take, Some, None}
+-- Gathered records, as they are kept: of which block each is, and where its data stands in the Move that takes them.
+use Rattle.std.specs.Prelude.{◌≡◌, ℕ, ◌+◌, ◌≤◌, not, List, [], drop, length, map, take, Option, None, Some, IfSome, is_some}
 use Rattle.std.specs.List.{AllByRecursion}
+use Rattle.std.specs.Option.{option_map}
 use Rattle.batch_log.specs.declared.header.Entry.{Entry}
+use Rattle.batch_log.specs.declared.header.Kind.TheVariants.{Move}
+use Rattle.batch_log.specs.Header.{Heading}
 use Rattle.zone_choice.specs.Builder.{BuilderView}
 use Rattle.zone_cleaner.specs.LiveRecords.{LiveRecord}
 
@@ -10,24 +13,34 @@ pub record GatheredView : Type 0 where
   pub block_bytes : ℕ
   pub batch : BuilderView
 
--- how many of these blocks have data
-abbrev pub data_blocks : List (ℕ × Bool) → ℕ
-data_blocks blocks = count_by (λ b. b.1) blocks
+-- the block at a position of these bytes
+abbrev pub block_at : ℕ → List ℕ → ℕ → List ℕ
+block_at block_bytes bytes position = take block_bytes (drop position bytes)
 
--- the records of these blocks, where the data of those that have some lies there, one after the other
-abbrev pub shown : ℕ → List (ℕ × Bool) → List ℕ → List LiveRecord
-shown block_bytes [] stored = []
-shown block_bytes (b ∷ blocks) stored =
-    if b.1 then record { block = b.0; content = Some (take block_bytes stored) } ∷ shown block_bytes blocks (drop block_bytes stored)
-    else record { block = b.0; content = None } ∷ shown block_bytes blocks stored
+-- the records of these blocks: each with the block of data that stands at its position, or a trim
+abbrev pub shown : ℕ → List ℕ → List (ℕ × Option ℕ) → List LiveRecord
+shown block_bytes bytes blocks = map (λ b. record { block = b.0; content = option_map (block_at block_bytes bytes) b.1 }) blocks
+
+-- at each of these positions there is a whole block, behind the header's
+abbrev pub AreWithin : ℕ → ℕ → List (ℕ × Option ℕ) → Type 0
+AreWithin block_bytes end blocks = AllByRecursion (λ b. IfSome b.1 (λ position. (block_bytes ≤ position) × (position + block_bytes ≤ end))) blocks
 
 -- all blocks are this long
 abbrev pub AreOfLength : ℕ → List (List ℕ) → Type 0
 AreOfLength block_bytes blocks = AllByRecursion (λ bytes. length bytes ≡ block_bytes) blocks
 
 -- how a batch names a block with data, or a trim
-abbrev pub entry_for : ℕ → Bool → Entry
-entry_for block has_data = record { block = block; trim = not has_data }
+abbrev pub entry_for : ℕ → Option ℕ → Entry
+entry_for block position = record { block = block; trim = not (is_some position) }
 
-abbrev pub entries_for : List (ℕ × Bool) → List Entry
+abbrev pub entries_for : List (ℕ × Option ℕ) → List Entry
 entries_for blocks = map (λ b. entry_for b.0 b.1) blocks
+
+-- what the header of their Move says
+abbrev pub move_heading : ℕ → ℕ → ℕ → List Entry → Heading
+move_heading size sequence source entries = record { kind = Move; sequence = sequence; source = source; size = Some size; entries = entries }
+
+-- the bytes of a record's data; a trim has none
+abbrev pub bytes_in : Option (List ℕ) → List ℕ
+bytes_in None = []
+bytes_in (Some bytes) = bytes

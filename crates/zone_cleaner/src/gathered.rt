@@ -1,12 +1,13 @@
-ghost use Rattle.std.specs.Prelude.{◌≡◌, ◌⊎◌, ◌≤◌, ◌<◌, ◌+◌, ◌*◌, ◌++◌, ◌∷◌, ◌^◌, false, [], drop, length, take, None, Some, IfErr, OnOk, OnErr, slice_index_or};
+ghost use Rattle.std.specs.Prelude.{◌≡◌, ◌⊎◌, ◌≤◌, ◌<◌, ◌+◌, ◌++◌, ◌∷◌, ◌^◌, false, [], drop, length, None, Some, IfErr, IfSome, OnOk, OnErr, slice_index_or};
 ghost use Rattle.std.specs.List.{AllByRecursion, concat};
+ghost use Rattle.std.specs.Option.{option_map};
 ghost use Rattle.batch_log.specs.Header.{IsHeading, header_block};
 ghost use Rattle.drive_port.specs.Contents.{SameContents};
 ghost use Rattle.logical_map.specs.declared.place.Place.TheVariants as places;
 ghost use Rattle.zone_choice.specs.Agreement.{Agrees, mounted, spelled};
 ghost use Rattle.zone_choice.specs.Changes.{KeepsArray};
 ghost use Rattle.zone_choice.specs.Tables.{size_of};
-ghost use Rattle.zone_cleaner.specs.Gathered.{AreOfLength, data_blocks, entries_for, entry_for};
+ghost use Rattle.zone_cleaner.specs.Gathered.{AreOfLength, AreWithin, block_at, bytes_in, entries_for, entry_for, move_heading, shown};
 ghost use Rattle.zone_cleaner.specs.LiveRecords.{content_of, data_of, move_of, without_all, without_block};
 ghost use Rattle.zone_cleaner.specs.Turns.{IsReadFault, clean_fault};
 
@@ -23,23 +24,33 @@ use zone_choice::{BatchBuilder, Tables, halt_of};
 /// data, or none for a trim. The data stands where the Move has it.
 #[derive(Drop)]
 pub struct Gathered {
-    /// Of each block whether its record has data.
-    records: IndexMap<u32, bool>,
-    /// The Move: room for its header block, and the data of the records.
+    /// Of each block the position of its data in the Move, or none for a trim.
+    records: IndexMap<u32, Option<usize>>,
+    /// The Move: room for its header block, and the data in the order in which it was read.
     batch: BatchBuilder,
+    /// Whether records were taken out. Their data is there still, so that the Move is packed before it is appended.
+    gaps: bool,
+    packed: BatchBuilder,
     /// How many bytes the header block has, and each block of data.
     block_bytes: u32,
 }
 
 impl Model for Gathered {
-    ghost use Rattle.std.specs.Prelude.{◌≡◌, ◌+◌, ◌*◌, drop, length};
-    ghost use Rattle.zone_cleaner.specs.Gathered.{GatheredView, data_blocks, shown};
+    ghost use Rattle.std.specs.Prelude.{◌≡◌, ◌≤◌, false, drop, length, if◌then◌else◌};
+    ghost use Rattle.std.specs.List.{concat};
+    ghost use Rattle.zone_cleaner.specs.Gathered.{AreWithin, GatheredView, shown};
+    ghost use Rattle.zone_cleaner.specs.LiveRecords.{data_of};
 
     ghost Value = { GatheredView };
 
-    ghost view = { λ g. record { records = shown g.block_bytes g.records.entries (drop g.block_bytes g.batch.bytes); block_bytes = g.block_bytes; batch = g.batch } };
+    ghost view = { λ g. record {
+      records = shown g.block_bytes g.batch.bytes g.records.entries;
+      block_bytes = g.block_bytes;
+      batch = if g.gaps then g.packed else g.batch;
+    } };
 
-    ghost invariant = { λ g. length g.batch.bytes ≡ g.block_bytes * (1 + data_blocks g.records.entries) };
+    ghost invariant = { λ g. (g.block_bytes ≤ length g.batch.bytes) × AreWithin g.block_bytes (length g.batch.bytes) g.records.entries
+        × (g.gaps ≡ false → concat (data_of (shown g.block_bytes g.batch.bytes g.records.entries)) ≡ drop g.block_bytes g.batch.bytes) };
 }
 
 /// What a halt of the drive is to a clean.
@@ -86,6 +97,8 @@ impl Gathered {
         Gathered {
             records: IndexMap::new(alloc),
             batch: BatchBuilder::new(alloc),
+            gaps: false,
+            packed: BatchBuilder::new(alloc),
             block_bytes: 0,
         }
     }
@@ -97,7 +110,7 @@ impl Gathered {
         self.records.len()
     }
 
-    /// Makes room for a header block of so many bytes: that of each block of data that is there.
+    /// Makes room for a header block of so many bytes: as many as each block of data has that is there.
     fn make_room(&mut self, block_bytes: u32) -> Result<(), AllocError>
         requires whole { AreOfLength block_bytes (data_of self.old.records) }
         ensures records { self.new.records ≡ self.old.records }
@@ -106,6 +119,7 @@ impl Gathered {
         if self.block_bytes != block_bytes {
             self.batch.make_room(block_bytes)?;
             self.block_bytes = block_bytes;
+            self.gaps = false;
         }
         Ok(())
     }
@@ -116,7 +130,7 @@ impl Gathered {
         ensures ok { OnOk result (self.new.records ≡ self.old.records ++ record { block = block; content = None } ∷ []) }
         ensures err { OnErr result (self.new.records ≡ self.old.records) }
     {
-        self.records.insert(block, false)?;
+        self.records.insert(block, None)?;
         Ok(())
     }
 
@@ -144,8 +158,9 @@ impl Gathered {
         let block_bytes = device.geometry().block;
         self.make_room(block_bytes)?;
         self.records.reserve(1)?;
+        let position = self.batch.bytes().len();
         fetch(&mut self.batch, tables, device, block, address)?;
-        let _ = self.records.insert(block, true);
+        let _ = self.records.insert(block, Some(position));
         Ok(())
     }
 
@@ -180,13 +195,8 @@ impl Gathered {
     fn forget_one(&mut self, block: u32)
         ensures { self.new.records ≡ without_block block self.old.records }
     {
-        let Some((index, _, has_data)) = self.records.shift_remove_full(&block) else {
-            return;
-        };
-        if has_data {
-            let block_bytes = self.block_bytes as usize;
-            let before = 1 + data_before(&self.records, index);
-            self.batch.cut_block(before, block_bytes);
+        if self.records.shift_remove(&block).is_some() {
+            self.gaps = true;
         }
     }
 
@@ -207,6 +217,7 @@ impl Gathered {
         let block_bytes = self.block_bytes as usize;
         self.records.clear();
         self.batch.truncate(block_bytes);
+        self.gaps = false;
     }
 
     /// Builds the Move of the records, from a zone. All is allocated then that its Append needs of them.
@@ -226,64 +237,141 @@ impl Gathered {
         ensures bytes { OnOk result (self.new.batch.bytes ≡ header_block block_bytes self.new.batch.heading ++ concat (data_of self.old.records)) }
     {
         self.make_room(block_bytes)?;
-        self.batch.start(Kind::Move, sequence, source, Some(size));
-        name_all(&self.records, &mut self.batch)?;
-        self.batch.encode_before_data(block_bytes);
-        Ok(())
+        if self.gaps {
+            pack(
+                &self.records,
+                self.batch.bytes(),
+                block_bytes,
+                &mut self.packed,
+            )?;
+            return head_move(
+                &self.records,
+                &mut self.packed,
+                size,
+                sequence,
+                source,
+                block_bytes,
+            );
+        }
+        head_move(
+            &self.records,
+            &mut self.batch,
+            size,
+            sequence,
+            source,
+            block_bytes,
+        )
     }
 
     /// The Move that was built.
     pub fn batch(&self) -> &BatchBuilder
         ensures { result.now ≡ self.now.batch }
     {
+        if self.gaps {
+            return &self.packed;
+        }
         &self.batch
     }
 }
 
-/// Whether the record at an index has data; a trim has none.
-fn has_data_at(records: &IndexMap<u32, bool>, index: usize) -> bool
-    ensures { result ≡ (slice_index_or records.now.entries index (0, false)).1 }
+/// Copies the data of the records, behind room for a header block, to another batch.
+fn pack(
+    records: &IndexMap<u32, Option<usize>>,
+    bytes: &[u8],
+    block_bytes: u32,
+    packed: &mut BatchBuilder,
+) -> Result<(), AllocError>
+    requires { AreWithin block_bytes (length bytes.now) records.now.entries }
+    ensures long { OnOk result (block_bytes ≤ length packed.new.bytes) }
+    ensures bytes { OnOk result (drop block_bytes packed.new.bytes ≡ concat (data_of (shown block_bytes bytes.now records.now.entries))) }
 {
-    match records.get_index(index) {
-        Some((_, has_data)) => *has_data,
-        None => false,
+    packed.make_room(block_bytes)?;
+    copy_all(records, bytes, block_bytes as usize, packed)
+}
+
+/// Adds the data of the records to a batch.
+fn copy_all(
+    records: &IndexMap<u32, Option<usize>>,
+    bytes: &[u8],
+    block_bytes: usize,
+    packed: &mut BatchBuilder,
+) -> Result<(), AllocError>
+    requires { AreWithin block_bytes (length bytes.now) records.now.entries }
+    ensures { OnOk result (packed.new.bytes ≡ packed.old.bytes ++ concat (data_of (shown block_bytes bytes.now records.now.entries))) }
+{
+    for position in records.values() {
+        copy_block(bytes, block_bytes, *position, packed)?;
+    }
+    Ok(())
+}
+
+/// Adds the block of data at a position to a batch; none without a position.
+fn copy_block(
+    bytes: &[u8],
+    block_bytes: usize,
+    position: Option<usize>,
+    packed: &mut BatchBuilder,
+) -> Result<(), AllocError>
+    requires { IfSome position (λ position. position + block_bytes ≤ length bytes.now) }
+    ensures { OnOk result (packed.new.bytes ≡ packed.old.bytes ++ bytes_in (option_map (block_at block_bytes bytes.now) position)) }
+{
+    match position {
+        Some(position) => packed.copy(&bytes[position..][..block_bytes]),
+        None => Ok(()),
     }
 }
 
-/// How many of the first records have data.
-fn data_before(records: &IndexMap<u32, bool>, count: usize) -> usize
-    ensures value { result ≡ data_blocks (take count records.now.entries) }
-    ensures few { result < 2 ^ 63 }
+/// Writes the header of the Move of the records into its room, before their data.
+fn head_move(
+    records: &IndexMap<u32, Option<usize>>,
+    batch: &mut BatchBuilder,
+    size: u32,
+    sequence: u64,
+    source: u32,
+    block_bytes: u32,
+) -> Result<(), AllocError>
+    requires block { (block_bytes ≡ 512) ⊎ (block_bytes ≡ 4096) }
+    requires room { block_bytes ≤ length batch.old.bytes }
+    requires heading { IsHeading block_bytes (move_heading size sequence source (entries_for records.now.entries)) }
+    requires few { AllByRecursion (λ b. b.0 + 1 < 2 ^ 32) records.now.entries }
+    ensures heading { OnOk result (batch.new.heading ≡ move_heading size sequence source (entries_for records.now.entries)) }
+    ensures bytes { OnOk result (batch.new.bytes ≡ header_block block_bytes batch.new.heading ++ drop block_bytes batch.old.bytes) }
+    ensures kept { drop block_bytes batch.new.bytes ≡ drop block_bytes batch.old.bytes }
+    ensures length { length batch.new.bytes ≡ length batch.old.bytes }
 {
-    let mut found = 0;
-    for index in 0..count.min(records.len()) {
-        if has_data_at(records, index) {
-            found += 1;
-        }
-    }
-    found
+    batch.start(Kind::Move, sequence, source, Some(size));
+    name_all(records, batch)?;
+    batch.encode_before_data(block_bytes);
+    Ok(())
 }
 
 /// Names the blocks of the records in a batch.
-fn name_all(records: &IndexMap<u32, bool>, batch: &mut BatchBuilder) -> Result<(), AllocError>
+fn name_all(
+    records: &IndexMap<u32, Option<usize>>,
+    batch: &mut BatchBuilder,
+) -> Result<(), AllocError>
     requires { AllByRecursion (λ b. b.0 + 1 < 2 ^ 32) records.now.entries }
     ensures heading { OnOk result (batch.new.heading ≡ record batch.old.heading { entries = batch.old.heading.entries ++ entries_for records.now.entries }) }
     ensures bytes { batch.new.bytes ≡ batch.old.bytes }
 {
-    for (block, has_data) in records.iter() {
-        name_record(batch, *block, *has_data)?;
+    for (block, position) in records.iter() {
+        name_record(batch, *block, *position)?;
     }
     Ok(())
 }
 
 /// Names the block of one record.
-fn name_record(batch: &mut BatchBuilder, block: u32, has_data: bool) -> Result<(), AllocError>
+fn name_record(
+    batch: &mut BatchBuilder,
+    block: u32,
+    position: Option<usize>,
+) -> Result<(), AllocError>
     requires { block + 1 < 2 ^ 32 }
-    ensures heading { OnOk result (batch.new.heading ≡ record batch.old.heading { entries = batch.old.heading.entries ++ entry_for block has_data ∷ [] }) }
+    ensures heading { OnOk result (batch.new.heading ≡ record batch.old.heading { entries = batch.old.heading.entries ++ entry_for block position ∷ [] }) }
     ensures bytes { batch.new.bytes ≡ batch.old.bytes }
 {
-    if has_data {
-        return batch.name_data(block, 1);
+    match position {
+        Some(_) => batch.name_data(block, 1),
+        None => batch.name_trims(block, 1),
     }
-    batch.name_trims(block, 1)
 }
