@@ -1,4 +1,4 @@
--- What a call answers by what its submit answers, and what a buffer holds behind what it held.
+-- What a call answers by what its submit answers, and what a buffer holds after what it held.
 use Rattle.std.proofs.Common.{◌≡◌, ℕ, List, [], ◌++◌, Result, Ok, Err, refl, sym, ap, ◌∙◌, inl, inr, arith}
 use Rattle.std.proofs.lemmas.List.{append-nil}
 use Rattle.nvme_wire.specs.Completion.{Fits, completion_bytes}
@@ -13,7 +13,7 @@ use Rattle.drive_port.specs.Halting.{Adds, SubmitGives}
 use Rattle.drive_port.specs.Calls.{CallGives, IsCompletion, Obeys, answer_of}
 use Rattle.drive_port.proofs.HaltLaws.{success_or}
 
--- ---- bytes behind others
+-- ---- bytes after others
 
 -- where nothing was returned the buffer is as it was
 pub adds-nothing : (held : List ℕ) (Given : List ℕ → Type 0) → Given [] → Adds held Given held

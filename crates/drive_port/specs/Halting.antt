@@ -61,14 +61,14 @@ abbrev pub SubmitGives : DriveState → List ℕ → List ℕ → Result (List �
 SubmitGives old entry bytes (Ok completion) returned new = (old.stopped ≡ false) × Completes old entry bytes completion returned new
 SubmitGives old entry bytes (Err halt) returned new = (returned ≡ []) × Halts old (decode_of entry) bytes halt new
 
--- ---- bytes behind others
+-- ---- bytes after others
 
--- What a buffer holds after a command: what it held before and, behind it, the bytes that the command returned, of which this holds.
+-- What a buffer holds after a command: what it held before, followed by the bytes that the command returned, of which this holds.
 pub record Adds (held : List ℕ) (Given : List ℕ → Type 0) (items : List ℕ) : Type 0 where
   pub returned : List ℕ
   pub joined : items ≡ held ++ returned
   pub given : Given returned
 
--- What a device answers to a submit that keeps what the buffer held: the same, with the bytes behind those.
+-- What a device answers to a submit that keeps what the buffer held: the same, with the bytes after those.
 abbrev pub SubmitAdds : DriveState → List ℕ → List ℕ → List ℕ → Result (List ℕ) Halt → List ℕ → DriveState → Type 0
 SubmitAdds old entry bytes held result items new = Adds held (λ returned. SubmitGives old entry bytes result returned new) items

@@ -69,7 +69,7 @@ pub(crate) fn call<D: Device>(
     answer_of(&completion)
 }
 
-// The same without data, with what is returned behind what `into` holds.
+// The same without data, with what is returned after what `into` holds.
 #[inline]
 fn call_behind<D: Device>(
     device: &mut D,
@@ -134,7 +134,7 @@ pub fn read<D: Device>(
     read_behind(device, slba, blocks, into)
 }
 
-/// Reads as `read` does, and puts the bytes behind those that `into` holds. After a fault `into` is as it
+/// Reads as `read` does, and puts the bytes after those that `into` holds. After a fault `into` is as it
 /// was.
 #[inline]
 pub fn read_behind<D: Device>(

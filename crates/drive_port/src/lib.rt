@@ -4,7 +4,7 @@
 //! # Example
 //!
 //! ```text
-//! // Writes one block to the first zone of any device, reads it back, and again behind what was read,
+//! // Writes one block to the first zone of any device, reads it back, and again after what was read,
 //! // and makes the zone full.
 //! let address = append(alloc, &mut device, 0, &block)?;
 //! read(&mut device, address, 1, &mut bytes)?;
@@ -26,7 +26,7 @@
 //!   (`Leaves`), and of their contents (`AppendKeeps` and its kin), also where the device stopped; when a
 //!   drive has to take it (`CanAppend` and its kin); and what every call keeps (`Obeys`). All of these
 //!   stand in `specs/Calls.antt`.
-//! * `submit_behind` and `read_behind` keep what a buffer holds, and put behind it what the command
+//! * `submit_behind` and `read_behind` keep what a buffer holds, and put after it what the command
 //!   returned (`Adds` in `specs/Halting.antt`); after a fault the buffer is as it was.
 //! * `StopAfter` stops a device after a number of commands, or inside the Append that follows them
 //!   (`specs/Stop.antt`), and `Recorder` keeps the entries of those that were completed. Both are

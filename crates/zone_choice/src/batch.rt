@@ -132,7 +132,7 @@ impl BatchBuilder {
         read_behind(device, address, 1, &mut self.bytes)
     }
 
-    /// Drops all bytes behind the first `count`.
+    /// Drops all bytes after the first `count`.
     pub fn truncate(&mut self, count: usize)
         ensures heading { self.new.heading ≡ self.old.heading }
         ensures bytes { self.new.bytes ≡ take count self.old.bytes }

@@ -21,7 +21,7 @@ block_at block_bytes bytes position = take block_bytes (drop position bytes)
 abbrev pub shown : ℕ → List ℕ → List (ℕ × Option ℕ) → List LiveRecord
 shown block_bytes bytes blocks = map (λ b. record { block = b.0; content = option_map (block_at block_bytes bytes) b.1 }) blocks
 
--- at each of these positions there is a whole block, behind the header's
+-- at each of these positions there is a whole block, after the header's
 abbrev pub AreWithin : ℕ → ℕ → List (ℕ × Option ℕ) → Type 0
 AreWithin block_bytes end blocks = AllByRecursion (λ b. IfSome b.1 (λ position. (block_bytes ≤ position) × (position + block_bytes ≤ end))) blocks
 

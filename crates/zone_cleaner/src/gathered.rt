@@ -30,6 +30,7 @@ pub struct Gathered {
     batch: BatchBuilder,
     /// Whether records were taken out. Their data is there still, so that the Move is packed before it is appended.
     gaps: bool,
+    /// The packed Move.
     packed: BatchBuilder,
     /// How many bytes the header block has, and each block of data.
     block_bytes: u32,
@@ -110,7 +111,7 @@ impl Gathered {
         self.records.len()
     }
 
-    /// Makes room for a header block of so many bytes: as many as each block of data has that is there.
+    /// Makes room for a header block of `block_bytes` bytes, the length of each block of data that is there.
     fn make_room(&mut self, block_bytes: u32) -> Result<(), AllocError>
         requires whole { AreOfLength block_bytes (data_of self.old.records) }
         ensures records { self.new.records ≡ self.old.records }
@@ -160,6 +161,7 @@ impl Gathered {
         self.records.reserve(1)?;
         let position = self.batch.bytes().len();
         fetch(&mut self.batch, tables, device, block, address)?;
+        // There is room for it.
         let _ = self.records.insert(block, Some(position));
         Ok(())
     }
@@ -274,7 +276,7 @@ impl Gathered {
     }
 }
 
-/// Copies the data of the records, behind room for a header block, to another batch.
+/// Copies the data of the records, after room for a header block, to another batch.
 fn pack(
     records: &IndexMap<u32, Option<usize>>,
     bytes: &[u8],

@@ -23,7 +23,7 @@ fn fault_status(fault: DecodeFault) -> Status
 }
 
 impl Drive {
-    // Does a command. What it returns goes behind what `into` holds.
+    // Does a command. What it returns goes after what `into` holds.
     fn execute(&mut self, command: Command, bytes: &[u8], into: &mut Vec<u8>) -> Result<Reply, Halt>
         requires admitted { IsAdmitted command }
         ensures ok { IfOk result (λ reply. Adds into.old.items
@@ -85,7 +85,7 @@ impl Drive {
         }
     }
 
-    // Answers an entry, and counts its command. What it returns goes behind what `into` holds.
+    // Answers an entry, and counts its command. What it returns goes after what `into` holds.
     fn answer(
         &mut self,
         entry: &[u8; 64],

@@ -49,7 +49,7 @@ impl Drive {
         Ok(bytes_from(zone.written(), from))
     }
 
-    /// A Read: the bytes of the blocks go behind what `into` holds, zeros for those that are not written.
+    /// A Read: the bytes of the blocks go after what `into` holds, zeros for those that are not written.
     pub(crate) fn read(&self, slba: u64, blocks: u32, into: &mut Vec<u8>) -> Result<Reply, Halt>
         requires some { 1 ≤ blocks }
         ensures ok { (bytes : List ℕ) → IfOk result (λ reply. Adds into.old.items
@@ -76,7 +76,7 @@ fn bytes_from(bytes: &[u8], from: usize) -> &[u8]
     &bytes[bytes.len().min(from)..]
 }
 
-// Puts the first `len` of the stored bytes behind what `into` holds, and zeros where there are fewer.
+// Puts the first `len` of the stored bytes after what `into` holds, and zeros where there are fewer.
 fn add_with_zeros(stored: &[u8], len: usize, into: &mut Vec<u8>) -> Result<(), AllocError>
     ensures ok { OnOk result (into.new.items ≡ into.old.items ++ with_zeros len stored.now) }
     ensures err { OnErr result (into.new.items ≡ into.old.items) }

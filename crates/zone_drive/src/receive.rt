@@ -21,7 +21,7 @@ impl ReportedZones for Drive {
 }
 
 impl Drive {
-    /// A Zone Management Receive: the report of the zones from the one that holds `slba` on goes behind
+    /// A Zone Management Receive: the report of the zones from the one that holds `slba` on goes after
     /// what `into` holds.
     pub(crate) fn receive(
         &self,
