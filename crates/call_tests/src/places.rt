@@ -2,7 +2,7 @@ ghost use Rattle.std.specs.Prelude.{◌≡◌, ◌≤◌, ◌<◌, ◌+◌, ◌^
 ghost use Rattle.logical_map.specs.Places.{address_of};
 
 use crate::chance::chance;
-use logical_map::{Map, Place};
+use logical_map::{Map, Moved, Place};
 use std::alloc::{AllocError, Global};
 use std::process::Abort;
 use std::test::Fail;
@@ -17,7 +17,13 @@ fn places_last(rt: &impl Abort, alloc: Global, count: u32) -> Result<(), Fail>
     let fresh = map.get(last);
     map.reserve_for(last)?;
     map.reserve_in(2, 1)?;
-    assert_eq!(rt; map.set(last, Place::At(9)), Place::None);
+    assert_eq!(rt;
+        map.set(last, Place::At(9)),
+        Moved {
+            from: None,
+            to: Some(2)
+        }
+    );
     assert_eq!(rt;
         (fresh, map.get(last), map.get(last - 1)),
         (Place::None, Place::At(9), Place::None)
@@ -53,7 +59,15 @@ fn random_place(state: &mut u64, zone: u32) -> Place
     }
 }
 
-// Places a block in both, and says whether both answer the same old place. The zone's list may lack room for it.
+// The zone of 64 that a place lies in, if it lies in one.
+fn plain_zone(place: Place) -> Option<u32> {
+    match place {
+        Place::Trimmed(address) | Place::At(address) if address < 256 => Some((address / 4) as u32),
+        _ => None,
+    }
+}
+
+// Places a block in both, and says whether it was moved between the same zones. The zone's list may lack room for it.
 fn place_in_both(
     map: &mut Map,
     places: &mut [Place; 300],
@@ -67,24 +81,20 @@ fn place_in_both(
     ensures zones { OnOk result (map.new.zones ≡ map.old.zones) }
 {
     map.reserve_for(block)?;
-    let old = map.set(block, place);
-    let same = old == places[block as usize];
+    let moved = map.set(block, place);
+    let plain = Moved {
+        from: plain_zone(places[block as usize]),
+        to: plain_zone(place),
+    };
     places[block as usize] = place;
-    Ok(same)
-}
-
-fn lies_in(place: Place, zone: u32) -> bool {
-    match place {
-        Place::None => false,
-        Place::Trimmed(address) | Place::At(address) => address / 4 == zone as u64,
-    }
+    Ok(moved == plain)
 }
 
 // How many blocks lie in a zone, by a look at each.
 fn plain_live(places: &[Place; 300], zone: u32) -> u32 {
     let mut live = 0_u32;
     for place in places {
-        live = live.wrapping_add(u32::from(lies_in(*place, zone)));
+        live = live.wrapping_add(u32::from(plain_zone(*place) == Some(zone)));
     }
     live
 }
@@ -93,7 +103,7 @@ fn plain_live(places: &[Place; 300], zone: u32) -> u32 {
 fn plain_first(places: &[Place; 300], zone: u32, from: u32) -> Option<(u32, Place)> {
     for block in from..300 {
         let place = places[block as usize];
-        if lies_in(place, zone) {
+        if plain_zone(place) == Some(zone) {
             return Some((block, place));
         }
     }

@@ -103,14 +103,14 @@ impl<D: Device + Drop> Device for Counter<D> {
         Ok(completion)
     }
 
-    fn submit_behind(&mut self, entry: &[u8; 64], into: &mut Vec<u8>) -> Result<[u8; 16], Halt>
+    fn submit_extending(&mut self, entry: &[u8; 64], into: &mut Vec<u8>) -> Result<[u8; 16], Halt>
         ensures gives { SubmitAdds self.old.inner entry.now [] into.old.items result into.new.items self.new.inner }
         ensures was_lawful { IsLawful self.old.inner }
         ensures lawful { IsLawful self.new.inner }
         ensures counted { IfOk result (λ completion. self.new.counts ≡ after self.old.counts entry.now [] completion) }
         ensures halted { OnErr result (self.new.counts ≡ self.old.counts) }
     {
-        let completion = self.device.submit_behind(entry, into)?;
+        let completion = self.device.submit_extending(entry, into)?;
         self.count(entry, &[], &completion);
         Ok(completion)
     }

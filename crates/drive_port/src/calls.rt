@@ -71,7 +71,7 @@ pub(crate) fn call<D: Device>(
 
 // The same without data, with what is returned after what `into` holds.
 #[inline]
-fn call_behind<D: Device>(
+fn call_extending<D: Device>(
     device: &mut D,
     command: &Command,
     into: &mut Vec<u8>,
@@ -81,7 +81,7 @@ fn call_behind<D: Device>(
     ensures obeys { Obeys (D.drive device.old) result (D.drive device.new) }
 {
     let entry = command.encode(0);
-    let completion = device.submit_behind(&entry, into)?;
+    let completion = device.submit_extending(&entry, into)?;
     answer_of(&completion)
 }
 
@@ -131,13 +131,13 @@ pub fn read<D: Device>(
     ensures obeys { Obeys (D.drive device.old) result (D.drive device.new) }
 {
     into.clear();
-    read_behind(device, slba, blocks, into)
+    read_extending(device, slba, blocks, into)
 }
 
 /// Reads as `read` does, and puts the bytes after those that `into` holds. After a fault `into` is as it
 /// was.
 #[inline]
-pub fn read_behind<D: Device>(
+pub fn read_extending<D: Device>(
     device: &mut D,
     slba: u64,
     blocks: u32,
@@ -155,7 +155,7 @@ pub fn read_behind<D: Device>(
     ensures taken { CanRead (D.drive device.old) slba blocks → IsNotRefused result }
     ensures obeys { Obeys (D.drive device.old) result (D.drive device.new) }
 {
-    call_behind(device, &Command::Read { slba, blocks }, into)?;
+    call_extending(device, &Command::Read { slba, blocks }, into)?;
     Ok(())
 }
 

@@ -9,7 +9,7 @@
 //! let address = append(alloc, &mut device, 0, &block)?;
 //! read(&mut device, address, 1, &mut bytes)?;
 //! assert_eq!(bytes, block);
-//! read_behind(&mut device, address, 1, &mut bytes)?;
+//! read_extending(&mut device, address, 1, &mut bytes)?;
 //! assert_eq!(&bytes[block.len()..], block);
 //! finish(alloc, &mut device, 0)?;
 //! ```
@@ -26,7 +26,7 @@
 //!   (`Leaves`), and of their contents (`AppendKeeps` and its kin), also where the device stopped; when a
 //!   drive has to take it (`CanAppend` and its kin); and what every call keeps (`Obeys`). All of these
 //!   stand in `specs/Calls.antt`.
-//! * `submit_behind` and `read_behind` keep what a buffer holds, and put after it what the command
+//! * `submit_extending` and `read_extending` keep what a buffer holds, and put after it what the command
 //!   returned (`Adds` in `specs/Halting.antt`); after a fault the buffer is as it was.
 //! * `StopAfter` stops a device after a number of commands, or inside the Append that follows them
 //!   (`specs/Stop.antt`), and `Recorder` keeps the entries of those that were completed. Both are
@@ -40,7 +40,9 @@ mod progress;
 mod recorder;
 mod stop;
 
-pub use calls::{PortFault, append, close, count_zones, finish, read, read_behind, report, reset};
+pub use calls::{
+    PortFault, append, close, count_zones, finish, read, read_extending, report, reset,
+};
 pub use device::{Device, Halt};
 pub use laws::{
     closing_keeps_contents, closing_takes_no_resource, closings_join, restart_keeps_contents,

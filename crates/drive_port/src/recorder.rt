@@ -89,7 +89,7 @@ impl<D: Device + Drop> Device for Recorder<D> {
         Ok(completion)
     }
 
-    fn submit_behind(&mut self, entry: &[u8; 64], into: &mut Vec<u8>) -> Result<[u8; 16], Halt>
+    fn submit_extending(&mut self, entry: &[u8; 64], into: &mut Vec<u8>) -> Result<[u8; 16], Halt>
         ensures gives { SubmitAdds self.old.inner entry.now [] into.old.items result into.new.items self.new.inner }
         ensures was_lawful { IsLawful self.old.inner }
         ensures lawful { IsLawful self.new.inner }
@@ -102,7 +102,7 @@ impl<D: Device + Drop> Device for Recorder<D> {
         if self.entries.reserve(1).is_err() {
             return Err(Halt::Memory);
         }
-        let completion = self.device.submit_behind(entry, into)?;
+        let completion = self.device.submit_extending(entry, into)?;
         self.entries.push_reserved(*entry);
         Ok(completion)
     }

@@ -190,7 +190,7 @@ impl<D: Device + Drop> Device for StopAfter<D> {
 
     /// Without data beside it no Append is torn: after the last command it just stops.
     #[inline]
-    fn submit_behind(&mut self, entry: &[u8; 64], into: &mut Vec<u8>) -> Result<[u8; 16], Halt>
+    fn submit_extending(&mut self, entry: &[u8; 64], into: &mut Vec<u8>) -> Result<[u8; 16], Halt>
         ensures gives { SubmitAdds (drive_of self.old) entry.now [] into.old.items result into.new.items (drive_of self.new) }
         ensures was_lawful { IsLawful (drive_of self.old) }
         ensures lawful { IsLawful (drive_of self.new) }
@@ -208,6 +208,6 @@ impl<D: Device + Drop> Device for StopAfter<D> {
             self.progress = Progress::Over;
             return Err(Halt::Stopped);
         }
-        self.device.submit_behind(entry, into)
+        self.device.submit_extending(entry, into)
     }
 }

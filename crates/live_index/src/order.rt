@@ -41,7 +41,7 @@ impl Order {
         self.positions[zone as usize] as usize
     }
 
-    /// Puts a zone at a position, and the zone that stood there in its place.
+    /// Puts a zone at a position, and the zone that stood there in its place. Mostly that is the same zone.
     pub fn put(&mut self, zone: u32, position: usize)
         requires inverse { AreInverse self.old.zones.items self.old.positions.items }
         requires zone { zone < length self.old.positions.items }
@@ -49,8 +49,11 @@ impl Order {
         ensures zones { self.new.zones.items ≡ swap self.old.zones.items (slice_index self.old.positions.items zone) position }
         ensures positions { self.new.positions.items ≡ swap self.old.positions.items zone (slice_index self.old.zones.items position) }
     {
-        let from = self.positions[zone as usize];
         let other = self.zones[position];
+        if other == zone {
+            return;
+        }
+        let from = self.positions[zone as usize];
         self.zones.swap(from as usize, position);
         self.positions.swap(zone as usize, other as usize);
     }

@@ -40,6 +40,10 @@ pub record Follows (old : List ListView) (was zone : Option ℕ) (block : ℕ) (
   pub here : (z : ℕ) → is_zone zone z ≡ true → is_zone was z ≡ false → (listed new z).whole ≡ true → Contains (listed new z).blocks block
   pub kept : (z other : ℕ) → Contains (listed old z).blocks other → Contains (listed new z).blocks other
 
+-- each block is kept
+abbrev pub KeepsAll : List ℕ → List ℕ → Type 0
+KeepsAll old new = (block : ℕ) → Contains old block → Contains new block
+
 -- of blocks that were noted of a zone, each that lies there is kept
 abbrev pub KeepsThere : (ℕ → Option (List Place)) → ℕ → ℕ → List ℕ → List ℕ → Type 0
 KeepsThere page zone_size zone old new = (block : ℕ) → lies_in zone_size zone (place_in page block) ≡ true → Contains old block → Contains new block

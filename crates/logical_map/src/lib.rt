@@ -22,5 +22,5 @@ mod map;
 mod pages;
 mod place;
 
-pub use map::Map;
+pub use map::{Map, Moved};
 pub use place::Place;

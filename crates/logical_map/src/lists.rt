@@ -1,6 +1,6 @@
 ghost use Rattle.std.specs.Prelude.{◌≡◌, ◌≤◌, OnOk, length, true, if◌then◌else◌};
 ghost use Rattle.std.specs.List.Sorted.{IsNonDecreasing};
-ghost use Rattle.logical_map.specs.Lists.{Follows, IsFirstFrom, KeepsThere, Notes, Shortens, fresh, listed, missing};
+ghost use Rattle.logical_map.specs.Lists.{Follows, IsFirstFrom, KeepsAll, KeepsThere, Notes, Shortens, fresh, listed, missing};
 ghost use Rattle.logical_map.specs.Pages.{page_of};
 
 use crate::pages::{Pages, lies_in, place_at};
@@ -88,39 +88,27 @@ impl ZoneList {
         self.blocks.as_slice()
     }
 
-    /// Drops the blocks that lie elsewhere.
-    fn drop_others(&mut self, pages: &Pages, zone_size: u32, zone: u64)
+    /// Brings the blocks in ascending order where they are not.
+    fn sort(&mut self)
         ensures whole { self.new.whole ≡ self.old.whole }
-        ensures kept { KeepsThere (page_of pages.now.items) zone_size zone self.old.blocks self.new.blocks }
-    {
-        self.sorted = false;
-        self.blocks
-            .retain(|block| lies_in(zone_size, zone, place_at(pages, *block)));
-    }
-
-    /// Brings the blocks in ascending order where they are not, after those that lie elsewhere are dropped. That looks
-    /// at all their places in a row, so that the places are in the processor's cache when they are asked for.
-    fn sort(&mut self, pages: &Pages, zone_size: u32, zone: u64)
-        ensures whole { self.new.whole ≡ self.old.whole }
-        ensures kept { KeepsThere (page_of pages.now.items) zone_size zone self.old.blocks self.new.blocks }
+        ensures kept { KeepsAll self.old.blocks self.new.blocks }
         ensures ascends { IsNonDecreasing self.new.blocks }
     {
         if self.sorted {
             return;
         }
-        self.drop_others(pages, zone_size, zone);
         self.blocks.sort_unstable();
         self.sorted = true;
     }
 
     /// Sorts the blocks as `sort` does, and answers the position of the first that is no lower than `from`.
-    pub fn position_from(&mut self, pages: &Pages, zone_size: u32, zone: u64, from: u32) -> usize
+    pub fn position_from(&mut self, from: u32) -> usize
         ensures whole { self.new.whole ≡ self.old.whole }
-        ensures kept { KeepsThere (page_of pages.now.items) zone_size zone self.old.blocks self.new.blocks }
+        ensures kept { KeepsAll self.old.blocks self.new.blocks }
         ensures ascends { IsNonDecreasing self.new.blocks }
         ensures first { IsFirstFrom self.new.blocks from result }
     {
-        self.sort(pages, zone_size, zone);
+        self.sort();
         let position = first_from_near(&self.blocks, from, self.next);
         self.next = position.saturating_add(1);
         position
@@ -132,8 +120,9 @@ impl ZoneList {
         ensures whole { self.new.whole ≡ self.old.whole }
         ensures kept { KeepsThere (page_of pages.now.items) zone_size zone self.old.blocks self.new.blocks }
     {
-        self.drop_others(pages, zone_size, zone);
         self.sorted = false;
+        self.blocks
+            .retain(|block| lies_in(zone_size, zone, place_at(pages, *block)));
         self.blocks.sort_unstable();
         self.blocks.dedup();
         self.blocks.shrink_to_fit();
@@ -198,8 +187,8 @@ pub fn note(lists: &mut Vec<ZoneList>, was: Option<u64>, zone: Option<u64>, bloc
     lists[zone as usize].note(block);
 }
 
-/// Tidies the list of a zone that a block was moved out of, where no block lies there any more, or where it is
-/// longer than the zone and has more than twice the blocks that lie there.
+/// Tidies the list of a zone that a block was moved out of, where it is longer than the zone and has more than twice the
+/// blocks that lie there.
 pub fn shorten(
     lists: &mut Vec<ZoneList>,
     pages: &Pages,
@@ -219,12 +208,7 @@ pub fn shorten(
     if was >= lists.len() as u64 || was >= counts.len() as u64 {
         return;
     }
-    let live = counts[was as usize];
-    let most = if live == 0 {
-        0
-    } else {
-        live.saturating_mul(2).max(zone_size)
-    };
+    let most = counts[was as usize].saturating_mul(2).max(zone_size);
     if lists[was as usize].blocks().len() <= most as usize {
         return;
     }

@@ -1,7 +1,7 @@
-ghost use Rattle.std.specs.Prelude.{◌≡◌, ◌≢◌, ◌<◌, ◌≤◌, ◌+◌, ◌/◌, ◌^◌, length, map, slice_get, slice_index, slice_index_or, slice_set, replicate, IfSome, OnOk, OnErr};
+ghost use Rattle.std.specs.Prelude.{◌≡◌, ◌≢◌, ◌<◌, ◌≤◌, ◌+◌, ◌/◌, ◌^◌, length, map, slice_get, slice_index, slice_index_or, slice_set, replicate, false, IfSome, OnOk, OnErr};
 ghost use Rattle.logical_map.specs.Counts.{lowered, raised};
-ghost use Rattle.logical_map.specs.Lists.{FindsBlock, FindsThere};
-ghost use Rattle.logical_map.specs.Live.{first_record, lies_in, live, records_of, zone_in, zone_of};
+ghost use Rattle.logical_map.specs.Lists.{FindsBlock, FindsThere, NoneLies};
+ghost use Rattle.logical_map.specs.Live.{first_record, lies_in, live, records_of, zone_below, zone_in, zone_of};
 ghost use Rattle.logical_map.specs.Pages.{page_of, place_in, place_of};
 ghost use Rattle.logical_map.specs.Places.{ArePlacedReady, Grows, IsReady, Reserves, address_of};
 ghost use Rattle.logical_map.specs.declared.place.Place.TheVariants as places;
@@ -12,11 +12,28 @@ use crate::place::Place;
 use std::alloc::{AllocError, Global};
 use std::marker::Model;
 
+/// The zones of the drive that a block was moved between, where it lay in one and where it lies in one.
+#[derive(Clone, Copy, Debug, PartialEq, Eq)]
+pub struct Moved {
+    pub from: Option<u32>,
+    pub to: Option<u32>,
+}
+
+/// The zone, if a drive with that many zones has it.
+fn zone_below(zones: u32, zone: Option<u64>) -> Option<u32>
+    ensures { result ≡ zone_below zones zone }
+{
+    let zone = zone?;
+    if zone < zones as u64 {
+        return Some(zone as u32);
+    }
+    None
+}
+
 /// Where each of a number of logical blocks lies, on a drive of `zones` zones with `zone_size` addresses
 /// each. The places stand in pages, 8 bytes each; a page is made when it is wanted, and one that is missing
 /// holds no place. How many blocks lie in each zone is kept beside them, and a list of them, 4 bytes for
-/// each block that was moved there; blocks that were moved away are dropped from a long list, and from one that is
-/// put in order.
+/// each block that was moved there; blocks that were moved away are dropped from a long list.
 #[derive(Drop)]
 pub struct Map {
     /// How many blocks there are.
@@ -119,16 +136,18 @@ impl Map {
         self.lists[zone as usize].make_room(empty, count)
     }
 
-    /// Sets the place of a block that room was made for, and answers the old one. It allocates nothing.
-    pub fn set(&mut self, block: u32, place: Place) -> Place
+    /// Sets the place of a block that room was made for, and answers the zones that it was moved between. It
+    /// allocates nothing.
+    pub fn set(&mut self, block: u32, place: Place) -> Moved
         requires in_range { block < length self.old.places }
         requires ready { IsReady self.old block }
         requires fits { address_of place + 1 < 2 ^ 63 }
         ensures set { self.new ≡ record self.old { places = slice_set self.old.places block place } }
-        ensures old { result ≡ slice_index_or self.old.places block places.None }
+        ensures from { result.from ≡ zone_in self.old (slice_index_or self.old.places block places.None) }
+        ensures to { result.to ≡ zone_in self.old place }
     {
         let Some(old) = change(&mut self.pages, block, place) else {
-            return Place::None;
+            unreachable!();
         };
         let was = zone_of(self.zone_size, old);
         let zone = zone_of(self.zone_size, place);
@@ -143,18 +162,10 @@ impl Map {
             was,
             zone,
         );
-        old
-    }
-
-    /// The zone of the drive that a place lies in, if it lies in one.
-    pub fn zone_of(&self, place: Place) -> Option<u32>
-        ensures { result ≡ zone_in self.now place }
-    {
-        let zone = zone_of(self.zone_size, place)?;
-        if zone < self.zones as u64 {
-            return Some(zone as u32);
+        Moved {
+            from: zone_below(self.zones, was),
+            to: zone_below(self.zones, zone),
         }
-        None
     }
 
     /// How many blocks lie in a zone of the drive.
@@ -193,14 +204,38 @@ impl Map {
             return first_placed(&self.pages, self.zone_size, zone, from, self.count);
         }
         let index = zone as usize;
-        let first = self.lists[index].position_from(&self.pages, self.zone_size, zone as u64, from);
+        let first = self.lists[index].position_from(from);
         let blocks = self.lists[index].blocks();
         let position = first_listed(&self.pages, self.zone_size, zone, blocks, first)?;
         Some(blocks[position])
     }
 }
 
-/// The position of the first of some blocks, from a position on, that lies in a zone.
+/// How many blocks of a list are looked at together.
+const RUN: usize = 32;
+
+/// Whether any of the blocks from one position to before another lies in a zone. It looks at all their places, whatever
+/// it finds, so that the processor fetches them together.
+fn any_there(
+    pages: &Pages,
+    zone_size: u32,
+    zone: u32,
+    blocks: &[u32],
+    first: usize,
+    end: usize,
+) -> bool
+    requires { end ≤ length blocks.now }
+    ensures { result ≡ false → NoneLies (page_of pages.now.items) zone_size zone blocks.now first end }
+{
+    let mut any = false;
+    for position in first..end {
+        any |= lies_in(zone_size, zone as u64, place_at(pages, blocks[position]));
+    }
+    any
+}
+
+/// The position of the first of some blocks, from a position on, that lies in a zone. Where a run begins, it is passed
+/// over if none of its blocks lies there.
 fn first_listed(
     pages: &Pages,
     zone_size: u32,
@@ -210,9 +245,15 @@ fn first_listed(
 ) -> Option<usize>
     ensures { FindsThere (page_of pages.now.items) zone_size zone blocks.now first result }
 {
-    for position in first..blocks.len() {
-        if lies_in(zone_size, zone as u64, place_at(pages, blocks[position])) {
+    let mut position = first;
+    while position < blocks.len() {
+        let end = position.saturating_add(RUN).min(blocks.len());
+        if position % RUN == 0 && !any_there(pages, zone_size, zone, blocks, position, end) {
+            position = end;
+        } else if lies_in(zone_size, zone as u64, place_at(pages, blocks[position])) {
             return Some(position);
+        } else {
+            position += 1;
         }
     }
     None

@@ -1,4 +1,4 @@
-ghost use Rattle.std.specs.Prelude.{◌≡◌, ◌≤◌, ◌<◌, ◌+◌, ◌/◌, ◌^◌, length, map, slice_index_or, slice_set, is_some, OnOk, OnErr};
+ghost use Rattle.std.specs.Prelude.{◌≡◌, ◌≤◌, ◌<◌, ◌+◌, ◌/◌, ◌==◌, ◌^◌, length, map, slice_index_or, slice_set, is_some, OnOk, OnErr};
 ghost use Rattle.logical_map.specs.Live.{lies_in, zone_of};
 ghost use Rattle.logical_map.specs.Pages.{Changes, MakesPage, page_of, place_in, place_of};
 ghost use Rattle.logical_map.specs.Places.{address_of};
@@ -94,7 +94,23 @@ fn put(page: &mut [u64; 256], index: usize, place: Place) -> Place
 pub fn lies_in(zone_size: u32, zone: u64, place: Place) -> bool
     ensures { result ≡ lies_in zone_size zone place }
 {
-    zone_of(zone_size, place) == Some(zone)
+    match place {
+        Place::None => false,
+        Place::Trimmed(address) | Place::At(address) => has_address(zone_size, zone, address),
+    }
+}
+
+/// Whether an address is one of a zone's. It takes a multiplication, which is cheaper than the division of `zone_at`.
+fn has_address(zone_size: u32, zone: u64, address: u64) -> bool
+    ensures { result ≡ (address / zone_size == zone) }
+{
+    if zone_size == 0 {
+        return zone == 0;
+    }
+    match zone.checked_mul(zone_size as u64) {
+        None => false,
+        Some(start) => address >= start && address - start < zone_size as u64,
+    }
 }
 
 /// The zone that a place lies in.

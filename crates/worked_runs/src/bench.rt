@@ -44,13 +44,13 @@ impl<D: Device + Drop> Device for OnceWithoutMemory<D> {
         self.device.submit(entry, bytes, into)
     }
 
-    fn submit_behind(&mut self, entry: &[u8; 64], into: &mut Vec<u8>) -> Result<[u8; 16], Halt> {
+    fn submit_extending(&mut self, entry: &[u8; 64], into: &mut Vec<u8>) -> Result<[u8; 16], Halt> {
         if self.others == 0 && !self.device.stopped() {
             self.others = u64::MAX;
             return Err(Halt::Memory);
         }
         self.others = self.others.saturating_sub(1);
-        self.device.submit_behind(entry, into)
+        self.device.submit_extending(entry, into)
     }
 }
 

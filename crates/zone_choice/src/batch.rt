@@ -7,7 +7,7 @@ ghost use Rattle.drive_port.specs.Halting.{Adds};
 ghost use Rattle.zone_choice.specs.Builder.{data_entries, entries_from, trim_entries};
 
 use batch_log::{Entry, Header, Kind, header_bytes};
-use drive_port::{Device, PortFault, read_behind};
+use drive_port::{Device, PortFault, read_extending};
 use std::alloc::{AllocError, Global};
 use std::marker::Model;
 
@@ -129,7 +129,7 @@ impl BatchBuilder {
         ensures taken { CanRead (D.drive device.old) address 1 → IsNotRefused result }
         ensures obeys { Obeys (D.drive device.old) result (D.drive device.new) }
     {
-        read_behind(device, address, 1, &mut self.bytes)
+        read_extending(device, address, 1, &mut self.bytes)
     }
 
     /// Drops all bytes after the first `count`.

@@ -242,9 +242,9 @@ impl Tables {
         requires few { size_of self.old ≤ 2 ^ 31 }
         ensures { self.new ≡ record self.old { map = record self.old.map { places = slice_set self.old.map.places block place } } }
     {
-        let old = self.map.set(block, place);
-        lower(&mut self.index, self.map.zone_of(old));
-        raise(&mut self.index, self.map.zone_of(place));
+        let moved = self.map.set(block, place);
+        lower(&mut self.index, moved.from);
+        raise(&mut self.index, moved.to);
     }
 
     /// Counts a batch of `blocks` blocks that was appended to a zone.

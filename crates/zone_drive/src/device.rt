@@ -160,7 +160,7 @@ impl Device for Drive {
     }
 
     #[inline]
-    fn submit_behind(&mut self, entry: &[u8; 64], into: &mut Vec<u8>) -> Result<[u8; 16], Halt>
+    fn submit_extending(&mut self, entry: &[u8; 64], into: &mut Vec<u8>) -> Result<[u8; 16], Halt>
         ensures gives { SubmitAdds self.old.state entry.now [] into.old.items result into.new.items self.new.state }
         ensures was_lawful { IsLawful self.old.state }
         ensures lawful { IsLawful self.new.state }

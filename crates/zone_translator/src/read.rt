@@ -6,7 +6,7 @@ ghost use Rattle.zone_translator.specs.Read.{IsReadFault};
 
 use crate::fault::DiskFault;
 use crate::room::fault_of;
-use drive_port::{Device, read_behind};
+use drive_port::{Device, read_extending};
 use logical_map::Place;
 use std::alloc::AllocError;
 use zone_choice::{Tables, halt_of};
@@ -38,7 +38,7 @@ pub(crate) fn read_block<D: Device>(
         extend_zeros(into, device.geometry().block as usize)?;
         return Ok(());
     };
-    if let Err(fault) = read_behind(device, address, 1, into) {
+    if let Err(fault) = read_extending(device, address, 1, into) {
         return Err(fault_of(halt_of(fault)));
     }
     Ok(())

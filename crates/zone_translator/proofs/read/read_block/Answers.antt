@@ -23,7 +23,7 @@ returns-in-Err-clause-kept g c =
 
 pub returns-clause-ok : goal.returns-clause-ok
 returns-clause-ok g c =
-    c.in_default-read_behind.ensures.shown ∙ ap (λ (bytes : List ℕ). c.args.into.now.items ++ bytes) (place_shown (g.D.Device.drive c.args.device.now) c.args.tables.now c.args.block c.in-At.address _ c.requires.agrees c.requires.in_range c.in-At.ensures refl)
+    c.in_default-read_extending.ensures.shown ∙ ap (λ (bytes : List ℕ). c.args.into.now.items ++ bytes) (place_shown (g.D.Device.drive c.args.device.now) c.args.tables.now c.args.block c.in-At.address _ c.requires.agrees c.requires.in_range c.in-At.ensures refl)
 
 pub returns-clause-kept : goal.returns-clause-kept
-returns-clause-kept g c = place_kept _ _ c.args.tables.now c.requires.agrees c.in_default-read_behind.ensures.kept c.in_default-read_behind.ensures.closing c.in_default-read_behind.ensures.obeys.lawful c.in_default-read_behind.ensures.counts
+returns-clause-kept g c = place_kept _ _ c.args.tables.now c.requires.agrees c.in_default-read_extending.ensures.kept c.in_default-read_extending.ensures.closing c.in_default-read_extending.ensures.obeys.lawful c.in_default-read_extending.ensures.counts

@@ -5,9 +5,7 @@ pub invariant_of-self : goal.invariant_of-self
 invariant_of-self c = λ sorted. IsNonDecreasingBy-from_sort (λ x. x) _ c.sort_unstable.ensures.sorted
 
 pub returns-clause-kept : goal.returns-clause-kept
-returns-clause-kept c =
-    let there = rw (← c.self-2.view_is) at c.drop_others.ensures.kept in
-    λ block lies had. Contains-permutation _ _ block c.sort_unstable.ensures.permutation (there block lies had)
+returns-clause-kept c = rw (← c.self.view_is) (λ block had. Contains-permutation _ _ block c.sort_unstable.ensures.permutation had)
 
 pub returns-clause-ascends : goal.returns-clause-ascends
 returns-clause-ascends c = IsNonDecreasingBy-from_sort (λ x. x) _ c.sort_unstable.ensures.sorted

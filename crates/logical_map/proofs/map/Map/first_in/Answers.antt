@@ -22,7 +22,7 @@ invariant_of-self c =
     let whole = sym (rw c.deref.ensures.value at c.if-not-is_whole.ensures) in
     let below = whole-there lists c.args.zone whole in
     let here = get_or_read lists c.args.zone c.index_mut.result.now below c.index_mut.ensures.value missing in
-    (c.self.invariant.0, listed-sort page c.self.inside.zone_size c.args.zone lists c.position_from-first.new.self below (c.position_from-first.ensures.whole ∙ ap (λ (l : ListView). l.whole) here) (rw here at c.position_from-first.ensures.kept) c.self.invariant.1)
+    (c.self.invariant.0, listed-sort page c.self.inside.zone_size c.args.zone lists c.position_from-first.new.self below (c.position_from-first.ensures.whole ∙ ap (λ (l : ListView). l.whole) here) (λ block lies had. (rw here at c.position_from-first.ensures.kept) block had) c.self.invariant.1)
 
 pub returns-in_err-position-clause-first : goal.returns-in_err-position-clause-first
 returns-in_err-position-clause-first c =
@@ -34,7 +34,7 @@ returns-in_err-position-clause-first c =
     let within : c.args.zone < length (set lists c.args.zone c.position_from-first.new.self) = omega (arith, below, length-set lists c.args.zone c.position_from-first.new.self) in
     let list = get_or_read (set lists c.args.zone c.position_from-first.new.self) c.args.zone c.index.result.now within c.index.ensures missing ∙ listed-at lists c.args.zone c.args.zone c.position_from-first.new.self below refl in
     let blocks = c.blocks-blocks.ensures ∙ ap (λ (l : ListView). l.blocks) list in
-    let finds = listed-finds page c.self.inside.count c.self.inside.zone_size c.args.zone c.args.from lists c.position_from-first.new.self c.position_from-first.result c.first_listed.result c.self.invariant.0.past whole c.self.invariant.1 (rw here at c.position_from-first.ensures.kept) c.position_from-first.ensures.ascends c.position_from-first.ensures.first (rw blocks at c.first_listed.ensures) in
+    let finds = listed-finds page c.self.inside.count c.self.inside.zone_size c.args.zone c.args.from lists c.position_from-first.new.self c.position_from-first.result c.first_listed.result c.self.invariant.0.past whole c.self.invariant.1 (λ block lies had. (rw here at c.position_from-first.ensures.kept) block had) c.position_from-first.ensures.ascends c.position_from-first.ensures.first (rw blocks at c.first_listed.ensures) in
     rw (← c.self.view_is) (c.from_residual.ensures ∙ (rw c.in_err-position.was at finds))
 
 pub invariant_of-self-2 : goal.invariant_of-self-2
@@ -44,7 +44,7 @@ invariant_of-self-2 c =
     let whole = sym (rw c.deref.ensures.value at c.if-not-is_whole.ensures) in
     let below = whole-there lists c.args.zone whole in
     let here = get_or_read lists c.args.zone c.index_mut.result.now below c.index_mut.ensures.value missing in
-    (c.self.invariant.0, listed-sort page c.self.inside.zone_size c.args.zone lists c.position_from-first.new.self below (c.position_from-first.ensures.whole ∙ ap (λ (l : ListView). l.whole) here) (rw here at c.position_from-first.ensures.kept) c.self.invariant.1)
+    (c.self.invariant.0, listed-sort page c.self.inside.zone_size c.args.zone lists c.position_from-first.new.self below (c.position_from-first.ensures.whole ∙ ap (λ (l : ListView). l.whole) here) (λ block lies had. (rw here at c.position_from-first.ensures.kept) block had) c.self.invariant.1)
 
 pub returns-clause-first : goal.returns-clause-first
 returns-clause-first c =
@@ -56,5 +56,5 @@ returns-clause-first c =
     let within : c.args.zone < length (set lists c.args.zone c.position_from-first.new.self) = omega (arith, below, length-set lists c.args.zone c.position_from-first.new.self) in
     let list = get_or_read (set lists c.args.zone c.position_from-first.new.self) c.args.zone c.index.result.now within c.index.ensures missing ∙ listed-at lists c.args.zone c.args.zone c.position_from-first.new.self below refl in
     let blocks = c.blocks-blocks.ensures ∙ ap (λ (l : ListView). l.blocks) list in
-    let finds = listed-finds page c.self.inside.count c.self.inside.zone_size c.args.zone c.args.from lists c.position_from-first.new.self c.position_from-first.result c.first_listed.result c.self.invariant.0.past whole c.self.invariant.1 (rw here at c.position_from-first.ensures.kept) c.position_from-first.ensures.ascends c.position_from-first.ensures.first (rw blocks at c.first_listed.ensures) in
+    let finds = listed-finds page c.self.inside.count c.self.inside.zone_size c.args.zone c.args.from lists c.position_from-first.new.self c.position_from-first.result c.first_listed.result c.self.invariant.0.past whole c.self.invariant.1 (λ block lies had. (rw here at c.position_from-first.ensures.kept) block had) c.position_from-first.ensures.ascends c.position_from-first.ensures.first (rw blocks at c.first_listed.ensures) in
     rw (← c.self.view_is, blocks) (rw c.in_ok-position.was at finds)

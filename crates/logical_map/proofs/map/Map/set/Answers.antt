@@ -1,4 +1,4 @@
-use Rattle.std.proofs.Common.{sym, ◌∙◌, ap, arith, rules, is_some}
+use Rattle.std.proofs.Common.{refl, sym, ◌∙◌, ap, arith, rules, is_some}
 use Rattle.std.proofs.lemmas.Bool.{false≢true}
 use Rattle.logical_map.specs.Pages.{page_of}
 use Rattle.logical_map.proofs.Counting.{kept-raise, kept-set}
@@ -14,22 +14,16 @@ returns-clause-set c =
     let below = rw (← c.self.view_is) at c.requires.in_range in
     rw (← c.self.view_is) (sets page page' c.self.inside.count c.self.inside.zones c.self.inside.zone_size c.args.block k.page c.args.place (omega (arith, below, length-shown page c.self.inside.count)) k.long k.found k.set k.others)
 
-pub returns-clause-old : goal.returns-clause-old
-returns-clause-old c =
+pub returns-clause-from : goal.returns-clause-from
+returns-clause-from c =
     let page = page_of c.self.inside.pages.items in
     let k = c.in-Some.ensures in
     let below = rw (← c.self.view_is) at c.requires.in_range in
-    rw (← c.self.view_is) (k.was_is ∙ shown-some page c.self.inside.count c.args.block k.page (omega (arith, below, length-shown page c.self.inside.count)) k.found)
+    let was = k.was_is ∙ shown-some page c.self.inside.count c.args.block k.page (omega (arith, below, length-shown page c.self.inside.count)) k.found in
+    rw (← c.self.view_is) (c.zone_below.ensures ∙ rw (c.zone_of-was.ensures, was) refl)
 
-pub returns-in_default : goal.returns-in_default
-returns-in_default c =
-    let page = page_of c.self.inside.pages.items in
-    let below = rw (← c.self.view_is) at c.requires.in_range in
-    let ready = rw (← c.self.view_is) at c.requires.ready in
-    absurd (false≢true (ap is_some (sym c.in_default.ensures) ∙ sym (ready-at page c.self.inside.count c.args.block (omega (arith, below, length-shown page c.self.inside.count))) ∙ ready))
-
-pub invariant_of-self : goal.invariant_of-self
-invariant_of-self c =
+pub unreachable-requires : goal.unreachable-requires
+unreachable-requires c =
     let page = page_of c.self.inside.pages.items in
     let below = rw (← c.self.view_is) at c.requires.in_range in
     let ready = rw (← c.self.view_is) at c.requires.ready in
@@ -44,8 +38,8 @@ raise-requires c =
     let was = k.was_is ∙ shown-some page c.self.inside.count c.args.block k.page (omega (arith, below, long)) k.found in
     rw (c.zone_of-zone.ensures, c.lower.ensures, c.zone_of-was.ensures, was) (kept-raise page c.self.inside.count c.self.inside.zones c.self.inside.zone_size c.args.block c.self.inside.counts.items c.args.place c.self.invariant.0 (omega (arith, below, long)) (search rules))
 
-pub invariant_of-self-2 : goal.invariant_of-self-2
-invariant_of-self-2 c =
+pub invariant_of-self : goal.invariant_of-self
+invariant_of-self c =
     let page = page_of c.self.inside.pages.items in
     let page' = page_of c.change.new.pages.items in
     let k = c.in-Some.ensures in

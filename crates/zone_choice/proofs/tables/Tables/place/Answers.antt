@@ -5,11 +5,11 @@ pub raise-requires : goal.raise-requires
 raise-requires c =
     let in_range = rw (← c.self.view_is) at c.requires.in_range in
     let few = rw (← c.self.view_is) at c.requires.few in
-    rw (c.zone_of-2.ensures, c.lower.ensures, c.zone_of.ensures, c.set-old.ensures.old, c.set-old.ensures.set)
+    rw (c.set-moved.ensures.to, c.lower.ensures, c.set-moved.ensures.from)
     (can_raise c.self.inside.map c.self.inside.index c.args.block c.args.place c.self.invariant.1 in_range few)
 
 pub invariant_of-self : goal.invariant_of-self
 invariant_of-self c =
     let in_range = rw (← c.self.view_is) at c.requires.in_range in
-    rw (c.raise.ensures, c.zone_of-2.ensures, c.lower.ensures, c.zone_of.ensures, c.set-old.ensures.old, c.set-old.ensures.set)
+    rw (c.raise.ensures, c.set-moved.ensures.to, c.lower.ensures, c.set-moved.ensures.from, c.set-moved.ensures.set)
     (c.self.invariant.0, live-placed c.self.inside.map c.self.inside.index c.args.block c.args.place c.self.invariant.1 in_range)

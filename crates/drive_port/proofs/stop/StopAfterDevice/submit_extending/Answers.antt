@@ -5,7 +5,7 @@ use Rattle.drive_port.specs.Stop.{drive_of}
 use Rattle.drive_port.proofs.CallLaws.{adds-also, adds-nothing}
 use Rattle.drive_port.proofs.ClosingLaws.{IsClosing-refl}
 use Rattle.drive_port.proofs.StopLaws.{passed-on, stopping, stops-already, stops-here}
-use Rattle.drive_port.proofs.stop.StopAfterDevice.submit_behind.Goals as goal
+use Rattle.drive_port.proofs.stop.StopAfterDevice.submit_extending.Goals as goal
 
 pub returns-then-stopped-clause-gives : goal.returns-then-stopped-clause-gives
 returns-then-stopped-clause-gives g c = adds-nothing _ _ (refl, stops-already (drive_of c.args.self.now) (decode_of c.args.entry.now) _ (sym c.if-stopped.ensures.value))
@@ -18,4 +18,4 @@ returns-then-self-completed-clause-gives g c =
 
 pub returns-clause-gives : goal.returns-clause-gives
 returns-clause-gives g c =
-    rw (← c.self.view_is) (adds-also _ _ _ _ (λ returned. passed-on (g.D.Device.drive c.self.inside.device) (g.D.Device.drive c.submit_behind.new.self) c.self.inside.limit c.self.inside.tear c.self.inside.uncounted c.self.inside.progress c.args.entry.now [] c.submit_behind.result returned c.self.invariant (rw (← c.self.view_is) at (sym c.if-stopped.ensures.value))) c.submit_behind.ensures.gives)
+    rw (← c.self.view_is) (adds-also _ _ _ _ (λ returned. passed-on (g.D.Device.drive c.self.inside.device) (g.D.Device.drive c.submit_extending.new.self) c.self.inside.limit c.self.inside.tear c.self.inside.uncounted c.self.inside.progress c.args.entry.now [] c.submit_extending.result returned c.self.invariant (rw (← c.self.view_is) at (sym c.if-stopped.ensures.value))) c.submit_extending.ensures.gives)
