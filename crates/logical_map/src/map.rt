@@ -12,10 +12,12 @@ use crate::place::Place;
 use std::alloc::{AllocError, Global};
 use std::marker::Model;
 
-/// The zones of the drive that a block was moved between, where it lay in one and where it lies in one.
+/// The zones of the drive that a block was moved between. None where its place was, or is, in no zone.
 #[derive(Clone, Copy, Debug, PartialEq, Eq)]
 pub struct Moved {
+    /// The zone that it lay in.
     pub from: Option<u32>,
+    /// The zone that it lies in.
     pub to: Option<u32>,
 }
 
