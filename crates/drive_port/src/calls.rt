@@ -39,7 +39,7 @@ impl From<Halt> for PortFault {
 }
 
 // What a call answers whose command was completed.
-#[inline]
+#[inline(always)]
 fn answer_of(completion: &[u8; 16]) -> Result<u64, PortFault>
     requires { IsCompletion completion.now }
     ensures { (c : _) → Fits c → completion.now ≡ completion_bytes c → result ≡ answer_of c }
@@ -70,7 +70,7 @@ pub(crate) fn call<D: Device>(
 }
 
 // The same without data, with what is returned after what `into` holds.
-#[inline]
+#[inline(always)]
 fn call_extending<D: Device>(
     device: &mut D,
     command: &Command,

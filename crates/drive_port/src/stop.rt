@@ -162,6 +162,7 @@ impl<D: Device + Drop> Device for StopAfter<D> {
         self.device.stopped() || over || self.tear == 0 && self.limit <= self.completed()
     }
 
+    #[inline(always)]
     fn submit(
         &mut self,
         entry: &[u8; 64],
@@ -189,7 +190,7 @@ impl<D: Device + Drop> Device for StopAfter<D> {
     }
 
     /// Without data beside it no Append is torn: after the last command it just stops.
-    #[inline]
+    #[inline(always)]
     fn submit_extending(&mut self, entry: &[u8; 64], into: &mut Vec<u8>) -> Result<[u8; 16], Halt>
         ensures gives { SubmitAdds (drive_of self.old) entry.now [] into.old.items result into.new.items (drive_of self.new) }
         ensures was_lawful { IsLawful (drive_of self.old) }

@@ -3,3 +3,4 @@ pub mod Pages
 pub mod Live
 pub mod Counts
 pub mod Lists
+pub mod Words

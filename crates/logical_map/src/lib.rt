@@ -21,6 +21,7 @@ mod lists;
 mod map;
 mod pages;
 mod place;
+mod zone_words;
 
 pub use map::{Map, Moved};
 pub use place::Place;

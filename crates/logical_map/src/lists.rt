@@ -3,7 +3,8 @@ ghost use Rattle.std.specs.List.Sorted.{IsNonDecreasing};
 ghost use Rattle.logical_map.specs.Lists.{Follows, IsFirstFrom, KeepsAll, KeepsThere, Notes, Shortens, fresh, listed, missing};
 ghost use Rattle.logical_map.specs.Pages.{page_of};
 
-use crate::pages::{Pages, lies_in, place_at};
+use crate::pages::{Pages, word_at};
+use crate::zone_words::ZoneWords;
 use std::alloc::{AllocError, Global};
 use std::marker::Model;
 
@@ -120,9 +121,10 @@ impl ZoneList {
         ensures whole { self.new.whole ≡ self.old.whole }
         ensures kept { KeepsThere (page_of pages.now.items) zone_size zone self.old.blocks self.new.blocks }
     {
+        let words = ZoneWords::of(zone_size, zone);
         self.sorted = false;
         self.blocks
-            .retain(|block| lies_in(zone_size, zone, place_at(pages, *block)));
+            .retain(|block| words.hold(word_at(pages, *block)));
         self.blocks.sort_unstable();
         self.blocks.dedup();
         self.blocks.shrink_to_fit();

@@ -7,8 +7,9 @@ ghost use Rattle.logical_map.specs.Places.{ArePlacedReady, Grows, IsReady, Reser
 ghost use Rattle.logical_map.specs.declared.place.Place.TheVariants as places;
 
 use crate::lists::{ZoneList, is_whole, make_lists, note, shorten};
-use crate::pages::{PAGE, Pages, change, has_page, lies_in, make_page, place_at, zone_of};
+use crate::pages::{PAGE, Pages, change, has_page, make_page, place_at, word_at, zone_of};
 use crate::place::Place;
+use crate::zone_words::ZoneWords;
 use std::alloc::{AllocError, Global};
 use std::marker::Model;
 
@@ -202,13 +203,14 @@ impl Map {
         if self.live(zone) == 0 {
             return None;
         }
+        let words = ZoneWords::of(self.zone_size, zone as u64);
         if !is_whole(&self.lists, zone as usize) {
-            return first_placed(&self.pages, self.zone_size, zone, from, self.count);
+            return first_placed(&self.pages, &words, from, self.count);
         }
         let index = zone as usize;
         let first = self.lists[index].position_from(from);
         let blocks = self.lists[index].blocks();
-        let position = first_listed(&self.pages, self.zone_size, zone, blocks, first)?;
+        let position = first_listed(&self.pages, &words, blocks, first)?;
         Some(blocks[position])
     }
 }
@@ -216,43 +218,30 @@ impl Map {
 /// How many blocks of a list are looked at together.
 const RUN: usize = 32;
 
-/// Whether any of the blocks from one position to before another lies in a zone. It looks at all their places, whatever
-/// it finds, so that the processor fetches them together.
-fn any_there(
-    pages: &Pages,
-    zone_size: u32,
-    zone: u32,
-    blocks: &[u32],
-    first: usize,
-    end: usize,
-) -> bool
+/// Whether any of the blocks from one position to before another lies in the zone of these words. It looks at all their
+/// places, whatever it finds, so that the processor fetches them together.
+fn any_there(pages: &Pages, words: &ZoneWords, blocks: &[u32], first: usize, end: usize) -> bool
     requires { end ≤ length blocks.now }
-    ensures { result ≡ false → NoneLies (page_of pages.now.items) zone_size zone blocks.now first end }
+    ensures { result ≡ false → NoneLies (page_of pages.now.items) words.now.zone_size words.now.zone blocks.now first end }
 {
     let mut any = false;
     for position in first..end {
-        any |= lies_in(zone_size, zone as u64, place_at(pages, blocks[position]));
+        any |= words.hold(word_at(pages, blocks[position]));
     }
     any
 }
 
-/// The position of the first of some blocks, from a position on, that lies in a zone. Where a run begins, it is passed
-/// over if none of its blocks lies there.
-fn first_listed(
-    pages: &Pages,
-    zone_size: u32,
-    zone: u32,
-    blocks: &[u32],
-    first: usize,
-) -> Option<usize>
-    ensures { FindsThere (page_of pages.now.items) zone_size zone blocks.now first result }
+/// The position of the first of some blocks, from a position on, that lies in the zone of these words. Where a run begins,
+/// it is passed over if none of its blocks lies there.
+fn first_listed(pages: &Pages, words: &ZoneWords, blocks: &[u32], first: usize) -> Option<usize>
+    ensures { FindsThere (page_of pages.now.items) words.now.zone_size words.now.zone blocks.now first result }
 {
     let mut position = first;
     while position < blocks.len() {
         let end = position.saturating_add(RUN).min(blocks.len());
-        if position % RUN == 0 && !any_there(pages, zone_size, zone, blocks, position, end) {
+        if position % RUN == 0 && !any_there(pages, words, blocks, position, end) {
             position = end;
-        } else if lies_in(zone_size, zone as u64, place_at(pages, blocks[position])) {
+        } else if words.hold(word_at(pages, blocks[position])) {
             return Some(position);
         } else {
             position += 1;
@@ -261,12 +250,12 @@ fn first_listed(
     None
 }
 
-/// The first block from `from` to before `count` that lies in a zone.
-fn first_placed(pages: &Pages, zone_size: u32, zone: u32, from: u32, count: u32) -> Option<u32>
-    ensures { FindsBlock (page_of pages.now.items) zone_size zone from count result }
+/// The first block from `from` to before `count` that lies in the zone of these words.
+fn first_placed(pages: &Pages, words: &ZoneWords, from: u32, count: u32) -> Option<u32>
+    ensures { FindsBlock (page_of pages.now.items) words.now.zone_size words.now.zone from count result }
 {
     for block in from..count {
-        if lies_in(zone_size, zone as u64, place_at(pages, block)) {
+        if words.hold(word_at(pages, block)) {
             return Some(block);
         }
     }

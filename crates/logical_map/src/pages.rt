@@ -1,5 +1,5 @@
-ghost use Rattle.std.specs.Prelude.{◌≡◌, ◌≤◌, ◌<◌, ◌+◌, ◌/◌, ◌==◌, ◌^◌, length, map, slice_index_or, slice_set, is_some, OnOk, OnErr};
-ghost use Rattle.logical_map.specs.Live.{lies_in, zone_of};
+ghost use Rattle.std.specs.Prelude.{◌≡◌, ◌≤◌, ◌<◌, ◌+◌, ◌/◌, ◌^◌, length, map, slice_index_or, slice_set, is_some, OnOk, OnErr};
+ghost use Rattle.logical_map.specs.Live.{zone_of};
 ghost use Rattle.logical_map.specs.Pages.{Changes, MakesPage, page_of, place_in, place_of};
 ghost use Rattle.logical_map.specs.Places.{address_of};
 ghost use Rattle.logical_map.specs.declared.place.Place.TheVariants as places;
@@ -13,18 +13,25 @@ pub const PAGE: u32 = 256;
 /// Pages of places by their numbers, 8 bytes a place; one that is missing holds no place.
 pub type Pages = Vec<Option<Box<[u64; 256]>>>;
 
+/// The word of a block's place; 0 for a block past the end.
+pub fn word_at(pages: &Pages, block: u32) -> u64
+    ensures { place_of result ≡ place_in (page_of pages.now.items) block }
+{
+    let index = (block / PAGE) as usize;
+    if index >= pages.len() {
+        return 0;
+    }
+    match &pages[index] {
+        None => 0,
+        Some(page) => page[(block % PAGE) as usize],
+    }
+}
+
 /// Where a block lies; a block past the end has no place.
 pub fn place_at(pages: &Pages, block: u32) -> Place
     ensures { result ≡ place_in (page_of pages.now.items) block }
 {
-    let index = (block / PAGE) as usize;
-    if index >= pages.len() {
-        return Place::None;
-    }
-    match &pages[index] {
-        None => Place::None,
-        Some(page) => Place::from_word(page[(block % PAGE) as usize]),
-    }
+    Place::from_word(word_at(pages, block))
 }
 
 /// Whether a page is there.
@@ -88,29 +95,6 @@ fn put(page: &mut [u64; 256], index: usize, place: Place) -> Place
     let old = Place::from_word(page[index]);
     page[index] = place.word();
     old
-}
-
-/// Whether a place lies in a zone.
-pub fn lies_in(zone_size: u32, zone: u64, place: Place) -> bool
-    ensures { result ≡ lies_in zone_size zone place }
-{
-    match place {
-        Place::None => false,
-        Place::Trimmed(address) | Place::At(address) => has_address(zone_size, zone, address),
-    }
-}
-
-/// Whether an address is one of a zone's. It takes a multiplication, which is cheaper than the division of `zone_at`.
-fn has_address(zone_size: u32, zone: u64, address: u64) -> bool
-    ensures { result ≡ (address / zone_size == zone) }
-{
-    if zone_size == 0 {
-        return zone == 0;
-    }
-    match zone.checked_mul(zone_size as u64) {
-        None => false,
-        Some(start) => address >= start && address - start < zone_size as u64,
-    }
 }
 
 /// The zone that a place lies in.

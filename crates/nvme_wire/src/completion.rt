@@ -37,6 +37,7 @@ fn code_at(bytes: &[u8; 16]) -> u16
 
 impl Completion {
     /// Encodes the completion.
+    #[inline(always)]
     pub fn encode(&self) -> [u8; 16]
         ensures { result ≡ completion_bytes self.now }
     {
@@ -48,6 +49,7 @@ impl Completion {
     }
 
     /// Decodes a completion. Bytes that no completion encodes to are the fault `Field`.
+    #[inline(always)]
     pub fn decode(bytes: &[u8; 16]) -> Result<Completion, DecodeFault>
         ensures ok { IfOk result (λ c. (bytes.now ≡ completion_bytes c) × Fits c) }
         ensures encoded { (c : _) → Fits c → bytes.now ≡ completion_bytes c → result ≡ Ok c }

@@ -41,6 +41,7 @@ fn dwords_at(entry: &[u8; 64]) -> u64
 }
 
 // An entry to namespace 1 whose dwords 12 and 13 are zero.
+#[inline(always)]
 fn entry_to(opcode: Opcode, id: u16, address: u64) -> [u8; 64]
     ensures { result ≡ entry_with opcode id address none none }
 {
@@ -53,6 +54,7 @@ fn entry_to(opcode: Opcode, id: u16, address: u64) -> [u8; 64]
 }
 
 // The entry of a command that transfers blocks, counted from one.
+#[inline(always)]
 fn blocks_entry(opcode: Opcode, id: u16, address: u64, blocks: u32) -> [u8; 64]
     requires some { 1 ≤ blocks }
     requires short { blocks ≤ 65536 }
@@ -106,6 +108,7 @@ fn decode_receive(entry: &[u8; 64]) -> Result<Command, DecodeFault>
 impl Command {
     /// Encodes a command that the profile admits, with an identifier. All bytes that no field of the
     /// command fills are zero, those of the data pointers too.
+    #[inline(always)]
     pub fn encode(&self, id: u16) -> [u8; 64]
         requires { IsAdmitted self.now }
         ensures encoded { result ≡ entry_bytes self.now id }
@@ -140,6 +143,7 @@ impl Command {
 
     /// Decodes an entry. Only the opcode, the namespace and the command's own fields are looked at, in
     /// this order, and the first of them that is wrong is the fault. What is decoded can be encoded.
+    #[inline(always)]
     pub fn decode(entry: &[u8; 64]) -> Result<Command, DecodeFault>
         ensures value { result ≡ decode_of entry.now }
         ensures admitted { IfOk result IsAdmitted }

@@ -24,6 +24,7 @@ fn fault_status(fault: DecodeFault) -> Status
 
 impl Drive {
     // Does a command. What it returns goes after what `into` holds.
+    #[inline(always)]
     fn execute(&mut self, command: Command, bytes: &[u8], into: &mut Vec<u8>) -> Result<Reply, Halt>
         requires admitted { IsAdmitted command }
         ensures ok { IfOk result (λ reply. Adds into.old.items
@@ -49,6 +50,7 @@ impl Drive {
     }
 
     // Does the command of an entry, or refuses an entry that has none.
+    #[inline(always)]
     fn perform(
         &mut self,
         command: Result<Command, DecodeFault>,
@@ -85,7 +87,9 @@ impl Drive {
         }
     }
 
-    // Answers an entry, and counts its command. What it returns goes after what `into` holds.
+    // Answers an entry, and counts its command. What it returns goes after what `into` holds. It is inlined:
+    // where LLVM sees an entry encoded and then decoded, or a completion, it does neither.
+    #[inline(always)]
     fn answer(
         &mut self,
         entry: &[u8; 64],
@@ -136,6 +140,7 @@ impl Device for Drive {
         self.completed >= 1 << 63
     }
 
+    #[inline(always)]
     fn submit(
         &mut self,
         entry: &[u8; 64],
@@ -159,7 +164,7 @@ impl Device for Drive {
         self.answer(entry, bytes, into)
     }
 
-    #[inline]
+    #[inline(always)]
     fn submit_extending(&mut self, entry: &[u8; 64], into: &mut Vec<u8>) -> Result<[u8; 16], Halt>
         ensures gives { SubmitAdds self.old.state entry.now [] into.old.items result into.new.items self.new.state }
         ensures was_lawful { IsLawful self.old.state }

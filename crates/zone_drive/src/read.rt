@@ -81,6 +81,9 @@ fn add_with_zeros(stored: &[u8], len: usize, into: &mut Vec<u8>) -> Result<(), A
     ensures ok { OnOk result (into.new.items ≡ into.old.items ++ with_zeros len stored.now) }
     ensures err { OnErr result (into.new.items ≡ into.old.items) }
 {
+    if stored.len() >= len {
+        return into.extend_from_slice(&stored[..len]);
+    }
     into.reserve(len)?;
     let end = into.len() + len;
     into.extend_from_slice(&stored[..stored.len().min(len)])?;

@@ -25,6 +25,7 @@
 #![tactic(auto)]
 
 mod geometry;
+mod pieces;
 mod transition;
 mod zone;
 

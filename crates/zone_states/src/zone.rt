@@ -8,6 +8,7 @@ ghost use Rattle.zone_states.specs.Zone.{opened_by_write};
 ghost use Rattle.zone_states.specs.declared.zone.ZoneFault.TheVariants.{OutOfMemory};
 
 use crate::geometry::Geometry;
+use crate::pieces::extend_in_pieces;
 use crate::transition::next_state;
 use nvme_wire::{Action, Status, ZoneState};
 use std::alloc::{AllocError, Global};
@@ -181,7 +182,7 @@ impl Zone {
             → OnOk result (WrittenAfter geometry.now self.old bytes.now self.new) }
         ensures kept { OnErr result (self.new ≡ self.old) }
     {
-        self.written.extend_from_slice(bytes)?;
+        extend_in_pieces(&mut self.written, bytes)?;
         if self.blocks(geometry) == geometry.capacity as usize {
             self.state = ZoneState::Full;
         } else {

@@ -7,4 +7,4 @@ abbrev pub decreases-loop-position : goal.decreases-loop-position
 decreases-loop-position l = length l.blocks - l.position
 
 abbrev pub invariant-loop-position : goal.invariant-loop-position
-invariant-loop-position l = (l.first ≤ l.position) × NoneLies (page_of l.pages.items) l.zone_size l.zone l.blocks l.first l.position
+invariant-loop-position l = (l.first ≤ l.position) × NoneLies (page_of l.pages.items) l.words.zone_size l.words.zone l.blocks l.first l.position

@@ -13,7 +13,7 @@ returns-then-live-eq0-clause-first c =
 
 pub returns-then-not-is_whole-clause-first : goal.returns-then-not-is_whole-clause-first
 returns-then-not-is_whole-clause-first c =
-    rw (← c.self.view_is) (walked (page_of c.self.inside.pages.items) c.self.inside.count c.self.inside.zone_size c.args.zone c.args.from c.first_placed.result c.self.invariant.0.past c.first_placed.ensures)
+    rw (← c.self.view_is) (walked (page_of c.self.inside.pages.items) c.self.inside.count c.self.inside.zone_size c.args.zone c.args.from c.first_placed.result c.self.invariant.0.past (rw c.of-words.ensures at c.first_placed.ensures))
 
 pub invariant_of-self : goal.invariant_of-self
 invariant_of-self c =
@@ -34,7 +34,7 @@ returns-in_err-position-clause-first c =
     let within : c.args.zone < length (set lists c.args.zone c.position_from-first.new.self) = omega (arith, below, length-set lists c.args.zone c.position_from-first.new.self) in
     let list = get_or_read (set lists c.args.zone c.position_from-first.new.self) c.args.zone c.index.result.now within c.index.ensures missing ∙ listed-at lists c.args.zone c.args.zone c.position_from-first.new.self below refl in
     let blocks = c.blocks-blocks.ensures ∙ ap (λ (l : ListView). l.blocks) list in
-    let finds = listed-finds page c.self.inside.count c.self.inside.zone_size c.args.zone c.args.from lists c.position_from-first.new.self c.position_from-first.result c.first_listed.result c.self.invariant.0.past whole c.self.invariant.1 (λ block lies had. (rw here at c.position_from-first.ensures.kept) block had) c.position_from-first.ensures.ascends c.position_from-first.ensures.first (rw blocks at c.first_listed.ensures) in
+    let finds = listed-finds page c.self.inside.count c.self.inside.zone_size c.args.zone c.args.from lists c.position_from-first.new.self c.position_from-first.result c.first_listed.result c.self.invariant.0.past whole c.self.invariant.1 (λ block lies had. (rw here at c.position_from-first.ensures.kept) block had) c.position_from-first.ensures.ascends c.position_from-first.ensures.first (rw (blocks, c.of-words.ensures) at c.first_listed.ensures) in
     rw (← c.self.view_is) (c.from_residual.ensures ∙ (rw c.in_err-position.was at finds))
 
 pub invariant_of-self-2 : goal.invariant_of-self-2
@@ -56,5 +56,5 @@ returns-clause-first c =
     let within : c.args.zone < length (set lists c.args.zone c.position_from-first.new.self) = omega (arith, below, length-set lists c.args.zone c.position_from-first.new.self) in
     let list = get_or_read (set lists c.args.zone c.position_from-first.new.self) c.args.zone c.index.result.now within c.index.ensures missing ∙ listed-at lists c.args.zone c.args.zone c.position_from-first.new.self below refl in
     let blocks = c.blocks-blocks.ensures ∙ ap (λ (l : ListView). l.blocks) list in
-    let finds = listed-finds page c.self.inside.count c.self.inside.zone_size c.args.zone c.args.from lists c.position_from-first.new.self c.position_from-first.result c.first_listed.result c.self.invariant.0.past whole c.self.invariant.1 (λ block lies had. (rw here at c.position_from-first.ensures.kept) block had) c.position_from-first.ensures.ascends c.position_from-first.ensures.first (rw blocks at c.first_listed.ensures) in
+    let finds = listed-finds page c.self.inside.count c.self.inside.zone_size c.args.zone c.args.from lists c.position_from-first.new.self c.position_from-first.result c.first_listed.result c.self.invariant.0.past whole c.self.invariant.1 (λ block lies had. (rw here at c.position_from-first.ensures.kept) block had) c.position_from-first.ensures.ascends c.position_from-first.ensures.first (rw (blocks, c.of-words.ensures) at c.first_listed.ensures) in
     rw (← c.self.view_is, blocks) (rw c.in_ok-position.was at finds)
