@@ -11,6 +11,10 @@ use drive_port::{Device, PortFault, read_extending};
 use std::alloc::{AllocError, Global};
 use std::marker::Model;
 
+/// How many bytes stand before those of a batch. Memory of this length begins at the same offset of a page each time, and
+/// so does that of a zone; and where both begin at nearly the same offset, a C library copies backward, which is slower.
+const FRONT: usize = 576;
+
 /// The batch that is about to be appended: its header, and the bytes of its blocks. Both keep their room
 /// from one batch to the next.
 ///
@@ -20,16 +24,22 @@ use std::marker::Model;
 #[derive(Drop)]
 pub struct BatchBuilder {
     header: Header,
+    /// The bytes of its blocks, after others.
     bytes: Vec<u8>,
+    /// How many the others are.
+    front: usize,
 }
 
 impl Model for BatchBuilder {
+    ghost use Rattle.std.specs.Prelude.{◌≤◌, drop, length};
     ghost use Rattle.batch_log.specs.Header.{heading_of};
     ghost use Rattle.zone_choice.specs.Builder.{BuilderView};
 
     ghost Value = { BuilderView };
 
-    ghost view = { λ b. record { heading = heading_of b.header; bytes = b.bytes.items } };
+    ghost view = { λ b. record { heading = heading_of b.header; bytes = drop b.front b.bytes.items } };
+
+    ghost invariant = { λ b. b.front ≤ length b.bytes.items };
 }
 
 impl BatchBuilder {
@@ -46,6 +56,7 @@ impl BatchBuilder {
                 entries: Vec::new(alloc),
             },
             bytes: Vec::new(alloc),
+            front: 0,
         }
     }
 
@@ -88,8 +99,8 @@ impl BatchBuilder {
         ensures heading { self.new.heading ≡ self.old.heading }
         ensures bytes { OnOk result (self.new.bytes ≡ header_block block_bytes self.old.heading) }
     {
-        self.bytes.resize(block_bytes as usize, 0)?;
-        header_bytes(&self.header, &mut self.bytes);
+        self.make_room(block_bytes)?;
+        self.encode_before_data(block_bytes);
         Ok(())
     }
 
@@ -100,7 +111,9 @@ impl BatchBuilder {
         ensures ok { OnOk result (length self.new.bytes ≡ block_bytes) }
         ensures err { OnErr result (self.new.bytes ≡ self.old.bytes) }
     {
-        self.bytes.resize(block_bytes as usize, 0)
+        self.bytes.resize(FRONT + block_bytes as usize, 0)?;
+        self.front = FRONT;
+        Ok(())
     }
 
     /// Writes the header block of the batch into its room, before the data that is there: 512 or 4,096 bytes. It
@@ -112,7 +125,12 @@ impl BatchBuilder {
         ensures heading { self.new.heading ≡ self.old.heading }
         ensures bytes { self.new.bytes ≡ header_block block_bytes self.old.heading ++ drop block_bytes self.old.bytes }
     {
-        write_front(&self.header, &mut self.bytes, block_bytes as usize);
+        write_header(
+            &self.header,
+            &mut self.bytes,
+            self.front,
+            block_bytes as usize,
+        );
     }
 
     /// Adds data: the block at an address of the drive. After a fault the bytes are as they were.
@@ -134,10 +152,11 @@ impl BatchBuilder {
 
     /// Drops all bytes after the first `count`.
     pub fn truncate(&mut self, count: usize)
+        requires { count < 2 ^ 62 }
         ensures heading { self.new.heading ≡ self.old.heading }
         ensures bytes { self.new.bytes ≡ take count self.old.bytes }
     {
-        self.bytes.truncate(count);
+        self.bytes.truncate(self.front + count);
     }
 
     /// Adds data: `count` bytes, all alike.
@@ -188,17 +207,19 @@ impl BatchBuilder {
     pub fn bytes(&self) -> &[u8]
         ensures { result.now ≡ self.now.bytes }
     {
-        &self.bytes
+        &self.bytes[self.front..]
     }
 }
 
-/// Writes a header block over the first bytes.
-fn write_front(header: &Header, bytes: &mut [u8], block_bytes: usize)
+/// Writes a header block over the bytes after the first `front`.
+fn write_header(header: &Header, bytes: &mut [u8], front: usize, block_bytes: usize)
     requires block { (block_bytes ≡ 512) ⊎ (block_bytes ≡ 4096) }
-    requires room { block_bytes ≤ length bytes.old }
+    requires room { front + block_bytes ≤ length bytes.old }
     requires heading { IsHeading block_bytes (heading_of header.now) }
-    ensures { bytes.new ≡ header_block block_bytes (heading_of header.now) ++ drop block_bytes bytes.old }
+    ensures bytes { drop front bytes.new ≡ header_block block_bytes (heading_of header.now) ++ drop block_bytes (drop front bytes.old) }
+    ensures length { length bytes.new ≡ length bytes.old }
 {
-    let (room, _) = bytes.split_at_mut(block_bytes);
+    let (_, after) = bytes.split_at_mut(front);
+    let (room, _) = after.split_at_mut(block_bytes);
     header_bytes(header, room);
 }

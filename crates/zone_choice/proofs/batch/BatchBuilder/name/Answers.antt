@@ -10,4 +10,5 @@ loop-i-preserved c = (
   c.loop-i.invariant.3,
   c.in_ok-push.ensures.items ∙ rw c.loop-i.invariant.4 (sym (entries-more c.args.trim c.args.self.now.heading.entries c.args.first c.loop-i.i (c.args.first + c.loop-i.i) refl)),
   c.loop-i.invariant.5,
+  c.loop-i.invariant.6,
 )

@@ -1,4 +1,4 @@
-use Rattle.std.proofs.Common.{◌≡◌, ◌++◌}
+use Rattle.std.proofs.Common.{◌≡◌, ◌≤◌, ◌++◌, drop, length}
 use Rattle.zone_choice.specs.Builder.{entries_from}
 use Rattle.zone_choice.proofs.batch.BatchBuilder.name.Given as goal
 
@@ -9,4 +9,5 @@ invariant-loop-i l =
     × (l.self-inside.header.source ≡ l.fn.self.heading.source)
     × (l.self-inside.header.size ≡ l.fn.self.heading.size)
     × (l.self-inside.header.entries.items ≡ l.fn.self.heading.entries ++ entries_from l.fn.trim l.fn.first l.i)
-    × (l.self-inside.bytes.items ≡ l.fn.self.bytes)
+    × (drop l.self-inside.front l.self-inside.bytes.items ≡ l.fn.self.bytes)
+    × (l.self-inside.front ≤ length l.self-inside.bytes.items)
