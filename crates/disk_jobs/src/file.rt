@@ -3,7 +3,7 @@ use crate::job::Job;
 use crate::program::run_job;
 use disk_files::LineReader;
 use disk_runs::RunFault;
-use drive_images::write_image_and_drop;
+use drive_images::write_image;
 use std::alloc::Global;
 use std::io::{BufReader, BufWriter, Read, Write};
 use std::rt::Files;
@@ -34,17 +34,17 @@ fn open<F: Files>(files: &F, alloc: Global, path: &str) -> io::Result<BufReader<
 fn write_file<F: Files>(
     files: &F,
     alloc: Global,
-    drive: Drive,
+    drive: &Drive,
     path: &str,
 ) -> Result<(), ProgramFault> {
     let file = fs::create(files, path).map_err(save_fault)?;
     let mut writer = BufWriter::new(alloc, file).map_err(save_fault)?;
-    write_image_and_drop(drive, &mut writer).or(Err(ProgramFault::Save))?;
+    write_image(drive, &mut writer).or(Err(ProgramFault::Save))?;
     writer.flush().map_err(save_fault)
 }
 
 /// Saves the image of a drive: it is written to a new file beside the old one, and takes its place when it is whole.
-fn save<F: Files>(files: &F, alloc: Global, drive: Drive, path: &str) -> Result<(), ProgramFault> {
+fn save<F: Files>(files: &F, alloc: Global, drive: &Drive, path: &str) -> Result<(), ProgramFault> {
     let beside = format!(in alloc; "{path}.new")?;
     let mut result = write_file(files, alloc, drive, &beside);
     if result.is_ok() {
@@ -82,7 +82,7 @@ pub fn run_on_file<F: Files, R: Read + Drop, W: Write>(
     if is_fresh && sent.is_err() {
         return sent;
     }
-    let saved = match drive {
+    let saved = match &drive {
         Some(drive) => save(files, alloc, drive, path),
         None => Ok(()),
     };

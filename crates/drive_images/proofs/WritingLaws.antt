@@ -1,17 +1,16 @@
 -- An image that is written part by part.
-use Rattle.std.proofs.Common.{◌≡◌, ℕ, ◌+◌, ◌<◌, List, [], ◌∷◌, ◌++◌, length, take, drop, get_or, Option, Result, Ok, Err, sym, ap, ◌∙◌, append_assoc, subst}
+use Rattle.std.proofs.Common.{◌≡◌, ℕ, ◌+◌, ◌<◌, List, [], ◌++◌, length, take, drop, get_or, Option, Result, Ok, Err, sym, ap, ◌∙◌, append_assoc, subst}
 use Rattle.std.specs.Prelude.{OnOk}
 use Rattle.std.specs.Io.KnownBytes.{Appends}
 use Rattle.std.proofs.KnownBytes.{Appends-trans}
 use Rattle.std.proofs.lemmas.Grind.{flat_map-append}
 use Rattle.std.proofs.lemmas.List.{get_or-map}
 use Rattle.zone_drive.specs.Stored.{zones_of}
-use Rattle.std.proofs.lemmas.List.{length-map, append-nil, flat_map_more, map-append, take-append-drop, take_more}
+use Rattle.std.proofs.lemmas.List.{length-map, append-nil, flat_map_more, take-append-drop, take_more}
 use Rattle.disk_files.specs.Output.{AppendsFront}
 use Rattle.disk_files.proofs.OutputLaws.{front_first, front_second}
 use Rattle.zone_states.specs.Stored.{IsWhole, StoredZone, zone_of}
-use Rattle.std.specs.List.{AllByRecursion}
-use Rattle.zone_states.specs.Zone.{IsLawfulZone, Zone}
+use Rattle.zone_states.specs.Zone.{Zone}
 use Rattle.zone_states.specs.declared.geometry.Geometry.{Geometry}
 use Rattle.drive_images.specs.Image.{head_bytes, image_bytes, zone_bytes, zone_head_bytes, zones_bytes}
 use Rattle.drive_images.proofs.ZoneLaws.{concat-cut}
@@ -55,23 +54,3 @@ zone_here block stored zones i zone same is lt = ap (zone_of block) is ∙ sym (
 
 pub stored-less : (block : ℕ) (stored : List StoredZone) (zones : List Zone) (i : ℕ) → zones_of block stored ≡ zones → i < length stored → i < length zones
 stored-less block stored zones i same lt = rw (← same, length-map stored (zone_of block)) lt
-
--- Of zones that are written one after the other, some are written, and then one more.
-module _ (block : ℕ) (seen rest : List StoredZone) (zone : StoredZone) (old mid new : Option (List ℕ)) (written : Appends old mid (zones_bytes (zones_of block seen))) where
-  pub more_written : Appends mid new (zone_bytes (zone_of block zone)) → Appends old new (zones_bytes (zones_of block (seen ++ zone ∷ [])))
-  more_written next =
-      subst (Appends old new) (flat_map_more zone_bytes [] (zones_of block seen) (zone_of block zone) ∙ ap zones_bytes (sym (map-append (zone_of block) seen (zone ∷ []))))
-      (Appends-trans old mid new _ _ written next)
-
-  whole : (zones_bytes (zones_of block seen) ++ zone_bytes (zone_of block zone)) ++ zones_bytes (zones_of block rest) ≡ zones_bytes (zones_of block (seen ++ zone ∷ rest))
-  whole =
-      append_assoc (zones_bytes (zones_of block seen)) (zone_bytes (zone_of block zone)) (zones_bytes (zones_of block rest))
-      ∙ sym (ap zones_bytes (map-append (zone_of block) seen (zone ∷ rest)) ∙ flat_map-append zone_bytes (zones_of block seen) (zone_of block zone ∷ zones_of block rest))
-
-  pub more_fails : AppendsFront mid new (zone_bytes (zone_of block zone)) → AppendsFront old new (zones_bytes (zones_of block (seen ++ zone ∷ rest)))
-  more_fails front = subst (AppendsFront old new) whole (front_first old new _ _ (front_second old mid new _ _ written front))
-
--- lawful zones are so as they are stored
-pub stored-lawful : (geometry : Geometry) (block : ℕ) (stored : List StoredZone) → AllByRecursion (IsLawfulZone geometry) (zones_of block stored) → AllByRecursion (λ (zone : StoredZone). IsLawfulZone geometry (zone_of block zone)) stored
-stored-lawful geometry block [] each = tt
-stored-lawful geometry block (zone ∷ stored) each = (each.0, stored-lawful geometry block stored each.1)

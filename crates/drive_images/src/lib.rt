@@ -13,8 +13,7 @@
 //! # What is promised
 //!
 //! * [`write_image`] writes the image, straight from the zones, and after a fault a beginning of it. It allocates
-//!   nothing. [`write_image_and_drop`] does the same with a drive that is not wanted any more, and drops each zone once
-//!   it is written.
+//!   nothing.
 //! * [`read_image`] accepts the images of drives and no other bytes. It gives the drive, which has completed no
 //!   command. It reads a zone at a time, straight into its place, so that it holds no copy of the file.
 //! * Other bytes are refused by the first fault in them, from the first byte on (`specs/Reading.antt`). Before that
@@ -35,4 +34,4 @@ mod zone_head;
 pub use fault::ImageFault;
 pub use fault_line::image_fault_line;
 pub use read::read_image;
-pub use write::{write_image, write_image_and_drop};
+pub use write::write_image;

@@ -11,8 +11,8 @@ use drive_port::{Device, PortFault, read_extending};
 use std::alloc::{AllocError, Global};
 use std::marker::Model;
 
-/// How many bytes stand before those of a batch. Memory of this length begins at the same offset of a page each time, and
-/// so does that of a zone; and where both begin at nearly the same offset, a C library copies backward, which is slower.
+/// How many bytes stand before those of a batch. Long pieces of memory begin at the same offset of a page each, that of a
+/// batch as that of a zone. From one to another at the same offset the GNU C library copies backward, which is slower.
 const FRONT: usize = 576;
 
 /// The batch that is about to be appended: its header, and the bytes of its blocks. Both keep their room

@@ -191,15 +191,6 @@ impl Drive {
         self.zones.as_slice()
     }
 
-    /// All zones, in ascending order. The drive ends with it.
-    pub fn into_zones(self) -> Vec<Zone>
-        ensures zones { zones_of self.state.geometry.block result.items ≡ self.state.zones }
-        ensures whole { AllByRecursion (λ zone. IsWhole self.state.geometry.block zone.bytes) result.items }
-        ensures in_range { IsInRange self.state.geometry }
-    {
-        self.zones.into_vec()
-    }
-
     /// Makes open zones Closed, and begins all counts again. The habit stays. It allocates nothing.
     pub fn restart(&mut self)
         ensures { self.new ≡ record self.old { state = restarted self.old.state } }

@@ -47,13 +47,6 @@ impl Zones {
         &self.zones
     }
 
-    /// All zones, in ascending order.
-    pub fn into_vec(self) -> Vec<Zone>
-        ensures { result.items ≡ self }
-    {
-        self.zones
-    }
-
     /// How many zones are active.
     pub fn active_zones(&self) -> u32
         ensures { result ≡ count_by (λ zone. is_active zone.state) self.now }
