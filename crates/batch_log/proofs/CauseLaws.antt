@@ -11,8 +11,8 @@ use Rattle.batch_log.specs.declared.fault.LogFault.{LogFault}
 use Rattle.batch_log.specs.declared.header.Kind.{Kind}
 use Rattle.batch_log.specs.declared.header.Kind.TheVariants.{Host, Move}
 use Rattle.batch_log.specs.declared.header.Entry.{Entry}
-use Rattle.batch_log.specs.Header.{Heading, IsHeading, IsHeaderBlock, IsNoHeader, IsSize, entry_bytes, entry_room, entry_word, head_size, header_block, kind_code, magic, size_word, version_of}
-use Rattle.batch_log.specs.Reading.{IsView, count_in, entries_in, entries_of, entry_of, heading_in, kind_in, kind_of, sequence_in, size_of, size_word_in, source_in, version_in}
+use Rattle.batch_log.specs.Header.{Heading, IsHeading, IsHeaderBlock, IsNoHeader, IsSize, entry_word_bytes, entry_room, entry_word, head_size, header_block, kind_code, header_magic, size_word, version_of}
+use Rattle.batch_log.specs.Reading.{IsView, count_in, entries_in, entries_of, entry_of, heading_in, kind_in, kind_of, sequence_in, said_size, size_word_in, source_in, version_in}
 use Rattle.batch_log.specs.Causes.{blocks_named, first_cause, has_early_size, has_host_source, has_odd_size, header_checks, header_fault, is_kind, is_size, is_version, is_zero, repeats, rest_in}
 use Rattle.batch_log.proofs.HeaderLaws.{header_again, version_again, word_small}
 use Rattle.batch_log.proofs.EntryLaws.{entries_length}
@@ -113,14 +113,14 @@ block_small w lt = by (ltb w (2 ^ 63)) refl
     by true e = let less = ltb-true w (2 ^ 63) e in rw e less
     by false e = let le = ltb-false w (2 ^ 63) e in rw e (omega arith)
 
-entries_spelled : (count : ℕ) (bytes : List ℕ) → 8 * count ≤ length bytes → AreBytes bytes → bytes ≡ flat_map entry_bytes (entries_in count bytes) ++ drop (8 * count) bytes
+entries_spelled : (count : ℕ) (bytes : List ℕ) → 8 * count ≤ length bytes → AreBytes bytes → bytes ≡ flat_map entry_word_bytes (entries_in count bytes) ++ drop (8 * count) bytes
 entries_spelled zero bytes le all = refl
 entries_spelled (suc n) bytes le all =
     let front : bytes ≡ little_bytes 8 (little_from 0 8 bytes) ++ drop 8 bytes = number_in_front 0 8 8 bytes refl (omega arith) all in
     let rest = entries_spelled n (drop 8 bytes) (omega (arith, length-drop 8 bytes)) (drop-bytes 8 bytes all) in
     let left : drop (8 * n) (drop 8 bytes) ≡ drop (8 * suc n) bytes = drop-drop (8 * n) 8 bytes ∙ ap (λ (k : ℕ). drop k bytes) (omega arith) in
     let word = word_again (little_from 0 8 bytes) in
-    let tail : drop 8 bytes ≡ flat_map entry_bytes (entries_in n (drop 8 bytes)) ++ drop (8 * suc n) bytes = rw left at rest in
+    let tail : drop 8 bytes ≡ flat_map entry_word_bytes (entries_in n (drop 8 bytes)) ++ drop (8 * suc n) bytes = rw left at rest in
     front ∙ rw word (ap (λ (ys : List ℕ). little_bytes 8 (little_from 0 8 bytes) ++ ys) tail)
 
 blocks_small : (count : ℕ) (bytes : List ℕ) → AreBytes bytes → AllByRecursion (λ (e : Entry). e.block < 2 ^ 63) (entries_in count bytes)
@@ -134,18 +134,18 @@ blocks_small (suc n) bytes all =
 -- the bytes of a header block, from its numbers
 layout : ℕ → ℕ → ℕ → ℕ → ℕ → ℕ → List ℕ → List ℕ
 layout version kind count sequence source word more =
-    magic ++ (little_bytes 2 version ++ (little_bytes 2 kind ++ (little_bytes 4 count ++ (little_bytes 8 sequence ++ (little_bytes 4 source ++ (little_bytes 4 word ++ more))))))
+    header_magic ++ (little_bytes 2 version ++ (little_bytes 2 kind ++ (little_bytes 4 count ++ (little_bytes 8 sequence ++ (little_bytes 4 source ++ (little_bytes 4 word ++ more))))))
 
 header_layout : (size : ℕ) (h : Heading)
-    → header_block size h ≡ layout (version_of h.size) (kind_code h.kind) (length h.entries) h.sequence h.source (size_word h.size) (flat_map entry_bytes h.entries ++ replicate (size - head_size - 8 * length h.entries) 0)
+    → header_block size h ≡ layout (version_of h.size) (kind_code h.kind) (length h.entries) h.sequence h.source (size_word h.size) (flat_map entry_word_bytes h.entries ++ replicate (size - head_size - 8 * length h.entries) 0)
 unfolding header_block layout
 header_layout size h = refl
 
-block_layout : (block : List ℕ) → head_size ≤ length block → AreBytes block → take 8 block ≡ magic
+block_layout : (block : List ℕ) → head_size ≤ length block → AreBytes block → take 8 block ≡ header_magic
     → block ≡ layout (version_in block) (kind_in block) (count_in block) (sequence_in block) (source_in block) (size_word_in block) (drop head_size block)
 unfolding layout
 block_layout block le all front =
-    let begin : block ≡ magic ++ drop 8 block = sym (take-append-drop 8 block) ∙ ap (λ (xs : List ℕ). xs ++ drop 8 block) front in
+    let begin : block ≡ header_magic ++ drop 8 block = sym (take-append-drop 8 block) ∙ ap (λ (xs : List ℕ). xs ++ drop 8 block) front in
     let e1 = number_in_front 8 2 10 block refl (omega arith) all in
     let e2 = number_in_front 10 2 12 block refl (omega arith) all in
     let e3 = number_in_front 12 4 16 block refl (omega arith) all in
@@ -153,7 +153,7 @@ block_layout block le all front =
     let e5 = number_in_front 24 4 28 block refl (omega arith) all in
     let e6 = number_in_front 28 4 32 block refl (omega arith) all in
     begin
-    ∙ ap (λ (xs : List ℕ). magic ++ xs) (e1
+    ∙ ap (λ (xs : List ℕ). header_magic ++ xs) (e1
     ∙ ap (λ (xs : List ℕ). little_bytes 2 (version_in block) ++ xs) (e2
     ∙ ap (λ (xs : List ℕ). little_bytes 2 (kind_in block) ++ xs) (e3
     ∙ ap (λ (xs : List ℕ). little_bytes 4 (count_in block) ++ xs) (e4
@@ -167,17 +167,17 @@ kind_back : (n : ℕ) → (n ≡ 1) ⊎ (n ≡ 2) → kind_code (kind_of n) ≡ 
 kind_back n (inl e) = rw e refl
 kind_back n (inr e) = rw e refl
 
-version_back : (version word : ℕ) → (version ≡ 1) ⊎ (version ≡ 2) → version_of (size_of version word) ≡ version
+version_back : (version word : ℕ) → (version ≡ 1) ⊎ (version ≡ 2) → version_of (said_size version word) ≡ version
 version_back version word (inl e) = rw e refl
 version_back version word (inr e) = rw e refl
 
-word_back : (version word : ℕ) → (version ≡ 1) ⊎ (version ≡ 2) → has_early_size version word ≡ false → size_word (size_of version word) ≡ word
+word_back : (version word : ℕ) → (version ≡ 1) ⊎ (version ≡ 2) → has_early_size version word ≡ false → size_word (said_size version word) ≡ word
 word_back version word (inl e) early =
     let zero_word : not (eqb word 0) ≡ false = rw e at early in
     rw e (sym (eqb-true word 0 (not-false (eqb word 0) zero_word)))
 word_back version word (inr e) early = rw e refl
 
-size_back : (version word : ℕ) → (version ≡ 1) ⊎ (version ≡ 2) → has_odd_size version word ≡ false → IfSome (size_of version word) IsSize
+size_back : (version word : ℕ) → (version ≡ 1) ⊎ (version ≡ 2) → has_odd_size version word ≡ false → IfSome (said_size version word) IsSize
 size_back version word (inl e) odd = rw e tt
 size_back version word (inr e) odd =
     let sized : not (is_size word) ≡ false = rw e at odd in
@@ -195,7 +195,7 @@ pub accepted : (block : List ℕ) → head_size ≤ length block → AreBytes bl
 unfolding header_fault heading_in AllFail
 accepted block le all none =
     let passes : AllFail (header_checks block) = all_fail (header_checks block) none in
-    let begins : take 8 block ≡ magic = sym (same_text magic (take 8 block) (sym (not-false (starts_with nat_eq block magic) passes.0))) in
+    let begins : take 8 block ≡ header_magic = sym (same_text header_magic (take 8 block) (sym (not-false (starts_with nat_eq block header_magic) passes.0))) in
     let version = one_or_two (version_in block) passes.1.0 in
     let kind = one_or_two (kind_in block) passes.1.1.0 in
     let count : count_in block ≤ entry_room (length block) = ltb-false (entry_room (length block)) (count_in block) passes.1.1.1.0 in
@@ -206,8 +206,8 @@ accepted block le all none =
     let left : length (rest_in block) ≡ length block - head_size - 8 * length (entries_of block) = omega (arith, long, room, length-drop (head_size + 8 * count_in block) block) in
     let rest : drop (8 * count_in block) (drop head_size block) ≡ replicate (length block - head_size - 8 * length (entries_of block)) 0 =
     drop-drop (8 * count_in block) head_size block ∙ zeros ∙ ap (λ (n : ℕ). replicate n 0) left in
-    let more : drop head_size block ≡ flat_map entry_bytes (entries_of block) ++ replicate (length block - head_size - 8 * length (entries_of block)) 0 =
-    entries_spelled (count_in block) (drop head_size block) (omega (arith, room, length-drop head_size block)) after ∙ ap (λ (xs : List ℕ). flat_map entry_bytes (entries_of block) ++ xs) rest in
+    let more : drop head_size block ≡ flat_map entry_word_bytes (entries_of block) ++ replicate (length block - head_size - 8 * length (entries_of block)) 0 =
+    entries_spelled (count_in block) (drop head_size block) (omega (arith, room, length-drop head_size block)) after ∙ ap (λ (xs : List ℕ). flat_map entry_word_bytes (entries_of block) ++ xs) rest in
     record {
       is = record {
         says = record {
@@ -245,24 +245,24 @@ count_there : (size : ℕ) (h : Heading) → size < 2 ^ 32 → IsHeading size h 
 unfolding header_block
 count_there size h small is =
     little_number-reads_back 4 (length h.entries)
-    (little_bytes 8 h.sequence ++ (little_bytes 4 h.source ++ (little_bytes 4 (size_word h.size) ++ (flat_map entry_bytes h.entries ++ replicate (size - head_size - 8 * length h.entries) 0)))) (omega (arith, is.room))
+    (little_bytes 8 h.sequence ++ (little_bytes 4 h.source ++ (little_bytes 4 (size_word h.size) ++ (flat_map entry_word_bytes h.entries ++ replicate (size - head_size - 8 * length h.entries) 0)))) (omega (arith, is.room))
 
 source_there : (size : ℕ) (h : Heading) → IsHeading size h → source_in (header_block size h) ≡ h.source
 unfolding header_block
 source_there size h is =
-    little_number-reads_back 4 h.source (little_bytes 4 (size_word h.size) ++ (flat_map entry_bytes h.entries ++ replicate (size - head_size - 8 * length h.entries) 0)) (omega (arith, is.source))
+    little_number-reads_back 4 h.source (little_bytes 4 (size_word h.size) ++ (flat_map entry_word_bytes h.entries ++ replicate (size - head_size - 8 * length h.entries) 0)) (omega (arith, is.source))
 
 word_there : (size : ℕ) (h : Heading) → IsHeading size h → size_word_in (header_block size h) ≡ size_word h.size
 unfolding header_block
-word_there size h is = little_number-reads_back 4 (size_word h.size) (flat_map entry_bytes h.entries ++ replicate (size - head_size - 8 * length h.entries) 0) (word_small h.size is.size)
+word_there size h is = little_number-reads_back 4 (size_word h.size) (flat_map entry_word_bytes h.entries ++ replicate (size - head_size - 8 * length h.entries) 0) (word_small h.size is.size)
 
 rest_there : (size : ℕ) (h : Heading) → drop (head_size + 8 * length h.entries) (header_block size h) ≡ replicate (size - head_size - 8 * length h.entries) 0
 unfolding header_block
 rest_there size h =
     sym (drop-drop (8 * length h.entries) head_size (header_block size h))
-    ∙ drop_at (flat_map entry_bytes h.entries) (replicate (size - head_size - 8 * length h.entries) 0) (8 * length h.entries) (length-entries h.entries)
+    ∙ drop_at (flat_map entry_word_bytes h.entries) (replicate (size - head_size - 8 * length h.entries) 0) (8 * length h.entries) (length-entries h.entries)
 
-begins_there : (size : ℕ) (h : Heading) → starts_with nat_eq (header_block size h) magic ≡ true
+begins_there : (size : ℕ) (h : Heading) → starts_with nat_eq (header_block size h) header_magic ≡ true
 unfolding header_block
 begins_there size h = refl
 
@@ -303,7 +303,7 @@ no_fault block h small is =
     let rest : rest_in block ≡ replicate (size - head_size - 8 * length h.entries) 0 =
     ap (λ (n : ℕ). drop (head_size + 8 * n) block) count ∙ ap (λ (xs : List ℕ). drop (head_size + 8 * length h.entries) xs) made ∙ rest_there size h in
     let entries : entries_of block ≡ h.entries = ap entries_of made ∙ entries_there size h small is.says in
-    let begins : starts_with nat_eq block magic ≡ true = ap (λ (xs : List ℕ). starts_with nat_eq xs magic) made ∙ begins_there size h in
+    let begins : starts_with nat_eq block header_magic ≡ true = ap (λ (xs : List ℕ). starts_with nat_eq xs header_magic) made ∙ begins_there size h in
     no_cause (header_checks block) (
       ap not begins,
       (

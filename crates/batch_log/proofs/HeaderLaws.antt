@@ -9,10 +9,10 @@ use Rattle.byteorder.specs.Numbers.{little_number-reads_back}
 use Rattle.batch_log.specs.declared.header.Kind.{Kind}
 use Rattle.batch_log.specs.declared.header.Kind.TheVariants.{Host, Move}
 use Rattle.batch_log.specs.declared.header.Entry.{Entry}
-use Rattle.batch_log.specs.Header.{Heading, IsSize, head_size, header_block, entry_bytes, entry_word, trim_bit, kind_code, version_of, size_word}
+use Rattle.batch_log.specs.Header.{Heading, IsSize, head_size, header_block, entry_word_bytes, entry_word, trim_bit, kind_code, version_of, size_word}
 use Rattle.batch_log.specs.LogLaws.{HeaderAgain, OneHeader, HeaderLength}
 use Rattle.batch_log.proofs.Writing.{length-entries}
-use Rattle.batch_log.specs.Reading.{kind_of, size_of, entry_of, entries_in, heading_in}
+use Rattle.batch_log.specs.Reading.{kind_of, said_size, entry_of, entries_in, heading_in}
 
 entry_again : (e : Entry) → e.block < 2 ^ 63 → entry_of (entry_word e) ≡ e
 entry_again e lt = again e.trim
@@ -30,10 +30,10 @@ entry_again e lt = again e.trim
 word_fits : (e : Entry) → e.block < 2 ^ 63 → entry_word e < 256 ^ 8
 word_fits e lt = elim e.trim as (λ t. e.block + trim_bit t < 256 ^ 8) [ true ↦ omega arith | false ↦ omega arith ]
 
-entries_again : (es : List Entry) (rest : List ℕ) → AllByRecursion (λ (e : Entry). e.block < 2 ^ 63) es → entries_in (length es) (flat_map entry_bytes es ++ rest) ≡ es
+entries_again : (es : List Entry) (rest : List ℕ) → AllByRecursion (λ (e : Entry). e.block < 2 ^ 63) es → entries_in (length es) (flat_map entry_word_bytes es ++ rest) ≡ es
 entries_again [] rest all = refl
 entries_again (e ∷ es) rest all =
-    let behind = flat_map entry_bytes es ++ rest in
+    let behind = flat_map entry_word_bytes es ++ rest in
     let word : little_from 0 8 (little_bytes 8 (entry_word e) ++ behind) ≡ entry_word e = little_number-reads_back 8 (entry_word e) behind (word_fits e all.0) in
     let others = entries_again es rest all.1 in
     ap (λ (w : ℕ). entry_of w ∷ entries_in (length es) behind) word ∙ rw (entry_again e all.0, others) refl
@@ -46,7 +46,7 @@ pub version_again : (size : Option ℕ) → little_from 0 2 (little_bytes 2 (ver
 version_again None = refl
 version_again (Some n) = refl
 
-size_again : (size : Option ℕ) (version word : ℕ) → version ≡ version_of size → word ≡ size_word size → size_of version word ≡ size
+size_again : (size : Option ℕ) (version word : ℕ) → version ≡ version_of size → word ≡ size_word size → said_size version word ≡ size
 size_again None version word e h = rw e refl
 size_again (Some n) version word e h = rw (e, h) refl
 
@@ -65,7 +65,7 @@ pub header_again : HeaderAgain
 unfolding heading_in header_block
 header_again size h small is =
     let zeros : List ℕ = replicate (size - head_size - 8 * length h.entries) 0 in
-    let more : List ℕ = flat_map entry_bytes h.entries ++ zeros in
+    let more : List ℕ = flat_map entry_word_bytes h.entries ++ zeros in
     let after_source : List ℕ = little_bytes 4 (size_word h.size) ++ more in
     let after_sequence : List ℕ = little_bytes 4 h.source ++ after_source in
     let after_count : List ℕ = little_bytes 8 h.sequence ++ after_sequence in
@@ -83,6 +83,6 @@ pub header_length : HeaderLength
 unfolding header_block
 header_length size h le is =
     let zeros : List ℕ = replicate (size - head_size - 8 * length h.entries) 0 in
-    let both : length (flat_map entry_bytes h.entries ++ zeros) ≡ length (flat_map entry_bytes h.entries) + length zeros = length-append (flat_map entry_bytes h.entries) zeros in
+    let both : length (flat_map entry_word_bytes h.entries ++ zeros) ≡ length (flat_map entry_word_bytes h.entries) + length zeros = length-append (flat_map entry_word_bytes h.entries) zeros in
     let rest : length zeros ≡ size - head_size - 8 * length h.entries = length-replicate (size - head_size - 8 * length h.entries) 0 in
     omega (arith, is.room, length-entries h.entries)

@@ -5,7 +5,7 @@ use Rattle.std.proofs.lemmas.Bool.{le-leb, lt-leb, lt-ltb, le-ltb, ltb-true, ltb
 use Rattle.std.proofs.lemmas.List.{append-nil, take_at, drop_at, length-append, length-replicate}
 use Rattle.std.proofs.lemmas.List.Concat.{flat_map-append}
 use Rattle.batch_log.specs.Header.{Heading, header_block}
-use Rattle.batch_log.specs.Log.{Batch, BeginsWith, IsBatch, IsLog, IsTail, IsTorn, IsUntornTail, IsWhole, data_count, batch_blocks, log_size, zero_block, batch_in, begins_batch, log_from, log_of, tail_of}
+use Rattle.batch_log.specs.Log.{Batch, BeginsWith, IsBatch, IsLog, IsTail, IsTorn, IsUntornTail, IsWholeLog, data_count, batch_blocks, log_size, zero_block, batch_in, begins_batch, log_from, log_of, tail_of}
 use Rattle.batch_log.specs.Reading.{heading_in}
 use Rattle.batch_log.specs.LogLaws.{OneLog, OneTail, NoTail, UntornLog, WholeLog, AppendBatch, AppendFront, Finish}
 use Rattle.batch_log.proofs.HeaderLaws.{header_again}
@@ -139,7 +139,7 @@ all_more size [] b all is = (is, tt)
 all_more size (l ∷ ls) b all is = (all.0, all_more size ls b all.1 is)
 
 -- the blocks are the batches
-spelled_alone : (size : ℕ) (blocks : List (List ℕ)) (log : List Batch) → IsWhole size blocks log → blocks ≡ flat_map (batch_blocks size) log
+spelled_alone : (size : ℕ) (blocks : List (List ℕ)) (log : List Batch) → IsWholeLog size blocks log → blocks ≡ flat_map (batch_blocks size) log
 spelled_alone size blocks log is = is.spelled ∙ append-nil (flat_map (batch_blocks size) log)
 
 pub append_batch : AppendBatch
@@ -148,11 +148,11 @@ append_batch size blocks log b is batch = record {
   batches = all_more size log b is.batches batch;
 }
 
-with_front : (size : ℕ) (blocks tail : List (List ℕ)) (log : List Batch) → IsWhole size blocks log → BeginsWith size (blocks ++ tail) log tail
+with_front : (size : ℕ) (blocks tail : List (List ℕ)) (log : List Batch) → IsWholeLog size blocks log → BeginsWith size (blocks ++ tail) log tail
 with_front size blocks tail log is = record { spelled = ap (λ (front : List (List ℕ)). front ++ tail) (spelled_alone size blocks log is); batches = is.batches }
 
 -- blocks after batches alone are their tail
-with_tail : (size : ℕ) (is_full : Bool) (blocks tail : List (List ℕ)) (log : List Batch) → IsWhole size blocks log → IsTail size is_full tail → IsLog size is_full (blocks ++ tail) log
+with_tail : (size : ℕ) (is_full : Bool) (blocks tail : List (List ℕ)) (log : List Batch) → IsWholeLog size blocks log → IsTail size is_full tail → IsLog size is_full (blocks ++ tail) log
 with_tail size is_full blocks tail log is end = record {
   tail = tail;
   front = with_front size blocks tail log is;

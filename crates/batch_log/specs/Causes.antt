@@ -4,7 +4,7 @@ use Rattle.std.specs.List.{list_any, list_all, starts_with}
 use Rattle.batch_log.specs.declared.header.Entry.{Entry}
 use Rattle.batch_log.specs.declared.fault.LogFault.{LogFault}
 use Rattle.batch_log.specs.declared.fault.LogFault.TheVariants.{Magic, Version, Kind, Count, RestNotZero, BlockRepeated, Size}
-use Rattle.batch_log.specs.Header.{magic, head_size, entry_room}
+use Rattle.batch_log.specs.Header.{header_magic, head_size, entry_room}
 use Rattle.batch_log.specs.Reading.{version_in, kind_in, count_in, source_in, size_word_in, entries_of}
 
 abbrev pub is_version : ℕ → Bool
@@ -46,7 +46,7 @@ blocks_named entries = map (λ (e : Entry). e.block) entries
 -- the tests of a block in their order, each with the cause where it holds
 abbrev pub header_checks : List ℕ → List (Bool × LogFault)
 header_checks block =
-    (not (starts_with nat_eq block magic), Magic)
+    (not (starts_with nat_eq block header_magic), Magic)
     ∷ (not (is_version (version_in block)), Version)
     ∷ (not (is_kind (kind_in block)), Kind)
     ∷ (nat_lt (entry_room (length block)) (count_in block), Count)

@@ -32,7 +32,7 @@ ending_of is_full [] = ended
 ending_of is_full (block ∷ others) = ending_by (header_fault block) is_full (is_zero block) (list_all is_zero others)
 
 -- the blocks are these batches, and a tail that begins with none: so they end
-pub record Reads (block_bytes : ℕ) (is_full : Bool) (blocks : List (List ℕ)) (log : List Batch) (ending : Ending) : Type 0 where
+pub record ReadsLog (block_bytes : ℕ) (is_full : Bool) (blocks : List (List ℕ)) (log : List Batch) (ending : Ending) : Type 0 where
   pub tail : List (List ℕ)
   pub front : BeginsWith block_bytes blocks log tail
   pub no_more : BeginsWithNoBatch block_bytes tail

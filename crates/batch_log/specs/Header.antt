@@ -43,8 +43,8 @@ pub record IsHeading (block_bytes : ℕ) (heading : Heading) : Type 0 where
 -- ---- its bytes
 
 -- `ZLOGBAT1`
-abbrev pub magic : List ℕ
-magic = 0x5a ∷ 0x4c ∷ 0x4f ∷ 0x47 ∷ 0x42 ∷ 0x41 ∷ 0x54 ∷ 0x31 ∷ []
+abbrev pub header_magic : List ℕ
+header_magic = 0x5a ∷ 0x4c ∷ 0x4f ∷ 0x47 ∷ 0x42 ∷ 0x41 ∷ 0x54 ∷ 0x31 ∷ []
 
 -- version 2 has the size, version 1 four zero bytes in its place
 abbrev pub version_of : Option ℕ → ℕ
@@ -67,20 +67,20 @@ trim_bit false = 0
 abbrev pub entry_word : Entry → ℕ
 entry_word entry = entry.block + trim_bit entry.trim
 
-abbrev pub entry_bytes : Entry → List ℕ
-entry_bytes entry = little_bytes 8 (entry_word entry)
+abbrev pub entry_word_bytes : Entry → List ℕ
+entry_word_bytes entry = little_bytes 8 (entry_word entry)
 
 -- magic, version, kind, number of entries, sequence, source zone, size
 abbrev pub head_bytes : Kind → ℕ → ℕ → ℕ → Option ℕ → List ℕ
 head_bytes kind count sequence source size =
-    magic ++ little_bytes 2 (version_of size) ++ little_bytes 2 (kind_code kind) ++ little_bytes 4 count
+    header_magic ++ little_bytes 2 (version_of size) ++ little_bytes 2 (kind_code kind) ++ little_bytes 4 count
     ++ little_bytes 8 sequence ++ little_bytes 4 source ++ little_bytes 4 (size_word size)
 
 -- the head, the entries, and zeros up to the end of the block
 unfoldable pub header_block : ℕ → Heading → List ℕ
 header_block block_bytes heading =
     head_bytes heading.kind (length heading.entries) heading.sequence heading.source heading.size
-    ++ flat_map entry_bytes heading.entries
+    ++ flat_map entry_word_bytes heading.entries
     ++ replicate (block_bytes - head_size - 8 * length heading.entries) 0
 
 -- a block of `block_bytes` bytes is the header block of this heading

@@ -9,7 +9,7 @@ use Rattle.batch_log.specs.Header.{Heading}
 use Rattle.batch_log.specs.Reading.{heading_in}
 use Rattle.batch_log.specs.Causes.{header_fault, is_header, is_zero}
 use Rattle.batch_log.specs.Log.{Batch, batch_size, data_count, log_size}
-use Rattle.batch_log.specs.Ending.{Ending, Reads, ended, torn, failed, ending_by}
+use Rattle.batch_log.specs.Ending.{Ending, ReadsLog, ended, torn, failed, ending_by}
 
 -- a batch as it is lent: the block where it begins, what its header says, and its data
 pub record LentBatch : Type 0 where
@@ -21,13 +21,13 @@ abbrev pub Item : Type 0
 Item = Result LentBatch FaultAt
 
 -- the bytes of some blocks
-abbrev pub bytes_of : List (List ℕ) → List ℕ
-bytes_of blocks = flat_map (λ block. block) blocks
+abbrev pub bytes_of_blocks : List (List ℕ) → List ℕ
+bytes_of_blocks blocks = flat_map (λ block. block) blocks
 
 -- the batches of a log that begins at a block
 abbrev pub lent_from : ℕ → List Batch → List LentBatch
 lent_from offset [] = []
-lent_from offset (batch ∷ log) = record { offset = offset; heading = batch.heading; body = bytes_of batch.body } ∷ lent_from (offset + batch_size batch) log
+lent_from offset (batch ∷ log) = record { offset = offset; heading = batch.heading; body = bytes_of_blocks batch.body } ∷ lent_from (offset + batch_size batch) log
 
 -- a fault is the last item
 abbrev pub fault_items : ℕ → Ending → List Item
@@ -48,7 +48,7 @@ torn_of offset (failed fault) = None
 pub record AreRead (block_bytes : ℕ) (is_full : Bool) (blocks : List (List ℕ)) (items : List Item) (torn_at : Option ℕ) : Type 0 where
   pub log : List Batch
   pub ending : Ending
-  pub reads : Reads block_bytes is_full blocks log ending
+  pub reads : ReadsLog block_bytes is_full blocks log ending
   pub items_are : items ≡ items_of (lent_from 0 log) (log_size log) ending
   pub torn_is : torn_at ≡ torn_of (log_size log) ending
 
@@ -104,10 +104,10 @@ torn_left batches = or_else (torn_of (reading batches).offset (reading batches).
 abbrev pub IsDone : Batches → Type 0
 IsDone batches = batches.rest.now ≡ []
 
-abbrev pub shown : Result lent.Batch FaultAt → Item
-shown (Ok batch) = Ok (record { offset = batch.offset; heading = batch.header; body = batch.body.now })
-shown (Err fault) = Err fault
+abbrev pub lent_item : Result lent.Batch FaultAt → Item
+lent_item (Ok batch) = Ok (record { offset = batch.offset; heading = batch.header; body = batch.body.now })
+lent_item (Err fault) = Err fault
 
 -- the first item comes off, and the torn tail that is told of at the end stays; where there is no item the iterator is done
 abbrev pub Steps : Batches → Option (Result lent.Batch FaultAt) → Batches → Type 0
-Steps old item new = YieldsFirstBy shown left old item new × (torn_left new ≡ torn_left old) × IfNone item (IsDone new)
+Steps old item new = YieldsFirstBy lent_item left old item new × (torn_left new ≡ torn_left old) × IfNone item (IsDone new)

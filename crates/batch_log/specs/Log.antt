@@ -73,8 +73,8 @@ abbrev pub HaveNoLog : ℕ → Bool → List (List ℕ) → Type 0
 HaveNoLog block_bytes is_full blocks = (log : List Batch) → IsLog block_bytes is_full blocks log → ⊥
 
 -- the blocks are the batches of a log, and nothing stands after them
-abbrev pub IsWhole : ℕ → List (List ℕ) → List Batch → Type 0
-IsWhole block_bytes blocks log = BeginsWith block_bytes blocks log []
+abbrev pub IsWholeLog : ℕ → List (List ℕ) → List Batch → Type 0
+IsWholeLog block_bytes blocks log = BeginsWith block_bytes blocks log []
 
 -- what may stand after the last batch where no Append was torn: in a full zone zero blocks, elsewhere nothing
 abbrev pub IsUntornTail : ℕ → Bool → List (List ℕ) → Type 0

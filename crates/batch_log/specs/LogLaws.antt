@@ -2,8 +2,8 @@
 use Rattle.std.specs.Prelude.{◌≡◌, ℕ, ◌<◌, ◌≤◌, ◌^◌, Bool, true, false, List, [], ◌∷◌, ◌++◌, length, replicate, take}
 use Rattle.batch_log.specs.Header.{Heading, IsHeading, head_size, header_block}
 use Rattle.batch_log.specs.Reading.{heading_in}
-use Rattle.batch_log.specs.Ending.{AreBlocks, Ending, Reads, SaysOfLog}
-use Rattle.batch_log.specs.Log.{Batch, IsBatch, IsLog, IsTorn, IsUntornLog, IsWhole, batch_blocks, zero_block, log_of, tail_of, has_tail}
+use Rattle.batch_log.specs.Ending.{AreBlocks, Ending, ReadsLog, SaysOfLog}
+use Rattle.batch_log.specs.Log.{Batch, IsBatch, IsLog, IsTorn, IsUntornLog, IsWholeLog, batch_blocks, zero_block, log_of, tail_of, has_tail}
 
 -- a header block is read again
 abbrev pub HeaderAgain : Type 0
@@ -31,13 +31,13 @@ OneTail = (block_bytes : ℕ) (is_full : Bool) (blocks : List (List ℕ)) (log :
 
 -- batches with nothing after them are a log, of a full zone too
 abbrev pub WholeLog : Type 0
-WholeLog = (block_bytes : ℕ) (is_full : Bool) (blocks : List (List ℕ)) (log : List Batch) → IsWhole block_bytes blocks log → IsLog block_bytes is_full blocks log
+WholeLog = (block_bytes : ℕ) (is_full : Bool) (blocks : List (List ℕ)) (log : List Batch) → IsWholeLog block_bytes blocks log → IsLog block_bytes is_full blocks log
 
 -- a log with no torn tail is a log; outside a full zone it is its batches alone
 pub record UntornExactly (block_bytes : ℕ) (is_full : Bool) (blocks : List (List ℕ)) (log : List Batch) : Type 0 where
   pub log_of_it : IsUntornLog block_bytes is_full blocks log → IsLog block_bytes is_full blocks log
-  pub whole : IsUntornLog block_bytes false blocks log → IsWhole block_bytes blocks log
-  pub of_whole : IsWhole block_bytes blocks log → IsUntornLog block_bytes is_full blocks log
+  pub whole : IsUntornLog block_bytes false blocks log → IsWholeLog block_bytes blocks log
+  pub of_whole : IsWholeLog block_bytes blocks log → IsUntornLog block_bytes is_full blocks log
   pub of_full : IsLog block_bytes true blocks log → IsUntornLog block_bytes true blocks log
 
 abbrev pub UntornLog : Type 0
@@ -45,8 +45,8 @@ UntornLog = (block_bytes : ℕ) (is_full : Bool) (blocks : List (List ℕ)) (log
 
 -- outside a full zone: with no `has_tail` nothing stands after the batches, and with it a torn tail does
 pub record WholeExactly (block_bytes : ℕ) (blocks : List (List ℕ)) (log : List Batch) : Type 0 where
-  pub whole : has_tail blocks ≡ false → IsWhole block_bytes blocks log
-  pub back : IsWhole block_bytes blocks log → has_tail blocks ≡ false
+  pub whole : has_tail blocks ≡ false → IsWholeLog block_bytes blocks log
+  pub back : IsWholeLog block_bytes blocks log → has_tail blocks ≡ false
   pub torn : has_tail blocks ≡ true → IsTorn block_bytes (tail_of blocks)
 
 abbrev pub NoTail : Type 0
@@ -58,24 +58,24 @@ NoTail = (block_bytes : ℕ) (blocks : List (List ℕ)) (log : List Batch) → b
 abbrev pub AppendBatch : Type 0
 AppendBatch =
     (block_bytes : ℕ) (blocks : List (List ℕ)) (log : List Batch) (batch : Batch)
-    → IsWhole block_bytes blocks log → IsBatch block_bytes batch → IsWhole block_bytes (blocks ++ batch_blocks block_bytes batch) (log ++ batch ∷ [])
+    → IsWholeLog block_bytes blocks log → IsBatch block_bytes batch → IsWholeLog block_bytes (blocks ++ batch_blocks block_bytes batch) (log ++ batch ∷ [])
 
 -- the first j of a batch's blocks, but not all, leave the batches as they were; if j is not 0 they are a torn tail
-pub record IsFront (block_bytes j : ℕ) (new : List (List ℕ)) (log : List Batch) : Type 0 where
+pub record IsTornFront (block_bytes j : ℕ) (new : List (List ℕ)) (log : List Batch) : Type 0 where
   pub kept : IsLog block_bytes false new log
   pub torn : 1 ≤ j → has_tail new ≡ true
 
 abbrev pub AppendFront : Type 0
 AppendFront =
     (block_bytes j : ℕ) (blocks : List (List ℕ)) (log : List Batch) (batch : Batch)
-    → block_bytes < 2 ^ 32 → IsWhole block_bytes blocks log → IsBatch block_bytes batch → j < length (batch_blocks block_bytes batch)
-    → IsFront block_bytes j (blocks ++ take j (batch_blocks block_bytes batch)) log
+    → block_bytes < 2 ^ 32 → IsWholeLog block_bytes blocks log → IsBatch block_bytes batch → j < length (batch_blocks block_bytes batch)
+    → IsTornFront block_bytes j (blocks ++ take j (batch_blocks block_bytes batch)) log
 
 -- zero blocks that fill up a zone without a tail keep its log
 abbrev pub Finish : Type 0
 Finish =
     (block_bytes rest : ℕ) (blocks : List (List ℕ)) (log : List Batch)
-    → IsWhole block_bytes blocks log → IsLog block_bytes true (blocks ++ replicate rest (zero_block block_bytes)) log
+    → IsWholeLog block_bytes blocks log → IsLog block_bytes true (blocks ++ replicate rest (zero_block block_bytes)) log
 
 -- ---- readings
 
@@ -87,10 +87,10 @@ pub record IsOne (log other : List Batch) (ending end : Ending) : Type 0 where
 abbrev pub OneReading : Type 0
 OneReading =
     (block_bytes : ℕ) (is_full : Bool) (blocks : List (List ℕ)) (log other : List Batch) (ending end : Ending)
-    → block_bytes < 2 ^ 32 → Reads block_bytes is_full blocks log ending → Reads block_bytes is_full blocks other end → IsOne log other ending end
+    → block_bytes < 2 ^ 32 → ReadsLog block_bytes is_full blocks log ending → ReadsLog block_bytes is_full blocks other end → IsOne log other ending end
 
 -- and how they end says whether they have a log: they have none exactly where a fault is met, and the batches read are it elsewhere
 abbrev pub ReadingSays : Type 0
 ReadingSays =
     (block_bytes : ℕ) (is_full : Bool) (blocks : List (List ℕ)) (log : List Batch) (ending : Ending)
-    → head_size ≤ block_bytes → block_bytes < 2 ^ 32 → AreBlocks block_bytes blocks → Reads block_bytes is_full blocks log ending → SaysOfLog block_bytes is_full blocks log ending
+    → head_size ≤ block_bytes → block_bytes < 2 ^ 32 → AreBlocks block_bytes blocks → ReadsLog block_bytes is_full blocks log ending → SaysOfLog block_bytes is_full blocks log ending

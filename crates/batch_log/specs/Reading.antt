@@ -31,8 +31,8 @@ size_word_in block = number_at 28 4 block
 abbrev pub kind_of : ℕ → Kind
 kind_of code = if code == 2 then Move else Host
 
-abbrev pub size_of : ℕ → ℕ → Option ℕ
-size_of version word = if version == 2 then Some word else None
+abbrev pub said_size : ℕ → ℕ → Option ℕ
+said_size version word = if version == 2 then Some word else None
 
 abbrev pub entry_of : ℕ → Entry
 entry_of word = if nat_lt word (2 ^ 63) then record { block = word; trim = false } else record { block = word - 2 ^ 63; trim = true }
@@ -51,7 +51,7 @@ heading_in block = record {
   kind = kind_of (kind_in block);
   sequence = sequence_in block;
   source = source_in block;
-  size = size_of (version_in block) (size_word_in block);
+  size = said_size (version_in block) (size_word_in block);
   entries = entries_of block;
 }
 

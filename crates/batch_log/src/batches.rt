@@ -33,7 +33,7 @@ pub struct Batches<'a> {
 }
 
 impl<'a> Batches<'a> {
-    ghost use Rattle.batch_log.specs.Lent.{AreRead, IsDone, Steps, begins, bytes_of, left, torn_left};
+    ghost use Rattle.batch_log.specs.Lent.{AreRead, IsDone, Steps, begins, bytes_of_blocks, left, torn_left};
 
     /// The batches of the readable blocks of a zone, which have `block_bytes` bytes each: of a full
     /// zone all blocks up to the capacity, of another the written ones.
@@ -41,7 +41,7 @@ impl<'a> Batches<'a> {
         requires room { head_size ≤ block_bytes }
         requires whole { length bytes.now % block_bytes ≡ 0 }
         requires few { length bytes.now / block_bytes < 2 ^ 32 }
-        ensures { (blocks : List (List ℕ)) → AreBlocks block_bytes blocks → bytes_of blocks ≡ bytes.now → AreRead block_bytes is_full blocks (left result) (torn_left result) }
+        ensures { (blocks : List (List ℕ)) → AreBlocks block_bytes blocks → bytes_of_blocks blocks ≡ bytes.now → AreRead block_bytes is_full blocks (left result) (torn_left result) }
     {
         Batches {
             rest: bytes,

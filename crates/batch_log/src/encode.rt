@@ -1,7 +1,7 @@
 ghost use Rattle.std.specs.Prelude.{◌≡◌, ◌⊎◌, ◌≤◌, ◌<◌, ◌*◌, ◌^◌, length};
 ghost use Rattle.std.specs.List.{flat_map, AllByRecursion};
 ghost use Rattle.std.specs.Prelude.{IfSome};
-ghost use Rattle.batch_log.specs.Header.{IsHeading, heading_of, kind_code, version_of, size_word, entry_room, entry_word, entry_bytes, head_bytes, head_size, header_block};
+ghost use Rattle.batch_log.specs.Header.{IsHeading, heading_of, kind_code, version_of, size_word, entry_room, entry_word, entry_word_bytes, head_bytes, head_size, header_block};
 
 use crate::header::{Entry, Header, Kind};
 use byteorder::{ByteOrder, LittleEndian};
@@ -78,7 +78,7 @@ fn write_entries(entries: &[Entry], out: &mut [u8])
     requires blocks { AllByRecursion (λ e. e.block < 2 ^ 63) entries.now }
     requires room { length out.old ≡ 8 * length entries.now }
     requires short { length out.old ≤ 4096 }
-    ensures { out.new ≡ flat_map entry_bytes entries.now }
+    ensures { out.new ≡ flat_map entry_word_bytes entries.now }
 {
     for (i, entry) in entries.iter().enumerate() {
         LittleEndian::write_u64(&mut out[8 * i..], word(*entry));

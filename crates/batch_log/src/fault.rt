@@ -30,9 +30,9 @@ pub enum LogFault {
 
 impl Display for LogFault {
     ghost use Rattle.std.specs.Prelude.{Some};
-    ghost use Rattle.batch_log.specs.Texts.{fault_text};
+    ghost use Rattle.batch_log.specs.Texts.{log_fault_text};
 
-    ghost output = { λ fault. Some (fault_text fault) };
+    ghost output = { λ fault. Some (log_fault_text fault) };
 
     fn fmt<W: fmt::Write>(&self, f: &mut Formatter<W>) -> fmt::Result {
         f.write_str(match self {

@@ -2,7 +2,7 @@ ghost use Rattle.std.specs.Prelude.{◌≡◌, ◌≤◌, ◌<◌, ◌+◌, ◌*
 ghost use Rattle.std.specs.List.{list_any};
 ghost use Rattle.byteorder.specs.Endian.{little_from};
 ghost use Rattle.batch_log.specs.Header.{IsHeaderBlock, IsNoHeader, head_size, entry_room};
-ghost use Rattle.batch_log.specs.Reading.{number_at, entry_of, entries_in, kind_of, size_of, count_in, heading_in};
+ghost use Rattle.batch_log.specs.Reading.{number_at, entry_of, entries_in, kind_of, said_size, count_in, heading_in};
 ghost use Rattle.batch_log.specs.Causes.{blocks_named, header_fault, has_early_size, has_host_source, has_odd_size, is_kind, is_size, is_version, is_zero, repeats};
 ghost use Rattle.batch_log.specs.Log.{data_count, one_unless};
 

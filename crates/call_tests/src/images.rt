@@ -1,11 +1,14 @@
-// Readers and writers of images that fail. `worked_runs` has the other faults of an image.
+// Readers and writers of images that fail at each place, and the lines of the faults. `worked_runs` has the images
+// that have those faults.
 
-use crate::fakes::{FailingReader, FailingWriter};
-use disk_files::{LineReader, WriteFault};
-use disk_jobs::{Job, run_job, write_program_fault};
-use drive_images::{read_image, write_image};
+use crate::fakes::FullWriter;
+use disk_files::{FailAfter, LineReader, WriteFault};
+use disk_jobs::{Job, ProgramFault, run_job, write_program_fault};
+use drive_images::{ImageFault, read_image, write_image};
 use std::alloc::{AllocError, Global};
+use std::process::Abort;
 use std::test::Fail;
+use zone_drive::Drive;
 
 const ZONES: &[u8] = b"zones 3
 start 0 state ImplicitlyOpened pointer 2 capacity 4
@@ -24,73 +27,83 @@ fn image(alloc: Global) -> Result<Vec<u8>, AllocError> {
     Ok(bytes)
 }
 
-// In the head, the head of a zone, the blocks of one, another head, and where the image has ended.
-const FAILING_READS: [usize; 14] = [
-    0, 1, 63, 64, 71, 72, 600, 1095, 1096, 1103, 1104, 1111, 1112, 1113,
-];
+// Reports an image whose reader fails after `left` bytes, and gives at most `step` of them in one call.
+fn report(alloc: Global, bytes: &[u8], left: usize, step: usize) -> Result<Vec<u8>, AllocError> {
+    let job = Job::Report {
+        image: String::new(alloc),
+    };
+    let mut image = FailAfter::in_steps(bytes, left, step);
+    let mut input = LineReader::new(alloc, b"".as_slice());
+    let mut written = Vec::new(alloc);
+    let (_, result) = run_job(alloc, &job, &mut image, &mut input, &mut written);
+    if let Err(fault) = result {
+        write_program_fault(alloc, fault, &mut written).or(Err(AllocError))?;
+    }
+    Ok(written)
+}
 
+// At each byte, and where the image has ended: whether more bytes follow is also asked of the reader.
 #[test]
 fn refuses_an_image_where_the_reader_fails(rt: HostRuntime) -> Result<(), Fail> {
     let bytes = image(rt.alloc())?;
-    let job = Job::Report {
-        image: String::new(rt.alloc()),
-    };
-    for left in FAILING_READS {
-        let mut image = FailingReader {
-            bytes: &bytes,
-            step: 1 + left % 50,
-            left,
-        };
-        let mut input = LineReader::new(rt.alloc(), b"".as_slice());
-        let mut written = Vec::new(rt.alloc());
-        let (_, result) = run_job(rt.alloc(), &job, &mut image, &mut input, &mut written);
-        if let Err(fault) = result {
-            let _ = write_program_fault(rt.alloc(), fault, &mut written);
-        }
-        let want = if left < 1113 {
-            b"fault image 9 Input\n".as_slice()
-        } else {
-            ZONES
-        };
-        assert_eq!(rt; written.as_slice(), want);
+    for left in 0..=bytes.len() {
+        let written = report(rt.alloc(), &bytes, left, 1 + left % 50)?;
+        assert_eq!(rt; written.as_slice(), b"fault image 9 Input\n".as_slice());
     }
+    let written = report(rt.alloc(), &bytes, bytes.len().saturating_add(1), 100)?;
+    assert_eq!(rt; written.as_slice(), ZONES);
     Ok(())
 }
 
-// How many bytes of the image the writer takes, and how many at a time.
-const FAILING_WRITES: [(usize, usize); 11] = [
-    (0, 9),
-    (63, 9),
-    (64, 9),
-    (71, 9),
-    (72, 9),
-    (600, 100),
-    (1095, 100),
-    (1111, 9),
-    (1112, 9),
-    (2000, 100),
-    (2000, 0),
-];
+fn drive_of(rt: &impl Abort, alloc: Global, bytes: &[u8]) -> Drive {
+    let mut rest = bytes;
+    read_image(alloc, &mut rest).ok().expect(rt, "a drive")
+}
+
+// Writes a drive to a writer that fails after `left` bytes, and compares what was written with its image.
+fn check_front(rt: &impl Abort, alloc: Global, drive: &Drive, bytes: &[u8], left: usize) {
+    let mut writer = FailAfter::in_steps(Vec::new(alloc), left, 1 + left % 90);
+    let want = if left < bytes.len() {
+        Err(WriteFault)
+    } else {
+        Ok(())
+    };
+    assert_eq!(rt; write_image(drive, &mut writer), want);
+    let taken = left.min(bytes.len());
+    assert_eq!(rt; writer.inner.as_slice(), &bytes[..taken]);
+}
 
 #[test]
 fn writes_a_beginning_of_an_image(rt: HostRuntime) -> Result<(), Fail> {
     let bytes = image(rt.alloc())?;
-    let drive = read_image(rt.alloc(), &mut bytes.as_slice()).ok();
-    let drive = drive.expect(&rt, "a drive");
-    for (left, step) in FAILING_WRITES {
-        let mut writer = FailingWriter {
-            bytes: Vec::new(rt.alloc()),
-            step,
-            left,
-        };
-        let taken = if step == 0 { 0 } else { left.min(bytes.len()) };
-        let want = if taken < bytes.len() {
-            Err(WriteFault)
-        } else {
-            Ok(())
-        };
-        assert_eq!(rt; write_image(&drive, &mut writer), want);
-        assert_eq!(rt; writer.bytes.as_slice(), &bytes[..taken]);
+    let drive = drive_of(&rt, rt.alloc(), &bytes);
+    for left in 0..=bytes.len() {
+        check_front(&rt, rt.alloc(), &drive, &bytes, left);
     }
+    assert_eq!(rt; write_image(&drive, &mut FullWriter {}), Err(WriteFault));
     Ok(())
+}
+
+// The faults of an image, and their lines.
+const FAULT_LINES: [(ImageFault, &str); 10] = [
+    (ImageFault::Magic, "fault image 1 Magic\n"),
+    (ImageFault::Geometry, "fault image 2 Geometry\n"),
+    (ImageFault::State, "fault image 3 State\n"),
+    (ImageFault::Written, "fault image 4 Written\n"),
+    (ImageFault::RestNotZero, "fault image 5 RestNotZero\n"),
+    (ImageFault::Limits, "fault image 6 Limits\n"),
+    (ImageFault::Short, "fault image 7 Short\n"),
+    (ImageFault::Long, "fault image 8 Long\n"),
+    (ImageFault::Input, "fault image 9 Input\n"),
+    (ImageFault::OutOfMemory, "fault image 10 OutOfMemory\n"),
+];
+
+#[test]
+fn writes_the_lines_of_all_faults_of_an_image(rt: HostRuntime) {
+    for (fault, line) in &FAULT_LINES {
+        let mut written = Vec::new(rt.alloc());
+        let ended = write_program_fault(rt.alloc(), ProgramFault::Image(*fault), &mut written);
+        assert!(rt; ended.is_ok());
+        assert_eq!(rt; written.as_slice(), line.as_bytes());
+    }
 }

@@ -5,12 +5,13 @@ use crate::runs::FINISH;
 use clap::error::ErrorKind;
 use command_line::job_of;
 use disk_files::LineReader;
-use disk_jobs::{Job, explain, run_job, run_on_file, write_program_fault};
-use std::alloc::Global;
+use disk_jobs::{Job, do_job, explain, write_program_fault};
+use std::alloc::{AllocError, Global};
+use std::fs;
+use std::fs::File;
 use std::process::Abort;
 use std::rt::Files;
 use std::test::Fail;
-use std::{fs, io};
 
 const FRESH: &str =
     "zonedisk fresh --block 512 --zones 4 --size 8 --capacity 6 --transfer 4 --active 2 --open 2";
@@ -39,25 +40,37 @@ fn refusal(rt: &impl Abort, alloc: Global, line: &str) -> Option<ErrorKind> {
     }
 }
 
-// What a command line writes, with the line of a fault, and what standard error says of that.
-fn answer<R: Files + Abort>(rt: &R, alloc: Global, line: &str, lines: &[u8]) -> (Vec<u8>, String) {
+// What a command line writes, with the line of a fault, and the lines that standard error says of that.
+fn answer<R: Files<File = File> + Abort>(
+    rt: &R,
+    alloc: Global,
+    line: &str,
+    lines: &[u8],
+) -> (Vec<u8>, String) {
     let job = job(rt, alloc, line).ok().expect(rt, "a job");
     let mut input = LineReader::new(alloc, lines);
     let mut written = Vec::new(alloc);
-    let ended = match job.image() {
-        Some(path) => run_on_file(rt, alloc, &job, path, &mut input, &mut written),
-        None => run_job(alloc, &job, &mut io::empty(), &mut input, &mut written).1,
-    };
-    let Err(fault) = ended else {
-        return (written, String::new(alloc));
-    };
-    write_program_fault(alloc, fault, &mut written).expect(rt, "memory");
-    let told = explain(alloc, &job, fault, input.line()).expect(rt, "memory");
+    let done = do_job(rt, alloc, &job, &mut input, &mut written);
+    let mut told = String::new(alloc);
+    if let Some(fault) = done.fault() {
+        write_program_fault(alloc, fault, &mut written).expect(rt, "memory");
+    }
+    for ended in [done.job, done.saved] {
+        if let Err(fault) = ended {
+            let text = explain(alloc, &job, fault, input.line()).expect(rt, "memory");
+            told.push_str(&text).expect(rt, "memory");
+            told.push('\n').expect(rt, "memory");
+        }
+    }
     (written, told)
 }
 
 // Runs command lines one after the other, each on its input, and compares what they write.
-fn check_written<R: Files + Abort>(rt: &R, alloc: Global, cases: &[(&str, &[u8], &[u8])]) {
+fn check_written<R: Files<File = File> + Abort>(
+    rt: &R,
+    alloc: Global,
+    cases: &[(&str, &[u8], &[u8])],
+) {
     for (line, lines, output) in cases {
         let (written, _) = answer(rt, alloc, line, lines);
         assert_eq!(rt; written.as_slice(), *output);
@@ -65,10 +78,10 @@ fn check_written<R: Files + Abort>(rt: &R, alloc: Global, cases: &[(&str, &[u8],
 }
 
 // What is told of each of these command lines, on its input.
-fn check_told<R: Files + Abort>(rt: &R, alloc: Global, cases: &[(&str, &[u8], &str)]) {
+fn check_told<R: Files<File = File> + Abort>(rt: &R, alloc: Global, cases: &[(&str, &[u8], &str)]) {
     for (line, lines, text) in cases {
         let (_, told) = answer(rt, alloc, line, lines);
-        assert_eq!(rt; told.as_str(), *text);
+        assert_eq!(rt; told.trim_end(), *text);
     }
 }
 
@@ -216,7 +229,7 @@ const TOLD: [(&str, &[u8], &str); 13] = [
     (
         "zonedisk report --image missing.image",
         b"",
-        "missing.image cannot be opened",
+        "missing.image cannot be opened: No such file or directory (os error 2)",
     ),
     (
         DISK,
@@ -363,6 +376,61 @@ fn works_on_a_file(rt: HostRuntime) {
     check_written(&rt, rt.alloc(), &[(REPORT, b"", b"fault file\n")]);
 }
 
+const FORMAT_NARROW: &str =
+    "zonedisk format --image narrow.image --block 512 --zones 3 --size 4 --capacity 4 --transfer 2 --active 2 --open 1";
+
+const STOPPED_NARROW: &str = "zonedisk run --image narrow.image --blocks 2 --stop-after 0";
+
+const RUN_NARROW: &str = "zonedisk run --image narrow.image --blocks 2";
+
+// The image of a drive of that shape in which nothing was written: the head, and three empty zones.
+fn narrow_image(alloc: Global) -> Result<Vec<u8>, AllocError> {
+    let mut bytes = Vec::from_slice(alloc, b"ZNSIMG01\0\x02\0\0\x03\0\0\0\x04\0\0\0\x04\0\0\0")?;
+    bytes.extend_from_slice(b"\x02\0\0\0\x02\0\0\0\x01\0\0\0")?;
+    bytes.resize(64, 0)?;
+    for _ in 0..3 {
+        bytes.extend_from_slice(b"\x01\0\0\0\0\0\0\0")?;
+    }
+    Ok(bytes)
+}
+
+// The same after a fill of block 0 with the byte A1, and a restart: zone 0 is Closed, with a header and the block.
+fn filled_image(alloc: Global) -> Result<Vec<u8>, AllocError> {
+    let mut bytes = narrow_image(alloc)?;
+    bytes.truncate(64);
+    bytes.extend_from_slice(
+        b"\x04\0\0\0\x02\0\0\0ZLOGBAT1\x02\0\x01\0\x01\0\0\0\x01\0\0\0\0\0\0\0",
+    )?;
+    bytes.extend_from_slice(b"\0\0\0\0\x02\0\0\0")?;
+    bytes.resize(72 + 512, 0)?;
+    bytes.resize(72 + 1024, 0xa1)?;
+    bytes.extend_from_slice(b"\x01\0\0\0\0\0\0\0\x01\0\0\0\0\0\0\0")?;
+    Ok(bytes)
+}
+
+fn check_narrow_image<R: Files + Alloc + Abort>(rt: &R, want: &[u8]) {
+    let bytes = fs::read(rt, "narrow.image").ok().expect(rt, "the file");
+    assert_eq!(rt; bytes.as_slice(), want);
+}
+
+// What a run that stops before its first command writes.
+const HALTED: &[u8] = b"fault mount 10 Halted\n";
+
+// Such a run saves the drive as it was, restarted.
+#[test]
+fn keeps_each_byte_where_a_run_stops_at_once(rt: HostRuntime) -> Result<(), Fail> {
+    let empty = narrow_image(rt.alloc())?;
+    check_written(&rt, rt.alloc(), &[(FORMAT_NARROW, b"", b"ok\n")]);
+    check_narrow_image(&rt, &empty);
+    check_written(&rt, rt.alloc(), &[(STOPPED_NARROW, b"read 0 1\n", HALTED)]);
+    check_narrow_image(&rt, &empty);
+    check_written(&rt, rt.alloc(), &[(RUN_NARROW, b"fill 0 1 A1\n", b"ok\n")]);
+    check_written(&rt, rt.alloc(), &[(STOPPED_NARROW, b"read 0 1\n", HALTED)]);
+    check_narrow_image(&rt, &filled_image(rt.alloc())?);
+    fs::remove_file(&rt, "narrow.image").expect(&rt, "to remove the file");
+    Ok(())
+}
+
 const EMPTY: &[u8] = b"zones 4
 start 0 state Empty pointer 0 capacity 6
 start 8 state Empty pointer 8 capacity 6
@@ -381,35 +449,99 @@ const FORMAT_FOLDER: &str =
 
 const RUN_KEPT: &str = "zonedisk run --image kept.image --blocks 9";
 
-// No folder has the image, or a folder stands where it is written: the replies come before the fault, and the image
-// stays as it was.
-const NOT_SAVED: [(&str, &[u8], &[u8]); 7] = [
+// A folder is where no image can be, and in the way of the new file, which gets another name.
+const BESIDE_A_FOLDER: [(&str, &[u8], &[u8]); 6] = [
     (FORMAT_MISSING, b"", b"ok\nfault file\n"),
     (FORMAT_FOLDER, b"", b"ok\nfault file\n"),
+    (
+        "zonedisk run --image kept.image.new --blocks 9",
+        b"",
+        b"fault file\n",
+    ),
     (
         "zonedisk report --image kept.image.new",
         b"",
         b"fault image 9 Input\n",
     ),
-    (
-        RUN_KEPT,
-        b"fill 0 1 AA\nread 0 1\n",
-        b"ok\n0 aa*512\nok\nfault file\n",
-    ),
-    (RUN_KEPT, b"fill 0 1 AA\nnone\n", b"ok\nfault line 2\n"),
-    (
-        "zonedisk nvme --image kept.image",
-        FINISH,
-        b"00000000000000000000000001000000\nfault file\n",
-    ),
-    ("zonedisk report --image kept.image", b"", EMPTY),
+    (RUN_KEPT, b"fill 0 1 AA\n", b"ok\n"),
+    (RUN_KEPT, b"read 0 1\n", b"0 aa*512\nok\n"),
 ];
 
 #[test]
-fn keeps_the_image_where_a_save_fails(rt: HostRuntime) {
+fn saves_beside_a_folder(rt: HostRuntime) {
     check_written(&rt, rt.alloc(), &[(FORMAT_KEPT, b"", b"ok\n")]);
     fs::create_dir(&rt, "kept.image.new").expect(&rt, "a folder");
-    check_written(&rt, rt.alloc(), &NOT_SAVED);
+    check_written(&rt, rt.alloc(), &BESIDE_A_FOLDER);
     fs::remove_dir(&rt, "kept.image.new").expect(&rt, "to remove the folder");
     fs::remove_file(&rt, "kept.image").expect(&rt, "to remove the file");
+}
+
+const FORMAT_LONG: &str =
+    "zonedisk format --image long.image --block 512 --zones 4 --size 8 --capacity 6 --transfer 4 --active 2 --open 2";
+
+// A name so long that no name of a new file has room for four bytes more.
+fn long_name(rt: &impl Abort, alloc: Global) -> String {
+    let mut name = String::new(alloc);
+    for _ in 0..252 {
+        name.push('k').expect(rt, "memory");
+    }
+    name
+}
+
+// The replies come before the fault, and the image stays as it was. Both the fault of a line and the save are told.
+#[test]
+fn keeps_the_image_where_a_save_fails(rt: HostRuntime) -> Result<(), Fail> {
+    let alloc = rt.alloc();
+    let name = long_name(&rt, alloc);
+    let run = format!(in alloc; "zonedisk run --image {name} --blocks 9")?;
+    let nvme = format!(in alloc; "zonedisk nvme --image {name}")?;
+    let report = format!(in alloc; "zonedisk report --image {name}")?;
+    check_written(&rt, alloc, &[(FORMAT_LONG, b"", b"ok\n")]);
+    fs::rename(&rt, "long.image", name.as_str())?;
+    let written: [(&str, &[u8], &[u8]); 4] = [
+        (
+            &run,
+            b"fill 0 1 AA\nread 0 1\n",
+            b"ok\n0 aa*512\nok\nfault file\n",
+        ),
+        (&run, b"fill 0 1 AA\nnone\n", b"ok\nfault line 2\n"),
+        (
+            &nvme,
+            FINISH,
+            b"00000000000000000000000001000000\nfault file\n",
+        ),
+        (&report, b"", EMPTY),
+    ];
+    check_written(&rt, alloc, &written);
+    let lost = "is not saved, and holds what it held before: no new file can be made in its folder";
+    let why = "File name too long (os error 36)";
+    let told = format!(in alloc;
+        "line 1: word 1 has to be read, fill, write, trim, idle, grow or remount\n{name} {lost}: {why}"
+    )?;
+    check_told(&rt, alloc, &[(&run, b"none\n", &told)]);
+    fs::remove_file(&rt, name.as_str())?;
+    Ok(())
+}
+
+const FORMAT_TEXT: &str =
+    "zonedisk format --image text.image --block 512 --zones 4 --size 8 --capacity 6 --transfer 4 --active 2 --open 2";
+
+const FORCE_TEXT: &str =
+    "zonedisk format --force --image text.image --block 512 --zones 4 --size 8 --capacity 6 --transfer 4 --active 2 --open 2";
+
+// A file that is no image is replaced only by force, and one that is locked not at all.
+#[test]
+fn formats_no_other_file(rt: HostRuntime) -> Result<(), Fail> {
+    fs::write(&rt, "text.image", b"not an image".as_slice())?;
+    check_written(&rt, rt.alloc(), &[(FORMAT_TEXT, b"", b"fault file\n")]);
+    assert_eq!(rt; fs::metadata(&rt, "text.image")?.len(), 12);
+    let file = fs::open(&rt, "text.image")?;
+    file.lock_shared()?;
+    check_written(&rt, rt.alloc(), &[(FORCE_TEXT, b"", b"fault file\n")]);
+    assert_eq!(rt; fs::metadata(&rt, "text.image")?.len(), 12);
+    file.unlock()?;
+    check_written(&rt, rt.alloc(), &[(FORCE_TEXT, b"", b"ok\n")]);
+    assert_eq!(rt; fs::metadata(&rt, "text.image")?.len(), 96);
+    fs::remove_file(&rt, "text.image")?;
+    Ok(())
 }

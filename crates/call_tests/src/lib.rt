@@ -16,6 +16,8 @@ mod images;
 #[cfg(test)]
 mod jobs;
 #[cfg(test)]
+mod journal;
+#[cfg(test)]
 mod places;
 #[cfg(test)]
 mod runs;

@@ -1,5 +1,5 @@
 ghost use Rattle.std.specs.Prelude.{◌≡◌, ◌≤◌, ◌<◌, ◌+◌, ◌^◌, OnOk, length};
-ghost use Rattle.logical_map.specs.Places.{address_of};
+ghost use Rattle.logical_map.specs.Places.{place_address};
 
 use crate::chance::chance;
 use logical_map::{Map, Moved, Place};
@@ -49,7 +49,7 @@ fn places_the_last_of_many_blocks(rt: HostRuntime) -> Result<(), Fail> {
 // A place in a zone of 4 addresses, or as often none.
 fn random_place(state: &mut u64, zone: u32) -> Place
     requires { zone < 65 }
-    ensures { address_of result + 1 < 2 ^ 63 }
+    ensures { place_address result + 1 < 2 ^ 63 }
 {
     let address = (4 * zone + chance(state, 4)) as u64;
     match chance(state, 8) {
@@ -76,7 +76,7 @@ fn place_in_both(
 ) -> Result<bool, AllocError>
     requires length { length map.old.places ≡ 300 }
     requires block { block < 300 }
-    requires fits { address_of place + 1 < 2 ^ 63 }
+    requires fits { place_address place + 1 < 2 ^ 63 }
     ensures length { OnOk result (length map.new.places ≡ 300) }
     ensures zones { OnOk result (map.new.zones ≡ map.old.zones) }
 {

@@ -1,15 +1,15 @@
 // Readers and writers that fail. `worked_runs` has the rows of traces and raw lines.
 
-use crate::fakes::{FailingReader, FailingWriter, FlushedWriter};
+use crate::fakes::FlushedWriter;
 use batch_log::LogFault;
-use disk_files::LineReader;
+use disk_files::{FailAfter, LineReader};
 use disk_runs::{RunFault, run_raw, run_trace, write_fault};
 use drive_port::Geometry;
 use std::alloc::Global;
 use std::process::Abort;
 use std::test::Fail;
 use zone_drive::Drive;
-use zone_states::ZoneState;
+use zone_states::{GeometryFault, ZoneState};
 use zone_translator::{DiskFault, MountFault};
 
 // Zones of 6 blocks in 8, two of which may be active and open; 9 logical blocks are served.
@@ -34,14 +34,8 @@ const REPLIES: &[u8] = b"ok\n0 aa*512\nok\n";
 fn ends_where_the_reader_fails(rt: HostRuntime) {
     for left in 0..=TRACE.len() {
         for step in [1, 100] {
-            let mut reader = LineReader::new(
-                rt.alloc(),
-                FailingReader {
-                    bytes: TRACE,
-                    step,
-                    left,
-                },
-            );
+            let failing = FailAfter::in_steps(TRACE, left, step);
+            let mut reader = LineReader::new(rt.alloc(), failing);
             let mut replies = Vec::new(rt.alloc());
             let drive = drive(&rt, rt.alloc());
             let (_, result) = run_trace(rt.alloc(), &mut reader, &mut replies, drive, 9);
@@ -77,11 +71,7 @@ fn ends_where_the_reader_of_raw_lines_fails(rt: HostRuntime) -> Result<(), Fail>
         (257, 33, ZoneState::Full),
         (258, 66, ZoneState::Full),
     ] {
-        let failing = FailingReader {
-            bytes: &lines,
-            step: 50,
-            left,
-        };
+        let failing = FailAfter::in_steps(lines.as_slice(), left, 50);
         let mut reader = LineReader::new(rt.alloc(), failing);
         let mut replies = Vec::new(rt.alloc());
         let drive = drive(&rt, rt.alloc());
@@ -98,14 +88,8 @@ fn ends_where_the_reader_of_raw_lines_fails(rt: HostRuntime) -> Result<(), Fail>
 #[test]
 fn sends_replies_where_no_line_waits(rt: HostRuntime) {
     for (step, flushes) in [(100, [15].as_slice()), (1, [3, 15].as_slice())] {
-        let mut reader = LineReader::new(
-            rt.alloc(),
-            FailingReader {
-                bytes: TRACE,
-                step,
-                left: 100,
-            },
-        );
+        let in_steps = FailAfter::in_steps(TRACE, 100, step);
+        let mut reader = LineReader::new(rt.alloc(), in_steps);
         let mut writer = FlushedWriter {
             bytes: 0,
             flushes: Vec::new(rt.alloc()),
@@ -125,11 +109,7 @@ fn ends_where_the_writer_fails(rt: HostRuntime) -> Result<(), Fail> {
     let raw_reply = b"00000000000000000000000007000200\n";
     for (is_trace, replies) in [(true, REPLIES), (false, raw_reply.as_slice())] {
         for left in 0..=replies.len() {
-            let mut writer = FailingWriter {
-                bytes: Vec::new(rt.alloc()),
-                step: 1 + left % 5,
-                left,
-            };
+            let mut writer = FailAfter::in_steps(Vec::new(rt.alloc()), left, 1 + left % 5);
             let drive = drive(&rt, rt.alloc());
             let (_, result) = if is_trace {
                 let mut reader = LineReader::new(rt.alloc(), TRACE);
@@ -143,7 +123,7 @@ fn ends_where_the_writer_fails(rt: HostRuntime) -> Result<(), Fail> {
             } else {
                 Ok(())
             };
-            assert_eq!(rt; writer.bytes.as_slice(), &replies[..left]);
+            assert_eq!(rt; writer.inner.as_slice(), &replies[..left]);
             assert_eq!(rt; result, want);
         }
     }
@@ -175,11 +155,7 @@ const FAULT_LINES: [(RunFault, &str); 7] = [
 
 // Writes the line of a fault to a writer that takes at most `left` bytes, and compares what it took.
 fn check_fault_line(rt: &impl Abort, alloc: Global, fault: RunFault, left: usize, line: &str) {
-    let mut writer = FailingWriter {
-        bytes: Vec::new(alloc),
-        step: 7,
-        left,
-    };
+    let mut writer = FailAfter::in_steps(Vec::new(alloc), left, 7);
     let want = if left < line.len() {
         Err(RunFault::Output)
     } else {
@@ -187,17 +163,35 @@ fn check_fault_line(rt: &impl Abort, alloc: Global, fault: RunFault, left: usize
     };
     assert_eq!(rt; write_fault(alloc, fault, &mut writer), want);
     let taken = left.min(line.len());
-    assert_eq!(rt; writer.bytes.as_slice(), &line.as_bytes()[..taken]);
+    assert_eq!(rt; writer.inner.as_slice(), &line.as_bytes()[..taken]);
 }
 
 // The line of a fault, and a writer that takes the line without its line feed.
 #[test]
-fn writes_the_line_of_a_fault(rt: HostRuntime) -> Result<(), Fail> {
+fn writes_the_line_of_a_fault(rt: HostRuntime) {
     for (fault, line) in &FAULT_LINES {
         check_fault_line(&rt, rt.alloc(), *fault, line.len(), line);
         check_fault_line(&rt, rt.alloc(), *fault, line.len().saturating_sub(1), line);
     }
-    let message = format!(in rt.alloc(); "{}", RunFault::Memory)?;
-    assert_eq!(rt; message.as_str(), "Memory");
+}
+
+// As text a fault is the name of its variant.
+const MESSAGES: [(RunFault, &str); 8] = [
+    (RunFault::Line(2), "Line"),
+    (RunFault::Long(2), "Long"),
+    (RunFault::Disk(DiskFault::Stopped), "Disk"),
+    (RunFault::Mount(MountFault::Halted), "Mount"),
+    (RunFault::Geometry(GeometryFault::Block), "Geometry"),
+    (RunFault::Input, "Input"),
+    (RunFault::Output, "Output"),
+    (RunFault::Memory, "Memory"),
+];
+
+#[test]
+fn names_all_faults(rt: HostRuntime) -> Result<(), Fail> {
+    for (fault, name) in &MESSAGES {
+        let message = format!(in rt.alloc(); "{fault}")?;
+        assert_eq!(rt; message.as_str(), *name);
+    }
     Ok(())
 }

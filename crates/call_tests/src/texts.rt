@@ -1,8 +1,8 @@
 // Readers and writers that fail, and lines without an end. `worked_runs` has the rows of the grammars and
 // of the replies.
 
-use crate::fakes::{FailingReader, FailingWriter};
-use disk_files::{LONGEST_LINE, LineFault, LineReader, WriteFault, write_out};
+use crate::fakes::FullWriter;
+use disk_files::{FailAfter, LONGEST_LINE, LineFault, LineReader, WriteFault, write_out};
 use std::alloc::{AllocError, Global};
 use std::io;
 use std::io::Read;
@@ -54,8 +54,7 @@ const READ: [(&[u8], usize, &[u8], Option<LineFault>); 10] = [
 fn reads_lines(rt: HostRuntime) -> Result<(), Fail> {
     for (bytes, left, want, fault) in READ {
         for step in [1, 2, 3, 5000] {
-            let reader = FailingReader { bytes, step, left };
-            let read = lines(rt.alloc(), reader)?;
+            let read = lines(rt.alloc(), FailAfter::in_steps(bytes, left, step))?;
             assert_eq!(rt; (read.0.as_slice(), read.1), (want, fault));
         }
     }
@@ -83,16 +82,12 @@ fn ends_the_longest_line(rt: HostRuntime) -> Result<(), Fail> {
 fn writes_what_a_writer_takes(rt: HostRuntime) {
     let reply = b"ok\n0 aa*512\nok\n";
     for left in 0..=15 {
-        for step in [0, 1, 2, 100] {
-            let mut writer = FailingWriter {
-                bytes: Vec::new(rt.alloc()),
-                step,
-                left,
-            };
-            let taken = if step == 0 { 0 } else { left };
-            let want = if taken == 15 { Ok(()) } else { Err(WriteFault) };
+        for step in [1, 2, 100] {
+            let mut writer = FailAfter::in_steps(Vec::new(rt.alloc()), left, step);
+            let want = if left == 15 { Ok(()) } else { Err(WriteFault) };
             assert_eq!(rt; write_out(&mut writer, reply), want);
-            assert_eq!(rt; writer.bytes.as_slice(), &reply[..taken]);
+            assert_eq!(rt; writer.inner.as_slice(), &reply[..left]);
         }
     }
+    assert_eq!(rt; write_out(&mut FullWriter {}, reply), Err(WriteFault));
 }

@@ -69,19 +69,19 @@ abbrev pub with_options : Text → List Rule → Shape
 with_options name rules = record (new_shape name) { rules = rules }
 
 abbrev pub format : Shape
-format = with_options (codes "format") (image ∷ parts)
+format = with_options (codes "format") (image ∷ flag (codes "force") ∷ parts)
 
 abbrev pub run : Bor (List (Bor Text)) → Shape
 run names = with_options (codes "run") (image ∷ blocks ∷ flag (codes "zones") ∷ habit names ∷ stops)
 
-abbrev pub report : Shape
-report = with_options (codes "report") (image ∷ [])
+abbrev pub report_words : Shape
+report_words = with_options (codes "report") (image ∷ [])
 
 abbrev pub nvme : Bor (List (Bor Text)) → Shape
 nvme names = with_options (codes "nvme") (image ∷ habit names ∷ [])
 
-abbrev pub fresh : Bor (List (Bor Text)) → Shape
-fresh names = with_options (codes "fresh") (parts ++ blocks ∷ flag (codes "report") ∷ flag (codes "statistics") ∷ habit names ∷ stops)
+abbrev pub fresh_words : Bor (List (Bor Text)) → Shape
+fresh_words names = with_options (codes "fresh") (parts ++ blocks ∷ flag (codes "report") ∷ flag (codes "statistics") ∷ habit names ∷ stops)
 
 abbrev pub fresh_raw : Bor (List (Bor Text)) → Shape
 fresh_raw names = with_options (codes "fresh-raw") (parts ++ habit names ∷ [])
@@ -90,7 +90,7 @@ fresh_raw names = with_options (codes "fresh-raw") (parts ++ habit names ∷ [])
 abbrev pub program : Bor (List (Bor Text)) → App
 program names = record {
   top = record (new_shape (codes "zonedisk")) { is_leaf = false; has_version = true; subcommand_required = true };
-  subs = format ∷ run names ∷ report ∷ nvme names ∷ fresh names ∷ fresh_raw names ∷ [];
+  subs = format ∷ run names ∷ report_words ∷ nvme names ∷ fresh_words names ∷ fresh_raw names ∷ [];
 }
 
 -- these options are added to a command, none of which its subcommands inherit

@@ -71,7 +71,8 @@ HasImage rows path = first_of (codes "image") rows ≡ Some path
 
 -- what the job of a subcommand holds is what its options were given
 abbrev pub AsksFor : Text → List Row → Job → Type 0
-AsksFor name rows (Format path geometry) = (name ≡ codes "format") × HasImage rows (string_bytes path) × HasGeometry rows geometry
+AsksFor name rows (Format path geometry force) =
+    (name ≡ codes "format") × HasImage rows (string_bytes path) × HasGeometry rows geometry × HasFlag rows (codes "force") force
 AsksFor name rows (Run path blocks zones stop habit) =
     (name ≡ codes "run") × HasImage rows (string_bytes path) × HasNumber 64 rows (codes "blocks") blocks
     × HasFlag rows (codes "zones") zones × HasStop rows stop × HasHabit rows habit

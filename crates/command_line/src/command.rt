@@ -1,6 +1,6 @@
 ghost use Rattle.std.specs.Prelude.{◌≡◌, [], ◌∷◌, ◌++◌, false, IfOk, codes};
 ghost use Rattle.clap.specs.Words.{Shape, app_of, rule_of};
-ghost use Rattle.command_line.specs.Program.{AddsOptions, AddsSubcommand, IsCommand, below_2_63, blocks, flag, format, fresh, fresh_raw, habit, image, limits, number, nvme, optional, part, parts, program, report, run, shape, stops};
+ghost use Rattle.command_line.specs.Program.{AddsOptions, AddsSubcommand, IsCommand, below_2_63, blocks, flag, format, fresh_words, fresh_raw, habit, image, limits, number, nvme, optional, part, parts, program, report_words, run, shape, stops};
 
 use clap::builder::ValueParser;
 use clap::{Arg, ArgAction, Command, value_parser};
@@ -165,10 +165,12 @@ fn habit_option<'a>(alloc: Global, habits: &'a [&'a str]) -> Arg<'a>
 fn format_command<'a>(alloc: Global) -> Result<Command<'a>, AllocError>
     ensures { IfOk result (λ new. IsCommand format new) }
 {
+    let force = "Replaces a file that is no image";
     let command = Command::new(alloc, "format")
         .about("Makes a fresh drive in a file")
         .after_help(FORMAT_EXAMPLE)
-        .arg(image_option(alloc))?;
+        .arg(image_option(alloc))?
+        .arg(flag(alloc, "force", force))?;
     geometry_options(alloc, command)
 }
 
@@ -187,7 +189,7 @@ fn run_command<'a>(alloc: Global, habits: &'a [&'a str]) -> Result<Command<'a>, 
 }
 
 fn report_command<'a>(alloc: Global) -> Result<Command<'a>, AllocError>
-    ensures { IfOk result (λ new. IsCommand report new) }
+    ensures { IfOk result (λ new. IsCommand report_words new) }
 {
     Command::new(alloc, "report")
         .about("Shows the zones of the drive in a file")
@@ -206,7 +208,7 @@ fn nvme_command<'a>(alloc: Global, habits: &'a [&'a str]) -> Result<Command<'a>,
 }
 
 fn fresh_command<'a>(alloc: Global, habits: &'a [&'a str]) -> Result<Command<'a>, AllocError>
-    ensures { IfOk result (λ new. IsCommand (fresh habits.entry) new) }
+    ensures { IfOk result (λ new. IsCommand (fresh_words habits.entry) new) }
 {
     let report = "Shows the zones of the drive after the replies";
     let statistics = "Shows what was written and moved after the replies";

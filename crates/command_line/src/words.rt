@@ -139,6 +139,7 @@ fn format_job(alloc: Global, matches: &ArgMatches<'_>) -> Result<Job, WordFault>
     Ok(Job::Format {
         image: image(alloc, matches)?,
         geometry: geometry(matches)?,
+        force: has_flag(matches, "force"),
     })
 }
 

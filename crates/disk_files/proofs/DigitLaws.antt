@@ -8,7 +8,7 @@ use Rattle.std.proofs.lemmas.Bool.Decides.{nat_tests}
 use Rattle.std.proofs.lemmas.List.{drop_more, drop_all, get_or_append_left, length-map, length-take, length-drop, take-append-drop}
 use Rattle.std.proofs.lemmas.Simd.{chunk-drop, length-chunk, mask_l-mod, take_more_put_chunk, splat_is_map, tops_compared, zip2_of_maps, zip2_splat, zip2_splat_left}
 use Rattle.hex.specs.Hex.{hex_digit_value}
-use Rattle.disk_files.specs.Words.{byte_of, bytes_of, capped, joined, value_or_none, ◌>>=◌}
+use Rattle.disk_files.specs.Words.{byte_of, hex_bytes, capped, joined, value_or_none, ◌>>=◌}
 
 -- ---- vectors that were computed lane by lane
 
@@ -161,12 +161,12 @@ pair-joined (Some x) (Some y) bytes rest good then =
     rw (then behind) refl
 
 -- digits that all have values stand for bytes
-pub values-joined : (n : ℕ) (xs : List ℕ) → length xs ≡ 2 * n → all_below 16 (map value_or_none xs) ≡ true → bytes_of xs ≡ Some (joined (map value_or_none xs))
+pub values-joined : (n : ℕ) (xs : List ℕ) → length xs ≡ 2 * n → all_below 16 (map value_or_none xs) ≡ true → hex_bytes xs ≡ Some (joined (map value_or_none xs))
 values-joined n [] even good = refl
 values-joined n (a ∷ []) even good = absurd (omega arith)
 values-joined zero (a ∷ b ∷ rest) even good = absurd (omega arith)
 values-joined (suc n) (a ∷ b ∷ rest) even good =
-    pair-joined (hex_digit_value a) (hex_digit_value b) (bytes_of rest) (map value_or_none rest) good (values-joined n rest (omega arith))
+    pair-joined (hex_digit_value a) (hex_digit_value b) (hex_bytes rest) (map value_or_none rest) good (values-joined n rest (omega arith))
 
 is-none : (digit : ℕ) → ltb (value_or_none digit) 16 ≡ false → hex_digit_value digit ≡ None
 is-none digit large = grind (arith, nat_tests)
@@ -179,18 +179,18 @@ pair-none (Some x) (Some y) (Some bs) (inl e) = absurd cc
 pair-none (Some x) (Some y) (Some bs) (inr (inl e)) = absurd cc
 pair-none (Some x) (Some y) (Some bs) (inr (inr e)) = absurd cc
 
-some-none : (a b : ℕ) (rest : List ℕ) (p q r : Bool) → p ≡ ltb (value_or_none a) 16 → q ≡ ltb (value_or_none b) 16 → (r ≡ false → bytes_of rest ≡ None) → (p && (q && r)) ≡ false
-    → (hex_digit_value a ≡ None) ⊎ (hex_digit_value b ≡ None) ⊎ (bytes_of rest ≡ None)
+some-none : (a b : ℕ) (rest : List ℕ) (p q r : Bool) → p ≡ ltb (value_or_none a) 16 → q ≡ ltb (value_or_none b) 16 → (r ≡ false → hex_bytes rest ≡ None) → (p && (q && r)) ≡ false
+    → (hex_digit_value a ≡ None) ⊎ (hex_digit_value b ≡ None) ⊎ (hex_bytes rest ≡ None)
 some-none a b rest false q r p-is q-is behind bad = inl (is-none a (sym p-is))
 some-none a b rest true false r p-is q-is behind bad = inr (inl (is-none b (sym q-is)))
 some-none a b rest true true r p-is q-is behind bad = inr (inr (behind bad))
 
 -- and others for none
-pub values-none : (xs : List ℕ) → all_below 16 (map value_or_none xs) ≡ false → bytes_of xs ≡ None
+pub values-none : (xs : List ℕ) → all_below 16 (map value_or_none xs) ≡ false → hex_bytes xs ≡ None
 values-none [] bad = absurd cc
 values-none (a ∷ []) bad = refl
 values-none (a ∷ b ∷ rest) bad =
-    pair-none (hex_digit_value a) (hex_digit_value b) (bytes_of rest) (some-none a b rest _ _ (all_below 16 (map value_or_none rest)) refl refl (values-none rest) bad)
+    pair-none (hex_digit_value a) (hex_digit_value b) (hex_bytes rest) (some-none a b rest _ _ (all_below 16 (map value_or_none rest)) refl refl (values-none rest) bad)
 
 -- ---- digits after others
 
@@ -208,13 +208,13 @@ joined-alone : (after : Option (List ℕ)) → after ≡ joined-both (Some []) a
 joined-alone None = refl
 joined-alone (Some ys) = refl
 
-bytes_of-append : (n : ℕ) (xs ys : List ℕ) → length xs ≡ 2 * n → bytes_of (xs ++ ys) ≡ joined-both (bytes_of xs) (bytes_of ys)
-bytes_of-append n [] ys even = joined-alone (bytes_of ys)
+bytes_of-append : (n : ℕ) (xs ys : List ℕ) → length xs ≡ 2 * n → hex_bytes (xs ++ ys) ≡ joined-both (hex_bytes xs) (hex_bytes ys)
+bytes_of-append n [] ys even = joined-alone (hex_bytes ys)
 bytes_of-append n (a ∷ []) ys even = absurd (omega arith)
 bytes_of-append zero (a ∷ b ∷ rest) ys even = absurd (omega arith)
 bytes_of-append (suc n) (a ∷ b ∷ rest) ys even =
     ap (λ (bytes : Option (List ℕ)). byte_of (a ∷ b ∷ []) >>= (λ (c : ℕ). bytes >>= (λ (bs : List ℕ). Some (c ∷ bs)))) (bytes_of-append n rest ys (omega arith))
-    ∙ both-after (byte_of (a ∷ b ∷ [])) (bytes_of rest) (bytes_of ys)
+    ∙ both-after (byte_of (a ∷ b ∷ [])) (hex_bytes rest) (hex_bytes ys)
 
 length-joined : (n : ℕ) (vs : List ℕ) → length vs ≡ 2 * n → length (joined vs) ≡ n
 length-joined n [] even = omega arith
@@ -227,8 +227,8 @@ module _ (digits bytes : List ℕ) (done : ℕ) (inside : 2 * done ≤ length di
   front = omega (arith, length-take (2 * done) digits, inside)
 
   -- 64 digits more
-  pub decoded-more : length digits ≡ 2 * length bytes → done + 32 ≤ length bytes → bytes_of (take (2 * done) digits) ≡ Some (take done bytes) → all_below 16 (map value_or_none (chunk (2 * done) 64 digits)) ≡ true
-      → bytes_of (take (2 * (done + 32)) digits) ≡ Some (take (done + 32) (put_chunk done bytes (joined (map value_or_none (chunk (2 * done) 64 digits)))))
+  pub decoded-more : length digits ≡ 2 * length bytes → done + 32 ≤ length bytes → hex_bytes (take (2 * done) digits) ≡ Some (take done bytes) → all_below 16 (map value_or_none (chunk (2 * done) 64 digits)) ≡ true
+      → hex_bytes (take (2 * (done + 32)) digits) ≡ Some (take (done + 32) (put_chunk done bytes (joined (map value_or_none (chunk (2 * done) 64 digits)))))
   decoded-more long room was good =
       let part = chunk (2 * done) 64 digits in
       let size : length part ≡ 64 = length-chunk (2 * done) 64 digits (omega (arith, long, room)) in
@@ -238,18 +238,18 @@ module _ (digits bytes : List ℕ) (done : ℕ) (inside : 2 * done ≤ length di
       (ap (λ (xs : List ℕ). Some xs) (sym (take_more_put_chunk done bytes (joined (map value_or_none part)) (done + 32) (omega (arith, made)) room)))
 
   -- a byte that is no digit is among the next 64
-  pub decoded-none : bytes_of (take (2 * done) digits) ≡ Some (take done bytes) → bytes_of (drop (2 * done) digits) ≡ None → bytes_of digits ≡ None
-  decoded-none was none = ap bytes_of (sym (take-append-drop (2 * done) digits)) ∙ bytes_of-append done (take (2 * done) digits) (drop (2 * done) digits) front ∙ rw (was, none) refl
+  pub decoded-none : hex_bytes (take (2 * done) digits) ≡ Some (take done bytes) → hex_bytes (drop (2 * done) digits) ≡ None → hex_bytes digits ≡ None
+  decoded-none was none = ap hex_bytes (sym (take-append-drop (2 * done) digits)) ∙ bytes_of-append done (take (2 * done) digits) (drop (2 * done) digits) front ∙ rw (was, none) refl
 
   -- the rest
-  pub decoded-rest : (rest : List ℕ) → bytes_of (take (2 * done) digits) ≡ Some (take done bytes) → bytes_of (drop (2 * done) digits) ≡ Some rest → bytes_of digits ≡ Some (take done bytes ++ rest)
-  decoded-rest rest was is = ap bytes_of (sym (take-append-drop (2 * done) digits)) ∙ bytes_of-append done (take (2 * done) digits) (drop (2 * done) digits) front ∙ rw (was, is) refl
+  pub decoded-rest : (rest : List ℕ) → hex_bytes (take (2 * done) digits) ≡ Some (take done bytes) → hex_bytes (drop (2 * done) digits) ≡ Some rest → hex_bytes digits ≡ Some (take done bytes ++ rest)
+  decoded-rest rest was is = ap hex_bytes (sym (take-append-drop (2 * done) digits)) ∙ bytes_of-append done (take (2 * done) digits) (drop (2 * done) digits) front ∙ rw (was, is) refl
 
-pub part-none : (digits : List ℕ) (at : ℕ) → at + 64 ≤ length digits → all_below 16 (map value_or_none (chunk at 64 digits)) ≡ false → bytes_of (drop at digits) ≡ None
+pub part-none : (digits : List ℕ) (at : ℕ) → at + 64 ≤ length digits → all_below 16 (map value_or_none (chunk at 64 digits)) ≡ false → hex_bytes (drop at digits) ≡ None
 part-none digits at room bad =
     let part = chunk at 64 digits in
     let rest = drop (at + 64) digits in
-    ap bytes_of (chunk-drop at 64 digits) ∙ bytes_of-append 32 part rest (length-chunk at 64 digits room) ∙ rw (values-none part bad) refl
+    ap hex_bytes (chunk-drop at 64 digits) ∙ bytes_of-append 32 part rest (length-chunk at 64 digits room) ∙ rw (values-none part bad) refl
 
 -- a part to the end of a slice is put back
 pub put_end : (bytes out : List ℕ) (at : ℕ) → take at bytes ++ (out ++ drop (length bytes - at) (drop at bytes)) ≡ take at bytes ++ out

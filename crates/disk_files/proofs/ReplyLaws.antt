@@ -5,7 +5,7 @@ use Rattle.std.specs.Prelude.{eqb}
 use Rattle.std.proofs.lemmas.Bool.Decides.{nat_tests}
 use Rattle.std.proofs.lemmas.List.{drop_at, length-append, take_at}
 use Rattle.std.specs.List.{AllByRecursion, concat, list_all}
-use Rattle.disk_files.specs.Reply.{blocks_in, same_byte}
+use Rattle.disk_files.specs.Reply.{as_blocks, same_byte}
 
 -- ---- a block whose bytes are all the same
 
@@ -29,6 +29,6 @@ pub length-concat : (size : ℕ) (blocks : List (List ℕ)) → AllByRecursion (
 length-concat size [] each = omega arith
 length-concat size (block ∷ blocks) each = omega (arith, each.0, length-concat size blocks each.1, length-append block (concat blocks))
 
-pub blocks_in-concat : (size : ℕ) (blocks : List (List ℕ)) → AllByRecursion (λ block. length block ≡ size) blocks → blocks_in size (length blocks) (concat blocks) ≡ blocks
+pub blocks_in-concat : (size : ℕ) (blocks : List (List ℕ)) → AllByRecursion (λ block. length block ≡ size) blocks → as_blocks size (length blocks) (concat blocks) ≡ blocks
 blocks_in-concat size [] each = refl
 blocks_in-concat size (block ∷ blocks) each = rw (take_at block (concat blocks) size each.0, drop_at block (concat blocks) size each.0, blocks_in-concat size blocks each.1) refl

@@ -6,7 +6,7 @@ use Rattle.std.proofs.Math.Bool.{and-false}
 use Rattle.std.proofs.lemmas.Bool.{eqb-true}
 use Rattle.std.proofs.lemmas.List.Quantifiers.{position-Some}
 use Rattle.disk_files.specs.TraceLine.{write_of}
-use Rattle.disk_files.specs.Words.{HasMore, bytes_of, data_of, is_space, number_of, value_or_none, words_of, ◌>>=◌}
+use Rattle.disk_files.specs.Words.{HasMore, hex_bytes, data_of, is_space, number_of, value_or_none, words_of, ◌>>=◌}
 use Rattle.disk_files.specs.declared.trace_line.TraceLine.{TraceLine}
 use Rattle.disk_files.specs.declared.trace_line.TraceLine.TheVariants.{Write}
 use Rattle.disk_files.proofs.DigitLaws.{values-none}
@@ -20,7 +20,7 @@ space-below (x ∷ xs) (suc i) lt e = rw (space-below xs i (omega arith) e) (and
 
 -- what follows the number of a `write`: one word, or more, and then no data
 record IsMore (digits : List ℕ) : Type 0 where
-  none : bytes_of digits ≡ None
+  none : hex_bytes digits ≡ None
   words : HasMore (words_of digits)
 
 words-at : (digits : List ℕ) (o : Option ℕ) → position is_space digits ≡ o → (words_of digits ≡ digits ∷ []) ⊎ IsMore digits

@@ -1,11 +1,11 @@
 -- Raw lines and the replies to them, in hexadecimal digits: an entry or a completion, and data beside it.
 use Rattle.std.specs.Prelude.{ℕ, ◌*◌, ◌==◌, if◌then◌else◌, List, [], ◌∷◌, ◌++◌, length, codes, Option, Some, None}
 use Rattle.hex.specs.Hex.{encode_lower}
-use Rattle.disk_files.specs.Words.{bytes_of, data_of, words_of, ◌>>=◌}
+use Rattle.disk_files.specs.Words.{hex_bytes, data_of, words_of, ◌>>=◌}
 
 -- this many bytes
 abbrev pub exact_bytes_of : ℕ → List ℕ → Option (List ℕ)
-exact_bytes_of count word = if length word == 2 * count then bytes_of word else None
+exact_bytes_of count word = if length word == 2 * count then hex_bytes word else None
 
 -- this many bytes, and the data beside them, if there is any
 abbrev pub raw_of : ℕ → List (List ℕ) → Option (List ℕ × List ℕ)

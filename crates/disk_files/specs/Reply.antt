@@ -40,6 +40,6 @@ abbrev pub read_text : ℕ → List (List ℕ) → List ℕ
 read_text first blocks = block_lines first blocks ++ ok_text
 
 -- bytes as `count` blocks of a size
-abbrev pub blocks_in : ℕ → ℕ → List ℕ → List (List ℕ)
-blocks_in size zero bytes = []
-blocks_in size (suc count) bytes = take size bytes ∷ blocks_in size count (drop size bytes)
+abbrev pub as_blocks : ℕ → ℕ → List ℕ → List (List ℕ)
+as_blocks size zero bytes = []
+as_blocks size (suc count) bytes = take size bytes ∷ as_blocks size count (drop size bytes)

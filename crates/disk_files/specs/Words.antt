@@ -68,15 +68,15 @@ joined (high ∷ []) = []
 joined (high ∷ low ∷ rest) = (high * 16 + low) ∷ joined rest
 
 -- bytes have two hexadecimal digits each, of either case
-abbrev pub bytes_of : List ℕ → Option (List ℕ)
-bytes_of [] = Some []
-bytes_of (high ∷ []) = None
-bytes_of (high ∷ low ∷ rest) = do
+abbrev pub hex_bytes : List ℕ → Option (List ℕ)
+hex_bytes [] = Some []
+hex_bytes (high ∷ []) = None
+hex_bytes (high ∷ low ∷ rest) = do
   b ← byte_of (high ∷ low ∷ [])
-  bs ← bytes_of rest
+  bs ← hex_bytes rest
   Some (b ∷ bs)
 
 -- data is one byte at least
 abbrev pub data_of : List ℕ → Option (List ℕ)
 data_of [] = None
-data_of (digit ∷ digits) = bytes_of (digit ∷ digits)
+data_of (digit ∷ digits) = hex_bytes (digit ∷ digits)

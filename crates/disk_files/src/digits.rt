@@ -1,6 +1,6 @@
 ghost use Rattle.std.specs.Prelude.{◌≡◌, ◌*◌, Some, None, length, map, true, false};
 ghost use Rattle.std.specs.Simd.Lanes.{all_below};
-ghost use Rattle.disk_files.specs.Words.{bytes_of, capped, joined, value_or_none};
+ghost use Rattle.disk_files.specs.Words.{hex_bytes, capped, joined, value_or_none};
 
 use std::simd::prelude::*;
 
@@ -50,8 +50,8 @@ fn joined(values: u8x64) -> u8x32
 /// nothing is said of what `bytes` holds then.
 fn decode_few(digits: &[u8], bytes: &mut [u8]) -> bool
     requires { length digits.now ≡ 2 * length bytes.old }
-    ensures decoded { result ≡ true → bytes_of digits.now ≡ Some bytes.new }
-    ensures none { result ≡ false → bytes_of digits.now ≡ None }
+    ensures decoded { result ≡ true → hex_bytes digits.now ≡ Some bytes.new }
+    ensures none { result ≡ false → hex_bytes digits.now ≡ None }
 {
     match hex::decode_to_slice(digits, bytes) {
         Ok(()) => true,
@@ -63,8 +63,8 @@ fn decode_few(digits: &[u8], bytes: &mut [u8]) -> bool
 /// a processor could predict.
 pub fn decode_pairs(digits: &[u8], bytes: &mut [u8]) -> bool
     requires { length digits.now ≡ 2 * length bytes.old }
-    ensures decoded { result ≡ true → bytes_of digits.now ≡ Some bytes.new }
-    ensures none { result ≡ false → bytes_of digits.now ≡ None }
+    ensures decoded { result ≡ true → hex_bytes digits.now ≡ Some bytes.new }
+    ensures none { result ≡ false → hex_bytes digits.now ≡ None }
 {
     let mut done = 0;
     while bytes.len() - done >= 32 {

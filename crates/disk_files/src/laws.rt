@@ -5,7 +5,7 @@ ghost use Rattle.std.specs.List.{AllByRecursion, concat};
 ghost use Rattle.hex.specs.Hex.{IsBytes, encode_lower};
 ghost use Rattle.disk_files.specs.Line.{NoFeed, after_line, feed, first_line};
 ghost use Rattle.disk_files.specs.RawLine.{raw_answer, raw_line, raw_reply_text, raw_text};
-ghost use Rattle.disk_files.specs.Reply.{blocks_in};
+ghost use Rattle.disk_files.specs.Reply.{as_blocks};
 ghost use Rattle.disk_files.specs.TraceLine.{trace_line};
 ghost use Rattle.disk_files.specs.declared.trace_line.TraceLine.TheVariants as lines;
 
@@ -51,5 +51,5 @@ pub fn blocks_again()
     ensures long { (size : ℕ) (blocks : List (List ℕ)) → AllByRecursion (λ block. length block ≡ size) blocks →
         length (concat blocks) ≡ length blocks * size }
     ensures blocks { (size : ℕ) (blocks : List (List ℕ)) → AllByRecursion (λ block. length block ≡ size) blocks →
-        blocks_in size (length blocks) (concat blocks) ≡ blocks }
+        as_blocks size (length blocks) (concat blocks) ≡ blocks }
 {}

@@ -28,6 +28,7 @@ mod ahead;
 mod bytes;
 mod data;
 mod digits;
+mod fail_after;
 pub mod laws;
 mod line_reader;
 mod output;
@@ -38,6 +39,7 @@ mod trace_line;
 mod words;
 
 pub use data::ParseFault;
+pub use fail_after::FailAfter;
 pub use line_reader::{LONGEST_LINE, LineFault, LineReader};
 pub use output::{WriteFault, write_out};
 pub use raw_line::parse_raw_line;

@@ -64,7 +64,6 @@ pub fn explain(
             format!(in alloc; "the drive has room for 1 to {most} logical blocks")
         }
         ProgramFault::Image(fault) => format!(in alloc; "{path}: {fault}"),
-        ProgramFault::Open => format!(in alloc; "{path} cannot be opened"),
-        ProgramFault::Save => format!(in alloc; "{path} cannot be saved"),
+        ProgramFault::File(fault) => format!(in alloc; "{path} {fault}"),
     }
 }

@@ -1,7 +1,10 @@
-ghost use Rattle.std.specs.Prelude.{◌≡◌};
+ghost use Rattle.std.specs.Prelude.{◌≡◌, IfErr, OnOk};
+ghost use Rattle.std.specs.Io.KnownBytes.{Appends};
 ghost use Rattle.disk_runs.specs.declared.fault.RunFault.TheVariants.{Memory, Output};
+ghost use Rattle.disk_jobs.specs.FaultLine.{IsUnwritten, program_text};
 ghost use Rattle.disk_jobs.specs.declared.fault.ProgramFault.TheVariants as program;
 
+use crate::file_fault::FileFault;
 use disk_files::{WriteFault, write_out};
 use disk_runs::{RunFault, write_fault};
 use drive_images::{ImageFault, image_fault_line};
@@ -23,12 +26,9 @@ pub enum ProgramFault {
     /// The file has no image of a drive.
     #[error("Image")]
     Image(ImageFault),
-    /// The file cannot be opened.
-    #[error("Open")]
-    Open,
-    /// The file cannot be saved: it holds what it held before.
-    #[error("Save")]
-    Save,
+    /// The file of the image is not used, or the drive is not saved in it.
+    #[error("File")]
+    File(FileFault),
 }
 
 impl From<RunFault> for ProgramFault {
@@ -65,17 +65,22 @@ impl From<WriteFault> for ProgramFault {
 
 const RESERVE: RunFault = RunFault::Mount(MountFault::Reserve);
 
-/// Writes the line of a fault.
+/// Writes the line of a fault. It is refused by `Output` where the writer fails, with a beginning of the line written,
+/// and by `Memory` with nothing written.
 pub fn write_program_fault<W: Write>(
     alloc: Global,
     fault: ProgramFault,
     output: &mut W,
-) -> Result<(), ProgramFault> {
+) -> Result<(), ProgramFault>
+    ensures ok { OnOk result (Appends (W.contents output.old) (W.contents output.new) (program_text fault)) }
+    ensures err { IfErr result (λ cause. IsUnwritten (program_text fault) cause
+        (W.contents output.old) (W.contents output.new)) }
+{
     match fault {
         ProgramFault::Run(fault) => write_fault(alloc, fault, output)?,
         ProgramFault::Reserve { .. } => write_fault(alloc, RESERVE, output)?,
         ProgramFault::Image(fault) => write_out(output, &image_fault_line(alloc, fault)?)?,
-        ProgramFault::Open | ProgramFault::Save => write_out(output, b"fault file\n")?,
+        ProgramFault::File(_) => write_out(output, b"fault file\n")?,
     }
     Ok(())
 }

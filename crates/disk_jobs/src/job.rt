@@ -22,10 +22,11 @@ impl Stop {
 /// What the words of a command line ask for. `image` is the path of a file.
 #[derive(Debug, PartialEq, Eq, Drop)]
 pub enum Job {
-    /// Makes a fresh drive, and saves its image in the file.
+    /// Makes a fresh drive, and saves its image in the file. With `force` the file may hold something else.
     Format {
         image: String,
         geometry: Geometry,
+        force: bool,
     },
     /// Reads a drive from the file, restarts it, mounts it as `blocks` logical blocks, answers the lines of a trace,
     /// and saves it. With `zones` the zones of the drive are shown after the replies. The drive has this habit, here

@@ -2,43 +2,54 @@
 //!
 //! ```text
 //! let mut input = LineReader::new(alloc, rt.reader());
-//! let done = match job.image() {
-//!     Some(path) => run_on_file(&rt, alloc, &job, path, &mut input, &mut output),
-//!     None => run_job(alloc, &job, &mut io::empty(), &mut input, &mut output).1,
-//! };
-//! if let Err(fault) = done {
+//! let done = do_job(&rt, alloc, &job, &mut input, &mut output);
+//! if let Err(fault) = done.job {
+//!     let text = explain(alloc, &job, fault, input.line())?;
+//! }
+//! if let Err(fault) = done.saved {
 //!     let text = explain(alloc, &job, fault, input.line())?;
 //! }
 //! ```
 //!
 //! A [`Job`] is what the words of the command line ask for (`command_line` reads them). [`run_job`] does it, and
-//! [`run_on_file`] does it on the drive of a file. [`explain`] says what a fault is in a line for people; the reader of
-//! the lines has the one at which a run ended.
+//! [`do_job`] does it on the drive of its file: it locks the file, and saves the drive. [`Done`] says how the job ended
+//! and how the save did. [`explain`] says what a fault is in a line for people; the reader of the lines has the one at
+//! which a run ended.
 //!
 //! # What is promised
 //!
 //! * The drive that [`run_job`] hands back is the one that the lines left, also after a fault: of `run`, what `run_trace`
 //!   of `disk_runs` left of the drive in the image, restarted; of `nvme`, what `run_raw` left of it; of `format`, a
-//!   fresh drive. There is none only after a report, or where no drive was made or read (`specs/Saved.antt`).
-//! * The fault is that of the run, or says why there is no drive; the output is `ok` of `format`, the replies, and then
-//!   the zones if they are asked for.
+//!   fresh drive (`specs/Saved.antt`). Then the fault is that of the run, and the output is `ok` of `format`, the
+//!   replies, and then the zones if they are asked for.
+//! * There is no drive only after a report, or where none was made or read. Then no line was read, and the fault says
+//!   why. Nothing is written before a fault of the image.
+//! * What is saved in a file is that drive, also after a fault; a fresh drive only if its `ok` was sent (`saving.rt`).
+//! * [`write_program_fault`] writes the line of each fault, or a beginning of it (`specs/FaultLine.antt`).
 //!
-//! Of a run whose commands are counted nothing is promised but that it ends; nor of [`run_on_file`], since no contract
-//! of std says what a file of a path holds. The texts of `--statistics` are tested in `call_tests`; what the drive
-//! closes with each `--habit` is in the rows of `worked_runs`.
+//! Of a run whose commands are counted nothing is promised but that it ends; nor of [`do_job`], since no contract of
+//! std says what a file of a path holds, or who has locked it. A job makes its device with the stop and the habit that
+//! it names; that the device keeps them during the lines is tested, since a run promises something of the drive in a
+//! device alone. The texts of `--statistics` are tested in `call_tests`; what the drive closes with each `--habit` is
+//! in the rows of `worked_runs`.
 #![tactic(auto)]
 
 mod explanation;
 mod fault;
 mod file;
+mod file_fault;
+mod image_file;
 mod job;
 mod line_problem;
+mod new_file;
 mod program;
+mod saving;
 mod statistics;
 
 pub use explanation::explain;
 pub use fault::{ProgramFault, write_program_fault};
-pub use file::run_on_file;
+pub use file::{Done, do_job};
+pub use file_fault::{FileFault, SystemError};
 pub use job::{Job, Stop};
 pub use program::run_job;
 pub use zone_drive::Habit;

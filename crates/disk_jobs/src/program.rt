@@ -1,9 +1,9 @@
-ghost use Rattle.std.specs.Prelude.{◌≡◌, Err, IfErr, IfOk, Ok, OnOk, true};
+ghost use Rattle.std.specs.Prelude.{◌≡◌, Err, IfErr, IfNone, IfOk, IfSome, Ok, OnOk, true};
 ghost use Rattle.std.specs.Io.KnownBytes.{Appends};
-ghost use Rattle.drive_port.specs.Stop.{drive_of};
 ghost use Rattle.zone_drive.specs.declared.habit.Habit.TheVariants.{Lazy};
 ghost use Rattle.disk_files.specs.Reply.{ok_text};
-ghost use Rattle.disk_jobs.specs.Saved.{AnswersLines, HasDrive, HasNoDrive, IsNotFresh, IsNotRead, IsNotWritten, IsRestarted, IsTold, JobLeaves, RunsAndShows, RunsTrace, ShowsSaved, ThenShows, fresh_drive, stopping};
+ghost use Rattle.disk_runs.specs.Run.{exchange};
+ghost use Rattle.disk_jobs.specs.Saved.{AnswersLines, FailsToWrite, HasDrive, HasNoDrive, IsNotFresh, IsNotRead, IsOk, IsRestarted, IsSavedText, LeftByLines, RunsAndShows, RunsTrace, ShowsReport, TellsRun, ThenShows, WritesText, ended_by, fresh_drive, stopping};
 ghost use Rattle.disk_jobs.specs.declared.fault.ProgramFault.TheVariants as program;
 
 use crate::fault::ProgramFault;
@@ -60,9 +60,9 @@ fn show_zones<W: Write>(alloc: Global, drive: &Drive, output: &mut W) -> Result<
     Ok(())
 }
 
-/// A drive that stops.
+/// A device that stops after so many commands of a drive, and tears the Append after them by so many blocks.
 fn stopping(drive: Drive, stop: Stop) -> StopAfter<Drive>
-    ensures { drive_of result ≡ stopping stop drive.state }
+    ensures { result ≡ stopping stop drive.state }
 {
     StopAfter::tearing(drive, stop.commands, stop.tear)
 }
@@ -75,7 +75,8 @@ fn format<W: Write>(
 ) -> Result<Drive, ProgramFault>
     ensures ok { IfOk result (λ drive. drive ≡ fresh_drive geometry Lazy) }
     ensures says { OnOk result (Appends (W.contents output.old) (W.contents output.new) ok_text) }
-    ensures err { IfErr result (λ fault. IsNotWritten (IsNotFresh geometry) fault) }
+    ensures err { IfErr result (λ fault. FailsToWrite (IsNotFresh geometry) IsOk fault
+        (W.contents output.old) (W.contents output.new)) }
 {
     let drive = fresh_drive(alloc, geometry, Habit::Lazy)?;
     let mut reply = Vec::new(alloc);
@@ -99,19 +100,29 @@ fn restarted_drive<I: Read>(
     Ok(drive)
 }
 
+/// How a trace is run.
+#[derive(Clone, Copy)]
+struct TraceRun {
+    /// The number of logical blocks that the mount is given.
+    blocks: u64,
+    /// Whether the zones are shown after the replies.
+    zones: bool,
+    stop: Stop,
+}
+
 /// Answers a trace over a drive that stops.
 fn run_stopping<R: Read + Drop, W: Write>(
     alloc: Global,
     drive: Drive,
-    blocks: u64,
-    stop: Stop,
+    how: TraceRun,
     input: &mut LineReader<R>,
     output: &mut W,
 ) -> (Drive, Result<(), RunFault>)
-    ensures { RunsTrace blocks stop drive.state input.old.left (W.contents output.old) result.1 (W.contents output.new) result.0.state }
+    ensures { RunsTrace how.blocks (stopping how.stop drive.state)
+        (exchange input.old.left (W.contents output.old) (W.contents output.new)) result.1 result.0.state }
 {
-    let device = stopping(drive, stop);
-    let (device, result) = run_trace(alloc, input, output, device, blocks);
+    let device = stopping(drive, how.stop);
+    let (device, result) = run_trace(alloc, input, output, device, how.blocks);
     (device.into_inner(), result)
 }
 
@@ -119,16 +130,15 @@ fn run_stopping<R: Read + Drop, W: Write>(
 fn run<R: Read + Drop, W: Write>(
     alloc: Global,
     drive: Drive,
-    blocks: u64,
-    zones: bool,
-    stop: Stop,
+    how: TraceRun,
     input: &mut LineReader<R>,
     output: &mut W,
 ) -> (Drive, Result<(), RunFault>)
-    ensures { RunsAndShows blocks zones stop drive.state input.old.left (W.contents output.old) result.1 (W.contents output.new) result.0.state }
+    ensures { RunsAndShows how drive.state
+        (exchange input.old.left (W.contents output.old) (W.contents output.new)) result.1 result.0.state }
 {
-    let (drive, result) = run_stopping(alloc, drive, blocks, stop, input, output);
-    if result.is_err() || !zones {
+    let (drive, result) = run_stopping(alloc, drive, how, input, output);
+    if result.is_err() || !how.zones {
         return (drive, result);
     }
     let shown = show_zones(alloc, &drive, output);
@@ -139,16 +149,14 @@ fn run<R: Read + Drop, W: Write>(
 fn run_with_statistics<R: Read + Drop, W: Write>(
     alloc: Global,
     drive: Drive,
-    blocks: u64,
-    zones: bool,
-    stop: Stop,
+    how: TraceRun,
     input: &mut LineReader<R>,
     output: &mut W,
 ) -> (Drive, Result<(), RunFault>) {
-    let device = stopping(drive, stop);
-    let (device, result) = run_counted(alloc, input, output, device, blocks);
+    let device = stopping(drive, how.stop);
+    let (device, result) = run_counted(alloc, input, output, device, how.blocks);
     let drive = device.into_inner();
-    if result.is_err() || !zones {
+    if result.is_err() || !how.zones {
         return (drive, result);
     }
     let shown = show_zones(alloc, &drive, output);
@@ -161,8 +169,10 @@ fn report<I: Read, W: Write>(
     image: &mut I,
     output: &mut W,
 ) -> Result<(), ProgramFault>
-    ensures ok { OnOk result (ShowsSaved (I.remaining image.old) (W.contents output.old) (W.contents output.new)) }
-    ensures err { IfErr result (λ fault. IsNotWritten (IsNotRead (I.remaining image.old)) fault) }
+    ensures ok { OnOk result (WritesText (IsSavedText (I.remaining image.old))
+        (W.contents output.old) (W.contents output.new)) }
+    ensures err { IfErr result (λ fault. FailsToWrite (IsNotRead (I.remaining image.old))
+        (IsSavedText (I.remaining image.old)) fault (W.contents output.old) (W.contents output.new)) }
 {
     let drive = read_image(alloc, image)?;
     show_zones(alloc, &drive, output)?;
@@ -176,8 +186,10 @@ fn drive_of<I: Read, W: Write>(
     image: &mut I,
     output: &mut W,
 ) -> Result<Option<Drive>, ProgramFault>
-    ensures ok { IfOk result (λ found. HasDrive job.now (I.remaining image.old) (W.contents output.old) found (W.contents output.new)) }
-    ensures err { IfErr result (λ fault. HasNoDrive job.now (I.remaining image.old) fault) }
+    ensures ok { IfOk result (λ found. HasDrive job.now (I.remaining image.old) found
+        (W.contents output.old) (W.contents output.new)) }
+    ensures err { IfErr result (λ fault. HasNoDrive job.now (I.remaining image.old) fault
+        (W.contents output.old) (W.contents output.new)) }
 {
     match job {
         Job::Format { geometry, .. } => Ok(Some(format(alloc, *geometry, output)?)),
@@ -205,7 +217,8 @@ fn answer<R: Read + Drop, W: Write>(
     input: &mut LineReader<R>,
     output: &mut W,
 ) -> (Drive, Result<(), RunFault>)
-    ensures { AnswersLines job.now drive.state input.old.left (W.contents output.old) result.1 (W.contents output.new) result.0.state }
+    ensures { AnswersLines job.now (exchange input.old.left (W.contents output.old) (W.contents output.new))
+        drive.state result.1 result.0.state }
 {
     match job {
         Job::Run {
@@ -213,21 +226,32 @@ fn answer<R: Read + Drop, W: Write>(
             zones,
             stop,
             ..
-        } => run(alloc, drive, *blocks, *zones, *stop, input, output),
+        } => {
+            let how = TraceRun {
+                blocks: *blocks,
+                zones: *zones,
+                stop: *stop,
+            };
+            run(alloc, drive, how, input, output)
+        }
         Job::Fresh {
             blocks,
             report,
-            statistics: false,
+            statistics,
             stop,
             ..
-        } => run(alloc, drive, *blocks, *report, *stop, input, output),
-        Job::Fresh {
-            blocks,
-            report,
-            statistics: true,
-            stop,
-            ..
-        } => run_with_statistics(alloc, drive, *blocks, *report, *stop, input, output),
+        } => {
+            let how = TraceRun {
+                blocks: *blocks,
+                zones: *report,
+                stop: *stop,
+            };
+            if *statistics {
+                run_with_statistics(alloc, drive, how, input, output)
+            } else {
+                run(alloc, drive, how, input, output)
+            }
+        }
         Job::Nvme { .. } | Job::FreshRaw { .. } => run_raw(alloc, input, output, drive),
         Job::Format { .. } | Job::Report { .. } => (drive, Ok(())),
     }
@@ -235,7 +259,8 @@ fn answer<R: Read + Drop, W: Write>(
 
 /// What the fault of a run over a drive of this shape is to the program.
 fn told(fault: RunFault, geometry: &Geometry) -> ProgramFault
-    ensures { IsTold geometry.now (Err fault) (Err result) }
+    ensures tells { TellsRun geometry.now result }
+    ensures ended { ended_by (Err result) ≡ Err fault }
 {
     if fault != RunFault::Mount(MountFault::Reserve) || geometry.check().is_err() {
         return ProgramFault::Run(fault);
@@ -254,7 +279,18 @@ pub fn run_job<I: Read, R: Read + Drop, W: Write>(
     input: &mut LineReader<R>,
     output: &mut W,
 ) -> (Option<Drive>, Result<(), ProgramFault>)
-    ensures { JobLeaves job.now (I.remaining image.old) input.old.left (W.contents output.old) result.0 result.1 (W.contents output.new) }
+    // A drive that is handed back is the one that the lines left, whatever ended them; the fault is that of their run.
+    ensures saved { IfSome result.0 (λ drive. LeftByLines job.now (I.remaining image.old)
+        (exchange input.old.left (W.contents output.old) (W.contents output.new))
+        (ended_by result.1) drive.state) }
+    ensures told { IfSome result.0 (λ drive. IfErr result.1 (TellsRun drive.state.geometry)) }
+    // Without a drive no line was read, and of what the job writes at most a beginning is written: the fault says why
+    // there is no drive, by the bytes of the image. Only a report is done without one.
+    ensures unread { IfNone result.0 (input.new ≡ input.old) }
+    ensures none { IfNone result.0 (IfErr result.1 (λ fault. HasNoDrive job.now (I.remaining image.old) fault
+        (W.contents output.old) (W.contents output.new))) }
+    ensures shown { IfNone result.0 (OnOk result.1 (ShowsReport job.now (I.remaining image.old)
+        (W.contents output.old) (W.contents output.new))) }
 {
     match drive_of(alloc, job, image, output) {
         Ok(Some(drive)) => {

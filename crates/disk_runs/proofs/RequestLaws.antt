@@ -1,13 +1,21 @@
 -- What lines ask for, and how it is answered.
-use Rattle.std.proofs.Common.{◌≡◌, ℕ, zero, suc, ◌<◌, List, [], Some, None, Ok, Err, refl, ap, ◌∙◌, arith}
-use Rattle.std.specs.Prelude.{OnOk, Result}
-use Rattle.zone_translator.specs.Flat.{Answer, FlatCall, FlatDisk, answer_while, idle, known_answer, with_nothing}
+use Rattle.std.proofs.Common.{◌≡◌, ◌≢◌, ℕ, zero, suc, ◌<◌, ◌/◌, Bool, true, false, List, [], length, Some, None, Ok, Err, refl, sym, ap, subst, ◌∙◌, arith}
+use Rattle.std.specs.Prelude.{IfErr, OnOk, Result, replicate}
+use Rattle.std.proofs.lemmas.List.{length-replicate}
+use Rattle.zone_states.proofs.Cutting.{length-cut}
+use Rattle.disk_files.specs.declared.trace_line.TraceLine.TheVariants.{Write}
+use Rattle.zone_translator.specs.Calls.{IsTurn}
+use Rattle.zone_translator.specs.View.{DiskView, KeepsDisk}
+use Rattle.zone_translator.specs.Flat.{Answer, FlatCall, FlatDisk, answer_while, idle, known_answer, may_refuse, with_nothing, write}
 use Rattle.zone_translator.specs.declared.fault.DiskFault.{DiskFault}
 use Rattle.zone_translator.specs.declared.fault.DiskFault.TheVariants as faults
 use Rattle.zone_translator.specs.declared.status.DiskStatus.{DiskStatus}
 use Rattle.zone_translator.specs.declared.status.DiskStatus.TheVariants.{Serving, Stopped, Unmounted}
-use Rattle.disk_runs.specs.FlatLines.{FlatAnswer, RepliesTo, Request, Turns, TurnsDone, first_of, reply_of}
+use Rattle.disk_runs.specs.FlatLines.{FlatAnswer, RepliesTo, Request, Turns, TurnsDone, asked, first_of, is_whole, single, refusal_reply, reply_of}
+use Rattle.disk_runs.specs.KeepingLaws.{keeps_call}
+use Rattle.disk_runs.specs.Trace.{IsOneWrite, KeepsRequest, TakesTurns}
 use Rattle.disk_runs.specs.declared.fault.RunFault.{RunFault}
+use Rattle.disk_runs.specs.declared.fault.RunFault.TheVariants.{Memory}
 
 -- ---- turns of cleaning
 
@@ -43,6 +51,48 @@ idle_unchanged old new answered = by old.status refl
 pub turns_stop : (n done : ℕ) (old middle new : FlatDisk) (fault : DiskFault) (result : Result (Unit {0}) DiskFault) → result ≡ Err fault → done < n → middle ≡ old → (0 < done → old.status ≡ Serving) → FlatCall middle idle (with_nothing (Err fault)) new → Turns n old result new
 turns_stop n done old middle new fault result is lt same serves refused = rw is (record { done = done; few = lt; middle = old; before = turns_done done old serves; refused = rw same at refused })
 
+-- a turn that is done follows others
+pub takes_more : (n : ℕ) (old middle new : DiskView) → TakesTurns n old middle → IsTurn middle (Ok tt) new → TakesTurns (suc n) old new
+takes_more zero old middle new p turn = (new, rw p at turn, refl)
+takes_more (suc n) old middle new p turn = (p.0, p.1, takes_more n p.0 middle new p.2 turn)
+
+-- a turn is refused without a reply
+idle_untold : (old new : FlatDisk) (fault : DiskFault) → FlatCall old idle (with_nothing (Err fault)) new → refusal_reply fault ≡ None
+idle_untold old new fault answered = by old.status refl
+  where
+    may : (fault : DiskFault) → may_refuse idle fault ≡ true → refusal_reply fault ≡ None
+    may faults.OutOfRange m = absurd (cc)
+    may faults.OutOfMemory m = refl
+    may faults.Stopped m = refl
+    may faults.Spent m = refl
+    may faults.Unmounted m = refl
+    may faults.Smaller m = absurd (cc)
+    may faults.Reserve m = absurd (cc)
+
+    by : (status : DiskStatus) → old.status ≡ status → refusal_reply fault ≡ None
+    by Serving e =
+        let none : known_answer old idle ≡ None = ap answer_while e in
+        let begun = rw none at answered in
+        may fault begun.0
+    by Stopped e =
+        let known : known_answer old idle ≡ Some (Err faults.Stopped) = ap answer_while e in
+        let so = rw known at answered in
+        let same : Err fault ≡ Err faults.Stopped = ap (λ (a : Answer). a.result) so.0 in
+        let is : fault ≡ faults.Stopped = cc in
+        ap refusal_reply is
+    by Unmounted e =
+        let known : known_answer old idle ≡ Some (Err faults.Unmounted) = ap answer_while e in
+        let so = rw known at answered in
+        let same : Err fault ≡ Err faults.Unmounted = ap (λ (a : Answer). a.result) so.0 in
+        let is : fault ≡ faults.Unmounted = cc in
+        ap refusal_reply is
+
+-- so turns that have a reply were all done
+pub turns_told : (P : Type 0) (n : ℕ) (old new : FlatDisk) (done : Result (Unit {0}) DiskFault) (result : Result (Unit {0}) RunFault) (reply : List ℕ) → Turns n old done new → OnOk result (reply_of 0 [] done ≡ Some reply) → OnOk done P → OnOk result P
+turns_told P n old new done (Err f) reply turns told p = tt
+turns_told P n old new (Ok u) (Ok v) reply turns told p = p
+turns_told P n old new (Err fault) (Ok v) reply turns told p = let none = idle_untold turns.middle new fault turns.refused in absurd (cc)
+
 -- ---- what is told
 
 pub on-ok : {T : Type 0} {P Q : Type 0} (r : Result T RunFault) → (P → Q) → OnOk r P → OnOk r Q
@@ -56,3 +106,26 @@ nothing-shown first (Err fault) = refl
 -- the reply to a request that shows nothing
 pub told : (old new : FlatDisk) (request : Request) (done : Result (Unit {0}) DiskFault) (reply : List ℕ) → FlatAnswer old request (with_nothing done) new → reply_of 0 [] done ≡ Some reply → RepliesTo old request reply new
 told old new request done reply answered is = record { answer = with_nothing done; flat = answered; reply_is = nothing-shown (first_of request) done ∙ is }
+
+-- a fault that is another is not that of a reply
+pub never_memory : (result : Result (Unit {0}) RunFault) (P : Type 0) → IfErr result (λ fault. fault ≢ Memory) → IfErr result (λ fault. fault ≡ Memory → P)
+never_memory (Ok done) P other = tt
+never_memory (Err fault) P other = λ e. absurd (other e)
+
+-- ---- what a write keeps
+
+pub always : {T : Type 0} {P : Type 0} (result : Result T RunFault) → P → OnOk result P
+always (Ok x) p = p
+always (Err fault) p = tt
+
+-- of copies of a block
+pub keeps_copies : (block : List ℕ) (first n : ℕ) (old new : DiskView) → KeepsDisk old new → IsOneWrite first n old new → KeepsRequest (Some (single (write first (replicate n block)))) old new
+keeps_copies block first n old new kept cut = (keeps_call old new kept, subst (λ (k : ℕ). IsOneWrite first k old new) (sym (length-replicate n block)) cut)
+
+-- of bytes that are whole blocks
+pub keeps_bytes : (size first : ℕ) (bytes : List ℕ) (old new : DiskView) → KeepsDisk old new → IsOneWrite first (length bytes / size) old new → KeepsRequest (asked size (Write first) bytes) old new
+keeps_bytes size first bytes old new kept cut = by (is_whole size bytes) refl
+  where
+    by : (whole : Bool) → is_whole size bytes ≡ whole → KeepsRequest (asked size (Write first) bytes) old new
+    by true e = rw e (keeps_call old new kept, subst (λ (k : ℕ). IsOneWrite first k old new) (sym (length-cut size (length bytes / size) bytes)) cut)
+    by false e = rw e (keeps_call old new kept)

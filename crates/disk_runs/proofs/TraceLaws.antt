@@ -1,77 +1,76 @@
 -- A run from a drive to a drive.
-use Rattle.std.proofs.Common.{◌≡◌, ℕ, suc, ◌+◌, Bool, true, false, List, [], ◌∷◌, length, Option, Ok, Err, inl, inr, refl, sym, ap, subst, ◌∙◌}
-use Rattle.std.specs.Prelude.{IfErr, OnOk, Result, cond}
+use Rattle.std.proofs.Common.{◌≡◌, ℕ, ◌+◌, List, [], ◌∷◌, length, Option, Some, None, Ok, Err, inr, refl, sym, ap, subst, ◌∙◌}
+use Rattle.std.specs.Prelude.{IfErr, Result}
 use Rattle.zone_states.specs.declared.geometry.Geometry.{Geometry}
 use Rattle.drive_port.specs.Drive.{DriveState}
-use Rattle.zone_choice.specs.Agreement.{spelled}
-use Rattle.zone_choice.specs.Reserve.{most_size}
-use Rattle.zone_choice.specs.Mountable.{IsMountable}
-use Rattle.remount.specs.Known.{KeepsMountable}
+use Rattle.drive_array.specs.ZoneLogs.{spelled}
+use Rattle.drive_array.specs.Reserve.{most_size}
+use Rattle.drive_array.specs.Mountable.{IsMountable}
+use Rattle.remount.specs.Kept.{KeepsMountable}
 use Rattle.zone_translator.specs.Changes.{IsCause}
-use Rattle.zone_translator.specs.Flat.{FlatDisk}
+use Rattle.zone_translator.specs.Flat.{FlatDisk, grow, idle, read, report, write}
 use Rattle.zone_translator.specs.Mount.{MountsDisk}
 use Rattle.zone_translator.specs.View.{DiskView, KeepsDisk, disk_size, flat_of, given_size, next_sequence}
-use Rattle.zone_translator.proofs.DiskLaws.{kept-join, kept-refl}
 use Rattle.zone_translator.specs.declared.fault.DiskFault.{DiskFault}
 use Rattle.zone_translator.specs.declared.fault.DiskFault.TheVariants as faults
 use Rattle.zone_translator.specs.declared.status.DiskStatus.{DiskStatus}
 use Rattle.zone_translator.specs.declared.status.DiskStatus.TheVariants as statuses
-use Rattle.disk_runs.specs.FlatLines.{asks_remount, flat}
-use Rattle.disk_runs.specs.Run.{HasCause, KeepsAll, KeepsEnd, KeepsLines, Ran, Stopped, WhereKnown}
-use Rattle.disk_runs.specs.Trace.{EndCause, IsBeforeLast, IsDiskCause, KeepsBy, KeepsDrive, KeepsFault, KeepsLine, KeepsServed, MountsAgain, RunGives, RunKeeps, RunLeaves, disk_at_first, disk_on, remounts_in}
+use Rattle.disk_runs.specs.FlatLines.{Request, flat, remount, single, turns}
+use Rattle.disk_runs.specs.Run.{AnswersAll, AtLine, Exchange, IsBeginning, IsLine, Known, Runs, Stopped, StopsAt}
+use Rattle.disk_runs.specs.Trace.{CallCause, EndCause, KeepsDrive, KeepsFault, KeepsRequest, KeepsServed, MountsAgain, RefusesLine, RunGives, RunKeeps, RunLeaves, RunsFlat, disk_at_first, disk_on, trace, wanted_of}
 use Rattle.disk_runs.specs.declared.fault.RunFault.{RunFault}
 use Rattle.disk_runs.specs.declared.fault.RunFault.TheVariants as runs
 use Rattle.disk_runs.specs.declared.fault.RunFault.TheVariants.{Line, Long, Disk, Mount, Input, Output, Memory}
 
-carried : {X Y Z : Type 0} (P : X → Y → Z → Type 0) (a a' : X) (b b' : Y) (c c' : Z) → a ≡ a' → b ≡ b' → c ≡ c' → P a b c → P a' b' c'
-carried P a a' b b' c c' e f g p = subst (λ z. P a' b' z) g (subst (λ y. P a' y c) f (subst (λ x. P x b c) e p))
+-- ---- a run, as a flat disk sees it
 
--- the block's size, the disk at first, and the disk at last, as the run saw them and by the drives
-pub record Seen (n : ℕ) (old : DriveState) (first last : DiskView) : Type 0 where
-  pub block : first.drive.geometry.block ≡ old.geometry.block
-  pub begins : flat_of first ≡ disk_at_first n old
-  pub ends : flat_of last ≡ disk_on n last.drive (disk_size last) last.status
+line_flat : (disk : DiskView) (line : List ℕ) → IsLine trace disk line → IsLine flat (flat_of disk) line
+line_flat disk line p = record { short = p.short; legal = p.legal }
 
--- a disk of these parts
-abbrev pub disk_of : List (List ℕ) → ℕ → DiskStatus → Geometry → FlatDisk
-disk_of array size status geometry = record { array = array; size = size; status = status; block = geometry.block; most = most_size geometry }
-
-disk-of : (array array' : List (List ℕ)) (size size' : ℕ) (status status' : DiskStatus) (geometry geometry' : Geometry) → array ≡ array' → size ≡ size' → status ≡ status' → geometry ≡ geometry'
-    → disk_of array size status geometry ≡ disk_of array' size' status' geometry'
-disk-of array array' size size' status status' geometry geometry' e f g h = rw (e, f, g, h) refl
-
-pub seen : (n : ℕ) (old : DriveState) (first last : DiskView) → MountsDisk old n first → first.drive.geometry ≡ old.geometry → given_size last ≡ given_size first → Seen n old first last
-seen n old first last mounted same keeps = record {
-  block = ap (λ (g : Geometry). g.block) same;
-  begins = disk-of (spelled first.drive (given_size first)) (spelled old n) (disk_size first) (length (spelled old n)) first.status statuses.Serving first.drive.geometry old.geometry mounted.array (mounted.size ∙ ap length mounted.array) mounted.status same;
-  ends = ap (λ (k : ℕ). disk_on k last.drive (disk_size last) last.status) (keeps ∙ mounted.given);
+all_flat : (lines : List (List ℕ)) (text : List ℕ) (old new : DiskView) → AnswersAll trace old lines text new → AnswersAll flat (flat_of old) lines text (flat_of new)
+all_flat [] text old new p = (p.0, ap flat_of p.1)
+all_flat (line ∷ lines) text old new p = record {
+  reply = p.reply;
+  after = p.after;
+  middle = flat_of p.middle;
+  is_line = line_flat old line p.is_line;
+  answers = p.answers.flat;
+  rest = all_flat lines p.after p.middle new p.rest;
+  text_is = p.text_is;
 }
 
-abbrev pub RanAs : Option (List ℕ) → Option (List ℕ) → Option (List ℕ) → ℕ → FlatDisk → FlatDisk → Type 0
-RanAs input written contents size old new = WhereKnown input written (λ bytes before. Ran (flat size) bytes before old contents new)
+at_flat : (left : Known) (old : DiskView) (P Q : List ℕ → Type 0) → ((line : List ℕ) → P line → Q line) → AtLine trace left old P → AtLine flat left (flat_of old) Q
+at_flat left old P Q f p = record { line = p.line; next = p.next; is_line = line_flat old p.line p.is_line; does = f p.line p.does }
 
-abbrev pub StoppedAs : Option (List ℕ) → Option (List ℕ) → RunFault → Option (List ℕ) → ℕ → FlatDisk → FlatDisk → Type 0
-StoppedAs input written fault contents size old new = WhereKnown input written (λ bytes before. Stopped (flat size) bytes before old fault contents new)
+stops_flat : (fault : RunFault) (left : Known) (number : ℕ) (old : DiskView) (shown : List ℕ) (new : DiskView) → StopsAt trace fault left number old shown new → StopsAt flat fault left number (flat_of old) shown (flat_of new)
+stops_flat (Line m) left number old shown new p =
+    (p.0, record { line = p.1.line; next = p.1.next; short = p.1.short; wrong = p.1.wrong }, p.2, ap flat_of p.3)
+stops_flat (Long m) left number old shown new p = (p.0, p.1, p.2, ap flat_of p.3)
+stops_flat Input left number old shown new p = (p.0, ap flat_of p.1)
+stops_flat Output left number old shown new p =
+    at_flat left old (λ line. IsBeginning trace old line shown new) (λ line. IsBeginning flat (flat_of old) line shown (flat_of new))
+    (λ line b. record { reply = b.reply; count = b.count; answers = b.answers.flat; short = b.short; shown_is = b.shown_is }) p
+stops_flat Memory left number old shown new p = (p.0, p.1.flat)
+stops_flat (Disk f) left number old shown new p =
+    (p.0, at_flat left old (λ line. RefusesLine old line (Disk f) new) (λ line. flat.Refuses (flat_of old) line (Disk f) (flat_of new)) (λ line r. r.flat) p.1)
+stops_flat (Mount f) left number old shown new p =
+    (p.0, at_flat left old (λ line. RefusesLine old line (Mount f) new) (λ line. flat.Refuses (flat_of old) line (Mount f) (flat_of new)) (λ line r. r.flat) p.1)
+stops_flat (runs.Geometry f) left number old shown new p =
+    (p.0, at_flat left old (λ line. RefusesLine old line (runs.Geometry f) new) (λ line. flat.Refuses (flat_of old) line (runs.Geometry f) (flat_of new)) (λ line r. r.flat) p.1)
 
-pub run_gives : (n : ℕ) (old : DriveState) (first last : DiskView) (input written contents : Option (List ℕ)) (result : Result (Unit {0}) RunFault)
-    → Seen n old first last → IfErr result (HasCause (EndCause last))
-    → OnOk result (RanAs input written contents first.drive.geometry.block (flat_of first) (flat_of last))
-    → IfErr result (λ fault. StoppedAs input written fault contents first.drive.geometry.block (flat_of first) (flat_of last))
-    → RunGives n old input written result contents last.drive
-run_gives n old first last input written contents (Ok done) s cause ran stopped =
-    (disk_size last, last.status, carried (RanAs input written contents) _ _ _ _ _ _ s.block s.begins s.ends ran)
-run_gives n old first last input written contents (Err fault) s cause ran stopped =
-    of fault cause (disk_size last, last.status, carried (StoppedAs input written fault contents) _ _ _ _ _ _ s.block s.begins s.ends stopped)
-  where
-    of : (fault : RunFault) → HasCause (EndCause last) fault → (size : ℕ) × (status : DiskStatus) × StoppedAs input written fault contents old.geometry.block (disk_at_first n old) (disk_on n last.drive size status) → RunGives n old input written (Err fault) contents last.drive
-    of (Line m) cause h = h
-    of (Long m) cause h = h
-    of (Disk f) cause h = h
-    of (Mount f) cause h = inr h
-    of (runs.Geometry f) cause h = absurd cause
-    of Input cause h = h
-    of Output cause h = h
-    of Memory cause h = h
+runs_flat : (bytes : Exchange) (old new : DiskView) (ended : Result (Unit {0}) RunFault) → Runs trace bytes old ended new → Runs flat bytes (flat_of old) ended (flat_of new)
+runs_flat bytes old new (Ok done) r = record { lines = r.lines; text = r.text; read = r.read; answered = all_flat r.lines r.text old new r.answered; written = r.written }
+runs_flat bytes old new (Err fault) r = record {
+  lines = r.lines;
+  left = r.left;
+  text = r.text;
+  shown = r.shown;
+  middle = flat_of r.middle;
+  read = r.read;
+  answered = all_flat r.lines r.text old r.middle r.answered;
+  written = r.written;
+  stops = stops_flat fault r.left (length r.lines + 1) r.middle r.shown new r.stops;
+}
 
 -- ---- what lines keep of a disk
 
@@ -97,16 +96,35 @@ kept_on a b c p q = record {
 kept_same : (a : DiskView) → IsMountable a.drive (given_size a) → KeepsDrive a a
 kept_same a m = record { given = refl; geometry = refl; mountable = m; refused = refl }
 
-kept_by : (b : Bool) (old new : DiskView) → IsMountable old.drive (given_size old) → KeepsBy b old new → KeepsDrive old new
-kept_by true old new m k = kept_again old new k
-kept_by false old new m k = kept_served old new (k.mounted m)
+-- what a line keeps of a drive that can be mounted: no answer leaves a disk unmounted that was not
+pub record KeepsOn (old new : DiskView) : Type 0 where
+  pub drive : KeepsDrive old new
+  pub unmounted : new.status ≡ statuses.Unmounted → old.status ≡ statuses.Unmounted
 
-kept_all : (lines : List (List ℕ)) (old new : DiskView) → IsMountable old.drive (given_size old) → KeepsAll KeepsLine lines old new → KeepsDrive old new
-kept_all [] old new m k = rw k (kept_same old m)
-kept_all (line ∷ lines) old new m k =
-    let one = kept_by (asks_remount line) old k.0 m k.1 in
-    kept_on old k.0 new one (kept_all lines k.0 new one.mountable k.2)
+on_served : (old new : DiskView) → IsMountable old.drive (given_size old) → KeepsServed old new → KeepsOn old new
+on_served old new m k = let kept = k.mounted m in record { drive = kept_served old new kept; unmounted = kept.unmounted }
 
+on_again : (old new : DiskView) → MountsAgain old new → KeepsOn old new
+on_again old new k = record { drive = kept_again old new k; unmounted = λ e. let bad = sym k.disk.status ∙ e in absurd (cc) }
+
+on_request : (wanted : Option Request) (old new : DiskView) → IsMountable old.drive (given_size old) → KeepsRequest wanted old new → KeepsOn old new
+on_request None old new m k = on_served old new m k
+on_request (Some remount) old new m k = on_again old new k
+on_request (Some (turns n)) old new m k = on_served old new m k.0
+on_request (Some (single (read first n))) old new m k = on_served old new m k
+on_request (Some (single (write first blocks))) old new m k = on_served old new m k.0
+on_request (Some (single (grow n))) old new m k = on_served old new m k
+on_request (Some (single idle)) old new m k = on_served old new m k
+on_request (Some (single report)) old new m k = on_served old new m k
+
+on_all : (lines : List (List ℕ)) (text : List ℕ) (old new : DiskView) → IsMountable old.drive (given_size old) → AnswersAll trace old lines text new → KeepsOn old new
+on_all [] text old new m p = rw p.1 (record { drive = kept_same old m; unmounted = λ e. e })
+on_all (line ∷ lines) text old new m p =
+    let one = on_request (wanted_of old line) old p.middle m p.answers.keeps in
+    let more = on_all lines p.after p.middle new one.drive.mountable p.rest in
+    record { drive = kept_on old p.middle new one.drive more.drive; unmounted = λ e. one.unmounted (more.unmounted e) }
+
+-- a line that ends a run
 kept_fault : (fault : RunFault) (old new : DiskView) → IsMountable old.drive (given_size old) → KeepsFault fault old new → KeepsDrive old new
 kept_fault (Line m) old new can k = kept_served old new (k.mounted can)
 kept_fault (Long m) old new can k = kept_served old new (k.mounted can)
@@ -117,102 +135,122 @@ kept_fault Input old new can k = kept_served old new (k.mounted can)
 kept_fault Output old new can k = kept_served old new (k.mounted can)
 kept_fault Memory old new can k = kept_served old new (k.mounted can)
 
--- ---- since the last mount
+kept_stop : (fault : RunFault) (left : Known) (number : ℕ) (old : DiskView) (shown : List ℕ) (new : DiskView) → IsMountable old.drive (given_size old) → StopsAt trace fault left number old shown new → KeepsDrive old new
+kept_stop (Line m) left number old shown new can p = rw p.3 (kept_same old can)
+kept_stop (Long m) left number old shown new can p = rw p.3 (kept_same old can)
+kept_stop Input left number old shown new can p = rw p.1 (kept_same old can)
+kept_stop Output left number old shown new can p = (on_request (wanted_of old p.line) old new can p.does.answers.keeps).drive
+kept_stop Memory left number old shown new can p = kept_served old new (p.1.keeps.mounted can)
+kept_stop (Disk f) left number old shown new can p = kept_fault (Disk f) old new can p.1.does.keeps
+kept_stop (Mount f) left number old shown new can p = kept_fault (Mount f) old new can p.1.does.keeps
+kept_stop (runs.Geometry f) left number old shown new can p = kept_fault (runs.Geometry f) old new can p.1.does.keeps
 
--- the last mount of a drive, which was mounted again that often, and what was kept since
-pub record Since (n count : ℕ) (old : DriveState) (new : DiskView) : Type 0 where
-  pub before : DriveState
-  pub last : IsBeforeLast n count old before
-  pub first : DiskView
-  pub mounted : MountsDisk before n first
-  pub keeps : KeepsDisk first new
+kept_run : (bytes : Exchange) (first last : DiskView) (ended : Result (Unit {0}) RunFault) → IsMountable first.drive (given_size first) → Runs trace bytes first ended last → KeepsDrive first last
+kept_run bytes first last (Ok done) can r = (on_all r.lines r.text first last can r.answered).drive
+kept_run bytes first last (Err fault) can r =
+    let before = (on_all r.lines r.text first r.middle can r.answered).drive in
+    kept_on first r.middle last before (kept_stop fault r.left (length r.lines + 1) r.middle r.shown last before.mountable r.stops)
 
-remounts-more : (again : Bool) (line : List ℕ) (lines : List (List ℕ)) → asks_remount line ≡ again → remounts_in (line ∷ lines) ≡ cond again (suc (remounts_in lines)) (remounts_in lines)
-remounts-more again line lines e = rw e refl
+-- ---- why a run ended
 
-since : (n : ℕ) (lines : List (List ℕ)) (old : DriveState) (first middle new : DiskView) → MountsDisk old n first → KeepsDisk first middle → KeepsAll KeepsLine lines middle new → Since n (remounts_in lines) old new
-since n [] old first middle new mounted kept k = record { before = old; last = refl; first = first; mounted = mounted; keeps = rw k kept }
-since n (line ∷ lines) old first middle new mounted kept k = by (asks_remount line) refl k.1 (λ o f m s. since n lines o f k.0 new m s k.2)
-  where
-    by : (again : Bool) → asks_remount line ≡ again → KeepsBy again middle k.0 → ((o : DriveState) (f : DiskView) → MountsDisk o n f → KeepsDisk f k.0 → Since n (remounts_in lines) o new) → Since n (remounts_in (line ∷ lines)) old new
-    by false e one go =
-        subst (λ count. Since n count old new) (sym (remounts-more false line lines e))
-        (go old first mounted (kept-join first middle k.0 kept (one.mounted kept.mountable)))
-    by true e one go =
-        let given : given_size middle ≡ n = kept.given ∙ mounted.given in
-        let again : MountsDisk middle.drive n k.0 = rw given at one.disk in
-        let more = go middle.drive k.0 again (kept-refl k.0 (kept_again middle k.0 one).mountable) in
-        subst (λ count. Since n count old new) (sym (remounts-more true line lines e))
-        (record { before = more.before; last = (first, middle, mounted, kept, more.last); first = more.first; mounted = more.mounted; keeps = more.keeps })
+-- a disk that is not unmounted refuses no call as one that is
+call_cause : (fault : DiskFault) (old new : DiskView) → KeepsDisk old new → (old.status ≡ statuses.Unmounted → ⊥) → EndCause new (Disk fault) → IsCause new.drive (next_sequence new) fault
+call_cause faults.OutOfRange old new kept serves cause = cause
+call_cause faults.OutOfMemory old new kept serves cause = cause
+call_cause faults.Stopped old new kept serves cause = cause
+call_cause faults.Spent old new kept serves cause = cause
+call_cause faults.Smaller old new kept serves cause = cause
+call_cause faults.Reserve old new kept serves cause = cause
+call_cause faults.Unmounted old new kept serves cause = absurd (serves (kept.unmounted cause))
 
--- ---- what a run leaves of the drive
+run_cause : (bytes : Exchange) (first last : DiskView) (fault : RunFault) → IsMountable first.drive (given_size first) → first.status ≡ statuses.Serving → Stopped trace bytes first fault last → CallCause last fault
+run_cause bytes first last (Line m) can serves r = tt
+run_cause bytes first last (Long m) can serves r = tt
+run_cause bytes first last Input can serves r = tt
+run_cause bytes first last Output can serves r = tt
+run_cause bytes first last Memory can serves r = tt
+run_cause bytes first last (Mount f) can serves r = tt
+run_cause bytes first last (runs.Geometry f) can serves r = tt
+run_cause bytes first last (Disk f) can serves r =
+    let before = on_all r.lines r.text first r.middle can r.answered in
+    let refused = r.stops.1.does in
+    call_cause f r.middle last (refused.keeps.mounted before.drive.mountable) (λ e. let bad = sym serves ∙ before.unmounted e in absurd (cc)) refused.cause
 
-run_keeps : (n : ℕ) (old : DriveState) (first last : DiskView) → MountsDisk old n first → KeepsMountable n old first.drive → KeepsDrive first last → RunKeeps n old last.drive
-run_keeps n old first last mounted kept keeps = record {
-  can = mounted.can;
-  geometry = keeps.geometry ∙ kept.geometry;
-  mountable = rw (← mounted.given, ← keeps.given) keeps.mountable;
-  refused = keeps.refused ∙ kept.refused;
-}
+-- ---- a run, from a drive to a drive
 
--- a disk that was mounted refuses no call as unmounted
-disk_cause : (n : ℕ) (input : Option (List ℕ)) (old : DriveState) (first last : DiskView) (fault : DiskFault) → MountsDisk old n first → IsMountable first.drive (given_size first)
-    → KeepsEnd KeepsLine KeepsFault input first (Disk fault) last → EndCause last (Disk fault) → IsDiskCause n input old fault last.drive
-disk_cause n input old first last fault mounted can k cause = of fault cause
-  where
-    to : Since n (remounts_in k.before.lines) old k.middle
-    to = since n k.before.lines old first first k.middle mounted (kept-refl first can) k.before.keeps
+-- a disk of these parts
+abbrev pub disk_of : List (List ℕ) → ℕ → DiskStatus → Geometry → FlatDisk
+disk_of array size status geometry = record { array = array; size = size; status = status; block = geometry.block; most = most_size geometry }
 
-    keeps : KeepsDisk to.first last
-    keeps = kept-join to.first k.middle last to.keeps (k.leaves.mounted to.keeps.mountable)
+disk-of : (array array' : List (List ℕ)) (size size' : ℕ) (status status' : DiskStatus) (geometry geometry' : Geometry) → array ≡ array' → size ≡ size' → status ≡ status' → geometry ≡ geometry'
+    → disk_of array size status geometry ≡ disk_of array' size' status' geometry'
+disk-of array array' size size' status status' geometry geometry' e f g h = rw (e, f, g, h) refl
 
-    by : (fault : DiskFault) → IsCause last.drive (next_sequence last) fault → IsDiskCause n input old fault last.drive
-    by fault cause = record {
-      lines = k.before.lines;
-      answered = k.before.first;
-      before = to.before;
-      last = to.last;
-      first = to.first;
-      mounted = to.mounted;
-      next = next_sequence last;
-      next_is = keeps.next;
-      cause = cause;
+-- the disk at first, by the drive that was mounted
+at_first : (n : ℕ) (old : DriveState) (first : DiskView) → MountsDisk old n first → first.drive.geometry ≡ old.geometry → flat_of first ≡ disk_at_first n old
+at_first n old first mounted same =
+    disk-of (spelled first.drive (given_size first)) (spelled old n) (disk_size first) (length (spelled old n)) first.status statuses.Serving first.drive.geometry old.geometry
+    mounted.array (mounted.size ∙ ap length mounted.array) mounted.status same
+
+-- and the disk at last
+at_last : (n : ℕ) (last : DiskView) → given_size last ≡ n → flat_of last ≡ disk_on n last.drive (disk_size last) last.status
+at_last n last same = ap (λ (k : ℕ). disk_on k last.drive (disk_size last) last.status) same
+
+-- what every run has
+pub record Led (n : ℕ) (bytes : Exchange) (old : DriveState) (ended : Result (Unit {0}) RunFault) (new : DriveState) : Type 0 where
+  pub flat : RunsFlat n bytes old ended new
+  pub keeps : RunKeeps n bytes old ended new
+
+cause_of_end : (bytes : Exchange) (first last : DiskView) (ended : Result (Unit {0}) RunFault) → IsMountable first.drive (given_size first) → first.status ≡ statuses.Serving → Runs trace bytes first ended last → IfErr ended (CallCause last)
+cause_of_end bytes first last (Ok done) can serves r = tt
+cause_of_end bytes first last (Err fault) can serves r = run_cause bytes first last fault can serves r
+
+pub led : (n : ℕ) (bytes : Exchange) (old : DriveState) (first last : DiskView) (ended : Result (Unit {0}) RunFault) → MountsDisk old n first → KeepsMountable n old first.drive → IsMountable first.drive (given_size first)
+    → Runs trace bytes first ended last → Led n bytes old ended last.drive
+led n bytes old first last ended mounted kept can r =
+    let keeps = kept_run bytes first last ended can r in
+    let begins = at_first n old first mounted kept.geometry in
+    let given : given_size last ≡ n = keeps.given ∙ mounted.given in
+    record {
+      flat = (
+        disk_size last,
+        last.status,
+        subst (λ (d : FlatDisk). Runs flat bytes (disk_at_first n old) ended d) (at_last n last given)
+            (subst (λ (d : FlatDisk). Runs flat bytes d ended (flat_of last)) begins (runs_flat bytes first last ended r)),
+      );
+      keeps = record {
+        can = mounted.can;
+        geometry = keeps.geometry ∙ kept.geometry;
+        mountable = rw (← given) keeps.mountable;
+        refused = keeps.refused ∙ kept.refused;
+        first = first;
+        mounted = mounted;
+        kept = kept;
+        last = last;
+        runs = r;
+        cause = cause_of_end bytes first last ended can mounted.status r;
+        drive = refl;
+      };
     }
 
-    of : (fault : DiskFault) → EndCause last (Disk fault) → IsDiskCause n input old fault last.drive
-    of faults.OutOfRange cause = absurd cause
-    of faults.OutOfMemory cause = by faults.OutOfMemory cause
-    of faults.Stopped cause = by faults.Stopped cause
-    of faults.Spent cause = by faults.Spent cause
-    of faults.Unmounted cause = let e = sym to.mounted.status ∙ keeps.unmounted cause in absurd (cc)
-    of faults.Smaller cause = absurd cause
-    of faults.Reserve cause = absurd cause
+pub led_gives : (n : ℕ) (bytes : Exchange) (old : DriveState) (ended : Result (Unit {0}) RunFault) (new : DriveState) → Led n bytes old ended new → RunGives n bytes old ended new
+led_gives n bytes old (Ok done) new l = l.flat
+led_gives n bytes old (Err (Line m)) new l = l.flat
+led_gives n bytes old (Err (Long m)) new l = l.flat
+led_gives n bytes old (Err (Disk f)) new l = l.flat
+led_gives n bytes old (Err (Mount f)) new l = inr l.flat
+led_gives n bytes old (Err (runs.Geometry f)) new l = l.flat
+led_gives n bytes old (Err Input) new l = l.flat
+led_gives n bytes old (Err Output) new l = l.flat
+led_gives n bytes old (Err Memory) new l = l.flat
 
-pub run_leaves : (n : ℕ) (input : Option (List ℕ)) (old : DriveState) (first last : DiskView) (result : Result (Unit {0}) RunFault) → MountsDisk old n first → KeepsMountable n old first.drive → IsMountable first.drive (given_size first)
-    → OnOk result (KeepsLines KeepsLine input first last) → IfErr result (λ fault. KeepsEnd KeepsLine KeepsFault input first fault last)
-    → IfErr result (HasCause (EndCause last)) → RunLeaves n input old result last.drive
-run_leaves n input old first last (Ok done) mounted kept can ok err cause = run_keeps n old first last mounted kept (kept_all ok.lines first last can ok.keeps)
-run_leaves n input old first last (Err fault) mounted kept can ok err cause = of fault err cause
-  where
-    drive : (fault : RunFault) → KeepsEnd KeepsLine KeepsFault input first fault last → RunKeeps n old last.drive
-    drive fault k =
-        let before = kept_all k.before.lines first k.middle can k.before.keeps in
-        run_keeps n old first last mounted kept (kept_on first k.middle last before (kept_fault fault k.middle last before.mountable k.leaves))
-
-    of : (fault : RunFault) → KeepsEnd KeepsLine KeepsFault input first fault last → HasCause (EndCause last) fault → RunLeaves n input old (Err fault) last.drive
-    of (Line m) k cause = drive (Line m) k
-    of (Long m) k cause = drive (Long m) k
-    of (Disk f) k cause = (drive (Disk f) k, disk_cause n input old first last f mounted can k cause)
-    of (Mount f) k cause = inr (drive (Mount f) k, cause)
-    of (runs.Geometry f) k cause = absurd cause
-    of Input k cause = drive Input k
-    of Output k cause = drive Output k
-    of Memory k cause = drive Memory k
-
--- what a run that ended keeps of the disk, whatever it answered
-pub run_given : (input : Option (List ℕ)) (first last : DiskView) (result : Result (Unit {0}) RunFault) → IsMountable first.drive (given_size first)
-    → OnOk result (KeepsLines KeepsLine input first last) → IfErr result (λ fault. KeepsEnd KeepsLine KeepsFault input first fault last) → given_size last ≡ given_size first
-run_given input first last (Ok done) can ok err = (kept_all ok.lines first last can ok.keeps).given
-run_given input first last (Err fault) can ok err =
-    let before = kept_all err.before.lines first err.middle can err.before.keeps in
-    (kept_fault fault err.middle last before.mountable err.leaves).given ∙ before.given
+pub led_leaves : (n : ℕ) (bytes : Exchange) (old : DriveState) (ended : Result (Unit {0}) RunFault) (new : DriveState) → Led n bytes old ended new → RunLeaves n bytes old ended new
+led_leaves n bytes old (Ok done) new l = l.keeps
+led_leaves n bytes old (Err (Line m)) new l = l.keeps
+led_leaves n bytes old (Err (Long m)) new l = l.keeps
+led_leaves n bytes old (Err (Disk f)) new l = l.keeps
+led_leaves n bytes old (Err (Mount f)) new l = inr l.keeps
+led_leaves n bytes old (Err (runs.Geometry f)) new l = absurd (l.keeps.runs.stops.1.does.cause)
+led_leaves n bytes old (Err Input) new l = l.keeps
+led_leaves n bytes old (Err Output) new l = l.keeps
+led_leaves n bytes old (Err Memory) new l = l.keeps

@@ -8,8 +8,8 @@ use Rattle.zone_translator.specs.declared.fault.DiskFault.{DiskFault}
 use Rattle.zone_translator.specs.declared.fault.DiskFault.TheVariants as disk
 use Rattle.batch_log.specs.declared.fault.LogFault.{LogFault}
 use Rattle.batch_log.specs.declared.fault.LogFault.TheVariants as log
-use Rattle.remount.specs.declared.fault.MountFault.{MountFault}
-use Rattle.remount.specs.declared.fault.MountFault.TheVariants as mount
+use Rattle.drive_survey.specs.declared.fault.MountFault.{MountFault}
+use Rattle.drive_survey.specs.declared.fault.MountFault.TheVariants as mount
 use Rattle.disk_runs.specs.declared.fault.RunFault.{RunFault}
 use Rattle.disk_runs.specs.declared.fault.RunFault.TheVariants.{Line, Long, Disk, Mount, Geometry, Input, Output, Memory}
 
@@ -17,6 +17,9 @@ use Rattle.disk_runs.specs.declared.fault.RunFault.TheVariants.{Line, Long, Disk
 pub record Refusal : Type 0 where
   pub number : ℕ
   pub name : List ℕ
+
+abbrev pub numbered : ℕ → List ℕ → Refusal
+numbered number name = record { number = number; name = name }
 
 abbrev pub disk_refusal : DiskFault → Refusal
 disk_refusal disk.OutOfRange = record { number = 1; name = codes "OutOfRange" }
@@ -85,15 +88,15 @@ mount_text fault = refusal_text (codes "mount") (mount_refusal fault)
 abbrev pub line_text : List ℕ → ℕ → List ℕ
 line_text kind number = codes "fault " ++ kind ++ codes " " ++ decimal number ++ codes "\n"
 
-abbrev pub fault_text : RunFault → List ℕ
-fault_text (Line number) = line_text (codes "line") number
-fault_text (Long number) = line_text (codes "long") number
-fault_text (Disk fault) = refusal_text (codes "disk") (disk_refusal fault)
-fault_text (Mount fault) = mount_text fault
-fault_text (Geometry fault) = refusal_text (codes "geometry") (geometry_refusal fault)
-fault_text Input = codes "fault input\n"
-fault_text Output = codes "fault output\n"
-fault_text Memory = codes "fault memory\n"
+abbrev pub run_fault_text : RunFault → List ℕ
+run_fault_text (Line number) = line_text (codes "line") number
+run_fault_text (Long number) = line_text (codes "long") number
+run_fault_text (Disk fault) = refusal_text (codes "disk") (disk_refusal fault)
+run_fault_text (Mount fault) = mount_text fault
+run_fault_text (Geometry fault) = refusal_text (codes "geometry") (geometry_refusal fault)
+run_fault_text Input = codes "fault input\n"
+run_fault_text Output = codes "fault output\n"
+run_fault_text Memory = codes "fault memory\n"
 
 -- why the line of a fault was not written: there was no memory for it, or the writer failed within it
 abbrev pub NotWritten : Option (List ℕ) → Option (List ℕ) → List ℕ → RunFault → Type 0

@@ -1,5 +1,5 @@
 -- What a conventional disk replies to the lines of a trace. It knows nothing of zones.
-use Rattle.std.specs.Prelude.{◌≡◌, ℕ, zero, suc, ◌<◌, ◌/◌, ◌%◌, ◌==◌, ◌||◌, if◌then◌else◌, Bool, true, false, List, [], length, Option, Some, None, Result, Ok, Err, is_some, option_and_then}
+use Rattle.std.specs.Prelude.{◌≡◌, ℕ, zero, suc, ◌+◌, ◌*◌, ◌<◌, ◌/◌, ◌%◌, ◌==◌, ◌||◌, if◌then◌else◌, Bool, List, [], length, Option, Some, None, Result, Ok, Err, is_some, option_and_then}
 use Rattle.zone_states.specs.Zone.{cut_blocks}
 use Rattle.disk_files.specs.Reply.{out_of_range_text, read_text, reserve_text, smaller_text}
 use Rattle.disk_files.specs.TraceLine.{is_skipped, trace_line}
@@ -39,20 +39,6 @@ asked size Remount bytes = Some remount
 -- the same of the line's text
 abbrev pub asked_by : ℕ → List ℕ → Option Request
 asked_by size line = option_and_then (λ said. asked size said.0 said.1) (trace_line line)
-
--- whether a line says to mount the drive again
-abbrev pub is_remount : TraceLine → Bool
-is_remount Remount = true
-is_remount line = false
-
--- whether what was read says so
-abbrev pub says_remount : Option (TraceLine × List ℕ) → Bool
-says_remount None = false
-says_remount (Some said) = is_remount said.0
-
--- whether a line's text does: one that is skipped does not
-abbrev pub asks_remount : List ℕ → Bool
-asks_remount line = if is_skipped line then false else says_remount (trace_line line)
 
 -- a line that is skipped asks for nothing
 abbrev pub request_of : ℕ → List ℕ → Option Request
@@ -128,6 +114,10 @@ pub record IsRefused (old : FlatDisk) (request : Request) (fault : DiskFault) (n
   pub flat : FlatAnswer old request (with_nothing (Err fault)) new
   pub no_reply : refusal_reply fault ≡ None
 
+-- a reply of so many bytes, which has this capacity, has no room for the line of a block of so many bytes
+abbrev pub IsFull : ℕ → ℕ → ℕ → Type 0
+IsFull capacity held block = capacity < held + 2 * block + 45
+
 -- a line is refused only where it asks for something, and only by the disk; a remount by the fault of the mount
 abbrev pub RefusesRequest : FlatDisk → Option Request → RunFault → FlatDisk → Type 0
 RefusesRequest old (Some request) (Disk fault) new = IsRefused old request fault new
@@ -141,10 +131,11 @@ RequestStops old wanted (Mount fault) new = RefusesRequest old wanted (Mount fau
 RequestStops old wanted Memory new = new ≡ old
 RequestStops old wanted fault new = ⊥
 
--- the lines of a trace, as a flat disk answers them whose blocks have this many bytes
-abbrev pub flat : ℕ → Language FlatDisk
-flat size = record {
-  is_legal = λ line. is_legal size line;
-  Answers = λ old line reply new. AnswersRequest old (request_of size line) reply new;
-  Refuses = λ old line fault new. RefusesRequest old (request_of size line) fault new;
+-- the lines of a trace, as a flat disk answers them
+abbrev pub flat : Language FlatDisk
+flat = record {
+  is_legal = λ disk line. is_legal disk.block line;
+  Answers = λ old line reply new. AnswersRequest old (request_of old.block line) reply new;
+  Refuses = λ old line fault new. RefusesRequest old (request_of old.block line) fault new;
+  Same = λ old new. new ≡ old;
 }

@@ -2,7 +2,7 @@
 use Rattle.std.proofs.Common.{refl, ◌∙◌}
 use Rattle.zone_translator.specs.View.{DiskView, KeepsDisk}
 use Rattle.zone_translator.proofs.DiskLaws.{kept-join, kept-refl}
-use Rattle.disk_runs.specs.Trace.{KeepsDrive, KeepsFault, KeepsServed}
+use Rattle.disk_runs.specs.Trace.{ComesToNothing, KeepsDrive, KeepsFault, KeepsServed}
 use Rattle.disk_runs.specs.declared.fault.RunFault.{RunFault}
 use Rattle.disk_runs.specs.declared.fault.RunFault.TheVariants.{Line, Long, Disk, Mount, Geometry, Input, Output, Memory}
 
@@ -33,5 +33,6 @@ fault_keeps Input old new kept = kept
 fault_keeps Output old new kept = kept
 fault_keeps Memory old new kept = kept
 
-pub leaves_same : (fault : RunFault) (disk : DiskView) → KeepsFault fault disk disk
-leaves_same fault disk = fault_keeps fault disk disk (keeps_same disk)
+-- a disk of which nothing came
+pub nothing_same : (disk : DiskView) → ComesToNothing disk disk
+nothing_same disk = record { flat = refl; keeps = keeps_same disk }

@@ -1,5 +1,5 @@
 -- What a drive replies to raw lines: each is one submission entry, and the data beside it.
-use Rattle.std.specs.Prelude.{◌≡◌, ℕ, ◌||◌, if◌then◌else◌, Bool, true, false, List, [], Option, Some, None, is_some}
+use Rattle.std.specs.Prelude.{◌≡◌, ℕ, ◌||◌, if◌then◌else◌, Bool, false, List, [], Option, Some, None, is_some}
 use Rattle.drive_port.specs.Drive.{DriveState}
 use Rattle.drive_port.specs.Entry.{decode_of}
 use Rattle.drive_port.specs.Halting.{Halts}
@@ -14,8 +14,8 @@ use Rattle.disk_runs.specs.declared.fault.RunFault.{RunFault}
 use Rattle.disk_runs.specs.declared.fault.RunFault.TheVariants.{Disk}
 
 -- the entry that a line asks to submit, and the data beside it; a line that is skipped asks for none
-abbrev pub entry_of : List ℕ → Option (List ℕ × List ℕ)
-entry_of line = if is_skipped line then None else raw_line line
+abbrev pub submitted_entry : List ℕ → Option (List ℕ × List ℕ)
+submitted_entry line = if is_skipped line then None else raw_line line
 
 -- whether a line is skipped or in the grammar
 abbrev pub is_raw : List ℕ → Bool
@@ -39,18 +39,13 @@ RefusesEntry old (Some call) (Disk OutOfMemory) new = Halts old (decode_of call.
 RefusesEntry old (Some call) (Disk Stopped) new = Halts old (decode_of call.0) call.1 halts.Stopped new
 RefusesEntry old call fault new = ⊥
 
--- the faults of a drive: it was out of memory and has not stopped, or it has stopped
-abbrev pub DriveCause : DriveState → RunFault → Type 0
-DriveCause drive (Disk OutOfMemory) = drive.stopped ≡ false
-DriveCause drive (Disk Stopped) = drive.stopped ≡ true
-DriveCause drive fault = ⊥
-
 -- raw lines, as a drive answers them
 abbrev pub raw : Language DriveState
 raw = record {
-  is_legal = is_raw;
-  Answers = λ old line reply new. AnswersEntry old (entry_of line) reply new;
-  Refuses = λ old line fault new. RefusesEntry old (entry_of line) fault new;
+  is_legal = λ drive line. is_raw line;
+  Answers = λ old line reply new. AnswersEntry old (submitted_entry line) reply new;
+  Refuses = λ old line fault new. RefusesEntry old (submitted_entry line) fault new;
+  Same = λ old new. new ≡ old;
 }
 
 -- the reply that is held: none, or a completion and the data that came back

@@ -1,23 +1,25 @@
 -- What a run of a trace gives, and what it leaves of the drive.
-use Rattle.std.specs.Prelude.{◌≡◌, ◌⊎◌, ℕ, zero, suc, ◌+◌, if◌then◌else◌, Bool, true, false, List, [], ◌∷◌, length, Option, Result, Ok, Err}
+use Rattle.std.specs.Prelude.{◌≡◌, ◌⊎◌, ℕ, zero, suc, ◌+◌, ◌-◌, List, length, Option, Some, Result, Ok, Err, IfErr, ⊤}
 use Rattle.std.specs.Io.KnownBytes.{Keeps}
 use Rattle.drive_port.specs.Drive.{DriveState}
-use Rattle.zone_choice.specs.Agreement.{spelled}
-use Rattle.zone_choice.specs.Mountable.{IsMountable}
-use Rattle.zone_choice.specs.Reserve.{most_size}
-use Rattle.remount.specs.Known.{KeepsMountable}
+use Rattle.drive_array.specs.ZoneLogs.{spelled}
+use Rattle.drive_array.specs.Mountable.{IsMountable}
+use Rattle.drive_array.specs.Reserve.{most_size}
+use Rattle.drive_survey.specs.declared.fault.MountFault.{MountFault}
+use Rattle.remount.specs.Kept.{KeepsMountable}
 use Rattle.remount.specs.Mount.{IsToMount}
-use Rattle.remount.specs.Scan.{FailsBy}
+use Rattle.drive_survey.specs.Scan.{FailsBy}
+use Rattle.zone_translator.specs.Batches.{LogsAreCut}
+use Rattle.zone_translator.specs.Calls.{IsTurn}
 use Rattle.zone_translator.specs.Changes.{IsCause}
-use Rattle.zone_translator.specs.Flat.{FlatDisk}
+use Rattle.zone_translator.specs.Flat.{FlatDisk, write}
 use Rattle.zone_translator.specs.Mount.{GivesBack, MountsDisk}
-use Rattle.zone_translator.specs.View.{DiskView, KeepsDisk, given_size, next_sequence}
-use Rattle.zone_translator.specs.declared.fault.DiskFault.{DiskFault}
+use Rattle.zone_translator.specs.View.{DiskView, KeepsDisk, flat_of, given_size, logs_of, next_sequence}
 use Rattle.zone_translator.specs.declared.fault.DiskFault.TheVariants.{Unmounted}
 use Rattle.zone_translator.specs.declared.status.DiskStatus.{DiskStatus}
 use Rattle.zone_translator.specs.declared.status.DiskStatus.TheVariants as statuses
-use Rattle.disk_runs.specs.FlatLines.{asks_remount, flat}
-use Rattle.disk_runs.specs.Run.{AreFirstLines, Ran, Stopped, WhereKnown}
+use Rattle.disk_runs.specs.FlatLines.{AnswersRequest, RefusesRequest, Request, flat, is_legal, remount, request_of, single, turns}
+use Rattle.disk_runs.specs.Run.{Exchange, Language, Runs}
 use Rattle.disk_runs.specs.declared.fault.RunFault.{RunFault}
 use Rattle.disk_runs.specs.declared.fault.RunFault.TheVariants.{Disk, Mount, Geometry}
 
@@ -33,14 +35,21 @@ pub record MountsAgain (old new : DiskView) : Type 0 where
   pub disk : MountsDisk old.drive (given_size old) new
   pub kept : KeepsMountable (given_size old) old.drive new.drive
 
--- what an answer keeps of a disk, by whether it mounts again
-abbrev pub KeepsBy : Bool → DiskView → DiskView → Type 0
-KeepsBy true old new = MountsAgain old new
-KeepsBy false old new = KeepsServed old new
+-- that many turns of cleaning are taken, one after the other: each does the next step of the clean that runs, or begins one that is due
+abbrev pub TakesTurns : ℕ → DiskView → DiskView → Type 0
+TakesTurns zero old new = new ≡ old
+TakesTurns (suc n) old new = (middle : DiskView) × IsTurn old (Ok tt) middle × TakesTurns n middle new
 
--- what the answer to a line keeps of a disk
-abbrev pub KeepsLine : List ℕ → DiskView → DiskView → Type 0
-KeepsLine line old new = KeepsBy (asks_remount line) old new
+-- the batches of one write of n blocks: each has as many entries as a batch can have, or names the last block, or ends its zone, or is a Move
+abbrev pub IsOneWrite : ℕ → ℕ → DiskView → DiskView → Type 0
+IsOneWrite first n old new = LogsAreCut old.drive.geometry (logs_of old) (first + n - 1) (logs_of new)
+
+-- what the answer to a line keeps of a disk, by what it asks for
+abbrev pub KeepsRequest : Option Request → DiskView → DiskView → Type 0
+KeepsRequest (Some remount) old new = MountsAgain old new
+KeepsRequest (Some (turns n)) old new = KeepsServed old new × TakesTurns n old new
+KeepsRequest (Some (single (write first blocks))) old new = KeepsServed old new × IsOneWrite first (length blocks) old new
+KeepsRequest wanted old new = KeepsServed old new
 
 -- what a disk keeps whose drive was not mounted again: a drive that can be mounted
 pub record KeepsDrive (old new : DiskView) : Type 0 where
@@ -61,6 +70,42 @@ EndCause disk (Disk fault) = IsCause disk.drive (next_sequence disk) fault
 EndCause disk (Mount fault) = FailsBy (λ _. ⊥) disk.drive fault
 EndCause disk fault = ⊥
 
+-- the faults that a refused line ends a run with have a cause of their own
+abbrev pub HasCause : (RunFault → Type 0) → RunFault → Type 0
+HasCause Cause (Disk fault) = Cause (Disk fault)
+HasCause Cause (Mount fault) = Cause (Mount fault)
+HasCause Cause (Geometry fault) = Cause (Geometry fault)
+HasCause Cause fault = ⊤
+
+-- what a line asks for, of a disk whose drive has blocks of this many bytes
+abbrev pub wanted_of : DiskView → List ℕ → Option Request
+wanted_of disk line = request_of disk.drive.geometry.block line
+
+-- a line is answered as a flat disk answers it, and with what its answer keeps of the drive
+pub record AnswersLine (old : DiskView) (line reply : List ℕ) (new : DiskView) : Type 0 where
+  pub flat : AnswersRequest (flat_of old) (wanted_of old line) reply (flat_of new)
+  pub keeps : KeepsRequest (wanted_of old line) old new
+
+-- a line is refused as a flat disk refuses it, for a cause of its own
+pub record RefusesLine (old : DiskView) (line : List ℕ) (fault : RunFault) (new : DiskView) : Type 0 where
+  pub flat : RefusesRequest (flat_of old) (wanted_of old line) fault (flat_of new)
+  pub keeps : KeepsFault fault old new
+  pub cause : EndCause new fault
+
+-- nothing came of a line
+pub record ComesToNothing (old new : DiskView) : Type 0 where
+  pub flat : flat_of new ≡ flat_of old
+  pub keeps : KeepsServed old new
+
+-- the lines of a trace, as a disk above a drive answers them
+abbrev pub trace : Language DiskView
+trace = record {
+  is_legal = λ disk line. is_legal disk.drive.geometry.block line;
+  Answers = AnswersLine;
+  Refuses = RefusesLine;
+  Same = ComesToNothing;
+}
+
 -- ---- a run
 
 -- The disk of this size that a drive keeps which was mounted as n blocks. After a stop inside a growth the array may have more blocks than the size, by which calls are checked.
@@ -77,51 +122,42 @@ disk_on n drive size status = record {
 abbrev pub disk_at_first : ℕ → DriveState → FlatDisk
 disk_at_first n drive = disk_on n drive (length (spelled drive n)) statuses.Serving
 
--- A run that stopped at a line: the lines before it are answered by the disk that the drive keeps.
-abbrev pub StopsRun : ℕ → DriveState → Option (List ℕ) → Option (List ℕ) → RunFault → Option (List ℕ) → DriveState → Type 0
-StopsRun n old input written fault contents new =
-    (size : ℕ) × (status : DiskStatus) × WhereKnown input written (λ bytes before. Stopped (flat old.geometry.block) bytes before (disk_at_first n old) fault contents (disk_on n new size status))
+-- A run over the disk that a drive keeps, as a flat disk answers its lines. It ends with a disk of some size, which serves or does not.
+abbrev pub RunsFlat : ℕ → Exchange → DriveState → Result (Unit {0}) RunFault → DriveState → Type 0
+RunsFlat n bytes old ended new = (size : ℕ) × (status : DiskStatus) × Runs flat bytes (disk_at_first n old) ended (disk_on n new size status)
+
+-- The drive was not mounted, and is given back: nothing was written.
+pub record IsNotMounted (n : ℕ) (bytes : Exchange) (old : DriveState) (fault : MountFault) (new : DriveState) : Type 0 where
+  pub back : GivesBack old n fault new
+  pub unwritten : Keeps bytes.written bytes.contents
 
 -- The lines are answered by the disk that the drive keeps. Where the drive is not mounted at first, nothing is written.
-abbrev pub RunGives : ℕ → DriveState → Option (List ℕ) → Option (List ℕ) → Result (Unit {0}) RunFault → Option (List ℕ) → DriveState → Type 0
-RunGives n old input written (Ok done) contents new =
-    (size : ℕ) × (status : DiskStatus) × WhereKnown input written (λ bytes before. Ran (flat old.geometry.block) bytes before (disk_at_first n old) contents (disk_on n new size status))
-RunGives n old input written (Err (Mount fault)) contents new =
-    (Keeps written contents × GivesBack old n fault new) ⊎ StopsRun n old input written (Mount fault) contents new
-RunGives n old input written (Err fault) contents new = StopsRun n old input written fault contents new
+abbrev pub RunGives : ℕ → Exchange → DriveState → Result (Unit {0}) RunFault → DriveState → Type 0
+RunGives n bytes old (Err (Mount fault)) new = IsNotMounted n bytes old fault new ⊎ RunsFlat n bytes old (Err (Mount fault)) new
+RunGives n bytes old ended new = RunsFlat n bytes old ended new
 
--- The drive could be mounted, and can be mounted again, of the same shape; no command was refused.
-pub record RunKeeps (n : ℕ) (old new : DriveState) : Type 0 where
+-- why a disk refused a call: it is none that was refused by a remount
+abbrev pub CallCause : DiskView → RunFault → Type 0
+CallCause disk (Disk fault) = IsCause disk.drive (next_sequence disk) fault
+CallCause disk fault = ⊤
+
+-- The drive could be mounted, and can be mounted again, of the same shape; no command was refused. It was mounted as a disk, and the lines that were
+-- answered led from that disk to one whose drive is handed back.
+pub record RunKeeps (n : ℕ) (bytes : Exchange) (old : DriveState) (ended : Result (Unit {0}) RunFault) (new : DriveState) : Type 0 where
   pub can : IsToMount old n
   pub geometry : new.geometry ≡ old.geometry
   pub mountable : IsMountable new n
   pub refused : new.refused ≡ old.refused
-
--- how many of these lines mount the drive again
-abbrev pub remounts_in : List (List ℕ) → ℕ
-remounts_in [] = 0
-remounts_in (line ∷ lines) = if asks_remount line then suc (remounts_in lines) else remounts_in lines
-
--- The drive as it stood before its last mount, where it was mounted once, and then again as often as this number says. Each mount made a disk of it, which kept what calls keep until the next mount.
-abbrev pub IsBeforeLast : ℕ → ℕ → DriveState → DriveState → Type 0
-IsBeforeLast n zero old last = last ≡ old
-IsBeforeLast n (suc more) old last = (first : DiskView) × (served : DiskView) × MountsDisk old n first × KeepsDisk first served × IsBeforeLast n more served.drive last
-
--- Why a disk refused a call. The last mount made this disk of the drive: that of the last line answered that mounts again or, where none did, the first mount. Each batch appended since has used one sequence up.
-pub record IsDiskCause (n : ℕ) (input : Option (List ℕ)) (old : DriveState) (fault : DiskFault) (new : DriveState) : Type 0 where
-  pub lines : List (List ℕ)
-  pub answered : AreFirstLines input lines
-  pub before : DriveState
-  pub last : IsBeforeLast n (remounts_in lines) old before
   pub first : DiskView
-  pub mounted : MountsDisk before n first
-  pub next : ℕ
-  pub next_is : next + first.drive.appended ≡ next_sequence first + new.appended
-  pub cause : IsCause new next fault
+  pub mounted : MountsDisk old n first
+  pub kept : KeepsMountable n old first.drive
+  pub last : DiskView
+  pub runs : Runs trace bytes first ended last
+  pub cause : IfErr ended (CallCause last)
+  pub drive : new ≡ last.drive
 
--- What a run leaves of a drive, and why it stopped.
-abbrev pub RunLeaves : ℕ → Option (List ℕ) → DriveState → Result (Unit {0}) RunFault → DriveState → Type 0
-RunLeaves n input old (Err (Mount fault)) new = GivesBack old n fault new ⊎ (RunKeeps n old new × FailsBy (λ _. ⊥) new fault)
-RunLeaves n input old (Err (Disk fault)) new = RunKeeps n old new × IsDiskCause n input old fault new
-RunLeaves n input old (Err (Geometry fault)) new = ⊥
-RunLeaves n input old result new = RunKeeps n old new
+-- What a run leaves of a drive.
+abbrev pub RunLeaves : ℕ → Exchange → DriveState → Result (Unit {0}) RunFault → DriveState → Type 0
+RunLeaves n bytes old (Err (Mount fault)) new = IsNotMounted n bytes old fault new ⊎ RunKeeps n bytes old (Err (Mount fault)) new
+RunLeaves n bytes old (Err (Geometry fault)) new = ⊥
+RunLeaves n bytes old ended new = RunKeeps n bytes old ended new

@@ -1,6 +1,6 @@
 ghost use Rattle.std.specs.Prelude.{◌≡◌, ◌++◌, IfErr, OnOk, codes};
 ghost use Rattle.std.specs.Io.KnownBytes.{Appends};
-ghost use Rattle.disk_runs.specs.FaultText.{NotWritten, block_text, cause_text, disk_refusal, fault_text, geometry_refusal, line_text, log_refusal, mount_refusal, mount_text, refusal_text, zone_text};
+ghost use Rattle.disk_runs.specs.FaultText.{NotWritten, block_text, cause_text, disk_refusal, run_fault_text, geometry_refusal, line_text, log_refusal, mount_refusal, mount_text, numbered, refusal_text, zone_text};
 
 use crate::fault::RunFault;
 use batch_log::LogFault;
@@ -82,7 +82,8 @@ fn geometry_refusal(fault: GeometryFault) -> (u8, &'static str)
 }
 
 fn refusal_line(kind: &str, refusal: (u8, &str), out: &mut Vec<u8>) -> Result<(), AllocError>
-    ensures { OnOk result (out.new.items ≡ out.old.items ++ refusal_text kind.now (record { number = refusal.entry.0; name = refusal.entry.1.now })) }
+    ensures { OnOk result (out.new.items ≡ out.old.items
+        ++ refusal_text kind.now (numbered refusal.entry.0 refusal.entry.1.now)) }
 {
     let (number, name) = refusal;
     writeln!(out, "fault {kind} {number} {name}").map_err(|_| AllocError)
@@ -96,7 +97,8 @@ fn numbered_line(kind: &str, number: u64, out: &mut Vec<u8>) -> Result<(), Alloc
 
 /// The refusal of a mount, followed by the zone that it names.
 fn zone_line(refusal: (u8, &str), zone: u32, out: &mut Vec<u8>) -> Result<(), AllocError>
-    ensures { OnOk result (out.new.items ≡ out.old.items ++ zone_text (record { number = refusal.entry.0; name = refusal.entry.1.now }) zone) }
+    ensures { OnOk result (out.new.items ≡ out.old.items
+        ++ zone_text (numbered refusal.entry.0 refusal.entry.1.now) zone) }
 {
     let (number, name) = refusal;
     writeln!(out, "fault mount {number} {name} {zone}").map_err(|_| AllocError)
@@ -109,7 +111,8 @@ fn block_line(
     offset: u32,
     out: &mut Vec<u8>,
 ) -> Result<(), AllocError>
-    ensures { OnOk result (out.new.items ≡ out.old.items ++ block_text (record { number = refusal.entry.0; name = refusal.entry.1.now }) zone offset) }
+    ensures { OnOk result (out.new.items ≡ out.old.items
+        ++ block_text (numbered refusal.entry.0 refusal.entry.1.now) zone offset) }
 {
     let (number, name) = refusal;
     write!(out, "fault mount {number} {name} {zone} {offset}").map_err(|_| AllocError)
@@ -117,7 +120,8 @@ fn block_line(
 
 /// The rest of a line, which names a cause.
 fn cause_line(cause: (u8, &str), out: &mut Vec<u8>) -> Result<(), AllocError>
-    ensures { OnOk result (out.new.items ≡ out.old.items ++ cause_text (record { number = cause.entry.0; name = cause.entry.1.now })) }
+    ensures { OnOk result (out.new.items ≡ out.old.items
+        ++ cause_text (numbered cause.entry.0 cause.entry.1.now)) }
 {
     let (number, name) = cause;
     writeln!(out, " {number} {name}").map_err(|_| AllocError)
@@ -131,7 +135,8 @@ fn log_line(
     cause: LogFault,
     out: &mut Vec<u8>,
 ) -> Result<(), AllocError>
-    ensures { OnOk result (out.new.items ≡ out.old.items ++ block_text (record { number = refusal.entry.0; name = refusal.entry.1.now }) zone offset ++ cause_text (log_refusal cause)) }
+    ensures { OnOk result (out.new.items ≡ out.old.items
+        ++ block_text (numbered refusal.entry.0 refusal.entry.1.now) zone offset ++ cause_text (log_refusal cause)) }
 {
     block_line(refusal, zone, offset, out)?;
     cause_line(log_refusal(cause), out)?;
@@ -152,7 +157,7 @@ fn mount_line(fault: MountFault, out: &mut Vec<u8>) -> Result<(), AllocError>
 }
 
 fn fault_line(fault: RunFault, out: &mut Vec<u8>) -> Result<(), AllocError>
-    ensures { OnOk result (out.new.items ≡ out.old.items ++ fault_text fault) }
+    ensures { OnOk result (out.new.items ≡ out.old.items ++ run_fault_text fault) }
 {
     match fault {
         RunFault::Line(number) => numbered_line("line", number, out),
@@ -169,8 +174,8 @@ fn fault_line(fault: RunFault, out: &mut Vec<u8>) -> Result<(), AllocError>
 /// Writes the line of a fault. It is refused by `Output` where the writer fails, with a beginning of the
 /// line written, and by `Memory` with nothing written.
 pub fn write_fault<W: Write>(alloc: Global, fault: RunFault, writer: &mut W) -> Result<(), RunFault>
-    ensures ok { OnOk result (Appends (W.contents writer.old) (W.contents writer.new) (fault_text fault)) }
-    ensures err { IfErr result (NotWritten (W.contents writer.old) (W.contents writer.new) (fault_text fault)) }
+    ensures ok { OnOk result (Appends (W.contents writer.old) (W.contents writer.new) (run_fault_text fault)) }
+    ensures err { IfErr result (NotWritten (W.contents writer.old) (W.contents writer.new) (run_fault_text fault)) }
 {
     let mut line = Vec::new(alloc);
     fault_line(fault, &mut line)?;

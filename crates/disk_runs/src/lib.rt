@@ -26,6 +26,9 @@
 //! - A run ends with `Ok` only where the reader ended and every line was answered.
 //! - A line is refused only where it asks for calls, and only as a flat disk may refuse one of them. After
 //!   `Memory` nothing came of the line.
+//! - A line `idle` that is answered took its turns, each by the step of the clean that was next; a line `fill`, `write`
+//!   or `trim` was one write of the disk, by batches that are as large as they can be. The lines that were answered
+//!   lead, one after the other, from the disk that was mounted to the one whose drive is given back.
 //! - Data of a `write` that is not whole blocks is refused as a line that is not in the grammar.
 //! - Each answer but `Mount` comes from a drive that was mounted, and that can be mounted again. `Mount` is the
 //!   fault of the first mount, and then nothing is written; or of a line `remount`, which is refused only where

@@ -1,7 +1,7 @@
-ghost use Rattle.std.specs.Prelude.{OnOk, IfErr};
+ghost use Rattle.std.proofs.Common.{refl};
 ghost use Rattle.drive_port.specs.Drive.{DriveState};
-ghost use Rattle.disk_runs.specs.RawLines.{DriveCause, held_reply, raw};
-ghost use Rattle.disk_runs.specs.Run.{HasCause, Ran, Stopped, WhereKnown};
+ghost use Rattle.disk_runs.specs.RawLines.{held_reply, raw};
+ghost use Rattle.disk_runs.specs.Run.{Runs, exchange};
 
 use crate::fault::RunFault;
 use crate::lines::{Answerer, answer_lines};
@@ -28,23 +28,11 @@ impl<D: Device + Drop> Answerer for RawAnswerer<D> {
 
     ghost state = { λ r. D.drive r.device };
 
-    ghost geometry = { λ r. (D.drive r.device).geometry };
-
-    ghost language = { λ _. raw };
+    ghost language = { raw };
 
     ghost reply = { λ r. held_reply r.completion r.returned.items };
 
-    ghost Kept = { Unit {0} };
-
-    ghost kept = { λ _. tt };
-
-    ghost Keeps = { λ _ _ _. Unit {0} };
-
-    ghost Leaves = { λ _ _ _. Unit {0} };
-
-    ghost Cause = { λ r fault. DriveCause (D.drive r.device) fault };
-
-    ghost leaves_same = { λ _ _. tt };
+    ghost same = { λ _. refl };
 
     fn answer(&mut self, line: &[u8], number: u64) -> Result<(), RunFault> {
         self.completion = None;
@@ -85,11 +73,8 @@ pub fn run_raw<R: Read + Drop, W: Write, D: Device + Drop>(
     writer: &mut W,
     device: D,
 ) -> (D, Result<(), RunFault>)
-    ensures ok { OnOk result.1 (WhereKnown reader.old.left (W.contents writer.old) (λ input written.
-        Ran raw input written (D.drive device) (W.contents writer.new) (D.drive result.0))) }
-    ensures err { IfErr result.1 (λ fault. WhereKnown reader.old.left (W.contents writer.old) (λ input written.
-        Stopped raw input written (D.drive device) fault (W.contents writer.new) (D.drive result.0))) }
-    ensures cause { IfErr result.1 (HasCause (DriveCause (D.drive result.0))) }
+    ensures { Runs raw (exchange reader.old.left (W.contents writer.old) (W.contents writer.new))
+        (D.drive device) result.1 (D.drive result.0) }
 {
     let mut answerer = RawAnswerer {
         device,

@@ -1,13 +1,14 @@
-ghost use Rattle.std.specs.Prelude.{◌≡◌, ◌+◌, ◌^◌, ◌<◌, ◌≤◌, ◌++◌, ◌&&◌, [], IfErr, OnOk, Some, length, nat_lt};
+ghost use Rattle.std.specs.Prelude.{◌≡◌, ◌+◌, ◌^◌, ◌<◌, ◌≤◌, ◌++◌, ◌&&◌, [], IfErr, OnOk, Some, length, nat_lt, vec_capacity, vec_len};
 ghost use Rattle.disk_files.specs.Reply.{block_lines};
 ghost use Rattle.zone_translator.specs.Flat.{blocks_from, read};
-ghost use Rattle.zone_translator.specs.View.{array_of, disk_size, flat_of};
+ghost use Rattle.zone_translator.specs.View.{disk_array, disk_size, flat_of};
 ghost use Rattle.zone_translator.specs.declared.status.DiskStatus.TheVariants.{Serving};
-ghost use Rattle.disk_runs.specs.FlatLines.{RepliesTo, RequestStops, single};
-ghost use Rattle.disk_runs.specs.Run.{HasCause};
-ghost use Rattle.disk_runs.specs.Trace.{EndCause, KeepsServed};
+ghost use Rattle.disk_runs.specs.declared.fault.RunFault.TheVariants.{Memory};
+ghost use Rattle.disk_runs.specs.FlatLines.{IsFull, RepliesTo, RequestStops, single};
+ghost use Rattle.disk_runs.specs.Trace.{EndCause, HasCause, KeepsServed};
 
 use crate::fault::RunFault;
+use crate::requests::SHORT_REPLY;
 use disk_files::{block_line, ok_reply, out_of_range_reply};
 use drive_port::Device;
 use zone_translator::Disk;
@@ -29,12 +30,15 @@ fn show_blocks<D: Device + Drop>(
     reply: &mut Vec<u8>,
 ) -> Result<(), RunFault>
     requires in_range { 0 < blocks → first + blocks ≤ disk_size disk.old }
-    requires array { disk.old.status ≡ Serving → length (array_of disk.old) ≡ disk_size disk.old }
+    requires array { disk.old.status ≡ Serving → length (disk_array disk.old) ≡ disk_size disk.old }
     requires small { first + blocks ≤ 2 ^ 64 }
     ensures ok { OnOk result ((flat_of disk.new ≡ flat_of disk.old) × (0 < blocks → disk.old.status ≡ Serving)
-        × (reply.new.items ≡ reply.old.items ++ block_lines first (blocks_from (array_of disk.old) first blocks))) }
-    ensures err { IfErr result (λ fault. RequestStops (flat_of disk.old) (Some (single (read first blocks))) fault (flat_of disk.new)) }
+        × (reply.new.items ≡ reply.old.items ++ block_lines first (blocks_from (disk_array disk.old) first blocks))) }
+    ensures err { IfErr result (λ fault. RequestStops (flat_of disk.old) (Some (single (read first blocks)))
+        fault (flat_of disk.new)) }
     ensures cause { IfErr result (HasCause (EndCause disk.new)) }
+    ensures full { IfErr result (λ fault. fault ≡ Memory →
+        IsFull (vec_capacity reply.new) (vec_len reply.new) (vec_len block.new)) }
     ensures keeps { KeepsServed disk.old disk.new }
 {
     for i in 0..blocks {
@@ -46,7 +50,10 @@ fn show_blocks<D: Device + Drop>(
     Ok(())
 }
 
-/// Reads blocks, and puts the reply into `reply`, which is empty.
+/// The bytes of the reply `ok`, with its line feed.
+const OK_REPLY: usize = 3;
+
+/// Reads blocks, and puts the reply into `reply`, which is empty and has room for a short one.
 pub(crate) fn read_blocks<D: Device + Drop>(
     disk: &mut Disk<D>,
     first: u64,
@@ -54,15 +61,23 @@ pub(crate) fn read_blocks<D: Device + Drop>(
     block: &mut Vec<u8>,
     reply: &mut Vec<u8>,
 ) -> Result<(), RunFault>
-    requires { reply.old.items ≡ [] }
-    ensures ok { OnOk result (RepliesTo (flat_of disk.old) (single (read first blocks)) reply.new.items (flat_of disk.new)) }
-    ensures err { IfErr result (λ fault. RequestStops (flat_of disk.old) (Some (single (read first blocks))) fault (flat_of disk.new)) }
+    requires empty { reply.old.items ≡ [] }
+    requires room { SHORT_REPLY ≤ vec_capacity reply.old }
+    ensures ok { OnOk result (RepliesTo (flat_of disk.old) (single (read first blocks))
+        reply.new.items (flat_of disk.new)) }
+    ensures err { IfErr result (λ fault. RequestStops (flat_of disk.old) (Some (single (read first blocks)))
+        fault (flat_of disk.new)) }
     ensures cause { IfErr result (HasCause (EndCause disk.new)) }
+    ensures full { IfErr result (λ fault. fault ≡ Memory →
+        IsFull (vec_capacity reply.new) (vec_len reply.new) (vec_len block.new)) }
     ensures keeps { KeepsServed disk.old disk.new }
 {
     if is_past_end(disk.blocks(), first, blocks) {
-        return Ok(out_of_range_reply(reply)?);
+        out_of_range_reply(reply).unwrap();
+        return Ok(());
     }
     show_blocks(disk, first, blocks, block, reply)?;
-    Ok(ok_reply(reply)?)
+    reply.reserve(OK_REPLY)?;
+    ok_reply(reply).unwrap();
+    Ok(())
 }

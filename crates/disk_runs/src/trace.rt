@@ -1,10 +1,7 @@
-ghost use Rattle.std.specs.Prelude.{IfErr, OnOk};
-ghost use Rattle.zone_translator.specs.Flat.{FlatDisk};
-ghost use Rattle.zone_translator.specs.View.{DiskView, flat_of};
-ghost use Rattle.disk_runs.specs.FlatLines.{flat};
-ghost use Rattle.disk_runs.specs.Run.{HasCause, KeepsEnd, KeepsLines, Ran, Stopped, WhereKnown};
-ghost use Rattle.disk_runs.specs.Trace.{EndCause, KeepsFault, KeepsLine, RunGives, RunLeaves};
-ghost use Rattle.disk_runs.specs.KeepingLaws.{leaves_same};
+ghost use Rattle.zone_translator.specs.View.{DiskView};
+ghost use Rattle.disk_runs.specs.KeepingLaws.{nothing_same};
+ghost use Rattle.disk_runs.specs.Run.{Runs, exchange};
+ghost use Rattle.disk_runs.specs.Trace.{RunGives, RunLeaves, trace};
 
 use crate::fault::RunFault;
 use crate::lines::{Answerer, answer_lines};
@@ -27,27 +24,15 @@ struct TraceAnswerer<D: Device + Drop> {
 }
 
 impl<D: Device + Drop> Answerer for TraceAnswerer<D> {
-    ghost State = { FlatDisk };
+    ghost State = { DiskView };
 
-    ghost state = { λ t. flat_of t.disk };
+    ghost state = { λ t. t.disk };
 
-    ghost geometry = { λ t. t.disk.drive.geometry };
-
-    ghost language = { λ geometry. flat geometry.block };
+    ghost language = { trace };
 
     ghost reply = { λ t. t.reply.items };
 
-    ghost Kept = { DiskView };
-
-    ghost kept = { λ t. t.disk };
-
-    ghost Keeps = { λ line old new. KeepsLine line old new };
-
-    ghost Leaves = { λ fault old new. KeepsFault fault old new };
-
-    ghost Cause = { λ t fault. EndCause t.disk fault };
-
-    ghost leaves_same = { λ fault disk. leaves_same fault disk };
+    ghost same = { λ disk. nothing_same disk };
 
     fn answer(&mut self, line: &[u8], number: u64) -> Result<(), RunFault> {
         self.reply.clear();
@@ -89,13 +74,8 @@ pub fn answer_trace<R: Read + Drop, W: Write, D: Device + Drop>(
     writer: &mut W,
     disk: Disk<D>,
 ) -> (Disk<D>, Result<(), RunFault>)
-    ensures ok { OnOk result.1 (WhereKnown reader.old.left (W.contents writer.old) (λ input written.
-        Ran (flat disk.drive.geometry.block) input written (flat_of disk) (W.contents writer.new) (flat_of result.0))) }
-    ensures err { IfErr result.1 (λ fault. WhereKnown reader.old.left (W.contents writer.old) (λ input written.
-        Stopped (flat disk.drive.geometry.block) input written (flat_of disk) fault (W.contents writer.new) (flat_of result.0))) }
-    ensures cause { IfErr result.1 (HasCause (EndCause result.0)) }
-    ensures keeps { OnOk result.1 (KeepsLines KeepsLine reader.old.left disk result.0) }
-    ensures leaves { IfErr result.1 (λ fault. KeepsEnd KeepsLine KeepsFault reader.old.left disk fault result.0) }
+    ensures { Runs trace (exchange reader.old.left (W.contents writer.old) (W.contents writer.new))
+        disk result.1 result.0 }
 {
     let mut answerer = TraceAnswerer {
         disk,
@@ -116,8 +96,12 @@ pub fn run_trace<R: Read + Drop, W: Write, D: Device + Drop>(
     device: D,
     blocks: u64,
 ) -> (D, Result<(), RunFault>)
-    ensures gives { RunGives blocks (D.drive device) reader.old.left (W.contents writer.old) result.1 (W.contents writer.new) (D.drive result.0) }
-    ensures leaves { RunLeaves blocks reader.old.left (D.drive device) result.1 (D.drive result.0) }
+    // The lines are answered as a flat disk answers them, which is the one that the drive keeps.
+    ensures gives { RunGives blocks (exchange reader.old.left (W.contents writer.old) (W.contents writer.new))
+        (D.drive device) result.1 (D.drive result.0) }
+    // The drive can be mounted again; what the lines did to it from its mount on, and why it refused the last one.
+    ensures leaves { RunLeaves blocks (exchange reader.old.left (W.contents writer.old) (W.contents writer.new))
+        (D.drive device) result.1 (D.drive result.0) }
 {
     let disk = match Disk::mount(alloc, device, blocks) {
         Ok(disk) => disk,

@@ -18,8 +18,8 @@ pub record Counting : Type 0 where
   pub inner : DriveState
   pub counts : Counts
 
-abbrev pub none : Counts
-none = record { appends = 0; reads = 0; closes = 0; finishes = 0; resets = 0; reports = 0; others = 0; blocks = 0; host_blocks = 0; moved_blocks = 0 }
+abbrev pub no_counts : Counts
+no_counts = record { appends = 0; reads = 0; closes = 0; finishes = 0; resets = 0; reports = 0; others = 0; blocks = 0; host_blocks = 0; moved_blocks = 0 }
 
 -- a count that rises, up to the greatest number of 64 bits
 abbrev pub more : ℕ → ℕ → ℕ
@@ -53,20 +53,20 @@ kind_said bytes =
     else None
 
 -- the blocks of an Append, the first of which is the header of a batch of this kind
-abbrev pub with_batch : Counts → ℕ → Option Kind → Counts
-with_batch counts blocks None = record counts { blocks = more counts.blocks blocks }
-with_batch counts blocks (Some Host) = record counts { blocks = more counts.blocks blocks; host_blocks = more counts.host_blocks (blocks - 1) }
-with_batch counts blocks (Some Move) = record counts { blocks = more counts.blocks blocks; moved_blocks = more counts.moved_blocks (blocks - 1) }
+abbrev pub counting_batch : Counts → ℕ → Option Kind → Counts
+counting_batch counts blocks None = record counts { blocks = more counts.blocks blocks }
+counting_batch counts blocks (Some Host) = record counts { blocks = more counts.blocks blocks; host_blocks = more counts.host_blocks (blocks - 1) }
+counting_batch counts blocks (Some Move) = record counts { blocks = more counts.blocks blocks; moved_blocks = more counts.moved_blocks (blocks - 1) }
 
 -- the blocks that a command writes which is not refused
-abbrev pub with_data : Counts → Result Command DecodeFault → List ℕ → Counts
-with_data counts (Ok (Append zslba blocks)) bytes = with_batch counts blocks (kind_said bytes)
-with_data counts command bytes = counts
+abbrev pub counting_data : Counts → Result Command DecodeFault → List ℕ → Counts
+counting_data counts (Ok (Append zslba blocks)) bytes = counting_batch counts blocks (kind_said bytes)
+counting_data counts command bytes = counts
 
 -- ---- a completed command
 
 -- the counts after a command with this completion
-abbrev pub after : Counts → List ℕ → List ℕ → List ℕ → Counts
-after counts entry bytes completion =
+abbrev pub counts_after : Counts → List ℕ → List ℕ → List ℕ → Counts
+counts_after counts entry bytes completion =
     let counted = with_command counts (decode_of entry) in
-    if code_in completion == 0 then with_data counted (decode_of entry) bytes else counted
+    if code_in completion == 0 then counting_data counted (decode_of entry) bytes else counted

@@ -2,7 +2,7 @@ ghost use Rattle.std.specs.Prelude.{◌≡◌, ◌==◌, [], IfOk, OnErr};
 ghost use Rattle.nvme_wire.specs.Completion.{code_in};
 ghost use Rattle.drive_port.specs.Drive.{IsLawful};
 ghost use Rattle.drive_port.specs.Halting.{SubmitAdds, SubmitGives};
-ghost use Rattle.drive_counter.specs.Counting.{after, none};
+ghost use Rattle.drive_counter.specs.Counting.{counts_after, no_counts};
 
 use crate::counts::Counts;
 use byteorder::{ByteOrder, LittleEndian};
@@ -29,7 +29,7 @@ impl<D: Device + Drop> Model for Counter<D> {
 impl<D: Device + Drop> Counter<D> {
     /// A counter that has counted nothing yet.
     pub fn new(device: D) -> Self
-        ensures { result ≡ record { inner = D.drive device; counts = none } }
+        ensures { result ≡ record { inner = D.drive device; counts = no_counts } }
     {
         Counter {
             device,
@@ -54,7 +54,7 @@ impl<D: Device + Drop> Counter<D> {
     /// Counts the command of an entry that was completed.
     fn count(&mut self, entry: &[u8; 64], bytes: &[u8], completion: &[u8; 16])
         ensures inner { self.new.inner ≡ self.old.inner }
-        ensures counted { self.new.counts ≡ after self.old.counts entry.now bytes.now completion.now }
+        ensures counted { self.new.counts ≡ counts_after self.old.counts entry.now bytes.now completion.now }
     {
         let command = Command::decode(entry);
         self.counts.add_command(command);
@@ -95,7 +95,7 @@ impl<D: Device + Drop> Device for Counter<D> {
         ensures gives { SubmitGives self.old.inner entry.now bytes.now result into.new.items self.new.inner }
         ensures was_lawful { IsLawful self.old.inner }
         ensures lawful { IsLawful self.new.inner }
-        ensures counted { IfOk result (λ completion. self.new.counts ≡ after self.old.counts entry.now bytes.now completion) }
+        ensures counted { IfOk result (λ completion. self.new.counts ≡ counts_after self.old.counts entry.now bytes.now completion) }
         ensures halted { OnErr result (self.new.counts ≡ self.old.counts) }
     {
         let completion = self.device.submit(entry, bytes, into)?;
@@ -107,7 +107,7 @@ impl<D: Device + Drop> Device for Counter<D> {
         ensures gives { SubmitAdds self.old.inner entry.now [] into.old.items result into.new.items self.new.inner }
         ensures was_lawful { IsLawful self.old.inner }
         ensures lawful { IsLawful self.new.inner }
-        ensures counted { IfOk result (λ completion. self.new.counts ≡ after self.old.counts entry.now [] completion) }
+        ensures counted { IfOk result (λ completion. self.new.counts ≡ counts_after self.old.counts entry.now [] completion) }
         ensures halted { OnErr result (self.new.counts ≡ self.old.counts) }
     {
         let completion = self.device.submit_extending(entry, into)?;

@@ -1,5 +1,5 @@
 ghost use Rattle.std.specs.Prelude.{◌≡◌};
-ghost use Rattle.drive_counter.specs.Counting.{kind_said, more, none, with_action, with_batch, with_command, with_data};
+ghost use Rattle.drive_counter.specs.Counting.{kind_said, more, no_counts, with_action, counting_batch, with_command, counting_data};
 
 use batch_log::Kind;
 use byteorder::{ByteOrder, LittleEndian};
@@ -61,7 +61,7 @@ fn kind_said(bytes: &[u8]) -> Option<Kind>
 impl Counts {
     /// Nothing is counted.
     pub(crate) fn none() -> Counts
-        ensures { result ≡ none }
+        ensures { result ≡ no_counts }
     {
         Counts {
             appends: 0,
@@ -104,7 +104,7 @@ impl Counts {
 
     /// The blocks of a command that was not refused, if it is an Append.
     pub(crate) fn add_data(&mut self, command: Result<Command, DecodeFault>, bytes: &[u8])
-        ensures { self.new ≡ with_data self.old command bytes.now }
+        ensures { self.new ≡ counting_data self.old command bytes.now }
     {
         if let Ok(Command::Append { blocks, .. }) = command {
             self.add_batch(blocks, kind_said(bytes));
@@ -113,7 +113,7 @@ impl Counts {
 
     /// The blocks of an Append.
     fn add_batch(&mut self, blocks: u32, kind: Option<Kind>)
-        ensures { self.new ≡ with_batch self.old blocks kind }
+        ensures { self.new ≡ counting_batch self.old blocks kind }
     {
         self.blocks = more(self.blocks, blocks);
         let data = blocks.saturating_sub(1);

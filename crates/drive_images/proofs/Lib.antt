@@ -1,6 +1,8 @@
 pub mod FillLaws
+pub mod FrontLaws
 pub mod HeadLaws
 pub mod ImageLaws
+pub mod LengthLaws
 pub mod MeaningLaws
 pub mod TellingLaws
 pub mod WritingLaws

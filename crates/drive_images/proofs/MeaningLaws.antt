@@ -20,8 +20,8 @@ use Rattle.drive_port.specs.Drive.{DriveState}
 use Rattle.zone_drive.specs.Stored.{may_hold}
 use Rattle.zone_drive.proofs.CountLaws.{count-cons}
 use Rattle.disk_files.proofs.ReplyLaws.{length-concat}
-use Rattle.drive_images.specs.Image.{IsImage, MayBegin, head_bytes, magic, zone_bytes, zone_head_bytes, zones_bytes}
-use Rattle.drive_images.specs.Reading.{IsImageFault, Tells, begins_with, counts_of, counts_with, end_fault, fault_after, geometry_in, head_checks, head_in_state, head_fault, is_out_of_range, is_over_limit, told_head, zone_fault}
+use Rattle.drive_images.specs.Image.{IsImage, MayBegin, head_bytes, image_magic, zone_bytes, zone_head_bytes, zones_bytes}
+use Rattle.drive_images.specs.Reading.{IsImageFault, TellsFirst, begins_with, counts_of, counts_with, end_fault, fault_after, geometry_in, head_checks, head_in_state, head_fault, is_out_of_range, is_over_limit, told_head, zone_fault}
 use Rattle.drive_images.specs.declared.counts.ZoneCounts.{ZoneCounts}
 use Rattle.drive_images.specs.declared.fault.ImageFault.{ImageFault}
 use Rattle.drive_images.specs.declared.fault.ImageFault.TheVariants.{Geometry as BadGeometry, Input, Limits, Long, Magic, OutOfMemory, RestNotZero, Short, State, Written}
@@ -59,7 +59,7 @@ inside : (low high n : ℕ) → low ≤ n → n ≤ high → is_outside low high
 inside low high n a b = rw (le-ltb n low a, le-ltb high n b) refl
 
 -- all checks of a geometry in range pass
-in_range-passes : (g : Geometry) → IsInRange g → is_out_of_range g ≡ false
+pub in_range-passes : (g : Geometry) → IsInRange g → is_out_of_range g ≡ false
 unfolding is_out_of_range
 in_range-passes g in_range =
     let zones = inside 3 65536 g.zones in_range.zones.0 in_range.zones.1 in
@@ -70,13 +70,13 @@ in_range-passes g in_range =
     let open_zones = inside 1 g.active g.open in_range.open_zones.0 in_range.open_zones.1 in
     elim in_range.block [ inl small ↦ rw (small, zones, size, capacity, transfer, active, open_zones) refl | inr large ↦ rw (large, zones, size, capacity, transfer, active, open_zones) refl ]
 
-begins_magic : (g : Geometry) → begins_with (head_bytes g) magic ≡ true
+begins_magic : (g : Geometry) → begins_with (head_bytes g) image_magic ≡ true
 unfolding begins_with head_bytes
 begins_magic g = refl
 
 head_passes : (g : Geometry) → IsInRange g → first_failing (head_checks (head_bytes g)) ≡ None
 head_passes g in_range =
-    let starts : begins_with (head_bytes g) magic ≡ true = begins_magic g in
+    let starts : begins_with (head_bytes g) image_magic ≡ true = begins_magic g in
     let fits : is_out_of_range (geometry_in (head_bytes g)) ≡ false = rw (geometry_in-head g in_range) (in_range-passes g in_range) in
     let whole : begins_with (head_bytes g) (head_bytes (geometry_in (head_bytes g))) ≡ true = rw (geometry_in-head g in_range) (begins_itself (head_bytes g)) in
     rw (starts, fits, whole) refl
@@ -124,7 +124,7 @@ may_hold-is ReadOnly capacity written h = le-leb written capacity h
 may_hold-is Full capacity written h = le-leb written capacity h
 may_hold-is Offline capacity written h = le-leb written capacity h
 
-may_hold-most : (state : ZoneState) (capacity written : ℕ) → MayHold state capacity written → written ≤ capacity
+pub may_hold-most : (state : ZoneState) (capacity written : ℕ) → MayHold state capacity written → written ≤ capacity
 may_hold-most Empty capacity written h = omega arith
 may_hold-most ImplicitlyOpened capacity written h = omega arith
 may_hold-most ExplicitlyOpened capacity written h = omega arith
@@ -256,7 +256,7 @@ module _ (g : Geometry) (in_range : IsInRange g) (rest : List ℕ) where
   unfolding meaning unless
   meaning-head = rw (whole_fault, whole_geometry, drop_at (head_bytes g) rest 64 (length-head g)) refl
 
-named : (first : Option ImageFault) (fault : ImageFault) → is_of_bytes fault ≡ true → Tells first fault → first ≡ Some fault
+named : (first : Option ImageFault) (fault : ImageFault) → is_of_bytes fault ≡ true → TellsFirst first fault → first ≡ Some fault
 named first Input of t = absurd (cc of)
 named first OutOfMemory of t = absurd (cc of)
 named first Magic of t = t

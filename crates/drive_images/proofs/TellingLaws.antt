@@ -2,11 +2,11 @@
 use Rattle.std.proofs.Common.{◌≡◌, ℕ, List, ◌++◌, Option, Some, None, sym, subst}
 use Rattle.std.specs.Prelude.{IfErr, IfSome, IsErrAnd, Ok, Err, Result}
 use Rattle.std.specs.Io.KnownBytes.{Consumes}
-use Rattle.drive_images.specs.Reading.{Tells}
+use Rattle.drive_images.specs.Reading.{TellsFirst}
 use Rattle.drive_images.specs.declared.fault.ImageFault.{ImageFault}
 use Rattle.drive_images.specs.declared.fault.ImageFault.TheVariants as faults
 
-pub tells_so : (first second : Option ImageFault) (fault : ImageFault) → (first ≡ Some fault → second ≡ Some fault) → Tells first fault → Tells second fault
+pub tells_so : (first second : Option ImageFault) (fault : ImageFault) → (first ≡ Some fault → second ≡ Some fault) → TellsFirst first fault → TellsFirst second fault
 tells_so first second faults.Input f t = tt
 tells_so first second faults.OutOfMemory f t = tt
 tells_so first second faults.Magic f t = f t
@@ -18,7 +18,7 @@ tells_so first second faults.Limits f t = f t
 tells_so first second faults.Short f t = f t
 tells_so first second faults.Long f t = f t
 
-pub tells_first : (first : Option ImageFault) (fault : ImageFault) → first ≡ Some fault → Tells first fault
+pub tells_first : (first : Option ImageFault) (fault : ImageFault) → first ≡ Some fault → TellsFirst first fault
 tells_first first faults.Input e = tt
 tells_first first faults.OutOfMemory e = tt
 tells_first first faults.Magic e = e

@@ -9,7 +9,7 @@ use Rattle.zone_drive.specs.Stored.{zones_of}
 use Rattle.std.proofs.lemmas.List.{length-map, append-nil, flat_map_more, take-append-drop, take_more}
 use Rattle.disk_files.specs.Output.{AppendsFront}
 use Rattle.disk_files.proofs.OutputLaws.{front_first, front_second}
-use Rattle.zone_states.specs.Stored.{IsWhole, StoredZone, zone_of}
+use Rattle.zone_states.specs.Stored.{AreWholeBlocks, StoredZone, zone_stored}
 use Rattle.zone_states.specs.Zone.{Zone}
 use Rattle.zone_states.specs.declared.geometry.Geometry.{Geometry}
 use Rattle.drive_images.specs.Image.{head_bytes, image_bytes, zone_bytes, zone_head_bytes, zones_bytes}
@@ -19,8 +19,8 @@ pub ok_so : {T E : Type 0} (r : Result T E) (P Q : Type 0) → (P → Q) → OnO
 ok_so (Ok x) P Q f p = f p
 ok_so (Err e) P Q f p = tt
 
-pub zone_text : (block : ℕ) (zone : StoredZone) → IsWhole block zone.bytes → zone_bytes (zone_of block zone) ≡ zone_head_bytes zone.state (length (zone_of block zone).blocks) ++ zone.bytes
-zone_text block zone whole = ap (λ xs. zone_head_bytes zone.state (length (zone_of block zone).blocks) ++ xs) (concat-cut block _ zone.bytes whole)
+pub zone_text : (block : ℕ) (zone : StoredZone) → AreWholeBlocks block zone.bytes → zone_bytes (zone_stored block zone) ≡ zone_head_bytes zone.state (length (zone_stored block zone).blocks) ++ zone.bytes
+zone_text block zone whole = ap (λ xs. zone_head_bytes zone.state (length (zone_stored block zone).blocks) ++ xs) (concat-cut block _ zone.bytes whole)
 
 module _ (geometry : Geometry) (zones : List Zone) (old mid new : Option (List ℕ)) where
   -- the head, and no zone yet
@@ -49,8 +49,8 @@ module _ (geometry : Geometry) (zones : List Zone) (old mid new : Option (List �
     zone_fails front = subst (AppendsFront old new) all (front_first old new _ _ (subst (AppendsFront old new) joined (front_second old mid new _ _ written front)))
 
 -- the zone at a place, as it is stored
-pub zone_here : (block : ℕ) (stored : List StoredZone) (zones : List Zone) (i : ℕ) (zone : StoredZone) → zones_of block stored ≡ zones → zone ≡ get_or stored i zone → i < length stored → zone_of block zone ≡ get_or zones i (zone_of block zone)
-zone_here block stored zones i zone same is lt = ap (zone_of block) is ∙ sym (get_or-map (zone_of block) stored i zone (zone_of block zone) lt) ∙ ap (λ zs. get_or zs i (zone_of block zone)) same
+pub zone_here : (block : ℕ) (stored : List StoredZone) (zones : List Zone) (i : ℕ) (zone : StoredZone) → zones_of block stored ≡ zones → zone ≡ get_or stored i zone → i < length stored → zone_stored block zone ≡ get_or zones i (zone_stored block zone)
+zone_here block stored zones i zone same is lt = ap (zone_stored block) is ∙ sym (get_or-map (zone_stored block) stored i zone (zone_stored block zone) lt) ∙ ap (λ zs. get_or zs i (zone_stored block zone)) same
 
 pub stored-less : (block : ℕ) (stored : List StoredZone) (zones : List Zone) (i : ℕ) → zones_of block stored ≡ zones → i < length stored → i < length zones
-stored-less block stored zones i same lt = rw (← same, length-map stored (zone_of block)) lt
+stored-less block stored zones i same lt = rw (← same, length-map stored (zone_stored block)) lt

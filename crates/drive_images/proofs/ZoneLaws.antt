@@ -9,13 +9,13 @@ use Rattle.std.proofs.lemmas.Nat.{div-mul-add}
 use Rattle.nvme_wire.specs.declared.zone_state.ZoneState.{ZoneState}
 use Rattle.nvme_wire.specs.declared.zone_state.ZoneState.TheVariants.{Empty, ImplicitlyOpened, ExplicitlyOpened, Closed, ReadOnly, Full, Offline}
 use Rattle.zone_states.proofs.Cutting.{length-cut}
-use Rattle.zone_states.specs.Stored.{IsWhole, zone_of}
+use Rattle.zone_states.specs.Stored.{AreWholeBlocks, zone_stored}
 use Rattle.zone_states.specs.Zone.{IsLawfulZone, MayHold, cut_blocks}
 use Rattle.zone_states.specs.declared.geometry.Geometry.{Geometry}
 use Rattle.zone_drive.specs.Stored.{may_hold}
 use Rattle.zone_drive.proofs.WriteLaws.{cut-whole}
 use Rattle.drive_images.specs.Image.{zone_bytes, zone_head_bytes}
-use Rattle.drive_images.specs.Reading.{Tells, counts_with, fault_with, is_over_limit, short_of, told_head, zone_fault}
+use Rattle.drive_images.specs.Reading.{TellsFirst, counts_with, fault_with, is_over_limit, short_of, told_head, zone_fault}
 use Rattle.drive_images.specs.declared.counts.ZoneCounts.{ZoneCounts}
 use Rattle.drive_images.specs.declared.fault.ImageFault.{ImageFault}
 use Rattle.drive_images.specs.declared.fault.ImageFault.TheVariants as faults
@@ -33,7 +33,7 @@ module _ (geometry : Geometry) (counts : ZoneCounts) where
       by_length true t = rw t (rw t at e)
       by_length false f = cc (rw f at e)
 
-  pub tells_short_head : (bytes : List ℕ) (fault : ImageFault) → Tells (short_of 8 bytes) fault → Tells (zone_fault geometry counts bytes) fault
+  pub tells_short_head : (bytes : List ℕ) (fault : ImageFault) → TellsFirst (short_of 8 bytes) fault → TellsFirst (zone_fault geometry counts bytes) fault
   tells_short_head bytes fault t = tells_so (short_of 8 bytes) (zone_fault geometry counts bytes) fault (short_head bytes fault) t
 
   -- a head, and the bytes after it
@@ -42,7 +42,7 @@ module _ (geometry : Geometry) (counts : ZoneCounts) where
       let enough : nat_lt (length (head ++ rest)) 8 ≡ false = grind (arith, nat_tests, length-append head rest) in
       rw (enough, take_at head rest 8 long, drop_at head rest 8 long) refl
 
-  pub tells_bad_head : (head rest : List ℕ) (fault : ImageFault) → length head ≡ 8 → told_head head ≡ Err fault → Tells (zone_fault geometry counts (head ++ rest)) fault
+  pub tells_bad_head : (head rest : List ℕ) (fault : ImageFault) → length head ≡ 8 → told_head head ≡ Err fault → TellsFirst (zone_fault geometry counts (head ++ rest)) fault
   tells_bad_head head rest fault long e = tells_first _ fault (zone_fault-at head rest long ∙ ap (fault_with geometry counts (length rest)) e)
 
   module _ (head : List ℕ) (told : ZoneHead) (long : length head ≡ 8) (e : told_head head ≡ Ok told) where
@@ -57,7 +57,7 @@ module _ (geometry : Geometry) (counts : ZoneCounts) where
       over_limit rest bad = told-at rest ∙ rw (fits, bad) refl
 
       pub tells_short_zone : (rest : List ℕ) (fault : ImageFault) → is_over_limit geometry (counts_with counts told.state) ≡ false
-          → Tells (short_of (told.written * geometry.block) rest) fault → Tells (zone_fault geometry counts (head ++ rest)) fault
+          → TellsFirst (short_of (told.written * geometry.block) rest) fault → TellsFirst (zone_fault geometry counts (head ++ rest)) fault
       tells_short_zone rest fault within t = tells_so _ (zone_fault geometry counts (head ++ rest)) fault (λ short. told-at rest ∙ rw (fits, within) short) t
 
 -- ---- its bytes
@@ -80,13 +80,13 @@ module _ (block written : ℕ) (bytes : List ℕ) (some : 1 ≤ block) (long : l
   count-whole : length bytes / block ≡ written
   count-whole = let sum : length bytes ≡ written * block + 0 = omega arith in rw sum (div-mul-add written block 0 some)
 
-  pub is-whole : IsWhole block bytes
+  pub is-whole : AreWholeBlocks block bytes
   is-whole = rw count-whole long
 
-  pub zone_bytes-is : (state : ZoneState) → zone_bytes (zone_of block (record { state = state; bytes = bytes })) ≡ zone_head_bytes state written ++ bytes
+  pub zone_bytes-is : (state : ZoneState) → zone_bytes (zone_stored block (record { state = state; bytes = bytes })) ≡ zone_head_bytes state written ++ bytes
   zone_bytes-is state = rw (count-whole, length-cut block written bytes, concat-cut block written bytes long) refl
 
-  pub is-lawful : (geometry : Geometry) (state : ZoneState) → geometry.block ≡ block → may_hold state geometry.capacity written ≡ true → IsLawfulZone geometry (zone_of block (record { state = state; bytes = bytes }))
+  pub is-lawful : (geometry : Geometry) (state : ZoneState) → geometry.block ≡ block → may_hold state geometry.capacity written ≡ true → IsLawfulZone geometry (zone_stored block (record { state = state; bytes = bytes }))
   is-lawful geometry state e fits = record {
     written = rw (count-whole, length-cut block written bytes) (may_hold-true state geometry.capacity written fits);
     whole = rw e (cut-whole block (length bytes / block) bytes is-whole);

@@ -1,12 +1,11 @@
 -- The zones of an image, one after the other.
-use Rattle.std.proofs.Common.{◌≡◌, ℕ, ◌+◌, ◌<◌, ◌≤◌, Bool, true, false, ◌||◌, List, [], ◌∷◌, ◌++◌, length, Option, refl, sym, subst, ap, ◌∙◌, arith}
+use Rattle.std.proofs.Common.{◌≡◌, ℕ, ◌+◌, ◌<◌, Bool, true, false, ◌||◌, List, [], ◌∷◌, ◌++◌, length, Option, refl, sym, subst, ap, ◌∙◌, arith}
 use Rattle.std.specs.Prelude.{IfSome, nat_lt}
 use Rattle.std.specs.List.{AllByRecursion, count_by}
 use Rattle.std.proofs.KnownBytes.{Consumes-nil, Consumes-trans}
 use Rattle.std.proofs.lemmas.Bool.{le-ltb, ltb-false}
-use Rattle.std.proofs.lemmas.Bool.Decides.{nat_tests}
 use Rattle.std.proofs.lemmas.List.{flat_map_more, length-map, map-append}
-use Rattle.zone_states.specs.Stored.{IsWhole, StoredZone, zone_of}
+use Rattle.zone_states.specs.Stored.{AreWholeBlocks, StoredZone, zone_stored}
 use Rattle.zone_states.specs.Transition.{is_active, is_open}
 use Rattle.zone_states.specs.Zone.{IsLawfulZone, Zone}
 use Rattle.zone_states.specs.declared.geometry.Geometry.{Geometry}
@@ -15,12 +14,11 @@ use Rattle.drive_port.specs.Step.{one_if}
 use Rattle.zone_drive.specs.Stored.{zones_of}
 use Rattle.zone_drive.proofs.CountLaws.{count-cons}
 use Rattle.drive_images.specs.Image.{MayBegin, zone_bytes, zones_bytes}
-use Rattle.drive_images.specs.Reading.{FailsInZones, Tells, counts_of, counts_with, end_fault, fault_after, is_over_limit, zone_fault}
+use Rattle.drive_images.specs.Reading.{FailsInZone, TellsFirst, counts_of, counts_with, is_over_limit, zone_fault}
 use Rattle.drive_images.specs.Steps.{ReadsZone, ReadsZones}
 use Rattle.drive_images.specs.declared.counts.ZoneCounts.{ZoneCounts}
 use Rattle.drive_images.specs.declared.fault.ImageFault.{ImageFault}
-use Rattle.drive_images.specs.declared.fault.ImageFault.TheVariants.{OutOfMemory}
-use Rattle.drive_images.proofs.TellingLaws.{after_any, after_front}
+use Rattle.drive_images.proofs.TellingLaws.{after_front}
 
 -- ---- one zone more
 
@@ -52,22 +50,22 @@ begins-more geometry zones zone begins lawful within =
 pub within_limits : (geometry : Geometry) (zones : List Zone) (counts : ZoneCounts) → counts ≡ counts_of zones → MayBegin geometry zones → is_over_limit geometry counts ≡ false
 within_limits geometry zones counts same begins = rw (same, le-ltb geometry.active (active_count zones) begins.active, le-ltb geometry.open (open_count zones) begins.open_zones) refl
 
-zones_of-more : (block : ℕ) (zones : List StoredZone) (zone : StoredZone) → zones_of block (zones ++ zone ∷ []) ≡ zones_of block zones ++ zone_of block zone ∷ []
-zones_of-more block zones zone = map-append (zone_of block) zones (zone ∷ [])
+zones_of-more : (block : ℕ) (zones : List StoredZone) (zone : StoredZone) → zones_of block (zones ++ zone ∷ []) ≡ zones_of block zones ++ zone_stored block zone ∷ []
+zones_of-more block zones zone = map-append (zone_stored block) zones (zone ∷ [])
 
 module _ (geometry : Geometry) (zones : List StoredZone) (zone : StoredZone) (counts after : ZoneCounts) (old mid new : Option (List ℕ)) where
   pub counts_next : counts ≡ counts_of (zones_of geometry.block zones) → ReadsZone geometry mid new counts zone after → after ≡ counts_of (zones_of geometry.block (zones ++ zone ∷ []))
   counts_next same next =
-      next.counts ∙ ap (λ (c : ZoneCounts). counts_with c zone.state) same ∙ sym (counts-more (zones_of geometry.block zones) (zone_of geometry.block zone)) ∙ ap counts_of (sym (zones_of-more geometry.block zones zone))
+      next.counts ∙ ap (λ (c : ZoneCounts). counts_with c zone.state) same ∙ sym (counts-more (zones_of geometry.block zones) (zone_stored geometry.block zone)) ∙ ap counts_of (sym (zones_of-more geometry.block zones zone))
 
   pub zones_next : counts ≡ counts_of (zones_of geometry.block zones) → ReadsZones geometry old mid zones → ReadsZone geometry mid new counts zone after → ReadsZones geometry old new (zones ++ zone ∷ [])
   zones_next same read next =
       let before = zones_of geometry.block zones in
-      let here = zone_of geometry.block zone in
+      let here = zone_stored geometry.block zone in
       let within : is_over_limit geometry (counts_of (before ++ here ∷ [])) ≡ false = subst (λ (c : ZoneCounts). is_over_limit geometry c ≡ false) (counts_next same next ∙ ap counts_of (zones_of-more geometry.block zones zone)) next.within in
       record {
         text = rw (zones_of-more geometry.block zones zone, ← flat_map_more zone_bytes [] before here) (Consumes-trans old mid new (zones_bytes before) (zone_bytes here) read.text next.text);
-        whole = all-more (λ (z : StoredZone). IsWhole geometry.block z.bytes) zones zone read.whole next.whole;
+        whole = all-more (λ (z : StoredZone). AreWholeBlocks geometry.block z.bytes) zones zone read.whole next.whole;
         begins = rw (zones_of-more geometry.block zones zone) (begins-more geometry before here read.begins next.lawful within);
       }
 
@@ -80,25 +78,9 @@ module _ (geometry : Geometry) (zones : List StoredZone) (old mid : Option (List
   abbrev pub before : List Zone
   before = zones_of geometry.block zones
 
-  fails : (fault : ImageFault) → length before ≤ geometry.zones → (rest : List ℕ) → Tells (fault_after geometry before rest) fault → FailsInZones geometry (zones_bytes before ++ rest) fault
-  fails fault count rest told = record { before = before; rest = rest; text = refl; zones = read.begins; count = count; told = told }
-
   pub fails_next : (counts : ZoneCounts) (fault : ImageFault) → counts ≡ counts_of before → length zones < geometry.zones
-      → IfSome mid (λ rest. Tells (zone_fault geometry counts rest) fault) → IfSome old (λ bytes. FailsInZones geometry bytes fault)
+      → IfSome mid (λ rest. TellsFirst (zone_fault geometry counts rest) fault) → IfSome old (λ bytes. FailsInZone geometry bytes fault)
   fails_next counts fault same more told =
-      let count : length before ≡ length zones = length-map zones (zone_of geometry.block) in
-      let one_more : nat_lt (length before) geometry.zones ≡ true = grind (arith, nat_tests) in
-      after_front old mid (zones_bytes before) (λ rest. Tells (zone_fault geometry counts rest) fault) (λ bytes. FailsInZones geometry bytes fault) read.text
-      (λ rest t. fails fault (omega arith) rest (rw one_more (rw same at t))) told
-
-  pub fails_memory : length zones ≤ geometry.zones → IfSome old (λ bytes. FailsInZones geometry bytes OutOfMemory)
-  fails_memory most =
-      let count : length before ≡ length zones = length-map zones (zone_of geometry.block) in
-      after_any old mid (zones_bytes before) (λ bytes. FailsInZones geometry bytes OutOfMemory) read.text (λ rest. fails OutOfMemory (omega arith) rest tt)
-
-  pub fails_end : (fault : ImageFault) → length zones ≡ geometry.zones → IfSome mid (λ rest. Tells (end_fault rest) fault) → IfSome old (λ bytes. FailsInZones geometry bytes fault)
-  fails_end fault all told =
-      let count : length before ≡ length zones = length-map zones (zone_of geometry.block) in
-      let none_more : nat_lt (length before) geometry.zones ≡ false = grind (arith, nat_tests) in
-      after_front old mid (zones_bytes before) (λ rest. Tells (end_fault rest) fault) (λ bytes. FailsInZones geometry bytes fault) read.text
-      (λ rest t. fails fault (omega arith) rest (rw none_more t)) told
+      let count : length before ≡ length zones = length-map zones (zone_stored geometry.block) in
+      after_front old mid (zones_bytes before) (λ rest. TellsFirst (zone_fault geometry counts rest) fault) (λ bytes. FailsInZone geometry bytes fault) read.text
+      (λ rest t. record { before = before; rest = rest; text = refl; zones = read.begins; count = omega (arith, count, more); told = rw same at t }) told

@@ -3,29 +3,29 @@ use Rattle.std.specs.Prelude.{ℕ, List, ◌++◌, codes, decimal}
 use Rattle.drive_images.specs.declared.fault.ImageFault.{ImageFault}
 use Rattle.drive_images.specs.declared.fault.ImageFault.TheVariants as faults
 
-abbrev pub number_of : ImageFault → ℕ
-number_of faults.Magic = 1
-number_of faults.Geometry = 2
-number_of faults.State = 3
-number_of faults.Written = 4
-number_of faults.RestNotZero = 5
-number_of faults.Limits = 6
-number_of faults.Short = 7
-number_of faults.Long = 8
-number_of faults.Input = 9
-number_of faults.OutOfMemory = 10
+abbrev pub fault_number : ImageFault → ℕ
+fault_number faults.Magic = 1
+fault_number faults.Geometry = 2
+fault_number faults.State = 3
+fault_number faults.Written = 4
+fault_number faults.RestNotZero = 5
+fault_number faults.Limits = 6
+fault_number faults.Short = 7
+fault_number faults.Long = 8
+fault_number faults.Input = 9
+fault_number faults.OutOfMemory = 10
 
-abbrev pub name_of : ImageFault → List ℕ
-name_of faults.Magic = codes "Magic"
-name_of faults.Geometry = codes "Geometry"
-name_of faults.State = codes "State"
-name_of faults.Written = codes "Written"
-name_of faults.RestNotZero = codes "RestNotZero"
-name_of faults.Limits = codes "Limits"
-name_of faults.Short = codes "Short"
-name_of faults.Long = codes "Long"
-name_of faults.Input = codes "Input"
-name_of faults.OutOfMemory = codes "OutOfMemory"
+abbrev pub fault_name : ImageFault → List ℕ
+fault_name faults.Magic = codes "Magic"
+fault_name faults.Geometry = codes "Geometry"
+fault_name faults.State = codes "State"
+fault_name faults.Written = codes "Written"
+fault_name faults.RestNotZero = codes "RestNotZero"
+fault_name faults.Limits = codes "Limits"
+fault_name faults.Short = codes "Short"
+fault_name faults.Long = codes "Long"
+fault_name faults.Input = codes "Input"
+fault_name faults.OutOfMemory = codes "OutOfMemory"
 
-abbrev pub fault_text : ImageFault → List ℕ
-fault_text fault = codes "fault image " ++ decimal (number_of fault) ++ codes " " ++ name_of fault ++ codes "\n"
+abbrev pub image_fault_text : ImageFault → List ℕ
+image_fault_text fault = codes "fault image " ++ decimal (fault_number fault) ++ codes " " ++ fault_name fault ++ codes "\n"

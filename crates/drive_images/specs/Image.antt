@@ -11,13 +11,13 @@ use Rattle.zone_drive.specs.Stored.{unused}
 use Rattle.drive_port.specs.Drive.{DriveState, active_count, open_count}
 
 -- `ZNSIMG01`
-abbrev pub magic : List ℕ
-magic = 0x5a ∷ 0x4e ∷ 0x53 ∷ 0x49 ∷ 0x4d ∷ 0x47 ∷ 0x30 ∷ 0x31 ∷ []
+abbrev pub image_magic : List ℕ
+image_magic = 0x5a ∷ 0x4e ∷ 0x53 ∷ 0x49 ∷ 0x4d ∷ 0x47 ∷ 0x30 ∷ 0x31 ∷ []
 
 -- the 64 bytes at the start
 unfoldable pub head_bytes : Geometry → List ℕ
 head_bytes g =
-    magic ++ little_bytes 4 g.block ++ little_bytes 4 g.zones ++ little_bytes 4 g.size ++ little_bytes 4 g.capacity
+    image_magic ++ little_bytes 4 g.block ++ little_bytes 4 g.zones ++ little_bytes 4 g.size ++ little_bytes 4 g.capacity
     ++ little_bytes 4 g.transfer ++ little_bytes 4 g.active ++ little_bytes 4 g.open ++ replicate 28 0
 
 -- the 8 bytes before the written blocks of a zone: its state, and how many they are

@@ -1,5 +1,5 @@
 -- What is wrong with bytes that are no image: the first fault, from the first byte on.
-use Rattle.std.specs.Prelude.{◌≡◌, ◌⊎◌, ℕ, ◌+◌, ◌*◌, ◌≤◌, nat_lt, nat_eq, Bool, not, ◌||◌, if◌then◌else◌, List, [], ◌∷◌, ◌++◌, length, take, drop, slice_index, Option, Some, None, is_some, Result, Ok, Err, ⊤}
+use Rattle.std.specs.Prelude.{◌≡◌, ◌⊎◌, ℕ, ◌+◌, ◌*◌, ◌<◌, ◌≤◌, nat_lt, nat_eq, Bool, not, ◌||◌, if◌then◌else◌, List, [], ◌∷◌, ◌++◌, length, take, drop, slice_index, Option, Some, None, is_some, Result, Ok, Err, ⊤}
 use Rattle.std.specs.List.{starts_with}
 use Rattle.byteorder.specs.Endian.{little_from}
 use Rattle.nvme_wire.specs.Descriptor.{state_of}
@@ -12,7 +12,7 @@ use Rattle.zone_states.specs.declared.geometry.Geometry.{Geometry}
 use Rattle.drive_port.specs.Drive.{active_count, open_count}
 use Rattle.drive_port.specs.Step.{one_if}
 use Rattle.zone_drive.specs.Stored.{may_hold}
-use Rattle.drive_images.specs.Image.{head_bytes, magic, MayBegin, zone_head_bytes, zones_bytes}
+use Rattle.drive_images.specs.Image.{head_bytes, image_magic, MayBegin, zone_head_bytes, zones_bytes}
 use Rattle.drive_images.specs.declared.counts.ZoneCounts.{ZoneCounts}
 use Rattle.drive_images.specs.declared.fault.ImageFault.{ImageFault}
 use Rattle.drive_images.specs.declared.fault.ImageFault.TheVariants as faults
@@ -42,7 +42,7 @@ is_out_of_range geometry = is_some (first_failing (geometry_checks geometry))
 -- Once the magic and the geometry are right, only the zeros after them can differ from the head of that geometry.
 abbrev pub head_checks : List ℕ → List (Bool × ImageFault)
 head_checks head =
-    (not (begins_with head magic), faults.Magic)
+    (not (begins_with head image_magic), faults.Magic)
     ∷ (is_out_of_range (geometry_in head), faults.Geometry)
     ∷ (not (begins_with head (head_bytes (geometry_in head))), faults.RestNotZero)
     ∷ []
@@ -102,10 +102,10 @@ fault_after geometry before bytes = if nat_lt (length before) geometry.zones the
 -- ---- what is told
 
 -- The first fault is told. Before it is met the reader may fail, or memory run out.
-abbrev pub Tells : Option ImageFault → ImageFault → Type 0
-Tells first faults.Input = ⊤
-Tells first faults.OutOfMemory = ⊤
-Tells first fault = first ≡ Some fault
+abbrev pub TellsFirst : Option ImageFault → ImageFault → Type 0
+TellsFirst first faults.Input = ⊤
+TellsFirst first faults.OutOfMemory = ⊤
+TellsFirst first fault = first ≡ Some fault
 
 -- that many bytes are wanted, and there are fewer
 abbrev pub short_of : ℕ → List ℕ → Option ImageFault
@@ -118,7 +118,7 @@ pub record FailsInZones (geometry : Geometry) (bytes : List ℕ) (fault : ImageF
   pub text : bytes ≡ zones_bytes before ++ rest
   pub zones : MayBegin geometry before
   pub count : length before ≤ geometry.zones
-  pub told : Tells (fault_after geometry before rest) fault
+  pub told : TellsFirst (fault_after geometry before rest) fault
 
 -- Bytes that begin with a head, and then have a fault.
 pub record FailsAfterHead (bytes : List ℕ) (fault : ImageFault) : Type 0 where
@@ -129,4 +129,27 @@ pub record FailsAfterHead (bytes : List ℕ) (fault : ImageFault) : Type 0 where
   pub fails : FailsInZones geometry rest fault
 
 abbrev pub IsImageFault : List ℕ → ImageFault → Type 0
-IsImageFault bytes fault = Tells (head_fault bytes) fault ⊎ FailsAfterHead bytes fault
+IsImageFault bytes fault = TellsFirst (head_fault bytes) fault ⊎ FailsAfterHead bytes fault
+
+-- ---- bytes that do not begin with an image
+
+-- Bytes after a head that begin with some zones of a drive, and have a fault in the next one.
+pub record FailsInZone (geometry : Geometry) (bytes : List ℕ) (fault : ImageFault) : Type 0 where
+  pub before : List Zone
+  pub rest : List ℕ
+  pub text : bytes ≡ zones_bytes before ++ rest
+  pub zones : MayBegin geometry before
+  pub count : length before < geometry.zones
+  pub told : TellsFirst (zone_fault geometry (counts_of before) rest) fault
+
+-- Bytes that begin with a head, and have a fault before its last zone ends.
+pub record FailsInFront (bytes : List ℕ) (fault : ImageFault) : Type 0 where
+  pub geometry : Geometry
+  pub rest : List ℕ
+  pub text : bytes ≡ head_bytes geometry ++ rest
+  pub in_range : IsInRange geometry
+  pub fails : FailsInZone geometry rest fault
+
+-- what is wrong with bytes that do not begin with an image, whatever may follow
+abbrev pub IsFrontFault : List ℕ → ImageFault → Type 0
+IsFrontFault bytes fault = TellsFirst (head_fault bytes) fault ⊎ FailsInFront bytes fault

@@ -1,5 +1,5 @@
 ghost use Rattle.std.specs.Prelude.{◌≡◌, IfOk};
-ghost use Rattle.drive_images.specs.FaultText.{fault_text, name_of, number_of};
+ghost use Rattle.drive_images.specs.FaultText.{image_fault_text, fault_name, fault_number};
 
 use crate::fault::ImageFault;
 use std::alloc::{AllocError, Global};
@@ -7,8 +7,8 @@ use std::io::Write;
 
 /// The number of a fault in the list of them, and its name.
 fn refusal(fault: ImageFault) -> (u8, &'static str)
-    ensures number { result.0 ≡ number_of fault }
-    ensures name { result.1.now ≡ name_of fault }
+    ensures number { result.0 ≡ fault_number fault }
+    ensures name { result.1.now ≡ fault_name fault }
 {
     match fault {
         ImageFault::Magic => (1, "Magic"),
@@ -26,7 +26,7 @@ fn refusal(fault: ImageFault) -> (u8, &'static str)
 
 /// The line by which a program tells the fault.
 pub fn image_fault_line(alloc: Global, fault: ImageFault) -> Result<Vec<u8>, AllocError>
-    ensures { IfOk result (λ line. line.items ≡ fault_text fault) }
+    ensures { IfOk result (λ line. line.items ≡ image_fault_text fault) }
 {
     let (number, name) = refusal(fault);
     let mut line = Vec::new(alloc);

@@ -1,6 +1,6 @@
 ghost use Rattle.std.specs.Prelude.{◌≡◌, ◌<◌, IfErr, IfSome, OnOk, length};
 ghost use Rattle.std.specs.Io.KnownBytes.{Consumes};
-ghost use Rattle.drive_images.specs.Reading.{Tells, short_of};
+ghost use Rattle.drive_images.specs.Reading.{TellsFirst, short_of};
 
 use crate::fault::ImageFault;
 use std::io::Read;
@@ -9,7 +9,7 @@ use std::io::Read;
 pub fn fill<R: Read>(reader: &mut R, buffer: &mut [u8]) -> Result<(), ImageFault>
     ensures ok { OnOk result (Consumes (R.remaining reader.old) (R.remaining reader.new) buffer.new) }
     ensures err { IfErr result (λ fault.
-        IfSome (R.remaining reader.old) (λ bytes. Tells (short_of (length buffer.old) bytes) fault)) }
+        IfSome (R.remaining reader.old) (λ bytes. TellsFirst (short_of (length buffer.old) bytes) fault)) }
 {
     let mut at = 0;
     while at < buffer.len() {

@@ -1,6 +1,6 @@
 //! What holds of all images. Each function carries one law as its contract, and changes nothing.
 
-ghost use Rattle.std.specs.Prelude.{◌≡◌, List, ℕ, true, false};
+ghost use Rattle.std.specs.Prelude.{◌≡◌, ◌++◌, List, ℕ, true, false};
 ghost use Rattle.zone_drive.specs.Stored.{unused};
 ghost use Rattle.drive_port.specs.Drive.{DriveState};
 ghost use Rattle.drive_images.specs.Image.{IsImage, image_bytes};
@@ -23,6 +23,12 @@ pub fn image_again(drive: &Drive)
 /// Bytes are the image of one drive at most.
 pub fn one_drive()
     ensures { (bytes : List ℕ) (a b : DriveState) → IsImage bytes a → IsImage bytes b → a ≡ b }
+{}
+
+/// Bytes begin with one image at most.
+pub fn one_image()
+    ensures { (first second x y : List ℕ) (a b : DriveState) → IsImage first a → IsImage second b →
+        first ++ x ≡ second ++ y → (first ≡ second) × (x ≡ y) }
 {}
 
 /// An image has no fault, and other bytes have one first fault at most.

@@ -16,6 +16,7 @@
 //!   nothing.
 //! * [`read_image`] accepts the images of drives and no other bytes. It gives the drive, which has completed no
 //!   command. It reads a zone at a time, straight into its place, so that it holds no copy of the file.
+//! * [`read_image_front`] reads an image that other bytes follow, and leaves the reader behind it.
 //! * Other bytes are refused by the first fault in them, from the first byte on (`specs/Reading.antt`). Before that
 //!   fault is met, the reader may fail or memory may run out. [`image_fault_line`] is the line that tells it.
 #![tactic(auto)]
@@ -26,6 +27,7 @@ mod fault_line;
 mod fill;
 mod head;
 pub mod laws;
+mod length;
 mod read;
 mod write;
 mod zone;
@@ -33,5 +35,6 @@ mod zone_head;
 
 pub use fault::ImageFault;
 pub use fault_line::image_fault_line;
-pub use read::read_image;
+pub use length::image_length;
+pub use read::{SavedZones, read_image, read_image_front};
 pub use write::write_image;

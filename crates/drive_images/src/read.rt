@@ -2,8 +2,8 @@ ghost use Rattle.std.specs.Prelude.{◌≡◌, [], IfErr, IfOk, IfSome, OnOk, le
 ghost use Rattle.std.specs.Io.KnownBytes.{IsAtEnd};
 ghost use Rattle.zone_states.specs.Geometry.{IsInRange};
 ghost use Rattle.drive_images.specs.Image.{IsImage};
-ghost use Rattle.drive_images.specs.Reading.{FailsInZones, IsImageFault, Tells, end_fault};
-ghost use Rattle.drive_images.specs.Steps.{ReadsZones};
+ghost use Rattle.drive_images.specs.Reading.{FailsInZone, IsFrontFault, IsImageFault, TellsFirst, end_fault};
+ghost use Rattle.drive_images.specs.Steps.{ReadsImage, ReadsZones};
 
 use crate::counts::ZoneCounts;
 use crate::fault::ImageFault;
@@ -14,6 +14,13 @@ use std::alloc::Global;
 use std::io::Read;
 use zone_drive::Drive;
 use zone_states::{Geometry, Zone};
+
+/// What an image holds: the geometry of a drive, and its zones.
+#[derive(Drop)]
+pub struct SavedZones {
+    pub geometry: Geometry,
+    pub zones: Vec<Zone>,
+}
 
 /// Reads the zones of a drive.
 fn read_zones<R: Read>(
@@ -26,7 +33,7 @@ fn read_zones<R: Read>(
         ReadsZones geometry.now (R.remaining reader.old) (R.remaining reader.new) zones.items) }
     ensures count { IfOk result (λ zones. length zones.items ≡ geometry.now.zones) }
     ensures err { IfErr result (λ fault.
-        IfSome (R.remaining reader.old) (λ bytes. FailsInZones geometry.now bytes fault)) }
+        IfSome (R.remaining reader.old) (λ bytes. FailsInZone geometry.now bytes fault)) }
 {
     let mut zones = Vec::new(alloc);
     let mut counts = ZoneCounts::none();
@@ -42,7 +49,7 @@ fn expect_end<R: Read>(reader: &mut R) -> Result<(), ImageFault>
     ensures ok { OnOk result (IfSome (R.remaining reader.old) (λ bytes. bytes ≡ [])) }
     ensures end { OnOk result (IsAtEnd (R.remaining reader.new)) }
     ensures err { IfErr result (λ fault.
-        IfSome (R.remaining reader.old) (λ bytes. Tells (end_fault bytes) fault)) }
+        IfSome (R.remaining reader.old) (λ bytes. TellsFirst (end_fault bytes) fault)) }
 {
     let mut byte = [0; 1];
     match reader.read(&mut byte) {
@@ -50,6 +57,20 @@ fn expect_end<R: Read>(reader: &mut R) -> Result<(), ImageFault>
         Ok(_) => Err(ImageFault::Long),
         Err(_) => Err(ImageFault::Input),
     }
+}
+
+/// Reads the image of a drive, and leaves the reader behind it. Other bytes are refused by the first fault that is
+/// met. Each zone is read straight into its place.
+pub fn read_image_front<R: Read>(alloc: Global, reader: &mut R) -> Result<SavedZones, ImageFault>
+    ensures ok { IfOk result (λ saved.
+        ReadsImage saved.geometry (R.remaining reader.old) (R.remaining reader.new) saved.zones.items) }
+    ensures err { IfErr result (λ fault. IfSome (R.remaining reader.old) (λ bytes. IsFrontFault bytes fault)) }
+{
+    let mut head = [0; 64];
+    fill(reader, &mut head)?;
+    let geometry = read_head(&head)?;
+    let zones = read_zones(alloc, reader, &geometry)?;
+    Ok(SavedZones { geometry, zones })
 }
 
 /// Reads the image of a drive, to the end of the reader. The drive has completed no command.
@@ -60,12 +81,9 @@ pub fn read_image<R: Read>(alloc: Global, reader: &mut R) -> Result<Drive, Image
     ensures end { OnOk result (IsAtEnd (R.remaining reader.new)) }
     ensures err { IfErr result (λ fault. IfSome (R.remaining reader.old) (λ bytes. IsImageFault bytes fault)) }
 {
-    let mut head = [0; 64];
-    fill(reader, &mut head)?;
-    let geometry = read_head(&head)?;
-    let zones = read_zones(alloc, reader, &geometry)?;
+    let saved = read_image_front(alloc, reader)?;
     expect_end(reader)?;
-    let Ok(drive) = Drive::from_zones(alloc, geometry, zones) else {
+    let Ok(drive) = Drive::from_zones(alloc, saved.geometry, saved.zones) else {
         unreachable!();
     };
     Ok(drive)

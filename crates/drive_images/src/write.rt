@@ -1,6 +1,6 @@
 ghost use Rattle.std.specs.Prelude.{◌<◌, ◌^◌, OnErr, OnOk};
 ghost use Rattle.std.specs.Io.KnownBytes.{Appends};
-ghost use Rattle.zone_states.specs.Stored.{IsWhole, zone_of};
+ghost use Rattle.zone_states.specs.Stored.{AreWholeBlocks, zone_stored};
 ghost use Rattle.zone_states.specs.Zone.{IsLawfulZone};
 ghost use Rattle.disk_files.specs.Output.{AppendsFront};
 ghost use Rattle.drive_images.specs.Image.{image_bytes, zone_bytes};
@@ -15,10 +15,10 @@ use zone_states::{Geometry, Zone};
 
 fn write_zone<W: Write>(writer: &mut W, geometry: &Geometry, zone: &Zone) -> Result<(), WriteFault>
     requires small { geometry.now.capacity < 2 ^ 32 }
-    requires whole { IsWhole geometry.now.block zone.now.bytes }
-    requires lawful { IsLawfulZone geometry.now (zone_of geometry.now.block zone.now) }
-    ensures ok { OnOk result (Appends (W.contents writer.old) (W.contents writer.new) (zone_bytes (zone_of geometry.now.block zone.now))) }
-    ensures err { OnErr result (AppendsFront (W.contents writer.old) (W.contents writer.new) (zone_bytes (zone_of geometry.now.block zone.now))) }
+    requires whole { AreWholeBlocks geometry.now.block zone.now.bytes }
+    requires lawful { IsLawfulZone geometry.now (zone_stored geometry.now.block zone.now) }
+    ensures ok { OnOk result (Appends (W.contents writer.old) (W.contents writer.new) (zone_bytes (zone_stored geometry.now.block zone.now))) }
+    ensures err { OnErr result (AppendsFront (W.contents writer.old) (W.contents writer.new) (zone_bytes (zone_stored geometry.now.block zone.now))) }
 {
     let head = ZoneHead {
         state: zone.state(),

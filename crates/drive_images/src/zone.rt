@@ -1,7 +1,7 @@
 ghost use Rattle.std.specs.Prelude.{◌≡◌, ◌+◌, ◌<◌, ◌^◌, false, IfErr, IfOk, IfSome, OnOk, length};
 ghost use Rattle.std.specs.Io.KnownBytes.{Consumes};
 ghost use Rattle.zone_states.specs.Geometry.{IsInRange};
-ghost use Rattle.drive_images.specs.Reading.{Tells, is_over_limit, short_of, zone_fault};
+ghost use Rattle.drive_images.specs.Reading.{TellsFirst, is_over_limit, short_of, zone_fault};
 ghost use Rattle.drive_images.specs.Steps.{ReadsMore, ReadsZone};
 
 use crate::counts::ZoneCounts;
@@ -21,7 +21,7 @@ fn read_piece<R: Read>(reader: &mut R, bytes: &mut Vec<u8>, count: usize) -> Res
     requires { length bytes.old.items + count < 2 ^ 64 }
     ensures ok { OnOk result (ReadsMore (R.remaining reader.old) (R.remaining reader.new) bytes.old.items bytes.new.items count) }
     ensures err { IfErr result (λ fault.
-        IfSome (R.remaining reader.old) (λ rest. Tells (short_of count rest) fault)) }
+        IfSome (R.remaining reader.old) (λ rest. TellsFirst (short_of count rest) fault)) }
 {
     let start = bytes.len();
     bytes.resize(start + count, 0)?;
@@ -33,7 +33,7 @@ fn read_bytes<R: Read>(alloc: Global, reader: &mut R, count: usize) -> Result<Ve
     ensures ok { IfOk result (λ bytes. Consumes (R.remaining reader.old) (R.remaining reader.new) bytes.items) }
     ensures count { IfOk result (λ bytes. length bytes.items ≡ count) }
     ensures err { IfErr result (λ fault.
-        IfSome (R.remaining reader.old) (λ rest. Tells (short_of count rest) fault)) }
+        IfSome (R.remaining reader.old) (λ rest. TellsFirst (short_of count rest) fault)) }
 {
     let mut bytes = Vec::new(alloc);
     bytes.reserve_exact(count)?;
@@ -56,7 +56,7 @@ pub fn read_zone<R: Read>(
     ensures ok { IfOk result (λ zone.
         ReadsZone geometry.now (R.remaining reader.old) (R.remaining reader.new) counts.old zone counts.new) }
     ensures err { IfErr result (λ fault.
-        IfSome (R.remaining reader.old) (λ rest. Tells (zone_fault geometry.now counts.old rest) fault)) }
+        IfSome (R.remaining reader.old) (λ rest. TellsFirst (zone_fault geometry.now counts.old rest) fault)) }
 {
     let mut bytes = [0; 8];
     fill(reader, &mut bytes)?;

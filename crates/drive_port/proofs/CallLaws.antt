@@ -1,7 +1,7 @@
 -- What a call answers by what its submit answers, and what a buffer holds after what it held.
 use Rattle.std.proofs.Common.{◌≡◌, ℕ, List, [], ◌++◌, Result, Ok, Err, refl, sym, ap, ◌∙◌, inl, inr, arith}
 use Rattle.std.proofs.lemmas.List.{append-nil}
-use Rattle.nvme_wire.specs.Completion.{Fits, completion_bytes}
+use Rattle.nvme_wire.specs.Completion.{IsEncodable, completion_bytes}
 use Rattle.nvme_wire.specs.Entry.{decode_of, id_of}
 use Rattle.nvme_wire.specs.declared.command.Command.{Command}
 use Rattle.nvme_wire.specs.declared.completion.Completion.{Completion}
@@ -39,7 +39,7 @@ is-completion old new entry bytes completion returned id done = record {
 }
 
 pub call-completed : (old new : DriveState) (entry : List ℕ) (command : Command) (bytes completion returned : List ℕ) (result : Result ℕ PortFault) → id_of entry ≡ 0 → decode_of entry ≡ Ok command
-    → ((c : Completion) → Fits c → completion ≡ completion_bytes c → result ≡ answer_of c)
+    → ((c : Completion) → IsEncodable c → completion ≡ completion_bytes c → result ≡ answer_of c)
     → SubmitGives old entry bytes (Ok completion) returned new → CallGives old command bytes result returned new
 call-completed old new entry command bytes completion returned result id decoded answers gives =
     let done = gives.1 in

@@ -12,7 +12,7 @@ use Rattle.nvme_wire.specs.declared.zone_state.ZoneState.{ZoneState}
 use Rattle.nvme_wire.specs.declared.zone_state.ZoneState.TheVariants.{Empty, ImplicitlyOpened, ExplicitlyOpened, Closed, ReadOnly, Full, Offline}
 use Rattle.zone_states.specs.declared.geometry.Geometry.{Geometry}
 use Rattle.zone_states.specs.Zone.{Zone, MayHold, IsLawfulZone}
-use Rattle.zone_report.specs.Report.{descriptor_of, is_chosen, matching, report, status_of}
+use Rattle.zone_report.specs.Report.{descriptor_of, is_chosen, matching, report, zone_status}
 use Rattle.drive_port.specs.Drive.{DriveState, ClosesOne, IsClosing, IsLawful}
 use Rattle.drive_port.specs.Contents.{AreEmpty, Content, content_of, contents, empty, emptied, usage_of}
 use Rattle.drive_port.specs.Calls.{Counted, Reported, chosen_count}
@@ -27,7 +27,7 @@ one_more false d ds n e = omega (arith, e)
 length-matching : (geometry : Geometry) (options : ReportingOptions) (number : ℕ) (zones : List Zone) → length (matching geometry options number zones) ≡ chosen_count options zones
 length-matching geometry options number [] = refl
 length-matching geometry options number (z ∷ zs) =
-    one_more (is_chosen options z.state) (descriptor_of geometry number (status_of z)) (matching geometry options (number + 1) zs) (chosen_count options zs)
+    one_more (is_chosen options z.state) (descriptor_of geometry number (zone_status z)) (matching geometry options (number + 1) zs) (chosen_count options zs)
     (length-matching geometry options (number + 1) zs)
     ∙ sym (sum_by-cons (λ (zone : Zone). cond (is_chosen options zone.state) 1 0) z zs)
 

@@ -1,7 +1,7 @@
 -- What the typed calls answer: each is one submit of its command.
 use Rattle.std.specs.Prelude.{◌≡◌, ◌≢◌, ◌⊎◌, ℕ, ◌+◌, ◌-◌, ◌/◌, ◌*◌, ◌%◌, ◌≤◌, ◌<◌, Bool, true, false, if◌then◌else◌, List, [], length, take, count_by, slice_set, Result, Ok, Err}
 use Rattle.std.specs.List.{remove}
-use Rattle.nvme_wire.specs.Completion.{Fits, completion_bytes}
+use Rattle.nvme_wire.specs.Completion.{IsEncodable, completion_bytes}
 use Rattle.nvme_wire.specs.declared.command.Action.{Action}
 use Rattle.nvme_wire.specs.declared.command.Action.TheVariants.{Close, Finish, Reset}
 use Rattle.nvme_wire.specs.declared.command.ReportingOptions.{ReportingOptions}
@@ -33,7 +33,7 @@ CallGives old command bytes (Err Stopped) returned new = (returned ≡ []) × Ha
 -- the bytes of a completion
 pub record IsCompletion (bytes : List ℕ) : Type 0 where
   pub completion : Completion
-  pub fits : Fits completion
+  pub fits : IsEncodable completion
   pub encoded : bytes ≡ completion_bytes completion
 
 -- what a call answers to a completion

@@ -1,5 +1,5 @@
 ghost use Rattle.std.specs.Prelude.{◌≡◌, ◌+◌, ◌*◌, ◌++◌, ◌<◌, ◌≤◌, ◌^◌, true, false, [], length, Err, IfOk, OnOk, OnErr};
-ghost use Rattle.nvme_wire.specs.Completion.{Fits, completion_bytes};
+ghost use Rattle.nvme_wire.specs.Completion.{IsEncodable, completion_bytes};
 ghost use Rattle.nvme_wire.specs.Entry.{IsAdmitted};
 ghost use Rattle.drive_port.specs.Drive.{IsClosing};
 ghost use Rattle.drive_port.specs.Halting.{Adds};
@@ -42,7 +42,7 @@ impl From<Halt> for PortFault {
 #[inline(always)]
 fn answer_of(completion: &[u8; 16]) -> Result<u64, PortFault>
     requires { IsCompletion completion.now }
-    ensures { (c : _) → Fits c → completion.now ≡ completion_bytes c → result ≡ answer_of c }
+    ensures { (c : _) → IsEncodable c → completion.now ≡ completion_bytes c → result ≡ answer_of c }
 {
     match Completion::decode(completion) {
         Ok(completion) => match completion.status {

@@ -10,7 +10,7 @@ use Rattle.logical_map.specs.declared.place.Place.{Place}
 use Rattle.logical_map.specs.declared.place.Place.TheVariants as places
 use Rattle.logical_map.specs.Counts.{IsKept, lowered, raised}
 use Rattle.logical_map.specs.Live.{is_zone, lies_in, zone_of}
-use Rattle.logical_map.specs.Pages.{shown}
+use Rattle.logical_map.specs.Pages.{paged_places}
 use Rattle.logical_map.proofs.Showing.{length-shown, none-at, none_from-reserve, none_from-set, shown-empty, shown-grow, shown-reserve, shown-set}
 
 pub length-raised : (here : Option ℕ) (counts : List ℕ) → length (raised here counts) ≡ length counts
@@ -86,7 +86,7 @@ live-same size zone xs ys e = ap (λ (all : List Place). count_by (lies_in size 
 pub kept-new : (page : ℕ → Option (List Place)) (n zones size : ℕ) → ((number : ℕ) → page number ≡ Option.None) → IsKept page n zones size []
 kept-new page n zones size none = record {
   past = λ k above. none-at page k (none (k / 256));
-  counted = λ zone q. sym (live-same size zone (shown page n) (replicate n places.None) (shown-empty page n none) ∙ live-none size n zone);
+  counted = λ zone q. sym (live-same size zone (paged_places page n) (replicate n places.None) (shown-empty page n none) ∙ live-none size n zone);
   made = λ number there. absurd (false≢true (sym (ap is_some (none number)) ∙ there));
   few = omega arith;
 }
@@ -94,7 +94,7 @@ kept-new page n zones size none = record {
 pub kept-grow : (page : ℕ → Option (List Place)) (n count zones size : ℕ) (counts : List ℕ) → IsKept page n zones size counts → n ≤ count → IsKept page count zones size counts
 kept-grow page n count zones size counts kept more = record {
   past = λ k above. kept.past k (omega arith);
-  counted = λ zone q. kept.counted zone q ∙ sym (live-same size zone (shown page count) (shown page n ++ replicate (count - n) places.None) (shown-grow page n count kept.past more) ∙ live-grow size (count - n) zone (shown page n));
+  counted = λ zone q. kept.counted zone q ∙ sym (live-same size zone (paged_places page count) (paged_places page n ++ replicate (count - n) places.None) (shown-grow page n count kept.past more) ∙ live-grow size (count - n) zone (paged_places page n));
   made = kept.made;
   few = kept.few;
 }
@@ -130,30 +130,30 @@ kept-reserve page page' n zones size number counts new kept wide none fresh othe
     let w = widened-at counts zones new kept.few wide in
     record {
       past = none_from-reserve page page' n number kept.past none fresh others;
-      counted = λ zone q. w.1 zone ∙ kept.counted zone q ∙ sym (live-same size zone (shown page' n) (shown page n) (shown-reserve page page' n number none fresh others));
+      counted = λ zone q. w.1 zone ∙ kept.counted zone q ∙ sym (live-same size zone (paged_places page' n) (paged_places page n) (shown-reserve page page' n number none fresh others));
       made = λ m there. w.0;
       few = omega (arith, w.0);
     }
 
 pub kept-set : (page page' : ℕ → Option (List Place)) (n zones size block : ℕ) (counts : List ℕ) (p : List Place) (place : Place) → IsKept page n zones size counts → block < n → length p ≡ 256 → page (block / 256) ≡ Some p → page' (block / 256) ≡ Some (set p (block % 256) place) → ((m : ℕ) → m ≢ block / 256 → page' m ≡ page m)
-    → IsKept page' n zones size (raised (zone_of size place) (lowered (zone_of size (get_or (shown page n) block places.None)) counts))
+    → IsKept page' n zones size (raised (zone_of size place) (lowered (zone_of size (get_or (paged_places page n) block places.None)) counts))
 kept-set page page' n zones size block counts p place kept below long old new others =
-    let was = zone_of size (get_or (shown page n) block places.None) in
+    let was = zone_of size (get_or (paged_places page n) block places.None) in
     let whole : length counts ≡ zones = kept.made (block / 256) (ap is_some old) in
     let same : length (raised (zone_of size place) (lowered was counts)) ≡ zones = length-raised (zone_of size place) (lowered was counts) ∙ length-lowered was counts ∙ whole in
     record {
       past = none_from-set page page' n block p place kept.past below old new others;
-      counted = λ zone q. counts-set size (shown page n) counts block place (λ z h. kept.counted z (omega (arith, h, whole))) (omega (arith, below, length-shown page n)) zone (omega (arith, q, same)) ∙ sym (live-same size zone (shown page' n) (set (shown page n) block place) (shown-set page page' n block p place below long old new others));
+      counted = λ zone q. counts-set size (paged_places page n) counts block place (λ z h. kept.counted z (omega (arith, h, whole))) (omega (arith, below, length-shown page n)) zone (omega (arith, q, same)) ∙ sym (live-same size zone (paged_places page' n) (set (paged_places page n) block place) (shown-set page page' n block p place below long old new others));
       made = λ m there. same;
       few = omega (arith, same);
     }
 
 -- no count grows past the number of blocks
 pub kept-raise : (page : ℕ → Option (List Place)) (n zones size block : ℕ) (counts : List ℕ) (place : Place) → IsKept page n zones size counts → block < n → n < 2 ^ 32
-    → IfSome (zone_of size place) (λ zone. get_or (lowered (zone_of size (get_or (shown page n) block places.None)) counts) zone 0 + 1 < 2 ^ 32)
+    → IfSome (zone_of size place) (λ zone. get_or (lowered (zone_of size (get_or (paged_places page n) block places.None)) counts) zone 0 + 1 < 2 ^ 32)
 kept-raise page n zones size block counts place kept below few =
-    can_raise size (shown page n) counts block place (λ z h. kept.counted z (omega (arith, h, kept.few))) (omega (arith, below, length-shown page n)) (omega (arith, few, length-shown page n))
+    can_raise size (paged_places page n) counts block place (λ z h. kept.counted z (omega (arith, h, kept.few))) (omega (arith, below, length-shown page n)) (omega (arith, few, length-shown page n))
 
 -- the count of a zone
-pub kept-count : (page : ℕ → Option (List Place)) (n zones size zone : ℕ) (counts : List ℕ) → IsKept page n zones size counts → zone < zones → length counts ≤ zone → 0 ≡ count_by (lies_in size zone) (shown page n)
+pub kept-count : (page : ℕ → Option (List Place)) (n zones size zone : ℕ) (counts : List ℕ) → IsKept page n zones size counts → zone < zones → length counts ≤ zone → 0 ≡ count_by (lies_in size zone) (paged_places page n)
 kept-count page n zones size zone counts kept below past = sym (get_or_past counts zone 0 past) ∙ kept.counted zone below

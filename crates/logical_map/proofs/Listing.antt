@@ -10,9 +10,9 @@ use Rattle.std.proofs.lemmas.List.Elements.{Contains-append_right}
 use Rattle.std.proofs.lemmas.List.Sums.{get_or-le-sum_by}
 use Rattle.logical_map.specs.declared.place.Place.{Place}
 use Rattle.logical_map.specs.declared.place.Place.TheVariants as places
-use Rattle.logical_map.specs.Lists.{AreListed, FindsBlock, Follows, FindsThere, IsFirstBlock, IsFirstFrom, IsFirstThere, KeepsThere, ListView, NoBlockLies, NoneLies, Notes, Shortens, fresh, listed, missing}
+use Rattle.logical_map.specs.Lists.{AreListed, FindsBlock, NotesMove, FindsThere, IsFirstBlock, IsFirstFrom, IsFirstThere, KeepsThere, ListView, NoBlockLies, NoneLies, Notes, Shortens, fresh_list, listed, missing}
 use Rattle.logical_map.specs.Live.{blocks_in, is_zone, lies_in, zone_of}
-use Rattle.logical_map.specs.Pages.{HasNoneFrom, place_in, shown}
+use Rattle.logical_map.specs.Pages.{HasNoneFrom, place_in, paged_places}
 use Rattle.logical_map.proofs.Showing.{length-shown, place-reserve, place-set, shown-at, some-at}
 
 -- ---- which blocks lie in a zone
@@ -22,10 +22,10 @@ cond-zero true e = absurd (omega (arith, e))
 cond-zero false e = refl
 
 -- past the end there is no place, in the list and in the pages
-pub all-at : (page : ℕ → Option (List Place)) (n k : ℕ) → HasNoneFrom page n → get_or (shown page n) k places.None ≡ place_in page k
-all-at page n k past = elim (cases_lt k n) as (λ _. get_or (shown page n) k places.None ≡ place_in page k) [
+pub all-at : (page : ℕ → Option (List Place)) (n k : ℕ) → HasNoneFrom page n → get_or (paged_places page n) k places.None ≡ place_in page k
+all-at page n k past = elim (cases_lt k n) as (λ _. get_or (paged_places page n) k places.None ≡ place_in page k) [
   | inl below ↦ shown-at page n k below
-  | inr above ↦ get_or_past (shown page n) k places.None (omega (arith, length-shown page n)) ∙ sym (past k above)
+  | inr above ↦ get_or_past (paged_places page n) k places.None (omega (arith, length-shown page n)) ∙ sym (past k above)
 ]
 
 -- a block that lies in a zone is not past the end
@@ -36,11 +36,11 @@ below-end page n size zone block past lies = elim (cases_lt block n) as (λ _. b
 ]
 
 -- no block lies in a zone whose count is 0
-pub none-lies : (page : ℕ → Option (List Place)) (n size zone : ℕ) → HasNoneFrom page n → 0 ≡ count_by (lies_in size zone) (shown page n) → (block : ℕ) → lies_in size zone (place_in page block) ≡ false
+pub none-lies : (page : ℕ → Option (List Place)) (n size zone : ℕ) → HasNoneFrom page n → 0 ≡ count_by (lies_in size zone) (paged_places page n) → (block : ℕ) → lies_in size zone (place_in page block) ≡ false
 none-lies page n size zone past none block =
-    sym (ap (lies_in size zone) (all-at page n block past)) ∙ cond-zero (lies_in size zone (get_or (shown page n) block places.None)) (elim (cases_lt block n) as (λ _. ◌≡◌ {A = ℕ} (cond (lies_in size zone (get_or (shown page n) block places.None)) 1 0) 0) [
-      | inl below ↦ omega (arith, none, get_or-le-sum_by (λ p. cond (lies_in size zone p) 1 0) (shown page n) block places.None (omega (arith, length-shown page n)))
-      | inr above ↦ ap (λ p. cond (lies_in size zone p) 1 0) (get_or_past (shown page n) block places.None (omega (arith, length-shown page n)))
+    sym (ap (lies_in size zone) (all-at page n block past)) ∙ cond-zero (lies_in size zone (get_or (paged_places page n) block places.None)) (elim (cases_lt block n) as (λ _. ◌≡◌ {A = ℕ} (cond (lies_in size zone (get_or (paged_places page n) block places.None)) 1 0) 0) [
+      | inl below ↦ omega (arith, none, get_or-le-sum_by (λ p. cond (lies_in size zone p) 1 0) (paged_places page n) block places.None (omega (arith, length-shown page n)))
+      | inr above ↦ ap (λ p. cond (lies_in size zone p) 1 0) (get_or_past (paged_places page n) block places.None (omega (arith, length-shown page n)))
     ])
 
 -- ---- the first of the blocks that lie in a zone
@@ -55,24 +55,24 @@ none-in size zone first [] none = refl
 none-in size zone first (p ∷ xs) none = rw (none 0 (omega arith)) (none-in size zone (first + 1) xs (λ k below. none (suc k) (omega (arith, below))))
 
 -- the places from a block on
-rest-at : (page : ℕ → Option (List Place)) (n from k : ℕ) → HasNoneFrom page n → get_or (drop from (shown page n)) k places.None ≡ place_in page (from + k)
-rest-at page n from k past = get_or-drop from (shown page n) k places.None ∙ all-at page n (from + k) past
+rest-at : (page : ℕ → Option (List Place)) (n from k : ℕ) → HasNoneFrom page n → get_or (drop from (paged_places page n)) k places.None ≡ place_in page (from + k)
+rest-at page n from k past = get_or-drop from (paged_places page n) k places.None ∙ all-at page n (from + k) past
 
-first-at : (page : ℕ → Option (List Place)) (n size zone from m : ℕ) → HasNoneFrom page n → IsFirstBlock page size zone from (from + m) → slice_get (blocks_in size zone from (drop from (shown page n))) 0 ≡ Some (from + m)
+first-at : (page : ℕ → Option (List Place)) (n size zone from m : ℕ) → HasNoneFrom page n → IsFirstBlock page size zone from (from + m) → slice_get (blocks_in size zone from (drop from (paged_places page n))) 0 ≡ Some (from + m)
 first-at page n size zone from m past first =
-    head-in size zone from m (drop from (shown page n)) (omega (arith, below-end page n size zone (from + m) past first.lies, length-drop from (shown page n), length-shown page n)) (λ k below. ap (lies_in size zone) (rest-at page n from k past) ∙ first.none (from + k) (omega arith) (omega (arith, below)))
+    head-in size zone from m (drop from (paged_places page n)) (omega (arith, below-end page n size zone (from + m) past first.lies, length-drop from (paged_places page n), length-shown page n)) (λ k below. ap (lies_in size zone) (rest-at page n from k past) ∙ first.none (from + k) (omega arith) (omega (arith, below)))
     (ap (lies_in size zone) (rest-at page n from m past) ∙ first.lies)
 
-pub first-is : (page : ℕ → Option (List Place)) (n size zone from block : ℕ) → HasNoneFrom page n → IsFirstBlock page size zone from block → slice_get (blocks_in size zone from (drop from (shown page n))) 0 ≡ Some block
+pub first-is : (page : ℕ → Option (List Place)) (n size zone from block : ℕ) → HasNoneFrom page n → IsFirstBlock page size zone from block → slice_get (blocks_in size zone from (drop from (paged_places page n))) 0 ≡ Some block
 first-is page n size zone from block past first =
     let same : from + (block - from) ≡ block = omega (arith, first.after) in
     first-at page n size zone from (block - from) past (subst (IsFirstBlock page size zone from) (sym same) first) ∙ ap Some same
 
-pub none-is : (page : ℕ → Option (List Place)) (n size zone from : ℕ) → HasNoneFrom page n → NoBlockLies page size zone from n → slice_get (blocks_in size zone from (drop from (shown page n))) 0 ≡ Option.None
-none-is page n size zone from past none = rw (none-in size zone from (drop from (shown page n)) (λ k below. ap (lies_in size zone) (rest-at page n from k past) ∙ none (from + k) (omega arith) (omega (arith, below, length-drop from (shown page n), length-shown page n)))) refl
+pub none-is : (page : ℕ → Option (List Place)) (n size zone from : ℕ) → HasNoneFrom page n → NoBlockLies page size zone from n → slice_get (blocks_in size zone from (drop from (paged_places page n))) 0 ≡ Option.None
+none-is page n size zone from past none = rw (none-in size zone from (drop from (paged_places page n)) (λ k below. ap (lies_in size zone) (rest-at page n from k past) ∙ none (from + k) (omega arith) (omega (arith, below, length-drop from (paged_places page n), length-shown page n)))) refl
 
 -- what a walk over the map finds
-pub walked : (page : ℕ → Option (List Place)) (n size zone from : ℕ) (found : Option ℕ) → HasNoneFrom page n → FindsBlock page size zone from n found → found ≡ slice_get (blocks_in size zone from (drop from (shown page n))) 0
+pub walked : (page : ℕ → Option (List Place)) (n size zone from : ℕ) (found : Option ℕ) → HasNoneFrom page n → FindsBlock page size zone from n found → found ≡ slice_get (blocks_in size zone from (drop from (paged_places page n))) 0
 walked page n size zone from Option.None past none = sym (none-is page n size zone from past none)
 walked page n size zone from (Some block) past first = sym (first-is page n size zone from block past first)
 
@@ -105,7 +105,7 @@ module _ (page : ℕ → Option (List Place)) (size zone from : ℕ) (blocks : L
 
 -- what the list of a zone finds, once it is sorted
 pub listed-finds : (page : ℕ → Option (List Place)) (n size zone from : ℕ) (lists : List ListView) (list : ListView) (first : ℕ) (found : Option ℕ) → HasNoneFrom page n → (listed lists zone).whole ≡ true → AreListed page size lists → KeepsThere page size zone (listed lists zone).blocks list.blocks → IsNonDecreasing list.blocks
-    → IsFirstFrom list.blocks from first → FindsThere page size zone list.blocks first found → option_map (λ position. get_or list.blocks position 0) found ≡ slice_get (blocks_in size zone from (drop from (shown page n))) 0
+    → IsFirstFrom list.blocks from first → FindsThere page size zone list.blocks first found → option_map (λ position. get_or list.blocks position 0) found ≡ slice_get (blocks_in size zone from (drop from (paged_places page n))) 0
 listed-finds page n size zone from lists list first Option.None past whole are kept ascends is_first none =
     sym (none-is page n size zone from past (none-listed page size zone from list.blocks (λ block lies. kept block lies (are zone block whole lies)) first is_first n none))
 listed-finds page n size zone from lists list first (Some position) past whole are kept ascends is_first there =
@@ -130,11 +130,11 @@ listed-reserve page page' size number lists none made others are = listed-same p
 
 -- a block is moved
 pub listed-set : (page page' : ℕ → Option (List Place)) (n size block : ℕ) (p : List Place) (place : Place) (lists lists' : List ListView) → block < n → length p ≡ 256 → page (block / 256) ≡ Some p → page' (block / 256) ≡ Some (set p (block % 256) place) → ((m : ℕ) → m ≢ block / 256 → page' m ≡ page m)
-    → AreListed page size lists → Follows lists (zone_of size (get_or (shown page n) block places.None)) (zone_of size place) block lists' → AreListed page' size lists'
+    → AreListed page size lists → NotesMove lists (zone_of size (get_or (paged_places page n) block places.None)) (zone_of size place) block lists' → AreListed page' size lists'
 listed-set page page' n size block p place lists lists' below long old new others are follows = each
   where
     was : Option ℕ
-    was = zone_of size (get_or (shown page n) block places.None)
+    was = zone_of size (get_or (paged_places page n) block places.None)
 
     now : place_in page' block ≡ place
     now = some-at page' block (set p (block % 256) place) new ∙ get_or-set_same p (block % 256) place places.None (omega (arith, long))
@@ -168,14 +168,14 @@ pub listed-made : (page : ℕ → Option (List Place)) (size : ℕ) (lists lists
 listed-made page size lists lists' same are = λ zone block whole lies. subst (λ (l : ListView). Contains l.blocks block) (sym (same zone)) (are zone block (sym (ap (λ (l : ListView). l.whole) (same zone)) ∙ whole) lies)
 
 -- a zone in which no block lies begins its list anew
-pub listed-fresh : (page : ℕ → Option (List Place)) (size i : ℕ) (lists : List ListView) → i < length lists → ((block : ℕ) → lies_in size i (place_in page block) ≡ false) → AreListed page size lists → AreListed page size (set lists i fresh)
-listed-fresh page size i lists h none are = λ zone block is_whole lies. elim (cases_eq zone i) as (λ _. Contains (listed (set lists i fresh) zone).blocks block) [
+pub listed-fresh : (page : ℕ → Option (List Place)) (size i : ℕ) (lists : List ListView) → i < length lists → ((block : ℕ) → lies_in size i (place_in page block) ≡ false) → AreListed page size lists → AreListed page size (set lists i fresh_list)
+listed-fresh page size i lists h none are = λ zone block is_whole lies. elim (cases_eq zone i) as (λ _. Contains (listed (set lists i fresh_list) zone).blocks block) [
   | inl e ↦ absurd (false≢true (sym (none block) ∙ sym (ap (λ z. lies_in size z (place_in page block)) e) ∙ lies))
-  | inr n ↦ subst (λ (l : ListView). Contains l.blocks block) (sym (listed-other lists i zone fresh n)) (are zone block (sym (ap (λ (l : ListView). l.whole) (listed-other lists i zone fresh n)) ∙ is_whole) lies)
+  | inr n ↦ subst (λ (l : ListView). Contains l.blocks block) (sym (listed-other lists i zone fresh_list n)) (are zone block (sym (ap (λ (l : ListView). l.whole) (listed-other lists i zone fresh_list n)) ∙ is_whole) lies)
 ]
 
 -- room is made in a list, which begins anew where no block lies in its zone
-pub listed-room : (page : ℕ → Option (List Place)) (size i : ℕ) (lists : List ListView) (empty : Bool) (list : ListView) → i < length lists → (empty ≡ true → (block : ℕ) → lies_in size i (place_in page block) ≡ false) → list ≡ cond empty fresh (listed lists i) → AreListed page size lists → AreListed page size (set lists i list)
+pub listed-room : (page : ℕ → Option (List Place)) (size i : ℕ) (lists : List ListView) (empty : Bool) (list : ListView) → i < length lists → (empty ≡ true → (block : ℕ) → lies_in size i (place_in page block) ≡ false) → list ≡ cond empty fresh_list (listed lists i) → AreListed page size lists → AreListed page size (set lists i list)
 listed-room page size i lists true list h none e are = rw e (listed-fresh page size i lists h (none refl) are)
 listed-room page size i lists false list h none e are = rw e (listed-sort page size i lists (listed lists i) h refl (λ block lies had. had) are)
 
@@ -210,7 +210,7 @@ Contains-filter p xs x passes had = filter-keeps p xs x had.0 had.1 had.2 passes
 
 -- ---- what a note changes
 
-pub follows-noted : (lists : List ListView) (was : Option ℕ) (zone block : ℕ) (list : ListView) → zone < length lists → Notes (listed lists zone) block list → Follows lists was (Some zone) block (set lists zone list)
+pub follows-noted : (lists : List ListView) (was : Option ℕ) (zone block : ℕ) (list : ListView) → zone < length lists → Notes (listed lists zone) block list → NotesMove lists was (Some zone) block (set lists zone list)
 follows-noted lists was zone block list h notes = record {
   whole = λ z w. elim (cases_eq z zone) as (λ _. (listed lists z).whole ≡ true) [
     | inl e ↦ ap (λ k. (listed lists k).whole) e ∙ notes.whole (sym (ap (λ (l : ListView). l.whole) (listed-at lists zone z list h e)) ∙ w)

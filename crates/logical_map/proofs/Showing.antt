@@ -7,13 +7,13 @@ use Rattle.std.proofs.lemmas.Bool.{cases_eq, cases_lt}
 use Rattle.logical_map.specs.declared.place.Place.{Place}
 use Rattle.logical_map.specs.declared.place.Place.TheVariants as places
 use Rattle.std.proofs.lemmas.Bool.{false≢true}
-use Rattle.logical_map.specs.Places.{Grows, MapView, Reserves}
-use Rattle.logical_map.specs.Pages.{HasNoneFrom, place_in, place_of, shown, ready}
+use Rattle.logical_map.specs.Places.{MapGrows, MapView, Reserves}
+use Rattle.logical_map.specs.Pages.{HasNoneFrom, place_in, place_of, paged_places, ready}
 
-pub length-shown : (page : ℕ → Option (List Place)) (n : ℕ) → length (shown page n) ≡ n
+pub length-shown : (page : ℕ → Option (List Place)) (n : ℕ) → length (paged_places page n) ≡ n
 length-shown page n = length-map-range_with_len (place_in page) 0 n
 
-pub shown-at : (page : ℕ → Option (List Place)) (n block : ℕ) → block < n → get_or (shown page n) block places.None ≡ place_in page block
+pub shown-at : (page : ℕ → Option (List Place)) (n block : ℕ) → block < n → get_or (paged_places page n) block places.None ≡ place_in page block
 shown-at page n block h = get_or-map-range_with_len (place_in page) 0 n block block places.None h (omega arith)
 
 -- a place among words
@@ -32,10 +32,10 @@ some-at page block p e = ap (λ (q : Option (List Place)). unwrap_or (option_map
 same-at : (page page' : ℕ → Option (List Place)) (block : ℕ) → page' (block / 256) ≡ page (block / 256) → place_in page' block ≡ place_in page block
 same-at page page' block e = ap (λ (q : Option (List Place)). unwrap_or (option_map (λ r. get_or r (block % 256) places.None) q) places.None) e
 
-pub shown-some : (page : ℕ → Option (List Place)) (n block : ℕ) (p : List Place) → block < n → page (block / 256) ≡ Some p → get_or p (block % 256) places.None ≡ get_or (shown page n) block places.None
+pub shown-some : (page : ℕ → Option (List Place)) (n block : ℕ) (p : List Place) → block < n → page (block / 256) ≡ Some p → get_or p (block % 256) places.None ≡ get_or (paged_places page n) block places.None
 shown-some page n block p h found = sym (shown-at page n block h ∙ some-at page block p found)
 
-pub shown-empty : (page : ℕ → Option (List Place)) (n : ℕ) → ((m : ℕ) → page m ≡ Option.None) → shown page n ≡ replicate n places.None
+pub shown-empty : (page : ℕ → Option (List Place)) (n : ℕ) → ((m : ℕ) → page m ≡ Option.None) → paged_places page n ≡ replicate n places.None
 shown-empty page n none = sym (fill_by_all (place_in page) (replicate n places.None) n places.None (length-replicate n places.None) (λ k h. get_or-replicate n k places.None places.None h ∙ sym (none-at page k (none (k / 256)))))
 
 -- a fresh page
@@ -49,9 +49,9 @@ place-reserve page page' number k none fresh others = elim (cases_eq (k / 256) n
   | inr n ↦ same-at page page' k (others (k / 256) n)
 ]
 
-pub shown-reserve : (page page' : ℕ → Option (List Place)) (n number : ℕ) → page number ≡ Option.None → page' number ≡ Some (replicate 256 places.None) → ((m : ℕ) → m ≢ number → page' m ≡ page m) → shown page' n ≡ shown page n
+pub shown-reserve : (page page' : ℕ → Option (List Place)) (n number : ℕ) → page number ≡ Option.None → page' number ≡ Some (replicate 256 places.None) → ((m : ℕ) → m ≢ number → page' m ≡ page m) → paged_places page' n ≡ paged_places page n
 shown-reserve page page' n number none fresh others =
-    sym (fill_by_all (place_in page') (shown page n) n places.None (length-shown page n) (λ k h. shown-at page n k h ∙ sym (place-reserve page page' number k none fresh others)))
+    sym (fill_by_all (place_in page') (paged_places page n) n places.None (length-shown page n) (λ k h. shown-at page n k h ∙ sym (place-reserve page page' number k none fresh others)))
 
 -- a place changed
 pub place-set : (page page' : ℕ → Option (List Place)) (block k : ℕ) (p : List Place) (place : Place) → k ≢ block → page (block / 256) ≡ Some p → page' (block / 256) ≡ Some (set p (block % 256) place) → ((m : ℕ) → m ≢ block / 256 → page' m ≡ page m)
@@ -62,14 +62,14 @@ place-set page page' block k p place differs old new others = elim (cases_eq (k 
 ]
 
 pub shown-set : (page page' : ℕ → Option (List Place)) (n block : ℕ) (p : List Place) (place : Place) → block < n → length p ≡ 256 → page (block / 256) ≡ Some p → page' (block / 256) ≡ Some (set p (block % 256) place) → ((m : ℕ) → m ≢ block / 256 → page' m ≡ page m)
-    → shown page' n ≡ set (shown page n) block place
+    → paged_places page' n ≡ set (paged_places page n) block place
 shown-set page page' n block p place h long old new others =
-    sym (fill_by_all (place_in page') (set (shown page n) block place) n places.None (length-set (shown page n) block place ∙ length-shown page n) each)
+    sym (fill_by_all (place_in page') (set (paged_places page n) block place) n places.None (length-set (paged_places page n) block place ∙ length-shown page n) each)
   where
-    each : (k : ℕ) → k < n → get_or (set (shown page n) block place) k places.None ≡ place_in page' k
-    each k below = elim (cases_eq k block) as (λ _. get_or (set (shown page n) block place) k places.None ≡ place_in page' k) [
-      | inl e ↦ ap (λ (j : ℕ). get_or (set (shown page n) block place) j places.None) e ∙ get_or-set_same (shown page n) block place places.None (omega (arith, length-shown page n)) ∙ sym (get_or-set_same p (block % 256) place places.None (omega arith)) ∙ sym (some-at page' block (set p (block % 256) place) new) ∙ ap (place_in page') (sym e)
-      | inr differs ↦ get_or-set_other (shown page n) block k place places.None differs ∙ shown-at page n k below ∙ sym (place-set page page' block k p place differs old new others)
+    each : (k : ℕ) → k < n → get_or (set (paged_places page n) block place) k places.None ≡ place_in page' k
+    each k below = elim (cases_eq k block) as (λ _. get_or (set (paged_places page n) block place) k places.None ≡ place_in page' k) [
+      | inl e ↦ ap (λ (j : ℕ). get_or (set (paged_places page n) block place) j places.None) e ∙ get_or-set_same (paged_places page n) block place places.None (omega (arith, length-shown page n)) ∙ sym (get_or-set_same p (block % 256) place places.None (omega arith)) ∙ sym (some-at page' block (set p (block % 256) place) new) ∙ ap (place_in page') (sym e)
+      | inr differs ↦ get_or-set_other (paged_places page n) block k place places.None differs ∙ shown-at page n k below ∙ sym (place-set page page' block k p place differs old new others)
     ]
 
 pub ready-at : (page : ℕ → Option (List Place)) (n block : ℕ) → block < n → get_or (ready page n) block false ≡ is_some (page (block / 256))
@@ -83,10 +83,10 @@ placed-ready page n block h placed = ready-at page n block h ∙ there (page (bl
     there Option.None e = absurd (placed (none-at page block e))
     there (Some q) e = ap is_some e
 
-pub shown-ready : (page : ℕ → Option (List Place)) (n block : ℕ) → get_or (shown page n) block places.None ≢ places.None → get_or (ready page n) block false ≡ true
+pub shown-ready : (page : ℕ → Option (List Place)) (n block : ℕ) → get_or (paged_places page n) block places.None ≢ places.None → get_or (ready page n) block false ≡ true
 shown-ready page n block placed = elim (cases_lt block n) as (λ _. get_or (ready page n) block false ≡ true) [
   | inl below ↦ placed-ready page n block below (λ none. placed (shown-at page n block below ∙ none))
-  | inr past ↦ absurd (placed (get_or_past (shown page n) block places.None (omega (arith, past, length-shown page n))))
+  | inr past ↦ absurd (placed (get_or_past (paged_places page n) block places.None (omega (arith, past, length-shown page n))))
 ]
 
 pub ready-past : (page : ℕ → Option (List Place)) (n block : ℕ) → n ≤ block → get_or (ready page n) block false ≡ false
@@ -94,7 +94,7 @@ ready-past page n block h = get_or_past (ready page n) block false (omega (arith
 
 -- the view of a map
 abbrev pub view_with : (ℕ → Option (List Place)) → ℕ → ℕ → ℕ → MapView
-view_with page n zones size = record { places = shown page n; ready = ready page n; zones = zones; zone_size = size }
+view_with page n zones size = record { places = paged_places page n; ready = ready page n; zones = zones; zone_size = size }
 
 pub reserves_there : (page : ℕ → Option (List Place)) (n zones size block : ℕ) → block < n → is_some (page (block / 256)) ≡ true → Reserves (view_with page n zones size) block (view_with page n zones size)
 reserves_there page n zones size block h there = record { places = refl; here = ready-at page n block h ∙ there; kept = λ other p. p; zones = refl; zone_size = refl }
@@ -119,8 +119,8 @@ abbrev made : List Place → List Bool → ℕ → ℕ → MapView
 made a b zones size = record { places = a; ready = b; zones = zones; zone_size = size }
 
 pub sets : (page page' : ℕ → Option (List Place)) (n zones size block : ℕ) (p : List Place) (place : Place) → block < n → length p ≡ 256 → page (block / 256) ≡ Some p → page' (block / 256) ≡ Some (set p (block % 256) place) → ((m : ℕ) → m ≢ block / 256 → page' m ≡ page m)
-    → made (shown page' n) (ready page' n) zones size ≡ made (set (shown page n) block place) (ready page n) zones size
-sets page page' n zones size block p place h long old new others = both (shown page' n) (set (shown page n) block place) (ready page' n) (ready page n) (shown-set page page' n block p place h long old new others) same
+    → made (paged_places page' n) (ready page' n) zones size ≡ made (set (paged_places page n) block place) (ready page n) zones size
+sets page page' n zones size block p place h long old new others = both (paged_places page' n) (set (paged_places page n) block place) (ready page' n) (ready page n) (shown-set page page' n block p place h long old new others) same
   where
     there : (k : ℕ) → is_some (page k) ≡ is_some (page' k)
     there k = elim (cases_eq k (block / 256)) as (λ _. is_some (page k) ≡ is_some (page' k)) [ inl e ↦ ap (λ (j : ℕ). is_some (page j)) e ∙ ap is_some old ∙ sym (ap is_some new) ∙ sym (ap (λ (j : ℕ). is_some (page' j)) e) | inr apart ↦ ap is_some (sym (others k apart)) ]
@@ -144,21 +144,21 @@ pub none_from-set : (page page' : ℕ → Option (List Place)) (n block : ℕ) (
     → HasNoneFrom page' n
 none_from-set page page' n block p place past below old new others = λ k above. place-set page page' block k p place (λ same. omega arith) old new others ∙ past k above
 
-pub shown-grow : (page : ℕ → Option (List Place)) (n count : ℕ) → HasNoneFrom page n → n ≤ count → shown page count ≡ shown page n ++ replicate (count - n) places.None
-shown-grow page n count past more = sym (fill_by_all (place_in page) (shown page n ++ replicate (count - n) places.None) count places.None long each)
+pub shown-grow : (page : ℕ → Option (List Place)) (n count : ℕ) → HasNoneFrom page n → n ≤ count → paged_places page count ≡ paged_places page n ++ replicate (count - n) places.None
+shown-grow page n count past more = sym (fill_by_all (place_in page) (paged_places page n ++ replicate (count - n) places.None) count places.None long each)
   where
-    long : length (shown page n ++ replicate (count - n) places.None) ≡ count
-    long = omega (arith, length-append (shown page n) (replicate (count - n) places.None), length-shown page n, length-replicate (count - n) places.None)
+    long : length (paged_places page n ++ replicate (count - n) places.None) ≡ count
+    long = omega (arith, length-append (paged_places page n) (replicate (count - n) places.None), length-shown page n, length-replicate (count - n) places.None)
 
-    each : (k : ℕ) → k < count → get_or (shown page n ++ replicate (count - n) places.None) k places.None ≡ place_in page k
-    each k below = elim (cases_lt k n) as (λ _. get_or (shown page n ++ replicate (count - n) places.None) k places.None ≡ place_in page k) [
-      | inl old ↦ get_or_append_left (shown page n) (replicate (count - n) places.None) places.None k (omega (arith, length-shown page n)) ∙ shown-at page n k old
-      | inr new ↦ get_or-append_right (shown page n) (replicate (count - n) places.None) n k places.None (length-shown page n) new ∙ get_or-replicate (count - n) (k - n) places.None places.None (omega arith) ∙ sym (past k new)
+    each : (k : ℕ) → k < count → get_or (paged_places page n ++ replicate (count - n) places.None) k places.None ≡ place_in page k
+    each k below = elim (cases_lt k n) as (λ _. get_or (paged_places page n ++ replicate (count - n) places.None) k places.None ≡ place_in page k) [
+      | inl old ↦ get_or_append_left (paged_places page n) (replicate (count - n) places.None) places.None k (omega (arith, length-shown page n)) ∙ shown-at page n k old
+      | inr new ↦ get_or-append_right (paged_places page n) (replicate (count - n) places.None) n k places.None (length-shown page n) new ∙ get_or-replicate (count - n) (k - n) places.None places.None (omega arith) ∙ sym (past k new)
     ]
 
-pub grows : (page : ℕ → Option (List Place)) (n count zones size : ℕ) → HasNoneFrom page n → n ≤ count → Grows (view_with page n zones size) count (view_with page count zones size)
+pub grows : (page : ℕ → Option (List Place)) (n count zones size : ℕ) → HasNoneFrom page n → n ≤ count → MapGrows (view_with page n zones size) count (view_with page count zones size)
 grows page n count zones size past more = record {
-  places = shown-grow page n count past more ∙ ap (λ (k : ℕ). shown page n ++ replicate (count - k) places.None) (sym (length-shown page n));
+  places = shown-grow page n count past more ∙ ap (λ (k : ℕ). paged_places page n ++ replicate (count - k) places.None) (sym (length-shown page n));
   kept = λ block p. elim (cases_lt block n) as (λ _. get_or (ready page count) block false ≡ true) [
     | inl below ↦ ready-at page count block (omega arith) ∙ sym (ready-at page n block below) ∙ p
     | inr above ↦ absurd (false≢true (sym (ready-past page n block above) ∙ p))

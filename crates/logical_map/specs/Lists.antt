@@ -15,8 +15,8 @@ abbrev pub missing : ListView
 missing = record { blocks = []; whole = false }
 
 -- the list of a zone in which no block lies
-abbrev pub fresh : ListView
-fresh = record { blocks = []; whole = true }
+abbrev pub fresh_list : ListView
+fresh_list = record { blocks = []; whole = true }
 
 -- the list of a zone; one that is missing says nothing
 abbrev pub listed : List ListView → ℕ → ListView
@@ -35,14 +35,14 @@ pub record IsFirstFrom (blocks : List ℕ) (from position : ℕ) : Type 0 where
   pub above : (k : ℕ) → position ≤ k → k < length blocks → from ≤ slice_index blocks k
 
 -- a block that was moved from one zone to another is noted in the other
-pub record Follows (old : List ListView) (was zone : Option ℕ) (block : ℕ) (new : List ListView) : Type 0 where
+pub record NotesMove (old : List ListView) (was zone : Option ℕ) (block : ℕ) (new : List ListView) : Type 0 where
   pub whole : (z : ℕ) → (listed new z).whole ≡ true → (listed old z).whole ≡ true
   pub here : (z : ℕ) → is_zone zone z ≡ true → is_zone was z ≡ false → (listed new z).whole ≡ true → Contains (listed new z).blocks block
   pub kept : (z other : ℕ) → Contains (listed old z).blocks other → Contains (listed new z).blocks other
 
 -- each block is kept
-abbrev pub KeepsAll : List ℕ → List ℕ → Type 0
-KeepsAll old new = (block : ℕ) → Contains old block → Contains new block
+abbrev pub KeepsListed : List ℕ → List ℕ → Type 0
+KeepsListed old new = (block : ℕ) → Contains old block → Contains new block
 
 -- of blocks that were noted of a zone, each that lies there is kept
 abbrev pub KeepsThere : (ℕ → Option (List Place)) → ℕ → ℕ → List ℕ → List ℕ → Type 0

@@ -15,8 +15,8 @@ abbrev pub place_in : (ℕ → Option (List Place)) → ℕ → Place
 place_in page block = unwrap_or (option_map (λ p. slice_index_or p (block % 256) places.None) (page (block / 256))) places.None
 
 -- the places of all blocks
-abbrev pub shown : (ℕ → Option (List Place)) → ℕ → List Place
-shown page n = map (place_in page) (range_with_len 0 n)
+abbrev pub paged_places : (ℕ → Option (List Place)) → ℕ → List Place
+paged_places page n = map (place_in page) (range_with_len 0 n)
 
 -- no block from one on has a place
 abbrev pub HasNoneFrom : (ℕ → Option (List Place)) → ℕ → Type 0

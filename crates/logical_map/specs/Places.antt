@@ -4,10 +4,10 @@ use Rattle.logical_map.specs.declared.place.Place.{Place}
 use Rattle.logical_map.specs.declared.place.Place.TheVariants as places
 
 -- the address of a place, 0 where there is none
-abbrev pub address_of : Place → ℕ
-address_of places.None = 0
-address_of (places.Trimmed address) = address
-address_of (places.At address) = address
+abbrev pub place_address : Place → ℕ
+place_address places.None = 0
+place_address (places.Trimmed address) = address
+place_address (places.At address) = address
 
 -- where each block lies, and whether its place can be set without an allocation; the drive's number of zones, and how many addresses a zone has
 pub record MapView : Type 0 where
@@ -32,7 +32,7 @@ pub record Reserves (old : MapView) (block : ℕ) (new : MapView) : Type 0 where
   pub zone_size : new.zone_size ≡ old.zone_size
 
 -- there are more blocks, up to this count, and those have no place; the blocks that were ready still are
-pub record Grows (old : MapView) (count : ℕ) (new : MapView) : Type 0 where
+pub record MapGrows (old : MapView) (count : ℕ) (new : MapView) : Type 0 where
   pub places : new.places ≡ old.places ++ replicate (count - length old.places) places.None
   pub kept : (block : ℕ) → IsReady old block → IsReady new block
   pub zones : new.zones ≡ old.zones

@@ -1,6 +1,6 @@
 ghost use Rattle.std.specs.Prelude.{◌≡◌, ◌≤◌, OnOk, length, true, if◌then◌else◌};
 ghost use Rattle.std.specs.List.Sorted.{IsNonDecreasing};
-ghost use Rattle.logical_map.specs.Lists.{Follows, IsFirstFrom, KeepsAll, KeepsThere, Notes, Shortens, fresh, listed, missing};
+ghost use Rattle.logical_map.specs.Lists.{NotesMove, IsFirstFrom, KeepsListed, KeepsThere, Notes, Shortens, fresh_list, listed, missing};
 ghost use Rattle.logical_map.specs.Pages.{page_of};
 
 use crate::pages::{Pages, word_at};
@@ -49,7 +49,7 @@ impl ZoneList {
     /// Makes room for `count` blocks more. Where that wants memory, room is made for an eighth of the blocks at
     /// least. The list of a zone in which no block lies begins anew.
     pub fn make_room(&mut self, empty: bool, count: u32) -> Result<(), AllocError>
-        ensures { self.new ≡ (if empty then fresh else self.old) }
+        ensures { self.new ≡ (if empty then fresh_list else self.old) }
     {
         if empty {
             self.blocks.clear();
@@ -92,7 +92,7 @@ impl ZoneList {
     /// Brings the blocks in ascending order where they are not.
     fn sort(&mut self)
         ensures whole { self.new.whole ≡ self.old.whole }
-        ensures kept { KeepsAll self.old.blocks self.new.blocks }
+        ensures kept { KeepsListed self.old.blocks self.new.blocks }
         ensures ascends { IsNonDecreasing self.new.blocks }
     {
         if self.sorted {
@@ -105,7 +105,7 @@ impl ZoneList {
     /// Sorts the blocks as `sort` does, and answers the position of the first that is no lower than `from`.
     pub fn position_from(&mut self, from: u32) -> usize
         ensures whole { self.new.whole ≡ self.old.whole }
-        ensures kept { KeepsAll self.old.blocks self.new.blocks }
+        ensures kept { KeepsListed self.old.blocks self.new.blocks }
         ensures ascends { IsNonDecreasing self.new.blocks }
         ensures first { IsFirstFrom self.new.blocks from result }
     {
@@ -175,7 +175,7 @@ pub fn make_lists(alloc: Global, lists: &mut Vec<ZoneList>, count: usize) -> Res
 
 /// Notes a block that was moved from one zone to another on the list of the other.
 pub fn note(lists: &mut Vec<ZoneList>, was: Option<u64>, zone: Option<u64>, block: u32)
-    ensures { Follows lists.old.items was zone block lists.new.items }
+    ensures { NotesMove lists.old.items was zone block lists.new.items }
 {
     if zone == was {
         return;

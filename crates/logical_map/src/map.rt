@@ -3,7 +3,7 @@ ghost use Rattle.logical_map.specs.Counts.{lowered, raised};
 ghost use Rattle.logical_map.specs.Lists.{FindsBlock, FindsThere, NoneLies};
 ghost use Rattle.logical_map.specs.Live.{first_record, lies_in, live, records_of, zone_below, zone_in, zone_of};
 ghost use Rattle.logical_map.specs.Pages.{page_of, place_in, place_of};
-ghost use Rattle.logical_map.specs.Places.{ArePlacedReady, Grows, IsReady, Reserves, address_of};
+ghost use Rattle.logical_map.specs.Places.{ArePlacedReady, MapGrows, IsReady, Reserves, place_address};
 ghost use Rattle.logical_map.specs.declared.place.Place.TheVariants as places;
 
 use crate::lists::{ZoneList, is_whole, make_lists, note, shorten};
@@ -53,13 +53,13 @@ pub struct Map {
 
 impl Model for Map {
     ghost use Rattle.logical_map.specs.Places.{MapView};
-    ghost use Rattle.logical_map.specs.Pages.{page_of, ready, shown};
+    ghost use Rattle.logical_map.specs.Pages.{page_of, ready, paged_places};
     ghost use Rattle.logical_map.specs.Counts.{IsKept};
     ghost use Rattle.logical_map.specs.Lists.{AreListed};
 
     ghost Value = { MapView };
 
-    ghost view = { λ m. record { places = shown (page_of m.pages.items) m.count; ready = ready (page_of m.pages.items) m.count; zones = m.zones; zone_size = m.zone_size } };
+    ghost view = { λ m. record { places = paged_places (page_of m.pages.items) m.count; ready = ready (page_of m.pages.items) m.count; zones = m.zones; zone_size = m.zone_size } };
 
     ghost invariant = { λ m. IsKept (page_of m.pages.items) m.count m.zones m.zone_size m.counts.items × AreListed (page_of m.pages.items) m.zone_size m.lists.items };
 }
@@ -94,7 +94,7 @@ impl Map {
     /// was made for need no more.
     pub fn grow(&mut self, count: u32)
         requires { length self.old.places ≤ count }
-        ensures { Grows self.old count self.new }
+        ensures { MapGrows self.old count self.new }
     {
         self.count = count;
     }
@@ -144,7 +144,7 @@ impl Map {
     pub fn set(&mut self, block: u32, place: Place) -> Moved
         requires in_range { block < length self.old.places }
         requires ready { IsReady self.old block }
-        requires fits { address_of place + 1 < 2 ^ 63 }
+        requires fits { place_address place + 1 < 2 ^ 63 }
         ensures set { self.new ≡ record self.old { places = slice_set self.old.places block place } }
         ensures from { result.from ≡ zone_in self.old (slice_index_or self.old.places block places.None) }
         ensures to { result.to ≡ zone_in self.old place }

@@ -1,7 +1,7 @@
 ghost use Rattle.std.specs.Prelude.{◌≡◌, ◌≤◌, ◌<◌, ◌+◌, ◌/◌, ◌^◌, length, map, slice_index_or, slice_set, is_some, OnOk, OnErr};
 ghost use Rattle.logical_map.specs.Live.{zone_of};
 ghost use Rattle.logical_map.specs.Pages.{Changes, MakesPage, page_of, place_in, place_of};
-ghost use Rattle.logical_map.specs.Places.{address_of};
+ghost use Rattle.logical_map.specs.Places.{place_address};
 ghost use Rattle.logical_map.specs.declared.place.Place.TheVariants as places;
 
 use crate::place::Place;
@@ -71,7 +71,7 @@ pub fn make_page(alloc: Global, pages: &mut Pages, number: u32) -> Result<(), Al
 
 /// Changes the place of a block, and answers the old one. None where its page is missing.
 pub fn change(pages: &mut Pages, block: u32, place: Place) -> Option<Place>
-    requires { address_of place + 1 < 2 ^ 63 }
+    requires { place_address place + 1 < 2 ^ 63 }
     ensures { Changes (page_of pages.old.items) block place result (page_of pages.new.items) }
 {
     let index = (block / PAGE) as usize;
@@ -87,7 +87,7 @@ pub fn change(pages: &mut Pages, block: u32, place: Place) -> Option<Place>
 /// Writes one place of a page, and answers the old one.
 fn put(page: &mut [u64; 256], index: usize, place: Place) -> Place
     requires in_range { index < 256 }
-    requires fits { address_of place + 1 < 2 ^ 63 }
+    requires fits { place_address place + 1 < 2 ^ 63 }
     ensures old { result ≡ slice_index_or (map place_of page.old) index places.None }
     ensures set { map place_of page.new ≡ slice_set (map place_of page.old) index place }
     ensures long { length page.old ≡ 256 }

@@ -1,6 +1,6 @@
 ghost use Rattle.std.specs.Prelude.{◌≡◌, ◌<◌, ◌+◌, ◌^◌};
 ghost use Rattle.logical_map.specs.Pages.{place_of};
-ghost use Rattle.logical_map.specs.Places.{address_of};
+ghost use Rattle.logical_map.specs.Places.{place_address};
 
 /// Where the newest record of a logical block lies on the drive.
 #[derive(Clone, Copy, Debug, PartialEq, Eq)]
@@ -17,7 +17,7 @@ impl Place {
     /// The word that a page holds: 0 for no place, 2a + 1 for data at the address a, 2a + 2 for a trim by
     /// the batch at a.
     pub(crate) fn word(self) -> u64
-        requires { address_of self + 1 < 2 ^ 63 }
+        requires { place_address self + 1 < 2 ^ 63 }
         ensures { place_of result ≡ self }
     {
         match self {

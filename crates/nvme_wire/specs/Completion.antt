@@ -5,8 +5,8 @@ use Rattle.nvme_wire.specs.declared.completion.Completion.{Completion}
 use Rattle.nvme_wire.specs.Status.{status_code}
 
 -- what can be encoded
-abbrev pub Fits : Completion → Type 0
-Fits c = (c.result < 2 ^ 64) × (c.id < 2 ^ 16)
+abbrev pub IsEncodable : Completion → Type 0
+IsEncodable c = (c.result < 2 ^ 64) × (c.id < 2 ^ 16)
 
 -- the encoding: the result, four zero bytes, the command's identifier, the status
 abbrev pub completion_bytes : Completion → List ℕ

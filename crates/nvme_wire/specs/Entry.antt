@@ -122,8 +122,8 @@ namespace_of entry = little_from 4 4 entry
 abbrev pub address_of : List ℕ → ℕ
 address_of entry = little_from 40 8 entry
 
-abbrev pub blocks_of : List ℕ → ℕ
-blocks_of entry = little_from 48 2 entry + 1
+abbrev pub blocks_field : List ℕ → ℕ
+blocks_field entry = little_from 48 2 entry + 1
 
 abbrev pub dwords_of : List ℕ → ℕ
 dwords_of entry = little_from 48 4 entry + 1
@@ -160,9 +160,9 @@ abbrev pub decoded : Option Opcode → Bool → List ℕ → Result Command Deco
 decoded None one entry = Err faults.Opcode
 decoded (Some opcode) false entry = Err Namespace
 decoded (Some opcodes.Flush) true entry = Ok Flush
-decoded (Some opcodes.Read) true entry = Ok (Read (address_of entry) (blocks_of entry))
-decoded (Some opcodes.Write) true entry = Ok (Write (address_of entry) (blocks_of entry))
-decoded (Some opcodes.Append) true entry = Ok (Append (address_of entry) (blocks_of entry))
+decoded (Some opcodes.Read) true entry = Ok (Read (address_of entry) (blocks_field entry))
+decoded (Some opcodes.Write) true entry = Ok (Write (address_of entry) (blocks_field entry))
+decoded (Some opcodes.Append) true entry = Ok (Append (address_of entry) (blocks_field entry))
 decoded (Some opcodes.Send) true entry = send_of (action_of (action_in entry)) (address_of entry) (selects_all entry)
 decoded (Some opcodes.Receive) true entry =
     receive_of (action_in entry == 0) (options_of (options_in entry)) (nat_lt (dwords_of entry) 16) (address_of entry) (dwords_of entry) (is_partial entry)

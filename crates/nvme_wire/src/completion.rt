@@ -1,5 +1,5 @@
 ghost use Rattle.std.specs.Prelude.{◌≡◌, IfOk, IfErr, Ok};
-ghost use Rattle.nvme_wire.specs.Completion.{completion_bytes, value_in, id_in, code_in, Fits};
+ghost use Rattle.nvme_wire.specs.Completion.{completion_bytes, value_in, id_in, code_in, IsEncodable};
 
 use crate::command::DecodeFault;
 use crate::status::Status;
@@ -51,8 +51,8 @@ impl Completion {
     /// Decodes a completion. Bytes that no completion encodes to are the fault `Field`.
     #[inline(always)]
     pub fn decode(bytes: &[u8; 16]) -> Result<Completion, DecodeFault>
-        ensures ok { IfOk result (λ c. (bytes.now ≡ completion_bytes c) × Fits c) }
-        ensures encoded { (c : _) → Fits c → bytes.now ≡ completion_bytes c → result ≡ Ok c }
+        ensures ok { IfOk result (λ c. (bytes.now ≡ completion_bytes c) × IsEncodable c) }
+        ensures encoded { (c : _) → IsEncodable c → bytes.now ≡ completion_bytes c → result ≡ Ok c }
         ensures err { IfErr result (λ fault. fault ≡ DecodeFault.Field) }
     {
         let Some(status) = Status::from_code(code_at(bytes)) else {

@@ -1,5 +1,5 @@
 ghost use Rattle.std.specs.Prelude.{◌≡◌, ◌≤◌, ◌^◌, true, Some, Ok, IfOk};
-ghost use Rattle.nvme_wire.specs.Entry.{IsAdmitted, address_of, block_number, blocks_of, decode_of, decoded, dwords_of, entry_bytes, entry_with, id_of, namespace_of, none};
+ghost use Rattle.nvme_wire.specs.Entry.{IsAdmitted, address_of, block_number, blocks_field, decode_of, decoded, dwords_of, entry_bytes, entry_with, id_of, namespace_of, none};
 
 use crate::command::{Action, Command, DecodeFault, Opcode, ReportingOptions};
 use crate::number::u64_at;
@@ -26,7 +26,7 @@ fn address_at(entry: &[u8; 64]) -> u64
 }
 
 fn blocks_at(entry: &[u8; 64]) -> u32
-    ensures value { result ≡ blocks_of entry.now }
+    ensures value { result ≡ blocks_field entry.now }
     ensures some { 1 ≤ result }
     ensures few { result ≤ 65536 }
 {

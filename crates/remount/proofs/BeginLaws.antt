@@ -11,28 +11,28 @@ use Rattle.drive_port.specs.Contents.{Content, content_at, content_of, contents,
 use Rattle.drive_port.specs.Drive.{DriveState, IsLawful}
 use Rattle.drive_port.specs.Step.{nowhere, zone_at}
 use Rattle.batch_log.specs.Log.{Batch}
-use Rattle.zone_choice.specs.Agreement.{IsShut, drive_logs}
-use Rattle.zone_choice.specs.Mountable.{IsMountable, is_partly_written}
-use Rattle.zone_choice.specs.Spare.{IsHalfClean, IsVacant, NoneBelow}
+use Rattle.zone_choice.specs.Agreement.{IsShut}
+use Rattle.drive_array.specs.ZoneLogs.{drive_logs, has_torn_tail, log_at, zone_log, zone_tails}
+use Rattle.drive_array.specs.Mountable.{IsMountable, is_partly_written}
+use Rattle.drive_array.specs.Spare.{IsHalfClean, IsVacant, NoneBelow}
 use Rattle.zone_choice.specs.Tables.{TablesView}
-use Rattle.zone_choice.specs.ZoneLogs.{has_torn_tail, log_at, zone_log, zone_tails}
 use Rattle.zone_choice.proofs.AgreementLaws.{zone_log-emptied}
-use Rattle.zone_choice.proofs.AllLaws.{all-at}
+use Rattle.drive_array.proofs.AllLaws.{all-at}
 use Rattle.zone_choice.proofs.CommandLaws.{content-zone}
-use Rattle.zone_choice.proofs.RepairingMounts.{repair_begins}
-use Rattle.zone_choice.proofs.ZoneLogLaws.{tail-at}
-use Rattle.remount.specs.declared.moves.MovePlan.{MovePlan}
+use Rattle.drive_array.proofs.RepairingMounts.{repair_begins}
+use Rattle.drive_array.proofs.ZoneLogLaws.{tail-at}
+use Rattle.remount.specs.declared.repair.moves.MovePlan.{MovePlan}
 use Rattle.remount.specs.declared.repair.Repair.{Repair}
-use Rattle.remount.specs.declared.reported.ReportedZone.{ReportedZone}
-use Rattle.remount.specs.declared.survey.Survey.{Survey}
-use Rattle.remount.specs.declared.scan.ScannedZone.{ScannedZone}
-use Rattle.remount.specs.Heads.{HeadsView, heads_of, no_heads}
-use Rattle.remount.specs.Known.{AreVacantEmpty, KeepsMountable, Knows}
-use Rattle.remount.specs.Known.{HasVacant}
+use Rattle.drive_survey.specs.declared.reported.ReportedZone.{ReportedZone}
+use Rattle.drive_survey.specs.declared.survey.Survey.{Survey}
+use Rattle.drive_survey.specs.declared.scan.ScannedZone.{ScannedZone}
+use Rattle.drive_survey.specs.Heads.{HeadsView, heads_of, no_heads}
+use Rattle.remount.specs.Kept.{AreVacantEmpty, KeepsMountable}
+use Rattle.drive_survey.specs.Known.{HasVacant, Knows}
 use Rattle.remount.specs.Mount.{AreWhole, IsOnlyTorn}
 use Rattle.remount.specs.Moving.{AreSettled, EmptiesTorn, IsAtMove, IsMovePlan, IsMoving, KeepsShut, move_count, moves_before, source_of}
-use Rattle.remount.specs.Reported.{KeepsZones}
-use Rattle.remount.specs.Scan.{AreKnown}
+use Rattle.drive_survey.specs.Reported.{KeepsZones}
+use Rattle.drive_survey.specs.Scan.{AreKnown}
 use Rattle.remount.proofs.CallLaws.{in-get, shut-both, shut-count, shut-known, shut-knows, shut-mountable, zones-shut}
 use Rattle.remount.proofs.MakingLaws.{count-before}
 use Rattle.remount.proofs.NoteLaws.{heads-blocks, logs-emptied, tails-emptied, untorn-emptied}
@@ -201,7 +201,7 @@ has-empty n drive survey mountable none_left known vacant none =
 
 -- ---- step by step
 
-cleared-kept : (n : ℕ) (old new : DriveState) → IsLawful old → KeepsMountable n old new → drive_logs new ≡ drive_logs old → NoneBelow old.geometry.block n (drive_logs old) (length old.zones) → NoneBelow new.geometry.block n (drive_logs new) (length new.zones)
+pub cleared-kept : (n : ℕ) (old new : DriveState) → IsLawful old → KeepsMountable n old new → drive_logs new ≡ drive_logs old → NoneBelow old.geometry.block n (drive_logs old) (length old.zones) → NoneBelow new.geometry.block n (drive_logs new) (length new.zones)
 cleared-kept n old new was k logs none zone lt half =
     none zone (omega (arith, lt, was.count, k.lawful.count, ap (λ (g : Geometry). g.zones) k.geometry)) (subst (λ (g : Geometry). IsHalfClean g.block n (drive_logs old) zone) k.geometry (subst (λ (l : List (List Batch)). IsHalfClean new.geometry.block n l zone) logs half))
 

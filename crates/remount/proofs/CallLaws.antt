@@ -3,7 +3,7 @@ use Rattle.std.proofs.Common.{◌≡◌, ◌≢◌, ◌⊎◌, inl, inr, ℕ, ze
 use Rattle.std.specs.Prelude.{IfErr, OnOk, slice_get}
 use Rattle.std.specs.List.{AllByRecursion}
 use Rattle.std.proofs.lemmas.Bool.{cases_eq}
-use Rattle.std.proofs.lemmas.List.{get_or-set_other, get_or-set_same, length-append, length-map, length-replicate, length-set}
+use Rattle.std.proofs.lemmas.List.{get_or-set_other, get_or-set_same, length-append, length-map, length-replicate}
 use Rattle.std.proofs.lemmas.Option.{slice_get-get_or}
 use Rattle.nvme_wire.specs.declared.zone_state.ZoneState.{ZoneState}
 use Rattle.nvme_wire.specs.declared.zone_state.ZoneState.TheVariants as states
@@ -11,31 +11,33 @@ use Rattle.zone_states.specs.declared.geometry.Geometry.{Geometry}
 use Rattle.zone_states.specs.Geometry.{IsInRange}
 use Rattle.zone_states.specs.Transition.{is_active, is_open}
 use Rattle.zone_states.specs.Zone.{Zone}
-use Rattle.drive_port.specs.Calls.{CanClose, CanFinish, CanReset, CloseLeaves, ClosedZone, Finished, FinishedContents, FinishKeeps, FinishLeaves, IsNotRefused, Obeys}
+use Rattle.drive_port.specs.Calls.{CanClose, CanReset, CloseLeaves, ClosedZone, IsNotRefused, Obeys}
 use Rattle.drive_port.specs.Contents.{Content, Counts, Finishes, SameContents, content_at, content_of, contents, emptied, finished, full, is_active_usage, is_full, is_usable, is_writable, nothing, usage_of}
 use Rattle.drive_port.specs.Drive.{DriveState, IsLawful}
 use Rattle.drive_port.specs.Step.{nowhere, zone_at}
 use Rattle.drive_port.specs.declared.calls.PortFault.{PortFault}
 use Rattle.drive_port.specs.declared.calls.PortFault.TheVariants as port
 use Rattle.batch_log.specs.Log.{zero_block}
-use Rattle.zone_choice.specs.Agreement.{IsShut, drive_logs, spelled}
+use Rattle.zone_choice.specs.Agreement.{IsShut}
+use Rattle.drive_array.specs.ZoneLogs.{HasLog, drive_logs, has_torn_tail, log_at, readable, spelled, spelled_array, zone_tails}
 use Rattle.zone_choice.specs.Changes.{IsHalt}
-use Rattle.zone_choice.specs.ZoneLogs.{HasLog, has_torn_tail, log_at, readable, spelled_array, zone_tails}
 use Rattle.zone_choice.proofs.AgreementLaws.{spelled_same}
-use Rattle.zone_choice.proofs.AllLaws.{all-at}
+use Rattle.drive_array.proofs.AllLaws.{all-at}
 use Rattle.zone_choice.proofs.CommandLaws.{content-zone, start-below, zone-few, zone-start}
-use Rattle.zone_choice.proofs.MountLaws.{finish_mounts}
-use Rattle.zone_choice.proofs.OpenLaws.{close-opens, closing-opens, finish-opens, settled-shut}
-use Rattle.zone_choice.proofs.ZoneLogLaws.{finish_logs, tail-at}
-use Rattle.remount.specs.declared.fault.MountFault.{MountFault}
-use Rattle.remount.specs.declared.reported.ReportedZone.{ReportedZone}
-use Rattle.remount.specs.declared.survey.Survey.{Survey}
-use Rattle.remount.specs.Known.{AreVacantEmpty, KeepsMountable, Knows}
+use Rattle.drive_array.proofs.MountLaws.{finish_mounts}
+use Rattle.zone_choice.proofs.OpenLaws.{close-opens, closing-opens, settled-shut}
+use Rattle.drive_array.proofs.ZoneLogLaws.{finish_logs, tail-at}
+use Rattle.drive_survey.specs.declared.fault.MountFault.{MountFault}
+use Rattle.drive_survey.specs.declared.reported.ReportedZone.{ReportedZone}
+use Rattle.drive_survey.specs.declared.survey.Survey.{Survey}
+use Rattle.remount.specs.Kept.{AreVacantEmpty, KeepsMountable}
+use Rattle.drive_survey.specs.Known.{Knows}
 use Rattle.remount.specs.Mount.{IsOnlyTorn}
+use Rattle.remount.specs.Resets.{FinishesOne, reported_full}
 use Rattle.remount.specs.Moving.{AreSettled, FinishesZone, KeepsShut, SettlesZone}
-use Rattle.remount.specs.Reported.{IsKnown, KeepsZones}
-use Rattle.remount.specs.Scan.{AreKnown, FailsBy, mount_fault}
-use Rattle.remount.proofs.ReadLaws.{kept-contents}
+use Rattle.drive_survey.specs.Reported.{IsKnown, KeepsZones}
+use Rattle.drive_survey.specs.Scan.{AreKnown, FailsBy, mount_fault}
+use Rattle.drive_survey.proofs.ReadLaws.{kept-contents}
 
 -- ---- lists
 
@@ -120,6 +122,7 @@ shut-knows n old new survey k known =
       sound = known.sound;
       reserve = rw k.geometry known.reserve;
       size_is = known.size_is;
+      given_is = known.given_is;
       zones = shut-all old new survey.zones.items k known.zones;
       heads = known.heads;
       tails = rw k.contents_are known.tails;
@@ -160,13 +163,6 @@ starts-at drive zone start range lawful lt is =
 
 -- ---- a Finish
 
-pub can-finish : (drive : DriveState) (zone start : ℕ) → StartsAt drive zone start → is_usable (content_at (contents drive.zones) zone).usage ≡ true → CanFinish drive start
-can-finish drive zone start at usable = record {
-  aligned = at.aligned;
-  in_range = at.below;
-  usable = rw (at.index, ← ap (λ (c : Content). c.usage) (content-zone drive.zones zone)) usable;
-}
-
 pub can-reset : (drive : DriveState) (zone start : ℕ) → StartsAt drive zone start → is_usable (content_at (contents drive.zones) zone).usage ≡ true → CanReset drive start
 can-reset drive zone start at usable = record {
   aligned = at.aligned;
@@ -174,7 +170,7 @@ can-reset drive zone start at usable = record {
   usable = rw (at.index, ← ap (λ (c : Content). c.usage) (content-zone drive.zones zone)) usable;
 }
 
-active-writable : (content : Content) → is_active_usage content.usage ≡ true → (is_writable content.usage ≡ true) × (is_usable content.usage ≡ true)
+pub active-writable : (content : Content) → is_active_usage content.usage ≡ true → (is_writable content.usage ≡ true) × (is_usable content.usage ≡ true)
 active-writable content is = at content.usage is
   where
     at : (u : _) → is_active_usage u ≡ true → (is_writable u ≡ true) × (is_usable u ≡ true)
@@ -201,21 +197,6 @@ finish-mountable n old new zone was logs active whole geometry lawful refused fi
       mountable = λ m. record { lawful = lawful; holds = rw geometry (finish_mounts g zones (contents new.zones) n zone was.geometry.block m.holds writable whole finishes) };
       array = λ m. spelled-logs n old new geometry logs_are;
     }
-
-pub finish-halts : (old new : DriveState) (zone start : ℕ) (fault : PortFault) → IsLawful old → AllByRecursion (HasLog old.geometry) (contents old.zones) → is_active_usage (content_at (contents old.zones) zone).usage ≡ true → has_torn_tail (content_at (contents old.zones) zone) ≡ false
-    → StartsAt old zone start → FinishKeeps {V = Unit {0}} old start (Err fault) new → FinishLeaves {V = Unit {0}} old start (Err fault) new → Obeys {V = Unit {0}} old (Err fault) new → IsNotRefused {V = Unit {0}} (Err fault)
-    → (n : ℕ) → KeepsMountable n old new
-finish-halts old new zone start (port.Refused status) was logs active whole at kept leaves obeys passed n = absurd passed
-finish-halts old new zone start port.Memory was logs active whole at kept leaves obeys passed n = mountable-same n old new kept obeys.lawful (ap (λ (d : DriveState). d.refused) leaves)
-finish-halts old new zone start port.Stopped was logs active whole at kept leaves obeys passed n = by kept
-  where
-    by : SameContents old new ⊎ FinishedContents old new start → KeepsMountable n old new
-    by (inl same) = mountable-same n old new same obeys.lawful (obeys.counts refl).refused
-    by (inr done) = finish-mountable n old new zone was logs active whole done.geometry obeys.lawful (obeys.counts refl).refused (rw at.index at done.contents)
-
-pub finish-done : (n : ℕ) (old new : DriveState) (zone start : ℕ) → IsLawful old → AllByRecursion (HasLog old.geometry) (contents old.zones) → is_active_usage (content_at (contents old.zones) zone).usage ≡ true → has_torn_tail (content_at (contents old.zones) zone) ≡ false
-    → StartsAt old zone start → Finished old new start → Obeys {V = Unit {0}} old (Ok tt) new → KeepsMountable n old new
-finish-done n old new zone start was logs active whole at done obeys = finish-mountable n old new zone was logs active whole done.geometry obeys.lawful done.counts.refused (rw at.index at done.contents)
 
 -- ---- what is known after it
 
@@ -259,26 +240,19 @@ vacant-inactive drive reported zone known vacant lt active none =
     let bad : false ≡ true = rw (usage, e) at active in
     absurd (cc)
 
-pub finish-knows : (n : ℕ) (old new : DriveState) (before after : Survey) (zone start capacity : ℕ) → Knows old n (drive_logs old) before → is_active_usage (content_at (contents old.zones) zone).usage ≡ true → has_torn_tail (content_at (contents old.zones) zone) ≡ false
-    → StartsAt old zone start → Finished old new start → FinishLeaves {V = Unit {0}} old start (Ok tt) new → Obeys {V = Unit {0}} old (Ok tt) new → capacity ≡ old.geometry.capacity
-    → after.zones.items ≡ set before.zones.items zone (record { state = states.Full; blocks = capacity }) → after.scanned.items ≡ before.scanned.items → after.size ≡ before.size
-    → FinishesZone n old new before after zone
-finish-knows n old new before after zone start capacity known active whole at done leaves obeys cap zones-are scanned-are size-is =
+pub finished-zone : (n : ℕ) (old new : DriveState) (before after : Survey) (zone : ℕ) → Knows old n (drive_logs old) before → is_active_usage (content_at (contents old.zones) zone).usage ≡ true → has_torn_tail (content_at (contents old.zones) zone) ≡ false
+    → FinishesOne old new before after zone → FinishesZone n old new before after zone
+finished-zone n old new before after zone known active whole one =
     let g = old.geometry in
     let zones = contents old.zones in
     let was = known.zones.lawful in
-    let finishes : Finishes zones (contents new.zones) zone = rw at.index at done.contents in
-    let geometry = done.geometry in
+    let finishes : Finishes zones (contents new.zones) zone = one.contents_are in
+    let geometry = one.geometry in
     let same = finish_logs g zones (contents new.zones) zone was.geometry.block (all-at (HasLog g) zones zone nothing known.all_logs finishes.in_range) (active-writable (content_at zones zone) active).0 whole finishes in
     let logs : drive_logs new ≡ drive_logs old = rw geometry same.logs in
-    let opens = finish-opens {V = Unit {0}} old new start (Ok tt) leaves in
-    let count : length new.zones ≡ length old.zones = omega (arith, was.count, obeys.lawful.count, ap (λ (x : Geometry). x.zones) geometry) in
+    let count : length new.zones ≡ length old.zones = omega (arith, was.count, one.known.lawful.count, ap (λ (x : Geometry). x.zones) geometry) in
     let others : (other : ℕ) → other ≢ zone → content_at (contents new.zones) other ≡ content_at zones other = λ other ne. rw finishes.zones (get_or-set_other zones zone other (finished (content_at zones zone)) nothing ne) in
     let settled : (content_at (contents new.zones) zone).usage ≡ full = rw finishes.zones (ap (λ (c : Content). c.usage) (get_or-set_same zones zone (finished (content_at zones zone)) nothing finishes.in_range)) in
-    let each : (other : ℕ) (r : ReportedZone) → slice_get after.zones.items other ≡ Some r → IsKnown new other r = λ other r is. elim (get-set before.zones.items zone other (record { state = states.Full; blocks = capacity }) r (rw zones-are at is)) as (λ _. IsKnown new other r) [
-      | inl here ↦ rw (here.0, here.1, cap) (full-known old new zone known.zones.geometry was obeys.lawful geometry finishes)
-      | inr there ↦ other-known old new other r was obeys.lawful geometry (others other there.0) (opens other) (known.zones.each other r there.1)
-    ] in
     record {
       known = rw logs (record {
         all_logs = rw geometry (same.all_logs known.all_logs);
@@ -286,19 +260,15 @@ finish-knows n old new before after zone start capacity known active whole at do
         part = rw logs known.part;
         sound = known.sound;
         reserve = rw geometry known.reserve;
-        size_is = size-is ∙ known.size_is;
-        zones = record {
-          geometry = rw geometry known.zones.geometry;
-          lawful = obeys.lawful;
-          count = ap length zones-are ∙ length-set before.zones.items zone (record { state = states.Full; blocks = capacity }) ∙ known.zones.count ∙ sym count;
-          each = each;
-        };
-        heads = rw scanned-are known.heads;
-        tails = rw (scanned-are, same.tails_are) known.tails;
+        size_is = one.size ∙ known.size_is;
+        given_is = one.given ∙ known.given_is;
+        zones = one.known;
+        heads = rw one.scanned known.heads;
+        tails = rw (one.scanned, same.tails_are) known.tails;
       });
       logs = logs;
       tails = same.tails_are;
-      vacant = λ vacant other r is none. elim (get-set before.zones.items zone other (record { state = states.Full; blocks = capacity }) r (rw zones-are at is)) as (λ _. r.state ≡ states.Empty) [
+      vacant = λ vacant other r is none. elim (get-set before.zones.items zone other (reported_full g.capacity) r (rw one.reported at is)) as (λ _. r.state ≡ states.Empty) [
         | inl here ↦ absurd (vacant-inactive old before.zones.items zone known.zones vacant (omega (arith, finishes.in_range, length-map old.zones content_of)) active (rw (logs, here.0) at none))
         | inr there ↦ vacant other r there.1 (rw logs at none)
       ];
@@ -425,6 +395,15 @@ pub reported-shut : (drive : DriveState) (zone : ℕ) (reported : ReportedZone) 
 reported-shut drive zone reported known h = known.shut h
 
 -- ---- a zone's report
+
+pub active-usage : (state : ZoneState) → is_active state ≡ is_active_usage (usage_of state)
+active-usage states.Empty = refl
+active-usage states.ImplicitlyOpened = refl
+active-usage states.ExplicitlyOpened = refl
+active-usage states.Closed = refl
+active-usage states.Full = refl
+active-usage states.ReadOnly = refl
+active-usage states.Offline = refl
 
 pub reported-active : (drive : DriveState) (reported : List ReportedZone) (zone : ℕ) (r : ReportedZone) → AreKnown drive reported → slice_get reported zone ≡ Some r → is_active_usage (content_at (contents drive.zones) zone).usage ≡ is_active_usage (usage_of r.state)
 reported-active drive reported zone r known is = ap is_active_usage (known.each zone r is).usage

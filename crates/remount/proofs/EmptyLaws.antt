@@ -9,18 +9,18 @@ use Rattle.zone_states.specs.declared.geometry.Geometry.{Geometry}
 use Rattle.drive_port.specs.Contents.{Content, Resets, content_at, contents, emptied, nothing}
 use Rattle.drive_port.specs.Drive.{DriveState}
 use Rattle.batch_log.specs.Log.{Batch}
-use Rattle.zone_choice.specs.Agreement.{drive_logs}
-use Rattle.zone_choice.specs.Mountable.{IsMountable}
-use Rattle.zone_choice.specs.Records.{without}
-use Rattle.zone_choice.specs.Spare.{IsClearing, IsLowest, IsVacant, cleared}
-use Rattle.zone_choice.specs.ZoneLogs.{has_torn_tail, log_at, zone_log, zone_logs, zone_tails}
-use Rattle.remount.specs.declared.fault.MountFault.{MountFault}
-use Rattle.remount.specs.declared.reported.ReportedZone.{ReportedZone}
-use Rattle.remount.specs.declared.survey.Survey.{Survey}
-use Rattle.remount.specs.Known.{AreVacantEmpty, KeepsMountable, Knows}
+use Rattle.drive_array.specs.ZoneLogs.{drive_logs, has_torn_tail, log_at, zone_log, zone_logs, zone_tails}
+use Rattle.drive_array.specs.Mountable.{IsMountable}
+use Rattle.drive_array.specs.Records.{without}
+use Rattle.drive_array.specs.Spare.{IsClearing, IsLowest, IsVacant, cleared}
+use Rattle.drive_survey.specs.declared.fault.MountFault.{MountFault}
+use Rattle.drive_survey.specs.declared.reported.ReportedZone.{ReportedZone}
+use Rattle.drive_survey.specs.declared.survey.Survey.{Survey}
+use Rattle.remount.specs.Kept.{AreVacantEmpty, KeepsMountable}
+use Rattle.drive_survey.specs.Known.{Knows}
 use Rattle.remount.specs.Mount.{AreToEmpty}
 use Rattle.remount.specs.Resets.{KeepsWritten, MayChange, MayReset, ResetsAll, reported_empty, set_all}
-use Rattle.remount.specs.Scan.{AreKnown, heads_in, tails_in}
+use Rattle.drive_survey.specs.Scan.{AreKnown, heads_in, tails_in}
 use Rattle.remount.proofs.KeepLaws.{keeps-mountable-both, keeps-mountable-none, reset-keeps, without-vacant}
 use Rattle.remount.proofs.SetAllLaws.{cleared-set_all, get-set_all, get_or-set_all_other, map-set_all, set_all-both, set_all-parts}
 
@@ -64,6 +64,7 @@ pub record ResetsSome (first now : DriveState) (before survey : Survey) (n : ℕ
   pub heads : heads_in survey.scanned.items ≡ heads_in before.scanned.items
   pub tails : set_all (tails_in survey.scanned.items) rest false ≡ set_all (tails_in before.scanned.items) zones false
   pub size : survey.size ≡ before.size
+  pub given : survey.given ≡ before.given
   pub may : MayReset first.geometry.block n (drive_logs now) rest
 
 pub resets-none : (drive : DriveState) (survey : Survey) (n : ℕ) (zones : List ℕ) → AreKnown drive survey.zones.items → MayReset drive.geometry.block n (drive_logs drive) zones → ResetsSome drive drive survey survey n zones zones
@@ -76,6 +77,7 @@ resets-none drive survey n zones known may = record {
   heads = refl;
   tails = refl;
   size = refl;
+  given = refl;
   may = may;
 }
 
@@ -95,6 +97,7 @@ resets-more first now new before survey after n zone zones rest some change one 
   heads = one.heads ∙ some.heads;
   tails = ap (λ (ts : List Bool). set_all ts rest false) one.tails ∙ some.tails;
   size = one.size ∙ some.size;
+  given = one.given ∙ some.given;
   may = subst (λ (ls : List (List Batch)). MayReset first.geometry.block n ls rest) (sym (drive-logs-reset now new survey after (zone ∷ []) one)) some.may.2;
 }
 
@@ -107,6 +110,7 @@ resets-end first now before survey n zones some = record {
   heads = some.heads;
   tails = some.tails;
   size = some.size;
+  given = some.given;
 }
 
 -- ---- vacant zones, and then half clean ones
@@ -139,6 +143,7 @@ resets-both old middle new before survey after vacant half_clean one two = recor
   heads = two.heads ∙ one.heads;
   tails = two.tails ∙ ap (λ (ts : List Bool). set_all ts half_clean false) one.tails ∙ set_all-both (tails_in before.scanned.items) vacant half_clean false;
   size = two.size ∙ one.size;
+  given = two.given ∙ one.given;
 }
 
 pub knows-cleared : (old middle new : DriveState) (before survey after : Survey) (n : ℕ) (vacant half_clean : List ℕ) → CanEmpty old n before vacant half_clean → ResetsAll old middle before survey vacant → ResetsAll middle new survey after half_clean
@@ -154,6 +159,7 @@ knows-cleared old middle new before survey after n vacant half_clean can one two
       sound = rw logs was.sound;
       reserve = rw (logs, all.geometry) was.reserve;
       size_is = all.size ∙ rw logs was.size_is;
+      given_is = all.given ∙ was.given_is;
       zones = all.known;
       heads = rw logs (all.heads ∙ was.heads);
       tails = all.tails ∙ ap (λ (ts : List Bool). set_all ts (vacant ++ half_clean) false) was.tails ∙ sym (ap zone_tails all.contents_are ∙ tails-set_all (contents old.zones) (vacant ++ half_clean));

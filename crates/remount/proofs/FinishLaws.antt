@@ -11,25 +11,24 @@ use Rattle.zone_states.specs.declared.geometry.Geometry.{Geometry}
 use Rattle.drive_port.specs.Contents.{Content, Finishes, Usage, active, empty, full, unusable, content_at, content_of, contents, finished, is_active_usage, is_full, nothing, usage_of}
 use Rattle.drive_port.specs.Drive.{DriveState}
 use Rattle.batch_log.specs.Log.{Batch}
-use Rattle.zone_choice.specs.Agreement.{drive_logs}
-use Rattle.zone_choice.specs.Laws.{SameLogs}
-use Rattle.zone_choice.specs.Mountable.{IsMountable, is_partly_written}
-use Rattle.zone_choice.specs.Repair.{HasAtMost}
-use Rattle.zone_choice.specs.Reserve.{batch_most}
-use Rattle.zone_choice.specs.ZoneLogs.{HasLog, has_torn_tail, log_at, padding, readable, zone_log, zone_tails}
-use Rattle.zone_choice.proofs.AllLaws.{all-at}
-use Rattle.zone_choice.proofs.ZoneLogLaws.{finish_logs}
-use Rattle.remount.specs.declared.reported.ReportedZone.{ReportedZone}
-use Rattle.remount.specs.declared.scan.ScannedZone.{ScannedZone}
-use Rattle.remount.specs.declared.survey.Survey.{Survey}
-use Rattle.remount.specs.Heads.{HeadsView, heads_after, heads_of, no_heads, with_heading}
-use Rattle.remount.specs.Known.{AreVacantEmpty, KeepsMountable, Knows}
-use Rattle.remount.specs.Known.{HasVacant}
-use Rattle.remount.specs.Mount.{AreWhole, IsRepaired}
-use Rattle.remount.specs.Reported.{IsKnown}
-use Rattle.remount.specs.Resets.{FinishesIf, FinishesOne, GoesOn, IsTested, KeepsGoing, MayChange, is_to_finish, reported_full}
-use Rattle.remount.specs.Scan.{AreKnown, heads_in}
-use Rattle.remount.specs.Survey.{is_partly_reported}
+use Rattle.drive_array.specs.ZoneLogs.{HasLog, drive_logs, has_torn_tail, log_at, padding, readable, zone_log, zone_tails}
+use Rattle.drive_array.specs.Laws.{SameLogs}
+use Rattle.drive_array.specs.Mountable.{is_partly_written}
+use Rattle.drive_array.specs.Repair.{HasAtMost}
+use Rattle.drive_array.specs.Reserve.{batch_most}
+use Rattle.drive_array.proofs.AllLaws.{all-at}
+use Rattle.drive_array.proofs.ZoneLogLaws.{finish_logs}
+use Rattle.drive_survey.specs.declared.reported.ReportedZone.{ReportedZone}
+use Rattle.drive_survey.specs.declared.scan.ScannedZone.{ScannedZone}
+use Rattle.drive_survey.specs.declared.survey.Survey.{Survey}
+use Rattle.drive_survey.specs.Heads.{HeadsView, heads_after, heads_of, no_heads, with_heading}
+use Rattle.remount.specs.Kept.{AreVacantEmpty, KeepsMountable}
+use Rattle.drive_survey.specs.Known.{Knows}
+use Rattle.remount.specs.Mount.{AreWhole, IsRepaired, IsUntorn}
+use Rattle.drive_survey.specs.Reported.{IsKnown}
+use Rattle.remount.specs.Resets.{FinishesIf, FinishesOne, CanBeFilled, IsTested, KeepsGoing, MayChange, is_to_finish, reported_full}
+use Rattle.drive_survey.specs.Scan.{AreKnown, heads_in}
+use Rattle.drive_survey.specs.Survey.{is_partly_reported}
 use Rattle.remount.proofs.KeepLaws.{CanFinishZone, finish-keeps, keeps-mountable-both, keeps-mountable-none}
 
 -- ---- tests
@@ -122,19 +121,12 @@ pub record FinishesSome (first now : DriveState) (before survey : Survey) (n zon
   pub scanned : survey.scanned ≡ before.scanned
   pub tails : zone_tails (contents now.zones) ≡ zone_tails (contents first.zones)
   pub size : survey.size ≡ before.size
+  pub given : survey.given ≡ before.given
   pub vacant : AreVacantEmpty survey.zones.items (drive_logs first)
-  pub done : (k : ℕ) → k < zone → GoesOn now k
+  pub done : (k : ℕ) → k < zone → CanBeFilled now k
   pub others : KeepsGoing first now
 
--- what is known of the drive before
-pub record CanFinishAll (drive : DriveState) (survey : Survey) (n : ℕ) : Type 0 where
-  pub known : Knows drive n (drive_logs drive) survey
-  pub mountable : IsMountable drive n
-  pub vacant : AreVacantEmpty survey.zones.items (drive_logs drive)
-  pub whole : AreWhole (contents drive.zones)
-  pub spare : HasVacant (drive_logs drive)
-
-pub finishes-none : (drive : DriveState) (survey : Survey) (n : ℕ) → CanFinishAll drive survey n → FinishesSome drive drive survey survey n 0
+pub finishes-none : (drive : DriveState) (survey : Survey) (n : ℕ) → IsUntorn drive n survey → FinishesSome drive drive survey survey n 0
 finishes-none drive survey n can = record {
   keeps = keeps-mountable-none n drive can.mountable.lawful;
   logs = refl;
@@ -142,18 +134,19 @@ finishes-none drive survey n can = record {
   scanned = refl;
   tails = refl;
   size = refl;
-  vacant = can.vacant;
+  given = refl;
+  vacant = can.empty;
   done = λ k lt. absurd (omega (arith, lt));
   others = λ k goes. refl;
 }
 
-some-at : (first now : DriveState) (before survey : Survey) (n below zone : ℕ) → CanFinishAll first before n → FinishesSome first now before survey n below → zone < length survey.zones.items → SurveyedAt now (drive_logs first) survey zone
+some-at : (first now : DriveState) (before survey : Survey) (n below zone : ℕ) → IsUntorn first n before → FinishesSome first now before survey n below → zone < length survey.zones.items → SurveyedAt now (drive_logs first) survey zone
 some-at first now before survey n below zone can some lt =
     let long : length (drive_logs first) ≡ length survey.zones.items = omega (arith, can.known.count, can.known.zones.count, some.known.count, ap length some.logs, length-map (contents now.zones) (zone_log now.geometry), length-map now.zones content_of) in
     let heads : heads_in survey.scanned.items ≡ map heads_of (drive_logs first) = rw some.scanned can.known.heads in
     surveyed-at now (drive_logs first) survey zone some.known heads long lt
 
-pub same-long : (first now : DriveState) (before survey : Survey) (n zone : ℕ) → CanFinishAll first before n → FinishesSome first now before survey n zone → length survey.zones.items ≡ length before.zones.items
+pub same-long : (first now : DriveState) (before survey : Survey) (n zone : ℕ) → IsUntorn first n before → FinishesSome first now before survey n zone → length survey.zones.items ≡ length before.zones.items
 same-long first now before survey n zone can some =
     omega (arith, can.known.count, can.known.zones.count, some.known.count, ap length some.logs, length-map (contents now.zones) (zone_log now.geometry), length-map now.zones content_of)
 
@@ -162,7 +155,7 @@ unfolding has_torn_tail
 tails-false drive zone whole = sym (get_or-map has_torn_tail (contents drive.zones) zone nothing) ∙ whole zone
 
 -- a zone that is to be finished can be
-can-finish : (first now : DriveState) (before survey : Survey) (n zone : ℕ) → CanFinishAll first before n → FinishesSome first now before survey n zone → zone < length survey.zones.items
+can-finish : (first now : DriveState) (before survey : Survey) (n zone : ℕ) → IsUntorn first n before → FinishesSome first now before survey n zone → zone < length survey.zones.items
     → IsTested now.geometry.capacity (batch_most now.geometry) survey zone true → CanFinishZone now zone
 can-finish first now before survey n zone can some lt tested =
     let at = some-at first now before survey n zone zone can some lt in
@@ -173,14 +166,14 @@ can-finish first now before survey n zone can some lt tested =
       whole = tails-false now zone (λ k. ap (λ (ts : List Bool). get_or ts k false) some.tails ∙ can.whole k);
     }
 
-pub finish-if-keeps : (first now new : DriveState) (before survey : Survey) (n zone : ℕ) → CanFinishAll first before n → FinishesSome first now before survey n zone → zone < length survey.zones.items
+pub finish-if-keeps : (first now new : DriveState) (before survey : Survey) (n zone : ℕ) → IsUntorn first n before → FinishesSome first now before survey n zone → zone < length survey.zones.items
     → MayChange (λ a b. Finishes a b zone × IsTested now.geometry.capacity (batch_most now.geometry) survey zone true) now new → KeepsMountable n first new
 finish-if-keeps first now new before survey n zone can some lt change =
     keeps-mountable-both n first now new some.keeps (finish-keeps n now new zone (λ a b. Finishes a b zone × IsTested now.geometry.capacity (batch_most now.geometry) survey zone true) (λ a b changes. (changes.0, can-finish first now before survey n zone can some lt changes.1)) change)
 
 -- a disk does not go on with a zone that is to be finished
-due-stops : (first now : DriveState) (before survey : Survey) (n zone : ℕ) → CanFinishAll first before n → FinishesSome first now before survey n zone → zone < length survey.zones.items
-    → IsTested now.geometry.capacity (batch_most now.geometry) survey zone true → GoesOn now zone → ⊥
+due-stops : (first now : DriveState) (before survey : Survey) (n zone : ℕ) → IsUntorn first n before → FinishesSome first now before survey n zone → zone < length survey.zones.items
+    → IsTested now.geometry.capacity (batch_most now.geometry) survey zone true → CanBeFilled now zone → ⊥
 due-stops first now before survey n zone can some lt tested goes = by (or-one (ltb now.geometry.capacity (at.r.blocks + 2)) (ltb (batch_most now.geometry) heads.most) both.1)
   where
     at : SurveyedAt now (drive_logs first) survey zone
@@ -214,8 +207,8 @@ due-stops first now before survey n zone can some lt tested goes = by (or-one (l
         absurd (omega (arith, most-most no_heads (batch_most now.geometry) (log_at (drive_logs first) zone) (omega arith) all, ltb-true (batch_most now.geometry) heads.most many))
 
 -- a zone that is not to be finished
-goes-on : (first now : DriveState) (before survey : Survey) (n zone : ℕ) → CanFinishAll first before n → FinishesSome first now before survey n zone → zone < length survey.zones.items
-    → IsTested now.geometry.capacity (batch_most now.geometry) survey zone false → GoesOn now zone
+goes-on : (first now : DriveState) (before survey : Survey) (n zone : ℕ) → IsUntorn first n before → FinishesSome first now before survey n zone → zone < length survey.zones.items
+    → IsTested now.geometry.capacity (batch_most now.geometry) survey zone false → CanBeFilled now zone
 goes-on first now before survey n zone can some lt tested partly =
     let at = some-at first now before survey n zone zone can some lt in
     let heads = heads_of (log_at (drive_logs first) zone) in
@@ -226,7 +219,7 @@ goes-on first now before survey n zone can some lt tested partly =
     let few = most-few no_heads (batch_most now.geometry) (log_at (drive_logs first) zone) (not-below (batch_most now.geometry) heads.most neither.1) in
     (omega (arith, room, part.blocks), rw some.logs few)
 
-pub finishes-more : (first now new : DriveState) (before survey after : Survey) (n zone : ℕ) → CanFinishAll first before n → FinishesSome first now before survey n zone → zone < length survey.zones.items → KeepsMountable n first new
+pub finishes-more : (first now new : DriveState) (before survey after : Survey) (n zone : ℕ) → IsUntorn first n before → FinishesSome first now before survey n zone → zone < length survey.zones.items → KeepsMountable n first new
     → FinishesIf now new survey after zone → FinishesSome first new before after n (zone + 1)
 finishes-more first now new before survey after n zone can some lt keeps (inl is) = rw (is.1, is.2) (record {
   keeps = some.keeps;
@@ -235,9 +228,10 @@ finishes-more first now new before survey after n zone can some lt keeps (inl is
   scanned = some.scanned;
   tails = some.tails;
   size = some.size;
+  given = some.given;
   vacant = some.vacant;
-  done = λ k below. elim (cases_eq k zone) as (λ _. GoesOn now k) [
-    | inl same ↦ subst (GoesOn now) (sym same) (goes-on first now before survey n zone can some lt is.0)
+  done = λ k below. elim (cases_eq k zone) as (λ _. CanBeFilled now k) [
+    | inl same ↦ subst (CanBeFilled now) (sym same) (goes-on first now before survey n zone can some lt is.0)
     | inr other ↦ some.done k (omega (arith, below, other))
   ];
   others = some.others;
@@ -249,6 +243,7 @@ finishes-more first now new before survey after n zone can some lt keeps (inr is
   scanned = one.scanned ∙ some.scanned;
   tails = kept.tails_are ∙ some.tails;
   size = one.size ∙ some.size;
+  given = one.given ∙ some.given;
   vacant = λ k r there none. vacant-at k r (cases_eq k zone) there none;
   done = λ k below. done-at k (cases_eq k zone) below;
   others = λ k goes. others-at k (cases_eq k zone) goes;
@@ -277,7 +272,7 @@ finishes-more first now new before survey after n zone can some lt keeps (inr is
         let value : get_or survey.zones.items k r ≡ r = sym (get_or-set_other survey.zones.items zone k (reported_full now.geometry.capacity) r other) ∙ get_or_from_slice_get (set survey.zones.items zone (reported_full now.geometry.capacity)) k r r was in
         some.vacant k r (slice_get-get_or survey.zones.items k r lt' ∙ ap Some value) none
 
-    done-at : (k : ℕ) → (k ≡ zone) ⊎ (k ≡ zone → ⊥) → k < zone + 1 → GoesOn new k
+    done-at : (k : ℕ) → (k ≡ zone) ⊎ (k ≡ zone → ⊥) → k < zone + 1 → CanBeFilled new k
     done-at k (inl same) below =
         let here : content_at (contents new.zones) k ≡ finished (content_at (contents now.zones) zone) = rw (same, one.contents_are.zones) (get_or-set_same (contents now.zones) zone (finished (content_at (contents now.zones) zone)) nothing one.contents_are.in_range) in
         λ partly. absurd (let bad : false ≡ true = rw here at partly in cc)
@@ -285,16 +280,16 @@ finishes-more first now new before survey after n zone can some lt keeps (inr is
         let here : content_at (contents new.zones) k ≡ content_at (contents now.zones) k = rw one.contents_are.zones (get_or-set_other (contents now.zones) zone k (finished (content_at (contents now.zones) zone)) nothing other) in
         λ partly. rw (here, one.geometry, kept.logs) (some.done k (omega (arith, below, other)) (rw here at partly))
 
-    others-at : (k : ℕ) → (k ≡ zone) ⊎ (k ≡ zone → ⊥) → GoesOn first k → content_at (contents new.zones) k ≡ content_at (contents first.zones) k
+    others-at : (k : ℕ) → (k ≡ zone) ⊎ (k ≡ zone → ⊥) → CanBeFilled first k → content_at (contents new.zones) k ≡ content_at (contents first.zones) k
     others-at k (inl same) goes =
-        let still : GoesOn now k = λ partly. rw (some.logs, some.keeps.geometry, some.others k goes) (goes (rw (some.others k goes) at partly)) in
-        absurd (due-stops first now before survey n zone can some lt is.0 (subst (GoesOn now) same still))
+        let still : CanBeFilled now k = λ partly. rw (some.logs, some.keeps.geometry, some.others k goes) (goes (rw (some.others k goes) at partly)) in
+        absurd (due-stops first now before survey n zone can some lt is.0 (subst (CanBeFilled now) same still))
     others-at k (inr other) goes =
         rw one.contents_are.zones (get_or-set_other (contents now.zones) zone k (finished (content_at (contents now.zones) zone)) nothing other) ∙ some.others k goes
 
 -- ---- all of them
 
-pub finish-knows : (first now : DriveState) (before survey : Survey) (n zone : ℕ) → CanFinishAll first before n → FinishesSome first now before survey n zone → Knows now n (drive_logs now) survey
+pub finish-knows : (first now : DriveState) (before survey : Survey) (n zone : ℕ) → IsUntorn first n before → FinishesSome first now before survey n zone → Knows now n (drive_logs now) survey
 finish-knows first now before survey n zone can some =
     let was = can.known in
     let logs = some.logs in
@@ -305,13 +300,15 @@ finish-knows first now before survey n zone can some =
       sound = rw logs was.sound;
       reserve = rw (logs, some.keeps.geometry) was.reserve;
       size_is = some.size ∙ rw logs was.size_is;
+      given_is = some.given ∙ was.given_is;
       zones = some.known;
       heads = rw (logs, some.scanned) was.heads;
       tails = rw (some.scanned, some.tails) was.tails;
     }
 
-pub finish-repaired : (first now : DriveState) (before survey : Survey) (n zone : ℕ) → CanFinishAll first before n → FinishesSome first now before survey n zone → length survey.zones.items ≤ zone → IsRepaired now survey
+pub finish-repaired : (first now : DriveState) (before survey : Survey) (n zone : ℕ) → IsUntorn first n before → FinishesSome first now before survey n zone → length survey.zones.items ≤ zone → IsRepaired now n survey
 finish-repaired first now before survey n zone can some all = record {
+  known = finish-knows first now before survey n zone can some;
   empty = rw some.logs some.vacant;
   whole = λ k. ap (λ (ts : List Bool). get_or ts k false) some.tails ∙ can.whole k;
   few_partial = (some.keeps.mountable can.mountable).holds.disk.few_partial;
@@ -320,8 +317,8 @@ finish-repaired first now before survey n zone can some all = record {
   vacant = rw some.logs can.spare;
 }
   where
-    each : (k : ℕ) → GoesOn now k
-    each k = elim (cases_lt k zone) as (λ _. GoesOn now k) [
+    each : (k : ℕ) → CanBeFilled now k
+    each k = elim (cases_lt k zone) as (λ _. CanBeFilled now k) [
       | inl lt ↦ some.done k lt
       | inr past ↦ (λ partly. absurd (let none : content_at (contents now.zones) k ≡ nothing = get_or_past (contents now.zones) k nothing (omega (arith, past, all, some.known.count, length-map now.zones content_of)) in let bad : false ≡ true = rw none at partly in cc))
     ]

@@ -7,14 +7,14 @@ use Rattle.std.proofs.lemmas.Nat.{div-mul-add, mod-mul-add, mul-le}
 use Rattle.batch_log.specs.declared.header.Entry.{Entry}
 use Rattle.batch_log.specs.Log.{Batch, batch_size, data_count, log_size, one_unless}
 use Rattle.logical_map.specs.declared.place.Place.TheVariants as places
-use Rattle.zone_choice.specs.Records.{Record, batch_records, entry_offset, entry_records, log_records, place, records}
-use Rattle.zone_choice.specs.ZoneLogs.{log_at}
-use Rattle.zone_choice.proofs.AllLaws.{all-append, all-weaker}
-use Rattle.remount.specs.declared.heads.Head.{Head}
-use Rattle.remount.specs.Heads.{HeadsView, heads_of}
-use Rattle.remount.specs.KeptRecords.{kept_record}
-use Rattle.remount.specs.Placing.{AreAscending, heads_at, kept_place, sequence_at, sequence_from, sequence_of}
-use Rattle.remount.proofs.HeadRecordLaws.{heads-are, heads_from}
+use Rattle.drive_array.specs.Records.{Record, batch_records, entry_offset, entry_records, log_records, place, records}
+use Rattle.drive_array.specs.ZoneLogs.{log_at}
+use Rattle.drive_array.proofs.AllLaws.{all-append, all-weaker}
+use Rattle.drive_survey.specs.declared.heads.Head.{Head}
+use Rattle.drive_survey.specs.Heads.{HeadsView, heads_of, sequence_at, sequence_from}
+use Rattle.drive_survey.specs.KeptRecords.{kept_record}
+use Rattle.remount.specs.Placing.{AreAscending, heads_at, kept_place, sequence_of}
+use Rattle.drive_survey.proofs.HeadRecordLaws.{heads-are, heads_from}
 
 -- ---- the headers stand in the order of their blocks
 

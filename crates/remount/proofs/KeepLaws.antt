@@ -4,17 +4,16 @@ use Rattle.std.proofs.lemmas.List.{set-get_or}
 use Rattle.drive_port.specs.Contents.{Content, Finishes, Resets, content_at, contents, is_writable, nothing}
 use Rattle.drive_port.specs.Drive.{DriveState, IsLawful}
 use Rattle.batch_log.specs.Log.{Batch}
-use Rattle.zone_choice.specs.Agreement.{drive_logs, spelled}
-use Rattle.zone_choice.specs.Laws.{ResetMounts}
-use Rattle.zone_choice.specs.Mountable.{IsMountable}
-use Rattle.zone_choice.specs.Records.{without}
-use Rattle.zone_choice.specs.Sizes.{array_of}
-use Rattle.zone_choice.specs.Spare.{IsLowest, IsVacant}
-use Rattle.zone_choice.specs.ZoneLogs.{HasLog, has_torn_tail, spelled_array, zone_logs}
-use Rattle.zone_choice.proofs.MountLaws.{finish_mounts, lowest_resets, vacant_resets}
-use Rattle.zone_choice.proofs.AllLaws.{all-at}
-use Rattle.zone_choice.proofs.ZoneLogLaws.{finish_logs}
-use Rattle.remount.specs.Known.{KeepsMountable}
+use Rattle.drive_array.specs.ZoneLogs.{HasLog, drive_logs, has_torn_tail, spelled, spelled_array, zone_logs}
+use Rattle.drive_array.specs.Laws.{ResetMounts}
+use Rattle.drive_array.specs.Mountable.{IsMountable}
+use Rattle.drive_array.specs.Records.{without}
+use Rattle.drive_array.specs.Sizes.{array_of}
+use Rattle.drive_array.specs.Spare.{IsLowest, IsVacant}
+use Rattle.drive_array.proofs.MountLaws.{finish_mounts, lowest_resets, vacant_resets}
+use Rattle.drive_array.proofs.AllLaws.{all-at}
+use Rattle.drive_array.proofs.ZoneLogLaws.{finish_logs}
+use Rattle.remount.specs.Kept.{KeepsMountable}
 use Rattle.remount.specs.Resets.{MayChange}
 
 -- ---- one command after the other

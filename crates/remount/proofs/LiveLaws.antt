@@ -17,21 +17,20 @@ use Rattle.batch_log.proofs.LogLaws.{spelled_length}
 use Rattle.logical_map.specs.Live.{blocks_in, lies_in}
 use Rattle.logical_map.specs.declared.place.Place.{Place}
 use Rattle.logical_map.specs.declared.place.Place.TheVariants as places
-use Rattle.zone_choice.specs.Agreement.{drive_logs}
-use Rattle.zone_choice.specs.Records.{IsNewest, Record, batch_records, entry_offset, entry_records, log_records, newest, place, records}
-use Rattle.zone_choice.specs.Repair.{is_any, is_data, kept_in, live, live_data}
-use Rattle.zone_choice.specs.Repairing.{LiesIn}
-use Rattle.zone_choice.specs.Sizes.{encoded_size, map_of}
-use Rattle.zone_choice.specs.ZoneLogs.{HasLog, log_at, readable, zone_log}
-use Rattle.zone_choice.proofs.AllLaws.{all-append, all-at, all-weaker}
-use Rattle.zone_choice.proofs.NewestLaws.{newest-is}
-use Rattle.zone_choice.proofs.ReadLaws.{StandsOn, all-among, records_stand}
-use Rattle.remount.specs.declared.reported.ReportedZone.{ReportedZone}
-use Rattle.remount.specs.declared.survey.Survey.{Survey}
-use Rattle.remount.specs.Known.{Knows}
+use Rattle.drive_array.specs.ZoneLogs.{HasLog, drive_logs, log_at, readable, zone_log}
+use Rattle.drive_array.specs.Records.{IsNewest, Record, batch_records, entry_offset, entry_records, log_records, newest, place, records}
+use Rattle.drive_array.specs.Repair.{is_any, is_data, kept_in, live_records, live_data}
+use Rattle.drive_array.specs.Repairing.{LiesIn}
+use Rattle.drive_array.specs.Sizes.{encoded_size, map_of}
+use Rattle.drive_array.proofs.AllLaws.{all-append, all-at, all-weaker}
+use Rattle.drive_array.proofs.NewestLaws.{all-among, newest-is}
+use Rattle.zone_choice.proofs.ReadLaws.{StandsOn, records_stand}
+use Rattle.drive_survey.specs.declared.reported.ReportedZone.{ReportedZone}
+use Rattle.drive_survey.specs.declared.survey.Survey.{Survey}
+use Rattle.drive_survey.specs.Known.{Knows}
 use Rattle.remount.specs.Moving.{IsBlockAt, said_at}
-use Rattle.remount.specs.Scan.{blocks_of}
-use Rattle.remount.proofs.ReadLaws.{known-few}
+use Rattle.drive_survey.specs.Scan.{readable_at}
+use Rattle.drive_survey.proofs.ReadLaws.{known-few}
 use Rattle.remount.proofs.OrderedLaws.{total}
 
 -- ---- records lie within their zone
@@ -160,7 +159,7 @@ total-told f size zone g q [] same = refl
 total-told f size zone g q (x ∷ xs) same = omega (arith, same x, total-told f size zone g q xs same, sum_by-cons (λ (y : ℕ). cond {A = ℕ} (q y) 1 0) x xs)
 
 pub record CountsLive (drive : DriveState) (n : ℕ) (logs : List (List Batch)) (zone : ℕ) : Type 0 where
-  pub count : total (λ b. 1) (blocks_in drive.geometry.size zone 0 (map_of drive.geometry.size n logs)) ≡ live (encoded_size n logs) logs zone
+  pub count : total (λ b. 1) (blocks_in drive.geometry.size zone 0 (map_of drive.geometry.size n logs)) ≡ live_records (encoded_size n logs) logs zone
   pub with_data : total (λ b. data_blocks (get_or (map_of drive.geometry.size n logs) b places.None)) (blocks_in drive.geometry.size zone 0 (map_of drive.geometry.size n logs)) ≡ live_data (encoded_size n logs) logs zone
 
 pub counts-live : (drive : DriveState) (n : ℕ) (logs : List (List Batch)) (survey : Survey) (zone : ℕ) → Knows drive n logs survey → CountsLive drive n logs zone
@@ -215,8 +214,8 @@ there-lies drive n logs survey zone block known is =
 
 -- the data of a record stands at its place
 pub record IsSaid (drive : DriveState) (zone : ℕ) (r : Record) : Type 0 where
-  pub content : r.content ≡ said_at (blocks_of drive zone) (zone * drive.geometry.size) (place drive.geometry.size (Some r))
-  pub block : IsBlockAt (zone * drive.geometry.size) (length (blocks_of drive zone)) (place drive.geometry.size (Some r))
+  pub content : r.content ≡ said_at (readable_at drive zone) (zone * drive.geometry.size) (place drive.geometry.size (Some r))
+  pub block : IsBlockAt (zone * drive.geometry.size) (length (readable_at drive zone)) (place drive.geometry.size (Some r))
 
 is-said : (drive : DriveState) (zone : ℕ) (r : Record) → r.zone ≡ zone → StandsOn drive.geometry (contents drive.zones) 0 r → IsSaid drive zone r
 is-said drive zone r is stands = at r.content refl
@@ -225,7 +224,7 @@ is-said drive zone r is stands = at r.content refl
     at None e = record { content = rw e refl; block = rw e tt }
     at (Some bytes) e =
         let g = drive.geometry in
-        let blocks = blocks_of drive zone in
+        let blocks = readable_at drive zone in
         let same : r.zone - 0 ≡ zone = omega (arith, is) in
         let there = rw same at (stands.stands bytes e) in
         let less : zone * g.size + r.offset - zone * g.size ≡ r.offset = omega arith in

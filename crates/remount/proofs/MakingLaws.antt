@@ -10,16 +10,16 @@ use Rattle.drive_port.specs.Drive.{DriveState}
 use Rattle.batch_log.specs.Header.{IsHeading}
 use Rattle.batch_log.specs.Log.{Batch, batch_size, data_count, log_size}
 use Rattle.logical_map.specs.declared.place.Place.TheVariants as places
-use Rattle.zone_choice.specs.Agreement.{drive_logs}
+use Rattle.drive_array.specs.ZoneLogs.{drive_logs}
 use Rattle.zone_choice.specs.Builder.{BuilderView, IsBuilt, built}
 use Rattle.zone_choice.specs.Tables.{TablesView}
 use Rattle.zone_choice.proofs.ChangeLaws.{large-block}
-use Rattle.zone_choice.proofs.ContentLaws.{log_size-append}
-use Rattle.zone_choice.proofs.ReserveLaws.{positive-most}
-use Rattle.remount.specs.declared.moves.MovePlan.{MovePlan}
-use Rattle.remount.specs.Heads.{HeadsView, heads_of, kept_entry}
+use Rattle.drive_array.proofs.AppendLaws.{log_size-append}
+use Rattle.drive_array.proofs.ReserveLaws.{positive-most}
+use Rattle.remount.specs.declared.repair.moves.MovePlan.{MovePlan}
+use Rattle.drive_survey.specs.Heads.{HeadsView, heads_of, kept_entry}
 use Rattle.remount.specs.Moving.{CanTake, IsAtMove, IsBuiltAs, IsReadableAt, Source, move_by, move_count, moves_before, named_by, placed_entry, source_of}
-use Rattle.remount.specs.Reported.{IsKnown, KeepsZones}
+use Rattle.drive_survey.specs.Reported.{IsKnown, KeepsZones}
 use Rattle.remount.proofs.CallLaws.{zones-shut}
 use Rattle.remount.proofs.MovingLaws.{at-can, at-heading, at-kept, moving-known, moving-source}
 use Rattle.remount.proofs.MovePlanLaws.{all-named, few-named, heads-more, move-room}

@@ -16,29 +16,29 @@ use Rattle.batch_log.specs.Log.{Batch, batch_blocks, log_size}
 use Rattle.batch_log.proofs.LogLaws.{spelled_length}
 use Rattle.logical_map.specs.Places.{MapView}
 use Rattle.zone_choice.specs.declared.roles.Filling.{Filling}
-use Rattle.zone_choice.specs.Agreement.{Agrees, HoldsFilling, IsSealed, RolesAgree, TellsOpen, drive_logs, mounted}
-use Rattle.zone_choice.specs.Mountable.{is_partly_written}
-use Rattle.zone_choice.specs.Records.{place}
-use Rattle.zone_choice.specs.Repair.{HasAtMost}
-use Rattle.zone_choice.specs.Reserve.{FitsReserve, batch_most}
+use Rattle.zone_choice.specs.Agreement.{Agrees, HoldsFilling, IsSealed, RolesAgree, TellsOpen, mounted}
+use Rattle.drive_array.specs.ZoneLogs.{HasLog, drive_logs, has_torn_tail, log_at, sequences, zone_log}
+use Rattle.drive_array.specs.Mountable.{is_partly_written}
+use Rattle.drive_array.specs.Records.{place}
+use Rattle.drive_array.specs.Repair.{HasAtMost}
+use Rattle.drive_array.specs.Reserve.{FitsReserve, batch_most}
 use Rattle.zone_choice.specs.Roles.{RolesView, is_filling_at, mounted_as}
-use Rattle.zone_choice.specs.Sizes.{encoded_size, map_of}
+use Rattle.drive_array.specs.Sizes.{encoded_size, map_of}
 use Rattle.zone_choice.specs.Tables.{TablesView}
-use Rattle.zone_choice.specs.ZoneLogs.{HasLog, has_torn_tail, log_at, sequences, zone_log}
 use Rattle.zone_choice.proofs.AgreementLaws.{tables_with}
-use Rattle.zone_choice.proofs.AllLaws.{all-at}
+use Rattle.drive_array.proofs.AllLaws.{all-at}
 use Rattle.zone_choice.proofs.CommandLaws.{content-zone}
-use Rattle.zone_choice.proofs.SizeLaws.{told-length}
-use Rattle.zone_choice.proofs.ZoneLogLaws.{log_at-zone, readable-not_full, tail-at, whole-blocks, zone_log-read}
-use Rattle.remount.specs.declared.reported.ReportedZone.{ReportedZone}
-use Rattle.remount.specs.declared.survey.Survey.{Survey}
-use Rattle.remount.specs.Known.{Knows}
+use Rattle.drive_array.proofs.SizeLaws.{told-length}
+use Rattle.drive_array.proofs.ZoneLogLaws.{log_at-zone, readable-not_full, tail-at, whole-blocks, zone_log-read}
+use Rattle.drive_survey.specs.declared.reported.ReportedZone.{ReportedZone}
+use Rattle.drive_survey.specs.declared.survey.Survey.{Survey}
+use Rattle.drive_survey.specs.Known.{Knows}
 use Rattle.remount.specs.Mount.{AreMountedRoles, IsPlaced, IsRepaired}
 use Rattle.remount.specs.Mounting.{FindsNext, FindsPartly, IsLowestPartly, MountsRoles, empties, is_partly_at, is_partly_found}
-use Rattle.remount.specs.Reported.{IsKnown}
-use Rattle.remount.specs.Scan.{AreKnown}
-use Rattle.remount.specs.Survey.{is_partly_reported}
-use Rattle.remount.proofs.AllScanLaws.{there-is}
+use Rattle.drive_survey.specs.Reported.{IsKnown}
+use Rattle.drive_survey.specs.Scan.{AreKnown}
+use Rattle.drive_survey.specs.Survey.{is_partly_reported}
+use Rattle.drive_survey.proofs.AllScanLaws.{there-is}
 use Rattle.remount.proofs.MountingLaws.{AreFew, all-partly, apart-mounted, count-one, count-three, empties-at, empties-past, length-empties, order-mounted, partly-active, partly-filling, state-empty, usage-empty}
 
 -- ---- a zone and its report
@@ -108,7 +108,7 @@ some-blocks : (n : ℕ) → n ≢ 0 → 1 ≤ n
 some-blocks zero ne = absurd (ne refl)
 some-blocks (suc n) ne = omega arith
 
-partly-holds : (drive : DriveState) (n : ℕ) (survey : Survey) (from : ℕ) (f : Filling) → Knows drive n (drive_logs drive) survey → IsRepaired drive survey → IsLowestPartly survey.zones.items from drive.geometry.zones f
+partly-holds : (drive : DriveState) (n : ℕ) (survey : Survey) (from : ℕ) (f : Filling) → Knows drive n (drive_logs drive) survey → IsRepaired drive n survey → IsLowestPartly survey.zones.items from drive.geometry.zones f
     → HoldsFilling drive.geometry.capacity (contents drive.zones) (drive_logs drive) f
 partly-holds drive n survey from f knows repaired found =
     let r = found.found in
@@ -163,7 +163,7 @@ empty-content drive reported zone known is =
     let state : t.r.state ≡ states.Empty = state-empty t.r.state (sym (empties-at reported (length drive.zones) zone t.r lt t.there) ∙ is) in
     content-emptied drive zone known.lawful lt (t.known.usage ∙ ap usage_of state)
 
-sealed-content : (drive : DriveState) (n : ℕ) (survey : Survey) (zone : ℕ) (host next : Option Filling) → Knows drive n (drive_logs drive) survey → IsRepaired drive survey
+sealed-content : (drive : DriveState) (n : ℕ) (survey : Survey) (zone : ℕ) (host next : Option Filling) → Knows drive n (drive_logs drive) survey → IsRepaired drive n survey
     → FindsPartly survey.zones.items 0 (length drive.zones) host → FindsNext survey.zones.items (length drive.zones) host next → zone < length drive.zones
     → get_or (empties survey.zones.items (length drive.zones)) zone false ≡ false → is_filling_at (mounted_as (empties survey.zones.items (length drive.zones)) host next) zone ≡ false → IsSealed (contents drive.zones) (drive_logs drive) zone
 sealed-content drive n survey zone host next knows repaired first second lt not_empty not_filling = by (usage_of t.r.state) refl
@@ -201,7 +201,7 @@ sealed-content drive n survey zone host next knows repaired first second lt not_
 
 -- ---- the roles
 
-roles-agree : (drive : DriveState) (n : ℕ) (survey : Survey) (host next : Option Filling) → Knows drive n (drive_logs drive) survey → IsRepaired drive survey
+roles-agree : (drive : DriveState) (n : ℕ) (survey : Survey) (host next : Option Filling) → Knows drive n (drive_logs drive) survey → IsRepaired drive n survey
     → FindsPartly survey.zones.items 0 (length drive.zones) host → FindsNext survey.zones.items (length drive.zones) host next
     → RolesAgree drive.geometry.capacity (contents drive.zones) (drive_logs drive) (mounted_as (empties survey.zones.items (length drive.zones)) host next)
 roles-agree drive n survey host next knows repaired first second = record {
@@ -213,7 +213,7 @@ roles-agree drive n survey host next knows repaired first second = record {
   sealed_are = λ zone lt not_empty not_filling. sealed-content drive n survey zone host next knows repaired first second (omega (arith, lt, length-map drive.zones content_of)) not_empty not_filling;
 }
 
-vacant-count : (drive : DriveState) (n : ℕ) (survey : Survey) → Knows drive n (drive_logs drive) survey → IsRepaired drive survey → 1 ≤ count_by (λ b. b) (empties survey.zones.items (length drive.zones))
+vacant-count : (drive : DriveState) (n : ℕ) (survey : Survey) → Knows drive n (drive_logs drive) survey → IsRepaired drive n survey → 1 ≤ count_by (λ b. b) (empties survey.zones.items (length drive.zones))
 vacant-count drive n survey knows repaired =
     let zone = repaired.vacant.zone in
     let lt : zone < length drive.zones = omega (arith, repaired.vacant.in_range, knows.count) in
@@ -222,7 +222,7 @@ vacant-count drive n survey knows repaired =
     let yes : get_or (empties survey.zones.items (length drive.zones)) zone false ≡ true = empties-at survey.zones.items (length drive.zones) zone t.r lt t.there ∙ ap (λ (s : ZoneState). is_state s states.Empty) state in
     count-one (λ b. b) (empties survey.zones.items (length drive.zones)) false zone (omega (arith, lt, length-empties survey.zones.items (length drive.zones))) yes
 
-mounted-roles : (drive : DriveState) (n : ℕ) (survey : Survey) (host next : Option Filling) → Knows drive n (drive_logs drive) survey → IsRepaired drive survey
+mounted-roles : (drive : DriveState) (n : ℕ) (survey : Survey) (host next : Option Filling) → Knows drive n (drive_logs drive) survey → IsRepaired drive n survey
     → FindsPartly survey.zones.items 0 (length drive.zones) host → FindsNext survey.zones.items (length drive.zones) host next
     → AreMountedRoles drive.geometry.capacity (contents drive.zones) (mounted_as (empties survey.zones.items (length drive.zones)) host next)
 mounted-roles drive n survey host next knows repaired first second = record {
@@ -239,7 +239,7 @@ mounted-roles drive n survey host next knows repaired first second = record {
 
 -- ---- the tables
 
-agrees-with : (drive : DriveState) (n next : ℕ) (survey : Survey) (map : MapView) (host second : Option Filling) → Knows drive n (drive_logs drive) survey → IsRepaired drive survey
+agrees-with : (drive : DriveState) (n next : ℕ) (survey : Survey) (map : MapView) (host second : Option Filling) → Knows drive n (drive_logs drive) survey → IsRepaired drive n survey
     → AllByRecursion (λ sequence. sequence < next) (sequences (drive_logs drive)) → next ≤ 2 ^ 63
     → map.places ≡ map_of drive.geometry.size n (drive_logs drive) → map.zones ≡ drive.geometry.zones → map.zone_size ≡ drive.geometry.size
     → FindsPartly survey.zones.items 0 (length drive.zones) host → FindsNext survey.zones.items (length drive.zones) host second
@@ -262,7 +262,7 @@ agrees-with drive n next survey map host second knows repaired below few_sequenc
       open_zones = all-partly (TellsOpen drive.zones) survey.zones.items (length drive.zones) host second (λ from f found. partly-opens drive survey.zones.items from (length drive.zones) f knows.zones found) first after;
     }
 
-pub mounted-agrees : (drive : DriveState) (geometry : Geometry) (n next : ℕ) (survey : Survey) (tables : TablesView) (roles : RolesView) → drive.geometry ≡ geometry → Knows drive n (drive_logs drive) survey → IsRepaired drive survey
+pub mounted-agrees : (drive : DriveState) (geometry : Geometry) (n next : ℕ) (survey : Survey) (tables : TablesView) (roles : RolesView) → drive.geometry ≡ geometry → Knows drive n (drive_logs drive) survey → IsRepaired drive n survey
     → AllByRecursion (λ sequence. sequence < next) (sequences (drive_logs drive)) → next ≤ 2 ^ 63 → IsPlaced geometry n (drive_logs drive) tables → MountsRoles survey.zones.items geometry.zones roles
     → Agrees (mounted drive (tables_with tables.map roles next tables.given))
 mounted-agrees drive geometry n next survey tables roles same knows repaired below few placed mounts =
@@ -273,7 +273,7 @@ mounted-agrees drive geometry n next survey tables roles same knows repaired bel
     subst (λ (given : ℕ). Agrees (mounted drive (tables_with tables.map roles next given))) (sym here.given)
     (subst (λ (rs : RolesView). Agrees (mounted drive (tables_with tables.map rs next n))) (sym m.is) agrees)
 
-pub roles-mounted : (drive : DriveState) (geometry : Geometry) (n : ℕ) (survey : Survey) (roles : RolesView) → drive.geometry ≡ geometry → Knows drive n (drive_logs drive) survey → IsRepaired drive survey
+pub roles-mounted : (drive : DriveState) (geometry : Geometry) (n : ℕ) (survey : Survey) (roles : RolesView) → drive.geometry ≡ geometry → Knows drive n (drive_logs drive) survey → IsRepaired drive n survey
     → MountsRoles survey.zones.items geometry.zones roles → AreMountedRoles geometry.capacity (contents drive.zones) roles
 roles-mounted drive geometry n survey roles same knows repaired mounts =
     let count : geometry.zones ≡ length drive.zones = sym (knows.zones.lawful.count ∙ ap (λ (g : Geometry). g.zones) same) in

@@ -14,10 +14,10 @@ use Rattle.drive_port.specs.Contents.{empty, is_active_usage, usage_of}
 use Rattle.zone_choice.specs.declared.roles.Filling.{Filling}
 use Rattle.zone_choice.specs.declared.roles.Second.TheVariants.{Next}
 use Rattle.zone_choice.specs.Roles.{AreApart, IsOccupied, fillings, is_filling_at, mounted_as}
-use Rattle.remount.specs.declared.reported.ReportedZone.{ReportedZone}
+use Rattle.drive_survey.specs.declared.reported.ReportedZone.{ReportedZone}
 use Rattle.remount.specs.Mount.{AreInOrder}
 use Rattle.remount.specs.Mounting.{FindsNext, FindsPartly, IsLowestPartly, empties, is_empty_reported, is_partly_at}
-use Rattle.remount.specs.Survey.{is_partly_reported}
+use Rattle.drive_survey.specs.Survey.{is_partly_reported}
 
 -- ---- states
 

@@ -16,16 +16,16 @@ use Rattle.logical_map.specs.declared.place.Place.{Place}
 use Rattle.logical_map.specs.declared.place.Place.TheVariants as places
 use Rattle.zone_choice.specs.Builder.{BuilderView, IsBuilt}
 use Rattle.zone_choice.specs.Tables.{TablesView}
-use Rattle.zone_choice.proofs.AllLaws.{all-append}
+use Rattle.drive_array.proofs.AllLaws.{all-append}
 use Rattle.zone_choice.proofs.ChangeLaws.{large-block}
 use Rattle.zone_states.specs.Geometry.{IsInRange}
 use Rattle.batch_log.specs.declared.header.Kind.TheVariants.{Move}
-use Rattle.remount.specs.declared.reported.ReportedZone.{ReportedZone}
-use Rattle.remount.specs.declared.moves.MovePlan.{MovePlan}
-use Rattle.remount.specs.Moving.{IsBuiltAs, IsReadableAt, Source, listed, move_by, moved_data, moved_entries, named_by, placed_entry, said, said_at, size_by, source_of}
-use Rattle.remount.specs.Reported.{IsKnown, KeepsZones}
-use Rattle.remount.specs.Scan.{blocks_of}
-use Rattle.remount.proofs.ReadLaws.{kept-blocks, keeps-both, keeps-none}
+use Rattle.drive_survey.specs.declared.reported.ReportedZone.{ReportedZone}
+use Rattle.remount.specs.declared.repair.moves.MovePlan.{MovePlan}
+use Rattle.remount.specs.Moving.{IsBuiltAs, IsReadableAt, Source, blocks_listed, move_by, moved_data, moved_entries, named_by, placed_entry, said, said_at, size_by, source_of}
+use Rattle.drive_survey.specs.Reported.{IsKnown, KeepsZones}
+use Rattle.drive_survey.specs.Scan.{readable_at}
+use Rattle.drive_survey.proofs.ReadLaws.{kept-blocks, keeps-both, keeps-none}
 
 abbrev pub AreWhole : ℕ → List (List ℕ) → Type 0
 AreWhole size blocks = AllByRecursion (λ block. length block ≡ size) blocks
@@ -72,7 +72,7 @@ length-moved source [] = refl
 length-moved source (block ∷ blocks) = one (slice_index_or source.places block places.None) (length-moved source blocks)
   where
     one : (p : Place) → length (moved_data source blocks) ≡ data_count (moved_entries source.places blocks)
-        → length (listed (said_at source.blocks source.start p) ++ moved_data source blocks) ≡ data_count (placed_entry block p ∷ moved_entries source.places blocks)
+        → length (blocks_listed (said_at source.blocks source.start p) ++ moved_data source blocks) ≡ data_count (placed_entry block p ∷ moved_entries source.places blocks)
     one places.None rest = omega (arith, rest)
     one (places.Trimmed address) rest = omega (arith, rest)
     one (places.At address) rest = omega (arith, rest)
@@ -112,11 +112,11 @@ pub copying-none : (start : DriveState) (tables : TablesView) (zone : ℕ) (repo
 copying-none start tables zone reported builder blocks known places = record { kept = keeps-none start known.lawful; heading = refl; bytes = refl; whole = λ w. w; places = places }
 
 pub copying-more : (start now next : DriveState) (tables : TablesView) (zone : ℕ) (reported : ReportedZone) (old middle new : BuilderView) (blocks rest : List ℕ) (i block : ℕ) → drop i blocks ≡ block ∷ rest → Copying start now tables zone reported old middle blocks (drop i blocks) → KeepsZones now next
-    → new.heading ≡ middle.heading → new.bytes ≡ middle.bytes ++ concat (listed (said_at (blocks_of now zone) (zone * now.geometry.size) (slice_index_or tables.map.places block places.None)))
-    → AreWhole now.geometry.block (listed (said_at (blocks_of now zone) (zone * now.geometry.size) (slice_index_or tables.map.places block places.None))) → Copying start next tables zone reported old new blocks rest
+    → new.heading ≡ middle.heading → new.bytes ≡ middle.bytes ++ concat (blocks_listed (said_at (readable_at now zone) (zone * now.geometry.size) (slice_index_or tables.map.places block places.None)))
+    → AreWhole now.geometry.block (blocks_listed (said_at (readable_at now zone) (zone * now.geometry.size) (slice_index_or tables.map.places block places.None))) → Copying start next tables zone reported old new blocks rest
 copying-more start now next tables zone reported old middle new blocks rest i block split was kept heading bytes whole =
     let source = source_of start tables zone in
-    let one = listed (said source block) in
+    let one = blocks_listed (said source block) in
     let before = rw split at was.bytes in
     let whole_before : AreWhole start.geometry.block (moved_data source (block ∷ rest)) → AreWhole start.geometry.block (moved_data source blocks) = rw split at was.whole in
     let places = rw split at was.places in
@@ -146,7 +146,7 @@ pub turn : {X : Type 0} (xs : List X) (i : ℕ) (x d : X) → i < length xs → 
 turn xs i x d lt is = drop_more xs i d lt ∙ ap (λ y. y ∷ drop (i + 1) xs) (sym is)
 
 -- a trim has no data
-pub no-data : (blocks : List (List ℕ)) (start : ℕ) (p : Place) → ((address : ℕ) → p ≡ places.At address → ⊥) → listed (said_at blocks start p) ≡ []
+pub no-data : (blocks : List (List ℕ)) (start : ℕ) (p : Place) → ((address : ℕ) → p ≡ places.At address → ⊥) → blocks_listed (said_at blocks start p) ≡ []
 no-data blocks start places.None other = refl
 no-data blocks start (places.Trimmed address) other = refl
 no-data blocks start (places.At address) other = absurd (other address refl)

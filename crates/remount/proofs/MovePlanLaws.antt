@@ -12,16 +12,16 @@ use Rattle.batch_log.specs.Header.{IsHeading, IsSize}
 use Rattle.batch_log.specs.Log.{Batch, IsBatch, batch_size, log_size}
 use Rattle.logical_map.specs.declared.place.Place.{Place}
 use Rattle.logical_map.specs.declared.place.Place.TheVariants as places
-use Rattle.zone_choice.specs.Records.{Record, entry_records, newest, records}
-use Rattle.zone_choice.specs.Repairing.{IsCopyFrom, IsRepairMove, IsWithin}
-use Rattle.zone_choice.specs.Sizes.{encoded_size, larger, log_greatest}
-use Rattle.zone_choice.specs.ZoneLogs.{log_at, log_sequences, sequences}
-use Rattle.zone_choice.proofs.AllLaws.{all-append, all-parts, all-weaker}
+use Rattle.drive_array.specs.Records.{Record, entry_records, newest, records}
+use Rattle.drive_array.specs.Repairing.{IsCopyFrom, IsRepairMove, IsWithin}
+use Rattle.drive_array.specs.Sizes.{encoded_size, larger, log_greatest}
+use Rattle.drive_array.specs.ZoneLogs.{log_at, log_sequences, sequences}
+use Rattle.drive_array.proofs.AllLaws.{all-append, all-parts, all-weaker}
 use Rattle.zone_choice.proofs.BuilderLaws.{data_count-few}
-use Rattle.zone_choice.proofs.ContentLaws.{log_size-append}
-use Rattle.remount.specs.declared.moves.MovePlan.{MovePlan}
-use Rattle.remount.specs.Heads.{HeadsView, heads_after, heads_of, no_heads, with_heading}
-use Rattle.remount.specs.Moving.{CanMove, IsMovable, Source, move_by, move_count, moved_data, moved_entries, moves_before, named_by, placed_entry, said, said_at, size_by}
+use Rattle.drive_array.proofs.AppendLaws.{log_size-append}
+use Rattle.remount.specs.declared.repair.moves.MovePlan.{MovePlan}
+use Rattle.drive_survey.specs.Heads.{HeadsView, heads_after, heads_of, no_heads, with_heading}
+use Rattle.remount.specs.Moving.{CanRepairBy, IsMovable, Source, move_by, move_count, moved_data, moved_entries, moves_before, named_by, placed_entry, said, said_at, size_by}
 use Rattle.remount.proofs.MoveBuildLaws.{length-moved}
 
 -- ---- lists
@@ -89,7 +89,7 @@ pub within-by : (x most : Option ℕ) → (x ≡ most) ⊎ (x ≡ None) → IsWi
 within-by x most (inl same) = rw same (larger-same most)
 within-by x most (inr none) = rw none refl
 
-pub size-either : (geometry : Geometry) (n : ℕ) (logs : List (List Batch)) (source : Source) (plan : MovePlan) (k : ℕ) → CanMove geometry n logs source plan → (size_by plan k ≡ log_greatest (log_at logs plan.torn)) ⊎ (size_by plan k ≡ None)
+pub size-either : (geometry : Geometry) (n : ℕ) (logs : List (List Batch)) (source : Source) (plan : MovePlan) (k : ℕ) → CanRepairBy geometry n logs source plan → (size_by plan k ≡ log_greatest (log_at logs plan.torn)) ⊎ (size_by plan k ≡ None)
 size-either geometry n logs source plan k can = at (eqb (k + 1) (move_count plan))
   where
     at : (b : Bool) → (cond b plan.size plan.early ≡ log_greatest (log_at logs plan.torn)) ⊎ (cond b plan.size plan.early ≡ None)
@@ -140,7 +140,7 @@ largest-size block (b ∷ bs) all = both b.heading.size (log_greatest bs) all.0.
     both (Some a) None h i = h
     both (Some a) (Some c) h i = (omega (arith, h.0, i.0), omega (arith, h.1, i.1))
 
-pub move-heading : (geometry : Geometry) (n k : ℕ) (logs : List (List Batch)) (source : Source) (plan : MovePlan) → IsInRange geometry → CanMove geometry n logs source plan → k < move_count plan → plan.torn < geometry.zones → encoded_size n logs ≤ 2 ^ 31
+pub move-heading : (geometry : Geometry) (n k : ℕ) (logs : List (List Batch)) (source : Source) (plan : MovePlan) → IsInRange geometry → CanRepairBy geometry n logs source plan → k < move_count plan → plan.torn < geometry.zones → encoded_size n logs ≤ 2 ^ 31
     → AllByRecursion (IsBatch geometry.block) (log_at logs plan.torn) → IsHeading geometry.block (move_by source plan k).heading
 move-heading geometry n k logs source plan range can lt torn few batches = record {
   room = omega (arith, few-named plan k, can.most, length-map (named_by plan k) (λ b. placed_entry b (slice_index_or source.places b places.None)));
@@ -167,7 +167,7 @@ sequences-before source plan (suc k) limit le =
     rw (map-append (λ (b : Batch). b.heading.sequence) (moves_before source plan k) (move_by source plan k ∷ []))
     (all-append (λ s. s < limit) (log_sequences (moves_before source plan k)) ((plan.next + k) ∷ []) (sequences-before source plan k limit (omega (arith, le))) (omega (arith, le), tt))
 
-pub repair-move : (geometry : Geometry) (n k : ℕ) (logs : List (List Batch)) (source : Source) (plan : MovePlan) → CanMove geometry n logs source plan → k < move_count plan
+pub repair-move : (geometry : Geometry) (n k : ℕ) (logs : List (List Batch)) (source : Source) (plan : MovePlan) → CanRepairBy geometry n logs source plan → k < move_count plan
     → IsRepairMove n logs plan.torn plan.into (moves_before source plan k) (move_by source plan k)
 repair-move geometry n k logs source plan can lt = record {
   move = (refl, refl);
@@ -190,11 +190,11 @@ size-more source plan i (suc j) le = at (eqb i (suc j)) refl (size-more source p
         other : eqb i (suc j) ≡ false → i ≢ suc j
         other e same = let bad : eqb i (suc j) ≡ true = eq-eqb i (suc j) same in absurd (cc)
 
-pub move-room : (geometry : Geometry) (n k : ℕ) (logs : List (List Batch)) (source : Source) (plan : MovePlan) → CanMove geometry n logs source plan → k < move_count plan
+pub move-room : (geometry : Geometry) (n k : ℕ) (logs : List (List Batch)) (source : Source) (plan : MovePlan) → CanRepairBy geometry n logs source plan → k < move_count plan
     → log_size (moves_before source plan k) + batch_size (move_by source plan k) ≤ geometry.capacity
 move-room geometry n k logs source plan can lt = omega (arith, can.room, size-more source plan (suc k) (move_count plan) lt, log_size-append (moves_before source plan k) (move_by source plan k))
 
-pub move-few : (geometry : Geometry) (n k : ℕ) (logs : List (List Batch)) (source : Source) (plan : MovePlan) → IsInRange geometry → CanMove geometry n logs source plan → batch_size (move_by source plan k) ≤ geometry.transfer
+pub move-few : (geometry : Geometry) (n k : ℕ) (logs : List (List Batch)) (source : Source) (plan : MovePlan) → IsInRange geometry → CanRepairBy geometry n logs source plan → batch_size (move_by source plan k) ≤ geometry.transfer
 move-few geometry n k logs source plan range can =
     omega (arith, data_count-few (moved_entries source.places (named_by plan k)), length-map (named_by plan k) (λ b. placed_entry b (slice_index_or source.places b places.None)), few-named plan k, can.most, range.transfer)
 

@@ -15,25 +15,25 @@ use Rattle.drive_port.specs.Step.{nowhere, zone_at}
 use Rattle.batch_log.specs.Header.{IsHeading}
 use Rattle.batch_log.specs.Log.{Batch, IsBatch, batch_blocks, batch_size, log_size}
 use Rattle.zone_choice.specs.declared.roles.Filling.{Filling}
-use Rattle.zone_choice.specs.Agreement.{drive_logs}
-use Rattle.zone_choice.specs.Repairing.{AppendsMove, IsOnRepair, TearsMove}
+use Rattle.drive_array.specs.ZoneLogs.{HasLog, drive_logs, has_torn_tail, log_at, zone_log, zone_logs}
+use Rattle.drive_array.specs.Repairing.{AppendsMove, IsOnRepair, TearsMove}
 use Rattle.zone_choice.specs.Roles.{is_at}
-use Rattle.zone_choice.specs.Spare.{IsHalfClean}
+use Rattle.drive_array.specs.Spare.{IsHalfClean}
 use Rattle.zone_choice.specs.Tables.{TablesView}
-use Rattle.zone_choice.specs.ZoneLogs.{HasLog, has_torn_tail, log_at, zone_log, zone_logs}
-use Rattle.zone_choice.proofs.AllLaws.{all-at}
+use Rattle.drive_array.proofs.AllLaws.{all-at}
 use Rattle.zone_choice.proofs.CommandLaws.{content-zone, count-others, count-remove, inactive-shut}
-use Rattle.zone_choice.proofs.ContentLaws.{count-zero, log_size-append}
-use Rattle.zone_choice.proofs.RepairingEnds.{needed_stays}
-use Rattle.zone_choice.proofs.RepairingMounts.{into-below, logs-now, made-there, repair_mounts}
-use Rattle.zone_choice.proofs.RepairingMoves.{move_repairs, torn_move_repairs}
-use Rattle.zone_choice.proofs.ZoneLogLaws.{log_at-zone}
-use Rattle.remount.specs.declared.moves.MovePlan.{MovePlan}
-use Rattle.remount.specs.declared.reported.ReportedZone.{ReportedZone}
-use Rattle.remount.specs.Heads.{HeadsView, with_heading}
-use Rattle.remount.specs.Known.{KeepsMountable}
-use Rattle.remount.specs.Moving.{IsAtMove, IsMoving, KeepsShut, TakesFront, TakesSome, move_by, move_count, moves_before, source_of, usage_with}
-use Rattle.remount.specs.Reported.{IsKnown}
+use Rattle.drive_array.proofs.CountLaws.{count-zero}
+use Rattle.drive_array.proofs.AppendLaws.{log_size-append}
+use Rattle.drive_array.proofs.RepairingEnds.{needed_stays}
+use Rattle.drive_array.proofs.RepairingMounts.{into-below, logs-now, made-there, repair_mounts}
+use Rattle.drive_array.proofs.RepairingMoves.{move_repairs, torn_move_repairs}
+use Rattle.drive_array.proofs.ZoneLogLaws.{log_at-zone}
+use Rattle.remount.specs.declared.repair.moves.MovePlan.{MovePlan}
+use Rattle.drive_survey.specs.declared.reported.ReportedZone.{ReportedZone}
+use Rattle.drive_survey.specs.Heads.{HeadsView, with_heading}
+use Rattle.remount.specs.Kept.{KeepsMountable}
+use Rattle.remount.specs.Moving.{IsAtMove, IsMoving, KeepsShut, TakesFirst, TakesSome, move_by, move_count, moves_before, source_of, usage_with}
+use Rattle.drive_survey.specs.Reported.{IsKnown}
 use Rattle.remount.proofs.CallLaws.{mountable-both, shut-count, starts-at}
 use Rattle.remount.proofs.MovePlanLaws.{heads-more, move-batch, move-few, move-heading, move-room, repair-move}
 
@@ -218,7 +218,7 @@ filled-usage : (capacity size : ℕ) (blocks : List (List ℕ)) → length block
 filled-usage capacity zero blocks is some = absurd (omega arith)
 filled-usage capacity (suc size) blocks is some = rw is refl
 
-moved-more : (n : ℕ) (start now next : DriveState) (torn into : ℕ) (made : List Batch) (b : Batch) → IsMoving n start now torn into made → IsBatch start.geometry.block b → TakesFront now next into b (batch_size b)
+moved-more : (n : ℕ) (start now next : DriveState) (torn into : ℕ) (made : List Batch) (b : Batch) → IsMoving n start now torn into made → IsBatch start.geometry.block b → TakesFirst now next into b (batch_size b)
     → AppendsMove start.geometry n (contents start.zones) (contents now.zones) (contents next.zones) torn into b → IsMoving n start next torn into (made ++ b ∷ [])
 moved-more n start now next torn into made b m is t done =
     let g = start.geometry in
@@ -246,7 +246,7 @@ moved-more n start now next torn into made b m is t done =
     }
 
 -- all blocks of the Move were taken
-whole-appends : (n : ℕ) (start now next : DriveState) (torn into : ℕ) (made : List Batch) (b : Batch) → IsMoving n start now torn into made → IsBatch start.geometry.block b → TakesFront now next into b (batch_size b)
+whole-appends : (n : ℕ) (start now next : DriveState) (torn into : ℕ) (made : List Batch) (b : Batch) → IsMoving n start now torn into made → IsBatch start.geometry.block b → TakesFirst now next into b (batch_size b)
     → Appends (contents now.zones) (contents next.zones) start.geometry.capacity into (batch_blocks start.geometry.block b)
 whole-appends n start now next torn into made b m is t =
     let all : take (batch_size b) (batch_blocks start.geometry.block b) ≡ batch_blocks start.geometry.block b = take_all (batch_size b) (batch_blocks start.geometry.block b) (omega (arith, is.body)) in
@@ -255,7 +255,7 @@ whole-appends n start now next torn into made b m is t =
 at-batch : (n : ℕ) (start now : DriveState) (tables : TablesView) (plan : MovePlan) (k : ℕ) (heads : HeadsView) → IsAtMove n start now tables plan k heads → k < move_count plan → IsBatch start.geometry.block (move_by (source_of start tables plan.torn) plan k)
 at-batch n start now tables plan k heads a lt = move-batch start.geometry.block k (source_of start tables plan.torn) plan (at-heading n start now tables plan k heads a lt)
 
-at-moved : (n : ℕ) (start now next : DriveState) (tables : TablesView) (plan : MovePlan) (k : ℕ) (heads : HeadsView) → IsAtMove n start now tables plan k heads → k < move_count plan → TakesFront now next plan.into (move_by (source_of start tables plan.torn) plan k) (batch_size (move_by (source_of start tables plan.torn) plan k))
+at-moved : (n : ℕ) (start now next : DriveState) (tables : TablesView) (plan : MovePlan) (k : ℕ) (heads : HeadsView) → IsAtMove n start now tables plan k heads → k < move_count plan → TakesFirst now next plan.into (move_by (source_of start tables plan.torn) plan k) (batch_size (move_by (source_of start tables plan.torn) plan k))
     → IsMoving n start next plan.torn plan.into (moves_before (source_of start tables plan.torn) plan (suc k))
 at-moved n start now next tables plan k heads a lt t =
     let g = start.geometry in
@@ -268,7 +268,7 @@ at-moved n start now next tables plan k heads a lt t =
     (whole-appends n start now next plan.torn plan.into made b m is t) in
     moved-more n start now next plan.torn plan.into made b m is t done
 
-pub at-next : (n : ℕ) (start now next : DriveState) (tables : TablesView) (plan : MovePlan) (k : ℕ) (heads more : HeadsView) → IsAtMove n start now tables plan k heads → k < move_count plan → TakesFront now next plan.into (move_by (source_of start tables plan.torn) plan k) (batch_size (move_by (source_of start tables plan.torn) plan k))
+pub at-next : (n : ℕ) (start now next : DriveState) (tables : TablesView) (plan : MovePlan) (k : ℕ) (heads more : HeadsView) → IsAtMove n start now tables plan k heads → k < move_count plan → TakesFirst now next plan.into (move_by (source_of start tables plan.torn) plan k) (batch_size (move_by (source_of start tables plan.torn) plan k))
     → more ≡ with_heading heads (move_by (source_of start tables plan.torn) plan k).heading → IsAtMove n start next tables plan (k + 1) more
 at-next n start now next tables plan k heads more a lt t more-is =
     let source = source_of start tables plan.torn in

@@ -10,19 +10,20 @@ use Rattle.zone_states.specs.Transition.{is_open}
 use Rattle.drive_port.specs.Contents.{Content, Usage, active, content_at, content_of, contents, emptied, full, is_full, is_usable, nothing, usage_of}
 use Rattle.drive_port.specs.Drive.{DriveState}
 use Rattle.batch_log.specs.Log.{Batch, log_size, zero_block}
-use Rattle.zone_choice.specs.Agreement.{drive_logs}
-use Rattle.zone_choice.specs.ZoneLogs.{has_torn_tail, log_at, padding, readable, zone_log, zone_tails}
-use Rattle.zone_choice.proofs.AgreementLaws.{length-spelled, zone_log-emptied}
+use Rattle.drive_array.specs.ZoneLogs.{drive_logs, has_torn_tail, log_at, padding, readable, zone_log, zone_tails}
+use Rattle.zone_choice.proofs.AgreementLaws.{zone_log-emptied}
+use Rattle.drive_array.proofs.WholeLaws.{length-spelled}
 use Rattle.zone_choice.proofs.OpenLaws.{emptied-shut, settled-shut}
-use Rattle.remount.specs.declared.moves.MovePlan.{MovePlan}
-use Rattle.remount.specs.declared.reported.ReportedZone.{ReportedZone}
-use Rattle.remount.specs.declared.scan.ScannedZone.{ScannedZone}
-use Rattle.remount.specs.declared.survey.Survey.{Survey}
-use Rattle.remount.specs.Heads.{HeadsView, heads_after, heads_of, no_heads, with_heading}
-use Rattle.remount.specs.Known.{AreVacantEmpty, Knows}
+use Rattle.remount.specs.declared.repair.moves.MovePlan.{MovePlan}
+use Rattle.drive_survey.specs.declared.reported.ReportedZone.{ReportedZone}
+use Rattle.drive_survey.specs.declared.scan.ScannedZone.{ScannedZone}
+use Rattle.drive_survey.specs.declared.survey.Survey.{Survey}
+use Rattle.drive_survey.specs.Heads.{HeadsView, heads_after, heads_of, no_heads, with_heading}
+use Rattle.remount.specs.Kept.{AreVacantEmpty}
+use Rattle.drive_survey.specs.Known.{Knows}
 use Rattle.remount.specs.Moving.{EmptiesTorn, usage_with}
-use Rattle.remount.specs.Reported.{IsKnown}
-use Rattle.remount.specs.Scan.{AreKnown, heads_in, tails_in}
+use Rattle.drive_survey.specs.Reported.{IsKnown}
+use Rattle.drive_survey.specs.Scan.{AreKnown, heads_in, tails_in}
 use Rattle.remount.proofs.CallLaws.{get-set, other-known}
 
 -- ---- logs, tails and headers
@@ -158,8 +159,8 @@ each-known n start new plan made heads written before after e heads-are noted kn
 
 pub noted-knows : (n : ℕ) (start new : DriveState) (plan : MovePlan) (made : List Batch) (heads : HeadsView) (written : ReportedZone) (before after : Survey) → EmptiesTorn n start new plan made → heads ≡ heads_of made → IsNoted start.geometry.capacity heads written → Knows start n (drive_logs start) before
     → after.zones.items ≡ set (set before.zones.items plan.into written) plan.torn empty_report → after.scanned.items ≡ set (set before.scanned.items plan.into (record { heads = heads; is_torn = false })) plan.torn (record { heads = no_heads; is_torn = false })
-    → after.size ≡ before.size → Knows new n (drive_logs new) after
-noted-knows n start new plan made heads written before after e heads-are noted known zones-are scanned-are size-is =
+    → after.size ≡ before.size → after.given ≡ before.given → Knows new n (drive_logs new) after
+noted-knows n start new plan made heads written before after e heads-are noted known zones-are scanned-are size-is given-is =
     let disk = e.mountable.holds.disk in
     let logs = logs-emptied n start new plan made e in
     let one : ScannedZone = record { heads = heads; is_torn = false } in
@@ -175,6 +176,7 @@ noted-knows n start new plan made heads written before after e heads-are noted k
       sound = disk.sound;
       reserve = disk.reserve;
       size_is = size-is ∙ known.size_is ∙ sym (length-spelled start n) ∙ ap length (sym e.array) ∙ length-spelled new n;
+      given_is = given-is ∙ known.given_is;
       zones = record {
         geometry = rw e.geometry e.range;
         lawful = e.mountable.lawful;

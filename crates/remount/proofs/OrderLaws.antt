@@ -6,15 +6,15 @@ use Rattle.std.proofs.lemmas.List.{get_or_default, length-map}
 use Rattle.std.proofs.Math.ListN.{get_or-map}
 use Rattle.batch_log.specs.Log.{Batch}
 use Rattle.drive_port.specs.Drive.{DriveState}
-use Rattle.zone_choice.specs.Repairing.{IsMoved}
-use Rattle.zone_choice.specs.Spare.{IsMoveFrom}
-use Rattle.zone_choice.specs.ZoneLogs.{log_at}
-use Rattle.remount.specs.declared.heads.Head.{Head}
-use Rattle.remount.specs.declared.scan.ScannedZone.{ScannedZone}
-use Rattle.remount.specs.Heads.{HeadsView, heads_after, heads_of, no_heads, source_with, with_heading}
-use Rattle.remount.specs.declared.survey.Survey.{Survey}
-use Rattle.remount.specs.Known.{Knows}
-use Rattle.remount.specs.Scan.{heads_in}
+use Rattle.drive_array.specs.Repairing.{IsMoved}
+use Rattle.drive_array.specs.Spare.{IsMoveFrom}
+use Rattle.drive_array.specs.ZoneLogs.{log_at}
+use Rattle.drive_survey.specs.declared.heads.Head.{Head}
+use Rattle.drive_survey.specs.declared.scan.ScannedZone.{ScannedZone}
+use Rattle.drive_survey.specs.Heads.{HeadsView, heads_after, heads_of, no_heads, source_with, with_heading}
+use Rattle.drive_survey.specs.declared.survey.Survey.{Survey}
+use Rattle.drive_survey.specs.Known.{Knows}
+use Rattle.drive_survey.specs.Scan.{heads_in}
 
 -- ---- the headers of one zone
 

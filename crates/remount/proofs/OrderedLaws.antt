@@ -7,11 +7,11 @@ use Rattle.std.proofs.lemmas.List.{take-append-le}
 use Rattle.logical_map.specs.Live.{blocks_in, lies_in}
 use Rattle.logical_map.specs.declared.place.Place.{Place}
 use Rattle.logical_map.specs.declared.place.Place.TheVariants as places
-use Rattle.zone_choice.specs.Repair.{moves}
-use Rattle.zone_choice.proofs.AllLaws.{all-append, all-weaker}
-use Rattle.zone_choice.proofs.ReserveLaws.{div_ceil-le}
-use Rattle.remount.specs.declared.clearing.Finding.{Finding}
-use Rattle.remount.specs.declared.clearing.Finding.TheVariants.{HalfClean, NotMoves, NeedsBlock, NeedsSize}
+use Rattle.drive_array.specs.Repair.{moves}
+use Rattle.drive_array.proofs.AllLaws.{all-append, all-weaker}
+use Rattle.drive_array.proofs.ReserveLaws.{div_ceil-le}
+use Rattle.drive_survey.specs.declared.clearing.Finding.{Finding}
+use Rattle.drive_survey.specs.declared.clearing.Finding.TheVariants.{HalfClean, NotMoves, NeedsBlock, NeedsSize}
 use Rattle.remount.specs.Moving.{ordered, others}
 use Rattle.remount.proofs.MovePlanLaws.{all-take}
 

@@ -12,26 +12,25 @@ use Rattle.logical_map.specs.declared.place.Place.{Place}
 use Rattle.logical_map.specs.declared.place.Place.TheVariants as places
 use Rattle.drive_port.specs.Contents.{content_at, content_of, contents, nothing}
 use Rattle.drive_port.specs.Drive.{DriveState}
-use Rattle.zone_choice.specs.Agreement.{drive_logs}
-use Rattle.zone_choice.specs.Mountable.{IsInside}
-use Rattle.zone_choice.specs.Records.{records}
-use Rattle.zone_choice.specs.Sizes.{encoded_size, map_of}
-use Rattle.zone_choice.specs.ZoneLogs.{HasLog, log_at, readable, zone_log}
-use Rattle.zone_choice.proofs.AllLaws.{all-at, all-weaker}
-use Rattle.zone_choice.proofs.SizeLaws.{inside-records}
-use Rattle.zone_choice.proofs.ZoneLogLaws.{log_at-zone}
-use Rattle.remount.specs.declared.reported.ReportedZone.{ReportedZone}
-use Rattle.remount.specs.declared.survey.Survey.{Survey}
-use Rattle.remount.specs.Heads.{heads_of}
-use Rattle.remount.specs.KeptRecords.{kept_records}
-use Rattle.remount.specs.Known.{Knows}
+use Rattle.drive_array.specs.ZoneLogs.{HasLog, drive_logs, log_at, readable, zone_log}
+use Rattle.drive_array.specs.Mountable.{IsInside}
+use Rattle.drive_array.specs.Records.{records}
+use Rattle.drive_array.specs.Sizes.{encoded_size, map_of}
+use Rattle.drive_array.proofs.AllLaws.{all-at, all-weaker}
+use Rattle.drive_array.proofs.SizeLaws.{inside-records}
+use Rattle.drive_array.proofs.ZoneLogLaws.{log_at-zone}
+use Rattle.drive_survey.specs.declared.reported.ReportedZone.{ReportedZone}
+use Rattle.drive_survey.specs.declared.survey.Survey.{Survey}
+use Rattle.drive_survey.specs.Heads.{heads_of}
+use Rattle.drive_survey.specs.KeptRecords.{kept_records}
+use Rattle.drive_survey.specs.Known.{Knows}
 use Rattle.remount.specs.Placing.{AreAscending, placed_all}
-use Rattle.remount.specs.Scan.{AreKnown, heads_in}
-use Rattle.remount.proofs.AllScanLaws.{there-is}
+use Rattle.drive_survey.specs.Scan.{AreKnown, heads_in}
+use Rattle.drive_survey.proofs.AllScanLaws.{there-is}
 use Rattle.remount.proofs.HeadPlaceLaws.{all-ascend, all-read}
-use Rattle.remount.proofs.HeadRecordLaws.{kept-are}
+use Rattle.drive_survey.proofs.HeadRecordLaws.{kept-are}
 use Rattle.remount.proofs.PlacingLaws.{placed-newest}
-use Rattle.remount.proofs.ReadLaws.{known-few}
+use Rattle.drive_survey.proofs.ReadLaws.{known-few}
 
 -- ---- a zone's log fits in the zone
 

@@ -1,5 +1,5 @@
 -- Records are placed one after the other, and each block has the place of its newest one.
-use Rattle.std.proofs.Common.{◌≡◌, ◌≢◌, ◌⊎◌, inl, inr, ℕ, zero, suc, ◌-◌, ◌<◌, ◌≤◌, min, Bool, true, false, cond, leb, ltb, eqb, List, [], ◌∷◌, ◌++◌, length, map, set, get_or, drop, take, replicate, Option, Some, None, refl, sym, ap, ◌∙◌, arith, append_assoc, append-nil}
+use Rattle.std.proofs.Common.{◌≡◌, ◌⊎◌, inl, inr, ℕ, suc, ◌-◌, ◌<◌, ◌≤◌, min, Bool, true, false, cond, ltb, eqb, List, [], ◌∷◌, ◌++◌, length, map, set, get_or, drop, take, replicate, Option, Some, None, refl, sym, ap, ◌∙◌, arith, append_assoc, append-nil}
 use Rattle.std.specs.List.{AllByRecursion, range_with_len}
 use Rattle.std.proofs.lemmas.Bool.{cases_eq, cases_lt, eq-eqb, ne_eqb}
 use Rattle.std.proofs.lemmas.List.{drop_all, get_or_past, take_min}
@@ -7,45 +7,17 @@ use Rattle.std.proofs.lemmas.List.FromFn.{get_or-map-range_with_len}
 use Rattle.std.proofs.Math.Seq.{drop-cons}
 use Rattle.logical_map.specs.declared.place.Place.{Place}
 use Rattle.logical_map.specs.declared.place.Place.TheVariants as places
-use Rattle.zone_choice.specs.Records.{Record, newer, newest, place, told}
+use Rattle.drive_array.specs.Records.{Record, newer, newest, place, told}
 use Rattle.zone_choice.specs.Tables.{TablesView}
-use Rattle.zone_choice.proofs.AllLaws.{all-append}
+use Rattle.drive_array.proofs.AllLaws.{all-append}
 use Rattle.zone_choice.proofs.FreshLaws.{told-none}
-use Rattle.zone_choice.proofs.NewestLaws.{map-range_set, map_same, newer-none, newest-append, newest-is}
-use Rattle.zone_choice.proofs.ReadLaws.{all-among}
-use Rattle.remount.specs.declared.heads.Head.{Head}
-use Rattle.remount.specs.declared.records.KeptRecord.{KeptRecord}
-use Rattle.remount.specs.Heads.{HeadsView, no_heads}
-use Rattle.remount.specs.KeptRecords.{kept_batches, kept_entries, kept_in, kept_record, kept_records}
-use Rattle.remount.specs.Placing.{SameButPlaces, heads_at, is_later, placed_all, placed_one, sequence_at, sequence_from, sequence_of}
+use Rattle.drive_array.proofs.NewestLaws.{all-among, map-range_set, map_same, newer-none, newest-append, newest-is}
+use Rattle.drive_survey.specs.declared.heads.Head.{Head}
+use Rattle.drive_survey.specs.declared.records.KeptRecord.{KeptRecord}
+use Rattle.drive_survey.specs.Heads.{HeadsView, no_heads}
+use Rattle.drive_survey.specs.KeptRecords.{kept_batches, kept_entries, kept_of_zone, kept_record, kept_records}
+use Rattle.remount.specs.Placing.{SameButPlaces, heads_at, is_later, placed_all, placed_one, sequence_of}
 use Rattle.remount.proofs.HeadPlaceLaws.{IsRead}
-
--- ---- the last header before a block
-
-abbrev last_of : Option ℕ → List Head → Head → ℕ → Option ℕ
-last_of found heads d zero = found
-last_of found heads d (suc j) = Some (get_or heads j d).sequence
-
-pub sequence-point : (heads : List Head) (d : Head) (found : Option ℕ) (offset after : ℕ) → after ≤ length heads → ((k : ℕ) → k < after → leb (get_or heads k d).offset offset ≡ true)
-    → ((k : ℕ) → after ≤ k → k < length heads → leb (get_or heads k d).offset offset ≡ false) → sequence_from found offset heads ≡ last_of found heads d after
-sequence-point [] d found offset zero le below above = refl
-sequence-point [] d found offset (suc j) le below above = absurd (omega (arith, le))
-sequence-point (h ∷ hs) d found offset zero le below above = rw (above 0 (omega arith) (omega arith)) refl
-sequence-point (h ∷ hs) d found offset (suc zero) le below above =
-    rw (below 0 (omega arith)) (sequence-point hs d (Some h.sequence) offset zero (omega arith) (λ k lt. absurd (omega (arith, lt))) (λ k ge lt. above (suc k) (omega arith) (omega (arith, lt))))
-sequence-point (h ∷ hs) d found offset (suc (suc j)) le below above =
-    rw (below 0 (omega arith)) (sequence-point hs d (Some h.sequence) offset (suc j) (omega (arith, le)) (λ k lt. below (suc k) (omega (arith, lt))) (λ k ge lt. above (suc k) (omega (arith, ge)) (omega (arith, lt))))
-
-pub sequence-none : (heads : List Head) (d : Head) (offset after : ℕ) → after ≡ 0 → ((k : ℕ) → after ≤ k → k < length heads → leb (get_or heads k d).offset offset ≡ false) → None ≡ sequence_at heads offset
-sequence-none heads d offset after none above =
-    sym (sequence-point heads d None offset 0 (omega arith) (λ k lt. absurd (omega (arith, lt))) (λ k ge lt. above k (omega (arith, none)) lt))
-
-pub sequence-last : (heads : List Head) (d : Head) (offset after : ℕ) → after ≢ 0 → after ≤ length heads → ((k : ℕ) → k < after → leb (get_or heads k d).offset offset ≡ true)
-    → ((k : ℕ) → after ≤ k → k < length heads → leb (get_or heads k d).offset offset ≡ false) → Some (get_or heads (after - 1) d).sequence ≡ sequence_at heads offset
-sequence-last heads d offset zero some le below above = absurd (some refl)
-sequence-last heads d offset (suc j) some le below above =
-    let last : suc j - 1 ≡ j = omega arith in
-    rw last (sym (sequence-point heads d None offset (suc j) le below above))
 
 -- ---- one part after the other
 
@@ -146,14 +118,14 @@ batch-placed zone_size zone from i i' k views heads items head d rest own others
         by (inr le) = drop_all (min n (length xs)) xs (omega (arith, le)) ∙ sym (drop_all n xs le)
 
 -- those of a zone are placed
-pub zone-placed : (zone_size zone zone' : ℕ) (views : List HeadsView) (table table' all : List Place) → zone' ≡ suc zone → table' ≡ placed_all zone_size views table (kept_in zone (heads_at views zone))
+pub zone-placed : (zone_size zone zone' : ℕ) (views : List HeadsView) (table table' all : List Place) → zone' ≡ suc zone → table' ≡ placed_all zone_size views table (kept_of_zone zone (heads_at views zone))
     → placed_all zone_size views table (kept_records zone (drop zone views)) ≡ all → placed_all zone_size views table' (kept_records zone' (drop zone' views)) ≡ all
 zone-placed zone_size zone zone' views table table' all more taken before = by (cases_lt zone (length views))
   where
     by : (zone < length views) ⊎ (length views ≤ zone) → placed_all zone_size views table' (kept_records zone' (drop zone' views)) ≡ all
     by (inl lt) =
         let before' = rw (drop-cons views zone no_heads lt) at before in
-        rw (more, taken) (sym (placed-append zone_size views table (kept_in zone (heads_at views zone)) (kept_records (suc zone) (drop (suc zone) views))) ∙ before')
+        rw (more, taken) (sym (placed-append zone_size views table (kept_of_zone zone (heads_at views zone)) (kept_records (suc zone) (drop (suc zone) views))) ∙ before')
     by (inr le) =
         let past : heads_at views zone ≡ no_heads = get_or_past views zone no_heads le in
         let before' = rw (drop_all zone views le) at before in

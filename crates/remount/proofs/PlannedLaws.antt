@@ -15,32 +15,31 @@ use Rattle.batch_log.specs.Log.{Batch, data_count, log_size, one_unless}
 use Rattle.logical_map.specs.Live.{blocks_in, lies_in}
 use Rattle.logical_map.specs.declared.place.Place.{Place}
 use Rattle.logical_map.specs.declared.place.Place.TheVariants as places
-use Rattle.zone_choice.specs.Agreement.{drive_logs}
-use Rattle.zone_choice.specs.Records.{IsNewest, Record, batch_records, entry_records, log_records, newest, place, records, shown}
-use Rattle.zone_choice.specs.Repair.{live, live_data, moves}
-use Rattle.zone_choice.specs.Repairing.{IsStillNeeded, LiesIn, NeedsItsBlock}
-use Rattle.zone_choice.specs.Reserve.{batch_most}
-use Rattle.zone_choice.specs.Sizes.{encoded_size, larger, log_greatest, map_of}
-use Rattle.zone_choice.specs.Spare.{NoneBelow}
-use Rattle.zone_choice.specs.ZoneLogs.{log_at, sequences, zone_tails}
-use Rattle.zone_choice.proofs.AllLaws.{all-append, all-parts, all-weaker}
-use Rattle.zone_choice.proofs.ContentLaws.{log_size-append}
-use Rattle.zone_choice.proofs.DeadLaws.{NotIn, newest-without}
-use Rattle.zone_choice.proofs.NewestLaws.{log_records-append, newest-is}
-use Rattle.zone_choice.proofs.ReadLaws.{all-among}
-use Rattle.zone_choice.proofs.ReserveLaws.{div_ceil-enough, positive-most}
-use Rattle.zone_choice.proofs.SizeLaws.{inside-records, log_greatest-more}
-use Rattle.remount.specs.declared.clearing.Finding.{Finding}
-use Rattle.remount.specs.declared.clearing.Finding.TheVariants.{HalfClean, NotMoves, NeedsBlock, NeedsSize}
-use Rattle.remount.specs.declared.moves.MovePlan.{MovePlan}
+use Rattle.drive_array.specs.ZoneLogs.{drive_logs, log_at, sequences, zone_tails}
+use Rattle.drive_array.specs.Records.{IsNewest, Record, batch_records, entry_records, log_records, newest, place, records, shown}
+use Rattle.drive_array.specs.Repair.{live_records, live_data, moves}
+use Rattle.drive_array.specs.Repairing.{IsStillNeeded, LiesIn, NeedsItsBlock}
+use Rattle.drive_array.specs.Reserve.{batch_most}
+use Rattle.drive_array.specs.Sizes.{encoded_size, larger, log_greatest, map_of}
+use Rattle.drive_array.specs.Spare.{NoneBelow}
+use Rattle.drive_array.proofs.AllLaws.{all-append, all-parts, all-weaker}
+use Rattle.drive_array.proofs.AppendLaws.{log_size-append}
+use Rattle.drive_array.proofs.DeadLaws.{NotIn, newest-without}
+use Rattle.drive_array.proofs.NewestLaws.{all-among, log_records-append, newest-is}
+use Rattle.drive_array.proofs.ReserveLaws.{div_ceil-enough, positive-most}
+use Rattle.drive_array.proofs.SizeLaws.{inside-records, log_greatest-more}
+use Rattle.drive_survey.specs.declared.clearing.Finding.{Finding}
+use Rattle.drive_survey.specs.declared.clearing.Finding.TheVariants.{HalfClean, NotMoves, NeedsBlock, NeedsSize}
+use Rattle.remount.specs.declared.repair.moves.MovePlan.{MovePlan}
 use Rattle.remount.specs.declared.repair.Repair.{Repair}
-use Rattle.remount.specs.declared.survey.Survey.{Survey}
-use Rattle.remount.specs.Heads.{greatest_sequence}
-use Rattle.remount.specs.Known.{Finds, Knows}
+use Rattle.drive_survey.specs.declared.survey.Survey.{Survey}
+use Rattle.drive_survey.specs.Heads.{greatest_sequence}
+use Rattle.drive_survey.specs.Known.{Finds, Knows}
+use Rattle.remount.specs.TornRepair.{HoldsSize}
 use Rattle.remount.specs.Mount.{IsPlan}
 use Rattle.remount.specs.Moving.{IsBlockAt, IsMovable, IsMovePlan, IsReadableAt, Source, early_size, move_by, move_count, moved_entries, moves_before, named_by, ordered, others, placed_entry, said_at, size_by, source_of}
-use Rattle.remount.specs.Reported.{IsKnown}
-use Rattle.remount.specs.Scan.{blocks_of}
+use Rattle.drive_survey.specs.Reported.{IsKnown}
+use Rattle.drive_survey.specs.Scan.{readable_at}
 use Rattle.remount.proofs.LiveLaws.{counts-live, data_blocks, lies-there, map-length, newest-said, place-at, there-lies}
 use Rattle.remount.proofs.TornPlanLaws.{all-greatest, greatest-all}
 use Rattle.remount.proofs.OrderedLaws.{In, IsLastIn, IsOrder, LiesAt, blocks-distinct, blocks-lie, front-few, front-not, in-contains, is-order, length-total, lying-in, order-all, order-length, total, total-append}
@@ -118,6 +117,13 @@ early-either size early NotMoves is = inl is
 early-either size early (NeedsBlock last) is = inl is
 early-either size early NeedsSize is = inr is
 
+-- all Moves say the size, unless the torn zone is needed for it
+early-said : (block_bytes n : ℕ) (logs : List (List Batch)) (zone : ℕ) (size early : Option ℕ) (why : Finding) → early ≡ early_size size why → Finds block_bytes n logs zone why → (HoldsSize n logs zone → ⊥) → early ≡ size
+early-said block_bytes n logs zone size early HalfClean is finds other = is
+early-said block_bytes n logs zone size early NotMoves is finds other = is
+early-said block_bytes n logs zone size early (NeedsBlock last) is finds other = is
+early-said block_bytes n logs zone size early NeedsSize is finds other = absurd (other finds)
+
 -- ---- the plan
 
 -- the Moves that were planned, after the reason was found that the torn zone is needed for
@@ -162,12 +168,12 @@ blocks-live drive n survey repair known is =
     (lt, there-lies drive n logs survey repair.zone b known (sym (ap (λ (p : Place). lies_in size repair.zone p) (ap (λ (k : ℕ). get_or map_is k places.None) same ∙ place-at size n b logs lt)) ∙ at.lies))) (blocks-lie size repair.zone 0 map_is))
 
 live-block : (drive : DriveState) (n : ℕ) (survey : Survey) (repair : Repair) (b : ℕ) → Knows drive n (drive_logs drive) survey → IsPlan drive.geometry n (drive_logs drive) (zone_tails (contents drive.zones)) repair → IsLiveIn drive n repair.zone b → In b repair.blocks.items
-live-block drive n survey repair b known is live =
+live-block drive n survey repair b known is live_records =
     let logs = drive_logs drive in
     let size = drive.geometry.size in
     let map_is = map_of size n logs in
-    subst (In b) (sym is.blocks) (lying-in size repair.zone 0 b b map_is (omega arith) (omega (arith, live.0, map-length size n logs))
-    (ap (λ (p : Place). lies_in size repair.zone p) (place-at size n b logs live.0) ∙ lies-there drive n logs survey repair.zone b known live.1))
+    subst (In b) (sym is.blocks) (lying-in size repair.zone 0 b b map_is (omega arith) (omega (arith, live_records.0, map-length size n logs))
+    (ap (λ (p : Place). lies_in size repair.zone p) (place-at size n b logs live_records.0) ∙ lies-there drive n logs survey repair.zone b known live_records.1))
 
 -- a record of a block below the size
 lies-below : (drive : DriveState) (n : ℕ) (survey : Survey) (zone b : ℕ) → Knows drive n (drive_logs drive) survey → LiesIn zone (newest b (records 0 (drive_logs drive))) → b < encoded_size n (drive_logs drive)
@@ -203,38 +209,38 @@ last-in drive n survey repair (NeedsBlock last) known is finds =
 
 live-movable : (drive : DriveState) (n : ℕ) (survey : Survey) (repair : Repair) (b : ℕ) → Knows drive n (drive_logs drive) survey → IsPlan drive.geometry n (drive_logs drive) (zone_tails (contents drive.zones)) repair → IsLiveIn drive n repair.zone b
     → IsMovable n (drive_logs drive) (source_of drive repair.tables repair.zone) repair.zone b
-live-movable drive n survey repair b known is live = at (newest b (records 0 (drive_logs drive))) refl live.1
+live-movable drive n survey repair b known is live_records = at (newest b (records 0 (drive_logs drive))) refl live_records.1
   where
     at : (o : Option Record) → newest b (records 0 (drive_logs drive)) ≡ o → LiesIn repair.zone o → IsMovable n (drive_logs drive) (source_of drive repair.tables repair.zone) repair.zone b
     at None e lies = absurd lies
     at (Some r) e lies =
         let size = drive.geometry.size in
-        let there : slice_index_or repair.tables.map.places b places.None ≡ place size (Some r) = ap (λ (ps : List Place). get_or ps b places.None) is.placed.places ∙ place-at size n b (drive_logs drive) live.0 ∙ ap (place size) e in
+        let there : slice_index_or repair.tables.map.places b places.None ≡ place size (Some r) = ap (λ (ps : List Place). get_or ps b places.None) is.placed.places ∙ place-at size n b (drive_logs drive) live_records.0 ∙ ap (place size) e in
         record {
-          in_range = live.0;
+          in_range = live_records.0;
           newest_is = r;
           is = e;
           zone = lies;
-          content = (newest-said drive n survey repair.zone b r known e lies).content ∙ ap (said_at (blocks_of drive repair.zone) (repair.zone * size)) (sym there);
+          content = (newest-said drive n survey repair.zone b r known e lies).content ∙ ap (said_at (readable_at drive repair.zone) (repair.zone * size)) (sym there);
         }
 
-live-readable : (drive : DriveState) (n : ℕ) (survey : Survey) (repair : Repair) (count b : ℕ) → Knows drive n (drive_logs drive) survey → IsPlan drive.geometry n (drive_logs drive) (zone_tails (contents drive.zones)) repair → count ≡ length (blocks_of drive repair.zone)
+live-readable : (drive : DriveState) (n : ℕ) (survey : Survey) (repair : Repair) (count b : ℕ) → Knows drive n (drive_logs drive) survey → IsPlan drive.geometry n (drive_logs drive) (zone_tails (contents drive.zones)) repair → count ≡ length (readable_at drive repair.zone)
     → IsLiveIn drive n repair.zone b → IsReadableAt repair.tables (repair.zone * drive.geometry.size) count b
-live-readable drive n survey repair count b known is count-is live = at (newest b (records 0 (drive_logs drive))) refl live.1
+live-readable drive n survey repair count b known is count-is live_records = at (newest b (records 0 (drive_logs drive))) refl live_records.1
   where
     at : (o : Option Record) → newest b (records 0 (drive_logs drive)) ≡ o → LiesIn repair.zone o → IsReadableAt repair.tables (repair.zone * drive.geometry.size) count b
     at None e lies = absurd lies
     at (Some r) e lies =
         let size = drive.geometry.size in
-        let there : slice_index_or repair.tables.map.places b places.None ≡ place size (Some r) = ap (λ (ps : List Place). get_or ps b places.None) is.placed.places ∙ place-at size n b (drive_logs drive) live.0 ∙ ap (place size) e in
+        let there : slice_index_or repair.tables.map.places b places.None ≡ place size (Some r) = ap (λ (ps : List Place). get_or ps b places.None) is.placed.places ∙ place-at size n b (drive_logs drive) live_records.0 ∙ ap (place size) e in
         record {
-          in_range = omega (arith, live.0, map-length size n (drive_logs drive), ap length is.placed.places);
-          few = omega (arith, live.0, known.reserve.1);
+          in_range = omega (arith, live_records.0, map-length size n (drive_logs drive), ap length is.placed.places);
+          few = omega (arith, live_records.0, known.reserve.1);
           place = subst (IsBlockAt (repair.zone * size) count) (sym there) (subst (λ (c : ℕ). IsBlockAt (repair.zone * size) c (place size (Some r))) (sym count-is) (newest-said drive n survey repair.zone b r known e lies).block);
         }
 
 record Counts (geometry : Geometry) (size zone : ℕ) (logs : List (List Batch)) (source : Source) (plan : MovePlan) : Type 0 where
-  count : length plan.blocks.items ≡ live size logs zone
+  count : length plan.blocks.items ≡ live_records size logs zone
   with_data : total (data_at source) plan.blocks.items ≡ live_data size logs zone
 
 planned-counts : (drive : DriveState) (n : ℕ) (survey : Survey) (repair : Repair) (into : ℕ) (why : Finding) (plan : MovePlan) → IsPlanned drive n survey repair into why plan → IsOrder repair.blocks.items plan.blocks.items
@@ -275,9 +281,9 @@ plan-made drive n survey repair into why plan p =
     let live_all : AllByRecursion (IsLiveIn drive n zone) plan.blocks.items = subst (AllByRecursion (IsLiveIn drive n zone)) (sym p.blocks) (order-all (IsLiveIn drive n zone) repair.blocks.items why last (blocks-live drive n survey repair known p.is)) in
     let some : 1 ≤ plan.most = omega (arith, p.most, positive-most g known.zones.geometry) in
     let counts = planned-counts drive n survey repair into why plan p order in
-    let count : move_count plan ≡ moves (batch_most g) (live (encoded_size n logs) logs zone) = ap (λ (m : ℕ). moves m (length plan.blocks.items)) p.most ∙ ap (moves (batch_most g)) counts.count in
+    let count : move_count plan ≡ moves (batch_most g) (live_records (encoded_size n logs) logs zone) = ap (λ (m : ℕ). moves m (length plan.blocks.items)) p.most ∙ ap (moves (batch_most g)) counts.count in
     let room = p.is.fits.room in
-    let greatest = greatest-all (2 ^ 63) (moves (batch_most g) (live (encoded_size n logs) logs zone)) (sequences logs) (omega (arith, room, known.zones.geometry.capacity, known.zones.geometry.size)) p.is.fits.numbers in
+    let greatest = greatest-all (2 ^ 63) (moves (batch_most g) (live_records (encoded_size n logs) logs zone)) (sequences logs) (omega (arith, room, known.zones.geometry.capacity, known.zones.geometry.size)) p.is.fits.numbers in
     let size : log_size (moves_before source plan (move_count plan)) ≡ move_count plan + total (data_at source) plan.blocks.items = moves-size source plan (move_count plan) ∙ ap (λ (xs : List ℕ). move_count plan + total (data_at source) xs) (all-there plan some) in
     record {
       torn = p.torn;
@@ -286,7 +292,7 @@ plan-made drive n survey repair into why plan p =
       can = record {
         most = p.most;
         movable = subst (λ (z : ℕ). AllByRecursion (IsMovable n logs (source_of drive repair.tables z) z) plan.blocks.items) (sym p.torn)
-            (all-weaker (IsLiveIn drive n zone) (IsMovable n logs source zone) plan.blocks.items (λ b live. live-movable drive n survey repair b known p.is live) live_all);
+            (all-weaker (IsLiveIn drive n zone) (IsMovable n logs source zone) plan.blocks.items (λ b live_records. live-movable drive n survey repair b known p.is live_records) live_all);
         all = subst (λ (z : ℕ). (block : ℕ) → LiesIn z (newest block rs) → Contains plan.blocks.items block) (sym p.torn)
             (λ block lies. in-contains block plan.blocks.items (order.has block (live-block drive n survey repair block known p.is (lies-below drive n survey zone block known lies, lies))));
         distinct = order.distinct;
@@ -297,7 +303,8 @@ plan-made drive n survey repair into why plan p =
         room = subst (λ (z : ℕ). log_size (moves_before (source_of drive repair.tables z) plan (move_count plan)) ≤ g.capacity) (sym p.torn) (omega (arith, room, count, size, counts.with_data));
         size = subst (λ (z : ℕ). plan.size ≡ log_greatest (log_at logs z)) (sym p.torn) p.size;
         early = early-either plan.size plan.early why p.early;
+        said = subst (λ (z : ℕ). (HoldsSize n logs z → ⊥) → plan.early ≡ plan.size) (sym p.torn) (early-said g.block n logs zone plan.size plan.early why p.early p.finds);
         needed = λ k lt. subst (λ (z : ℕ). IsStillNeeded g.block n logs z plan.into (moves_before (source_of drive repair.tables z) plan k)) (sym p.torn) (still-needed drive n survey repair into why plan k source p order some lt);
       };
-      readable_blocks = rw p.torn (all-weaker (IsLiveIn drive n zone) (IsReadableAt repair.tables (zone * g.size) plan.reported.blocks) plan.blocks.items (λ b live. live-readable drive n survey repair plan.reported.blocks b known p.is p.known.blocks live) live_all);
+      readable_blocks = rw p.torn (all-weaker (IsLiveIn drive n zone) (IsReadableAt repair.tables (zone * g.size) plan.reported.blocks) plan.blocks.items (λ b live_records. live-readable drive n survey repair plan.reported.blocks b known p.is p.known.blocks live_records) live_all);
     }

@@ -12,19 +12,18 @@ use Rattle.batch_log.specs.Header.{Heading, head_size, header_block}
 use Rattle.batch_log.specs.Log.{Batch, BeginsWith, BeginsWithNoBatch, IsBatch, batch_blocks, data_count}
 use Rattle.batch_log.proofs.EndingLaws.{never_fails, one_front, tail_none}
 use Rattle.batch_log.proofs.HeaderLaws.{one_header}
-use Rattle.zone_choice.specs.Repair.{CanRepair}
-use Rattle.zone_choice.specs.ZoneLogs.{HasLog, readable, zone_log, zone_logs, zone_tails}
-use Rattle.zone_choice.specs.Agreement.{drive_logs}
-use Rattle.zone_choice.specs.Spare.{cleared}
-use Rattle.zone_choice.proofs.AllLaws.{all-at}
-use Rattle.remount.specs.declared.fault.MountFault.{MountFault}
-use Rattle.remount.specs.declared.fault.MountFault.TheVariants.{Reserve, Limits, ZoneUnusable, Log, SequenceRepeated, BlockOutOfRange, TooManyPartial, NoSpare, Spent, Halted, OutOfMemory, TornZone}
+use Rattle.drive_array.specs.Repair.{CanRepair}
+use Rattle.drive_array.specs.ZoneLogs.{HasLog, drive_logs, readable, zone_log, zone_logs, zone_tails}
+use Rattle.drive_array.specs.Spare.{cleared}
+use Rattle.drive_array.proofs.AllLaws.{all-at}
+use Rattle.drive_survey.specs.declared.fault.MountFault.{MountFault}
+use Rattle.drive_survey.specs.declared.fault.MountFault.TheVariants.{Reserve, Limits, ZoneUnusable, Log, SequenceRepeated, BlockOutOfRange, TooManyPartial, NoSpare, Spent, Halted, OutOfMemory, TornZone}
 use Rattle.remount.specs.Mount.{CannotClear, CannotRepair, IsToMount, MountFails}
-use Rattle.remount.specs.Scan.{FailsBy, FailsFirst, HaveNoFault, ending_fault, heading_fault, log_fault, or_else, seen_after, seen_with}
-use Rattle.remount.specs.Survey.{drive_size}
-use Rattle.remount.proofs.NextLaws.{fails-more}
-use Rattle.remount.proofs.SoundLaws.{sequences-sound}
-use Rattle.remount.proofs.TakeLaws.{or-none}
+use Rattle.drive_survey.specs.Scan.{FailsBy, FailsFirst, HaveNoFault, ending_fault, heading_fault, log_fault, fault_or, seen_after, seen_with}
+use Rattle.drive_survey.specs.Survey.{drive_size}
+use Rattle.drive_survey.proofs.NextLaws.{fails-more}
+use Rattle.drive_survey.proofs.SoundLaws.{sequences-sound}
+use Rattle.drive_survey.proofs.TakeLaws.{or-none}
 
 -- ---- batches that blocks begin with are the first of their log
 
@@ -61,7 +60,7 @@ fault-front : (seen : List ℕ) (log more : List Batch) → log_fault seen (log 
 fault-front seen [] more e = refl
 fault-front seen (b ∷ bs) more e =
     let parts = or-none (heading_fault seen b.heading) (log_fault (insert_key nat_cmp seen b.heading.sequence) (bs ++ more)) e in
-    ap (λ (f : Option MountFault). or_else f (log_fault (insert_key nat_cmp seen b.heading.sequence) bs)) parts.0 ∙ fault-front (insert_key nat_cmp seen b.heading.sequence) bs more parts.1
+    ap (λ (f : Option MountFault). fault_or f (log_fault (insert_key nat_cmp seen b.heading.sequence) bs)) parts.0 ∙ fault-front (insert_key nat_cmp seen b.heading.sequence) bs more parts.1
 
 none-at : (geometry : Geometry) (seen : List ℕ) (zones : List Content) (zone : ℕ) → zone < length zones → HaveNoFault seen (zone_logs geometry zones)
     → log_fault (seen_after seen (zone_logs geometry (take zone zones))) (zone_log geometry (content_at zones zone)) ≡ None

@@ -13,16 +13,16 @@ use Rattle.drive_port.specs.declared.calls.PortFault.{PortFault}
 use Rattle.drive_port.specs.declared.calls.PortFault.TheVariants as port
 use Rattle.batch_log.specs.Log.{zero_block}
 use Rattle.zone_choice.specs.Changes.{IsHalt}
-use Rattle.zone_choice.specs.ZoneLogs.{readable}
+use Rattle.drive_array.specs.ZoneLogs.{readable}
 use Rattle.zone_choice.proofs.OpenLaws.{OpensNone, finish-opens, reset-opens, settled-shut}
 use Rattle.zone_choice.proofs.ContentLaws.{IsSettled}
 use Rattle.zone_choice.proofs.CommandLaws.{content-zone, start-below, zone-few, zone-start}
-use Rattle.remount.specs.declared.reported.ReportedZone.{ReportedZone}
-use Rattle.remount.specs.declared.scan.ScannedZone.{ScannedZone}
-use Rattle.remount.specs.declared.survey.Survey.{Survey}
-use Rattle.remount.specs.Reported.{IsKnown}
+use Rattle.drive_survey.specs.declared.reported.ReportedZone.{ReportedZone}
+use Rattle.drive_survey.specs.declared.scan.ScannedZone.{ScannedZone}
+use Rattle.drive_survey.specs.declared.survey.Survey.{Survey}
+use Rattle.drive_survey.specs.Reported.{IsKnown}
 use Rattle.remount.specs.Resets.{FinishesOne, MayChange, ResetsAll, reported_empty, reported_full}
-use Rattle.remount.specs.Scan.{AreKnown, FailsBy, mount_fault}
+use Rattle.drive_survey.specs.Scan.{AreKnown, FailsBy, mount_fault}
 
 -- ---- the drive takes the command
 
@@ -168,9 +168,9 @@ known-finish old new reported zone known lt done =
 -- ---- and what the survey says
 
 pub resets-all-one : (old new : DriveState) (before after : Survey) (zone : ℕ) (was : ScannedZone) → AreKnown old before.zones.items → zone < length before.zones.items → length before.scanned.items ≡ length before.zones.items → ResetsOne old new zone
-    → get_or before.scanned.items zone was ≡ was → after.zones.items ≡ set before.zones.items zone reported_empty → after.scanned.items ≡ set before.scanned.items zone (record { heads = was.heads; is_torn = false }) → after.size ≡ before.size
+    → get_or before.scanned.items zone was ≡ was → after.zones.items ≡ set before.zones.items zone reported_empty → after.scanned.items ≡ set before.scanned.items zone (record { heads = was.heads; is_torn = false }) → after.size ≡ before.size → after.given ≡ before.given
     → ResetsAll old new before after (zone ∷ [])
-resets-all-one old new before after zone was known lt long done was-is reported scanned size = record {
+resets-all-one old new before after zone was known lt long done was-is reported scanned size given = record {
   geometry = done.kept.geometry;
   contents_are = done.contents_are.zones;
   known = rw reported (known-reset old new before.zones.items zone known lt done);
@@ -178,15 +178,17 @@ resets-all-one old new before after zone was known lt long done was-is reported 
   heads = rw scanned (map-set_same (λ (z : ScannedZone). z.heads) before.scanned.items zone (record { heads = was.heads; is_torn = false }) was (ap (λ (z : ScannedZone). z.heads) (sym was-is)));
   tails = rw scanned (map-set (λ (z : ScannedZone). z.is_torn) before.scanned.items zone (record { heads = was.heads; is_torn = false }));
   size = size;
+  given = given;
 }
 
 pub finishes-one : (old new : DriveState) (before after : Survey) (zone : ℕ) → AreKnown old before.zones.items → zone < length before.zones.items → FinishDone old new zone
-    → after.zones.items ≡ set before.zones.items zone (reported_full old.geometry.capacity) → after.scanned ≡ before.scanned → after.size ≡ before.size → FinishesOne old new before after zone
-finishes-one old new before after zone known lt done reported scanned size = record {
+    → after.zones.items ≡ set before.zones.items zone (reported_full old.geometry.capacity) → after.scanned ≡ before.scanned → after.size ≡ before.size → after.given ≡ before.given → FinishesOne old new before after zone
+finishes-one old new before after zone known lt done reported scanned size given = record {
   geometry = done.kept.geometry;
   contents_are = done.contents_are;
   known = rw reported (known-finish old new before.zones.items zone known lt done);
   reported = reported;
   scanned = scanned;
   size = size;
+  given = given;
 }

@@ -6,8 +6,8 @@ use Rattle.std.proofs.lemmas.Bool.{cases_eq}
 use Rattle.std.proofs.lemmas.List.{get_or-set_other, get_or-set_same, length-set, map-set}
 use Rattle.std.proofs.lemmas.Option.{get_or_from_slice_get, slice_get-get_or, slice_get_within}
 use Rattle.batch_log.specs.Log.{Batch}
-use Rattle.zone_choice.specs.Spare.{cleared}
-use Rattle.zone_choice.specs.ZoneLogs.{log_at}
+use Rattle.drive_array.specs.Spare.{cleared}
+use Rattle.drive_array.specs.ZoneLogs.{log_at}
 use Rattle.remount.specs.Resets.{set_all}
 
 pub map-set_all : {X Y : Type 0} (f : X → Y) (xs : List X) (is : List ℕ) (x : X) → map f (set_all xs is x) ≡ set_all (map f xs) is (f x)

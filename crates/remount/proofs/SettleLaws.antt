@@ -15,28 +15,27 @@ use Rattle.drive_port.specs.declared.calls.PortFault.{PortFault}
 use Rattle.drive_port.specs.declared.calls.PortFault.TheVariants as port
 use Rattle.batch_log.specs.declared.header.Entry.{Entry}
 use Rattle.batch_log.specs.Log.{Batch, log_size, one_unless}
-use Rattle.zone_choice.specs.Agreement.{drive_logs, spelled}
-use Rattle.zone_choice.specs.Laws.{OnlyTorn}
-use Rattle.zone_choice.specs.Mountable.{IsMountable}
-use Rattle.zone_choice.specs.Records.{IsNewest, Record, batch_records, entry_records, log_records, newest}
-use Rattle.zone_choice.specs.Repairing.{IsWithin}
-use Rattle.zone_choice.specs.Sizes.{larger, log_greatest}
-use Rattle.zone_choice.specs.Spare.{IsSpare}
+use Rattle.drive_array.specs.ZoneLogs.{drive_logs, has_torn_tail, log_at, spelled, spelled_array, zone_log, zone_logs, zone_tails}
+use Rattle.drive_array.specs.Laws.{OnlyTorn}
+use Rattle.drive_array.specs.Mountable.{IsMountable}
+use Rattle.drive_array.specs.Records.{IsNewest, Record, batch_records, entry_records, log_records, newest}
+use Rattle.drive_array.specs.Repairing.{IsWithin}
+use Rattle.drive_array.specs.Sizes.{larger, log_greatest}
+use Rattle.drive_array.specs.Spare.{IsSpare}
 use Rattle.zone_choice.specs.Tables.{TablesView}
-use Rattle.zone_choice.specs.ZoneLogs.{has_torn_tail, log_at, spelled_array, zone_log, zone_logs, zone_tails}
-use Rattle.zone_choice.proofs.AllLaws.{all-append, all-at, all-parts}
-use Rattle.zone_choice.proofs.MountLaws.{spare_resets}
-use Rattle.zone_choice.proofs.NewestLaws.{log_records-append, newest-is}
+use Rattle.drive_array.proofs.AllLaws.{all-append, all-at, all-parts}
+use Rattle.drive_array.proofs.MountLaws.{spare_resets}
+use Rattle.drive_array.proofs.NewestLaws.{log_records-append, newest-is}
 use Rattle.zone_choice.proofs.OpenLaws.{reset-opens}
-use Rattle.zone_choice.proofs.RepairingEnds.{repair_ends}
-use Rattle.zone_choice.proofs.RepairingMounts.{made-there, repair_mounts}
-use Rattle.zone_choice.proofs.ReserveLaws.{div_ceil-enough}
-use Rattle.zone_choice.proofs.SizeLaws.{larger-assoc, log_greatest-more}
-use Rattle.zone_choice.proofs.ZoneLogLaws.{tail-at}
-use Rattle.remount.specs.declared.moves.MovePlan.{MovePlan}
-use Rattle.remount.specs.Heads.{HeadsView}
-use Rattle.remount.specs.Known.{KeepsMountable}
-use Rattle.remount.specs.Moving.{CanMove, EmptiesTorn, IsAtMove, IsMoving, Source, move_by, move_count, moves_before, named_by, size_by, source_of}
+use Rattle.drive_array.proofs.RepairingEnds.{repair_ends}
+use Rattle.drive_array.proofs.RepairingMounts.{made-there, repair_mounts}
+use Rattle.drive_array.proofs.ReserveLaws.{div_ceil-enough}
+use Rattle.drive_array.proofs.SizeLaws.{larger-assoc, log_greatest-more}
+use Rattle.drive_array.proofs.ZoneLogLaws.{tail-at}
+use Rattle.remount.specs.declared.repair.moves.MovePlan.{MovePlan}
+use Rattle.drive_survey.specs.Heads.{HeadsView}
+use Rattle.remount.specs.Kept.{KeepsMountable}
+use Rattle.remount.specs.Moving.{CanRepairBy, EmptiesTorn, IsAtMove, IsMoving, Source, move_by, move_count, moves_before, named_by, size_by, source_of}
 use Rattle.remount.proofs.CallLaws.{StartsAt, mountable-both, mountable-same, starts-at}
 use Rattle.remount.proofs.MakingLaws.{at-most, count-before}
 use Rattle.remount.proofs.MovingLaws.{moving-mounts, moving-known, moving-other, moving-small}
@@ -86,13 +85,13 @@ all-moved source plan zone block some there none =
 within-both : (m s t : Option ℕ) → IsWithin m t → IsWithin s t → IsWithin (larger m s) t
 within-both m s t a b = sym (larger-assoc m s t) ∙ ap (larger m) b ∙ a
 
-within-before : (geometry : Geometry) (n : ℕ) (logs : List (List Batch)) (source : Source) (plan : MovePlan) (k : ℕ) → CanMove geometry n logs source plan → IsWithin (log_greatest (moves_before source plan k)) (log_greatest (log_at logs plan.torn))
+within-before : (geometry : Geometry) (n : ℕ) (logs : List (List Batch)) (source : Source) (plan : MovePlan) (k : ℕ) → CanRepairBy geometry n logs source plan → IsWithin (log_greatest (moves_before source plan k)) (log_greatest (log_at logs plan.torn))
 within-before geometry n logs source plan zero can = refl
 within-before geometry n logs source plan (suc k) can =
     rw (log_greatest-more (moves_before source plan k) (move_by source plan k))
     (within-both (log_greatest (moves_before source plan k)) (size_by plan k) (log_greatest (log_at logs plan.torn)) (within-before geometry n logs source plan k can) (within-by (size_by plan k) (log_greatest (log_at logs plan.torn)) (size-either geometry n logs source plan k can)))
 
-pub says-size : (geometry : Geometry) (n : ℕ) (logs : List (List Batch)) (source : Source) (plan : MovePlan) (count : ℕ) → CanMove geometry n logs source plan → move_count plan ≡ count → 1 ≤ count → log_greatest (moves_before source plan count) ≡ log_greatest (log_at logs plan.torn)
+pub says-size : (geometry : Geometry) (n : ℕ) (logs : List (List Batch)) (source : Source) (plan : MovePlan) (count : ℕ) → CanRepairBy geometry n logs source plan → move_count plan ≡ count → 1 ≤ count → log_greatest (moves_before source plan count) ≡ log_greatest (log_at logs plan.torn)
 says-size geometry n logs source plan zero can is some = absurd (omega arith)
 says-size geometry n logs source plan (suc k) can is some =
     let last : size_by plan k ≡ plan.size = rw (eq-eqb (k + 1) (move_count plan) (omega (arith, is))) refl in

@@ -10,35 +10,34 @@ use Rattle.zone_states.specs.Zone.{IsLawfulZone, MayHold, Zone}
 use Rattle.drive_port.specs.Contents.{Content, content_at, content_of, contents, empty, usage_of}
 use Rattle.drive_port.specs.Drive.{DriveState, IsLawful}
 use Rattle.batch_log.specs.Log.{Batch}
-use Rattle.zone_choice.specs.Agreement.{Agrees, drive_logs, mounted}
-use Rattle.zone_choice.specs.Mountable.{AreMountable, AreSound, HoldDisk}
-use Rattle.zone_choice.specs.Repair.{CanRepair, IsTornAt}
-use Rattle.zone_choice.specs.Reserve.{FitsReserve}
-use Rattle.zone_choice.specs.Sizes.{encoded_size}
-use Rattle.zone_choice.specs.Spare.{HasSpare, IsClearing, IsHalfClean, IsVacant, NoneBelow, cleared}
+use Rattle.zone_choice.specs.Agreement.{Agrees, mounted}
+use Rattle.drive_array.specs.ZoneLogs.{HasLog, drive_logs, has_torn_tail, log_at, sequences, zone_tails}
+use Rattle.drive_array.specs.Mountable.{AreMountable, AreSound, HoldDisk}
+use Rattle.drive_array.specs.Repair.{CanRepair, IsTornAt}
+use Rattle.drive_array.specs.Reserve.{FitsReserve}
+use Rattle.drive_array.specs.Sizes.{encoded_size}
+use Rattle.drive_array.specs.Spare.{HasSpare, IsClearing, IsHalfClean, IsVacant, NoneBelow, cleared}
 use Rattle.zone_choice.specs.Tables.{TablesView}
-use Rattle.zone_choice.specs.ZoneLogs.{HasLog, has_torn_tail, log_at, sequences, zone_tails}
-use Rattle.remount.specs.declared.fault.MountFault.{MountFault}
-use Rattle.remount.specs.declared.fault.MountFault.TheVariants as faults
+use Rattle.drive_survey.specs.declared.fault.MountFault.{MountFault}
+use Rattle.drive_survey.specs.declared.fault.MountFault.TheVariants as faults
 use Rattle.remount.specs.declared.repair.Repair.{Repair}
-use Rattle.remount.specs.declared.reported.ReportedZone.{ReportedZone}
-use Rattle.remount.specs.declared.steps.Plan.{Plan}
-use Rattle.remount.specs.declared.survey.Survey.{Survey}
-use Rattle.remount.specs.Heads.{HeadsView, greatest_sequence, heads_of}
-use Rattle.remount.specs.Known.{AreVacantEmpty, KeepsMountable, Knows}
-use Rattle.remount.specs.Known.{HasVacant}
+use Rattle.drive_survey.specs.declared.reported.ReportedZone.{ReportedZone}
+use Rattle.remount.specs.declared.plan.Plan.{Plan}
+use Rattle.drive_survey.specs.declared.survey.Survey.{Survey}
+use Rattle.drive_survey.specs.Heads.{HeadsView, greatest_sequence, heads_of, sequences_in}
+use Rattle.remount.specs.Kept.{AreVacantEmpty, KeepsMountable}
+use Rattle.drive_survey.specs.Known.{HasVacant, Knows}
 use Rattle.remount.specs.Mount.{AreMountedRoles, AreToEmpty, AreWhole, CannotRepair, IsCleared, IsPlan, IsPlanned, IsRepaired, IsToMount, IsUntorn, KeepsOthers, LeavesCleared, LeavesPlanned, LeavesRepaired, MountFails, Mounts, NoneIsTorn, PlanFails, Plans}
-use Rattle.remount.specs.Reported.{KeepsZones}
-use Rattle.remount.specs.Resets.{GoesOn, KeepsGoing, KeepsWritten}
-use Rattle.remount.specs.Scan.{FailsBy, heads_in}
-use Rattle.remount.specs.Torn.{sequences_in}
-use Rattle.remount.specs.Survey.{CanScan, HoldLogs, SurveyFails, Surveys, drive_size}
-use Rattle.zone_choice.proofs.ClearingLaws.{clearing_keeps, one_clearing}
-use Rattle.remount.proofs.AllScanLaws.{there-is}
+use Rattle.drive_survey.specs.Reported.{KeepsZones}
+use Rattle.remount.specs.Resets.{CanBeFilled, KeepsGoing, KeepsWritten}
+use Rattle.drive_survey.specs.Scan.{FailsBy, heads_in}
+use Rattle.drive_survey.specs.Survey.{CanScan, HoldLogs, SurveyFails, Surveys, drive_size}
+use Rattle.drive_array.proofs.ClearingLaws.{clearing_keeps, one_clearing}
+use Rattle.drive_survey.proofs.AllScanLaws.{there-is}
 use Rattle.remount.proofs.KeepLaws.{keeps-mountable-both}
-use Rattle.remount.proofs.NextLaws.{fails-more}
+use Rattle.drive_survey.proofs.NextLaws.{fails-more}
 use Rattle.remount.proofs.TornPlanLaws.{sequences-kept}
-use Rattle.remount.proofs.ReadLaws.{keeps-both, kept-contents}
+use Rattle.drive_survey.proofs.ReadLaws.{keeps-both, kept-contents}
 use Rattle.remount.proofs.SetAllLaws.{cleared-set_all, set_all-parts}
 
 -- ---- what is kept
@@ -65,6 +64,7 @@ survey-knows old new n survey k is = record {
   sound = rw (kept-logs old new k) is.sound;
   reserve = rw (k.geometry, kept-contents old new k) is.reserve;
   size_is = is.size_is ∙ sym (rw (k.geometry, kept-contents old new k) refl);
+  given_is = is.given_is;
   zones = is.zones;
   heads = is.scans.heads ∙ sym (rw (k.geometry, kept-contents old new k) refl);
   tails = is.scans.tails ∙ sym (rw (kept-contents old new k) refl);
@@ -94,6 +94,30 @@ survey-fails drive n (faults.TornZone zone) is = absurd is
 
 pub survey-refused : (drive last : DriveState) (n : ℕ) (fault : MountFault) → FailsBy (SurveyFails drive n) last fault → FailsBy (MountFails drive n) last fault
 survey-refused drive last n fault fails = fails-more (SurveyFails drive n) (MountFails drive n) last fault (survey-fails drive n) fails
+
+-- ---- the number that a survey holds is the one that was given
+
+pub known-own : (drive : DriveState) (n : ℕ) (logs : List (List Batch)) (survey : Survey) → Knows drive n logs survey → Knows drive survey.given logs survey
+known-own drive n logs survey is = subst (λ (k : ℕ). Knows drive k logs survey) (sym is.given_is) is
+
+pub planned-own : (drive : DriveState) (n : ℕ) (survey : Survey) (plan : Plan) → IsPlanned drive n survey plan → IsPlanned drive survey.given survey plan
+planned-own drive n survey plan is = subst (λ (k : ℕ). IsPlanned drive k survey plan) (sym is.known.given_is) is
+
+pub cleared-own : (drive : DriveState) (n : ℕ) (survey : Survey) → IsCleared drive n survey → IsCleared drive survey.given survey
+cleared-own drive n survey is = subst (λ (k : ℕ). IsCleared drive k survey) (sym is.known.given_is) is
+
+pub untorn-own : (drive : DriveState) (n : ℕ) (survey : Survey) → IsUntorn drive n survey → IsUntorn drive survey.given survey
+untorn-own drive n survey is = subst (λ (k : ℕ). IsUntorn drive k survey) (sym is.known.given_is) is
+
+pub keeps-given : (k n : ℕ) (old new : DriveState) → k ≡ n → KeepsMountable k old new → KeepsMountable n old new
+keeps-given k n old new same keeps = subst (λ (j : ℕ). KeepsMountable j old new) same keeps
+
+pub plan-given : (old new : DriveState) (n k : ℕ) (repair : Repair) → k ≡ n → new.geometry ≡ old.geometry → drive_logs new ≡ drive_logs old → zone_tails (contents new.zones) ≡ zone_tails (contents old.zones)
+    → IsPlan old.geometry n (drive_logs old) (zone_tails (contents old.zones)) repair → IsPlan new.geometry k (drive_logs new) (zone_tails (contents new.zones)) repair
+plan-given old new n k repair same geometry logs tails is =
+    subst (λ (g : Geometry). IsPlan g k (drive_logs new) (zone_tails (contents new.zones)) repair) (sym geometry)
+    (subst (λ (ls : List (List Batch)). IsPlan old.geometry k ls (zone_tails (contents new.zones)) repair) (sym logs)
+    (subst (λ (ts : List Bool). IsPlan old.geometry k (drive_logs old) ts repair) (sym tails) (subst (λ (j : ℕ). IsPlan old.geometry j (drive_logs old) (zone_tails (contents old.zones)) repair) (sym same) is)))
 
 -- ---- a cleared drive
 
@@ -230,6 +254,14 @@ emptied-plans old new n before survey plan planned is =
     (plans-kept old.geometry n (drive_logs new) (zone_tails (contents old.zones)) (zone_tails (contents new.zones)) plan.repair is.tails
     (subst (λ (ls : List (List Batch)). Plans old.geometry n ls (zone_tails (contents old.zones)) plan.repair) (sym is.logs) planned.repair))
 
+-- what is told of the repair of a drive that was given a number
+abbrev pub TellsPlan : Geometry → Survey → Option Repair → ℕ → Type 0
+TellsPlan geometry survey plan n = (drive : DriveState) (logs : List (List Batch)) → drive.geometry ≡ geometry → Knows drive n logs survey → Plans geometry n logs (zone_tails (contents drive.zones)) plan
+
+abbrev pub TellsNone : Geometry → Survey → MountFault → ℕ → Type 0
+TellsNone geometry survey fault n =
+    (fault ≡ faults.OutOfMemory) ⊎ ((drive : DriveState) (logs : List (List Batch)) → drive.geometry ≡ geometry → Knows drive n logs survey → CannotRepair geometry (encoded_size n logs) logs (zone_tails (contents drive.zones)) fault)
+
 -- ---- planning
 
 -- what a clearing in memory leaves
@@ -255,7 +287,7 @@ pub planned : (old new : DriveState) (n : ℕ) (before survey : Survey) (plan : 
     → IsPlanned new n survey plan
 planned old new n before survey plan can known k spare vacant zones clearing after repair = record {
   mountable = record { lawful = k.lawful; holds = rw (k.geometry, kept-contents old new k) mountable };
-  vacant = rw (kept-logs old new k) (record { vacant = vacant.vacant; others = rw zones vacant.others });
+  vacant = rw (kept-logs old new k) (record { vacant = vacant.vacant; needed = rw zones vacant.needed; others = rw zones vacant.others });
   clearing = rw (kept-logs old new k, k.geometry) clearing;
   known = rw (kept-logs old new k) after;
   repair = rw (kept-logs old new k, k.geometry, kept-contents old new k) repair;
@@ -358,7 +390,7 @@ pub record Repaired (old new : DriveState) (n : ℕ) (survey : Survey) : Type 0 
   pub left : LeavesCleared n old resets new
   pub kept : KeepsMountable n old new
   pub known : Knows new n (drive_logs new) survey
-  pub repaired : IsRepaired new survey
+  pub repaired : IsRepaired new n survey
   pub others : KeepsOthers old resets new
 
 pub to-mount : (old middle third : DriveState) (n : ℕ) (first second : Survey) (plan : Plan) → IsLawful old → KeepsZones old middle → Surveys old middle n first → KeepsZones middle third → IsPlanned third n second plan → IsToMount old n
@@ -367,7 +399,7 @@ to-mount old middle third n first second plan lawful k is k' planned =
     record { geometry = is.can.geometry; reserve = is.can.reserve; mountable = record { lawful = lawful; holds = rw (both.geometry, kept-contents old third both) at planned.mountable.holds } }
 
 pub repairs : (old middle third new : DriveState) (n : ℕ) (first second last : Survey) (plan : Plan) → IsLawful old → KeepsZones old middle → Surveys old middle n first → KeepsZones middle third → IsPlanned third n second plan
-    → KeepsMountable n third new → Knows new n (drive_logs new) last → IsRepaired new last → LeavesCleared n third plan.half_clean.items new
+    → KeepsMountable n third new → Knows new n (drive_logs new) last → IsRepaired new n last → LeavesCleared n third plan.half_clean.items new
     → KeepsOthers third plan.half_clean.items new → Repaired old new n last
 repairs old middle third new n first second last plan lawful k is k' planned kept known repaired left others =
     let both = keeps-both old middle third k k' in
@@ -465,7 +497,7 @@ carried-others old middle third new n resets plan survey is plans written same g
     let third_is : third ≡ middle = same (no-repair old.geometry n (cleared (drive_logs old) resets) (zone_tails (contents old.zones)) plan plans none) in
     let log : log_at (drive_logs middle) zone ≡ log_at (drive_logs old) zone = ap (λ (ls : List (List Batch)). log_at ls zone) is.logs ∙ log-left (drive_logs old) resets zone some in
     let kept : content_at (contents middle.zones) zone ≡ content_at (contents old.zones) zone = written zone (λ gone. some (ap (λ (ls : List (List Batch)). log_at ls zone) (sym is.logs) ∙ gone)) in
-    let still : GoesOn middle zone = λ partly. rw (log, is.kept.geometry, kept) (goes (rw kept at partly)) in
+    let still : CanBeFilled middle zone = λ partly. rw (log, is.kept.geometry, kept) (goes (rw kept at partly)) in
     let after : content_at (contents new.zones) zone ≡ content_at (contents middle.zones) zone = subst (λ (d : DriveState). KeepsGoing d new) third_is going zone still in
     after ∙ kept
 

@@ -12,7 +12,7 @@ use Rattle.zone_choice.specs.Builder.{BuilderView, built}
 use Rattle.zone_choice.proofs.ChangeLaws.{sized}
 use Rattle.zone_choice.proofs.CommandLaws.{zone-start}
 use Rattle.zone_choice.proofs.OpenLaws.{append-opens}
-use Rattle.remount.specs.Moving.{CanTake, TakesFront, TakesSome}
+use Rattle.remount.specs.Moving.{CanTake, TakesFirst, TakesSome}
 use Rattle.remount.proofs.CallLaws.{mountable-same}
 
 length-cut : (size count : ℕ) (bytes : List ℕ) → length (cut_blocks size count bytes) ≡ count
@@ -44,7 +44,7 @@ starts drive zone start builder is can = rw is (zone-start zone drive.geometry.s
 
 -- it took all of it
 pub takes-all : (old new : DriveState) (zone start address : ℕ) (builder : BuilderView) (bytes : List ℕ) → bytes ≡ builder.bytes → start ≡ zone * old.geometry.size → CanTake old zone builder → Appended old new start bytes address → AppendLeaves old start bytes (Ok address) new → IsLawful new
-    → TakesFront old new zone (built old.geometry.block builder) (batch_size (built old.geometry.block builder))
+    → TakesFirst old new zone (built old.geometry.block builder) (batch_size (built old.geometry.block builder))
 takes-all old new zone start address builder bytes bytes-are is can done leaves lawful =
     let g = old.geometry in
     let b = built g.block builder in

@@ -1,5 +1,5 @@
 -- Which zones are vacant but not Empty.
-use Rattle.std.proofs.Common.{◌≡◌, ◌⊎◌, inl, inr, ℕ, ◌+◌, ◌<◌, ◌≤◌, List, [], ◌∷◌, ◌++◌, map, length, get_or, Some, refl, sym, ap, ◌∙◌, arith}
+use Rattle.std.proofs.Common.{◌≡◌, ◌≢◌, ◌⊎◌, inl, inr, ℕ, ◌+◌, ◌<◌, ◌≤◌, List, [], ◌∷◌, ◌++◌, map, length, get_or, Some, refl, sym, ap, ◌∙◌, arith}
 use Rattle.std.specs.Prelude.{slice_get}
 use Rattle.std.specs.List.{AllByRecursion, Contains}
 use Rattle.std.proofs.lemmas.Bool.{cases_eq}
@@ -8,16 +8,16 @@ use Rattle.std.proofs.lemmas.Option.{get_or_from_slice_get, slice_get_within}
 use Rattle.std.proofs.Math.ListN.{get_or-map}
 use Rattle.nvme_wire.specs.declared.zone_state.ZoneState.TheVariants.{Empty}
 use Rattle.batch_log.specs.Log.{Batch, log_size}
-use Rattle.zone_choice.specs.Spare.{IsVacant}
-use Rattle.zone_choice.specs.ZoneLogs.{log_at}
-use Rattle.zone_choice.proofs.AllLaws.{all-append, all-weaker}
-use Rattle.remount.specs.declared.reported.ReportedZone.{ReportedZone}
-use Rattle.remount.specs.declared.survey.Survey.{Survey}
-use Rattle.remount.specs.Heads.{HeadsView, heads_of, no_heads}
+use Rattle.drive_array.specs.Spare.{IsVacant}
+use Rattle.drive_array.specs.ZoneLogs.{log_at}
+use Rattle.drive_array.proofs.AllLaws.{all-append, all-weaker}
+use Rattle.drive_survey.specs.declared.reported.ReportedZone.{ReportedZone}
+use Rattle.drive_survey.specs.declared.survey.Survey.{Survey}
+use Rattle.drive_survey.specs.Heads.{HeadsView, heads_of, no_heads}
 use Rattle.remount.specs.Mount.{AreToEmpty}
 use Rattle.remount.specs.Resets.{reported_empty}
-use Rattle.remount.specs.Scan.{heads_in}
-use Rattle.remount.proofs.TakeLaws.{blocks-are}
+use Rattle.drive_survey.specs.Scan.{heads_in}
+use Rattle.drive_survey.proofs.TakeLaws.{blocks-are}
 
 -- ---- a zone without a batch
 
@@ -39,17 +39,22 @@ heads-vacant logs zone vacant = ap (λ (h : HeadsView). h.blocks) (heads-at logs
 abbrev HasNoBatch : Survey → ℕ → Type 0
 HasNoBatch survey zone = (get_or (heads_in survey.scanned.items) zone no_heads).blocks ≡ 0
 
+abbrev IsReset : Survey → ℕ → Type 0
+IsReset survey zone = (get_or survey.zones.items zone reported_empty).state ≢ Empty
+
 pub record AreFound (survey : Survey) (zones : List ℕ) (below : ℕ) : Type 0 where
   pub vacant : AllByRecursion (λ zone. (zone < below) × HasNoBatch survey zone) zones
+  pub needed : AllByRecursion (IsReset survey) zones
   pub others : (zone : ℕ) → zone < below → HasNoBatch survey zone → ((get_or survey.zones.items zone reported_empty).state ≡ Empty) ⊎ Contains zones zone
 
 pub found-none : (survey : Survey) → AreFound survey [] 0
-found-none survey = record { vacant = tt; others = λ zone lt. absurd (omega (arith, lt)) }
+found-none survey = record { vacant = tt; needed = tt; others = λ zone lt. absurd (omega (arith, lt)) }
 
-pub found-one : (survey : Survey) (zones more : List ℕ) (below : ℕ) → AreFound survey zones below → HasNoBatch survey below → more ≡ zones ++ below ∷ [] → AreFound survey more (below + 1)
-found-one survey zones more below found none pushed = rw pushed (record {
+pub found-one : (survey : Survey) (zones more : List ℕ) (below : ℕ) → AreFound survey zones below → HasNoBatch survey below → IsReset survey below → more ≡ zones ++ below ∷ [] → AreFound survey more (below + 1)
+found-one survey zones more below found none needed pushed = rw pushed (record {
   vacant = all-append (λ zone. (zone < below + 1) × HasNoBatch survey zone) zones (below ∷ [])
       (all-weaker (λ zone. (zone < below) × HasNoBatch survey zone) (λ zone. (zone < below + 1) × HasNoBatch survey zone) zones (λ zone is. (omega (arith, is.0), is.1)) found.vacant) ((omega arith, none), tt);
+  needed = all-append (IsReset survey) zones (below ∷ []) found.needed (needed, tt);
   others = each;
 })
   where
@@ -65,6 +70,7 @@ found-one survey zones more below found none pushed = rw pushed (record {
 pub found-other : (survey : Survey) (zones : List ℕ) (below : ℕ) → AreFound survey zones below → (HasNoBatch survey below → (get_or survey.zones.items below reported_empty).state ≡ Empty) → AreFound survey zones (below + 1)
 found-other survey zones below found empty = record {
   vacant = all-weaker (λ zone. (zone < below) × HasNoBatch survey zone) (λ zone. (zone < below + 1) × HasNoBatch survey zone) zones (λ zone is. (omega (arith, is.0), is.1)) found.vacant;
+  needed = found.needed;
   others = λ zone lt none. elim (cases_eq zone below) as (λ _. ((get_or survey.zones.items zone reported_empty).state ≡ Empty) ⊎ Contains zones zone) [
     | inl same ↦ inl (rw same (empty (rw same at none)))
     | inr other ↦ found.others zone (omega (arith, lt, other)) none
@@ -76,6 +82,7 @@ found-other survey zones below found empty = record {
 pub found-all : (survey : Survey) (zones : List ℕ) (below : ℕ) (logs : List (List Batch)) → AreFound survey zones below → length survey.zones.items ≤ below → below ≤ length survey.zones.items → heads_in survey.scanned.items ≡ map heads_of logs → length survey.zones.items ≡ length logs → AreToEmpty logs survey zones
 found-all survey zones below logs found le ge heads long = record {
   vacant = all-weaker (λ zone. (zone < below) × HasNoBatch survey zone) (λ zone. (zone < length logs) × IsVacant logs zone) zones (λ zone is. (omega (arith, is.0, ge, long), vacant-heads logs zone (ap (λ (hs : List HeadsView). (get_or hs zone no_heads).blocks) (sym heads) ∙ is.1))) found.vacant;
+  needed = found.needed;
   others = each;
 }
   where

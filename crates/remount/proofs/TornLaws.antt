@@ -1,36 +1,18 @@
 -- Torn zones, and the blocks whose newest record lies in one.
-use Rattle.std.proofs.Common.{◌≡◌, ℕ, suc, ◌+◌, ◌<◌, ◌≤◌, max, Bool, true, false, cond, ◌&&◌, List, [], ◌∷◌, ◌++◌, drop, length, get_or, Option, Some, None, refl, sym, ap, ◌∙◌, arith, append-nil, append_assoc}
+use Rattle.std.proofs.Common.{◌≡◌, ℕ, suc, ◌+◌, ◌<◌, ◌≤◌, Bool, true, false, cond, ◌&&◌, List, [], ◌∷◌, ◌++◌, drop, length, get_or, Option, Some, None, refl, sym, ap, ◌∙◌, arith, append-nil, append_assoc}
 use Rattle.std.specs.Prelude.{slice_get}
 use Rattle.std.specs.Option.{option_map}
-use Rattle.std.proofs.lemmas.List.{drop-drop, length-drop, get_or-drop, drop_more}
+use Rattle.std.proofs.lemmas.List.{drop-drop, length-drop, get_or-drop}
 use Rattle.std.proofs.lemmas.List.Sums.{count_by-le-length, sum_by-cons}
 use Rattle.logical_map.specs.Live.{blocks_in, first_record, lies_in}
 use Rattle.logical_map.specs.declared.place.Place.{Place}
 use Rattle.logical_map.specs.declared.place.Place.TheVariants as places
 use Rattle.zone_choice.specs.Tables.{TablesView, size_of}
-use Rattle.remount.specs.declared.scan.ScannedZone.{ScannedZone}
-use Rattle.remount.specs.Heads.{greatest_sequence}
-use Rattle.remount.specs.Scan.{heads_in}
-use Rattle.remount.specs.Torn.{data_blocks, data_in, head_sequences, is_data_place, sequences_in}
-
--- ---- the greatest sequence
-
-pub greatest-append : (xs ys : List ℕ) → greatest_sequence (xs ++ ys) ≡ max (greatest_sequence xs) (greatest_sequence ys)
-greatest-append [] ys = omega arith
-greatest-append (x ∷ xs) ys = omega (arith, greatest-append xs ys)
-
-pub greatest-step : (scanned : List ScannedZone) (i now more all : ℕ) (zone : ScannedZone) → i < length scanned → zone ≡ get_or scanned i zone → more ≡ max now (greatest_sequence (head_sequences zone.heads.heads))
-    → max now (greatest_sequence (sequences_in (heads_in (drop i scanned)))) ≡ all → max more (greatest_sequence (sequences_in (heads_in (drop (i + 1) scanned)))) ≡ all
-greatest-step scanned i now more all zone lt is grown before =
-    let next : drop i scanned ≡ zone ∷ drop (i + 1) scanned = drop_more scanned i zone lt ∙ ap (λ (z : ScannedZone). z ∷ drop (i + 1) scanned) (sym is) in
-    let rest = sequences_in (heads_in (drop (i + 1) scanned)) in
-    let split : greatest_sequence (sequences_in (heads_in (drop i scanned))) ≡ max (greatest_sequence (head_sequences zone.heads.heads)) (greatest_sequence rest) =
-    ap (λ (zs : List ScannedZone). greatest_sequence (sequences_in (heads_in zs))) next ∙ greatest-append (head_sequences zone.heads.heads) rest in
-    omega (arith, grown, before, split)
+use Rattle.remount.specs.Torn.{data_count_at, data_in, is_data_place}
 
 -- ---- the first block that lies in a zone
 
-data-one : (p : Place) → ◌≡◌ {A = ℕ} (cond (is_data_place p) 1 0) (data_blocks p)
+data-one : (p : Place) → ◌≡◌ {A = ℕ} (cond (is_data_place p) 1 0) (data_count_at p)
 data-one places.None = refl
 data-one (places.Trimmed address) = refl
 data-one (places.At address) = refl
@@ -43,7 +25,7 @@ record NextIn (zone_size zone first block : ℕ) (all : List Place) : Type 0 whe
   block_is : block ≡ first + k
   in_range : k < length all
   blocks : blocks_in zone_size zone first all ≡ block ∷ blocks_in zone_size zone (block + 1) (drop (suc k) all)
-  with_data : data_in zone_size zone all ≡ data_blocks (get_or all k places.None) + data_in zone_size zone (drop (suc k) all)
+  with_data : data_in zone_size zone all ≡ data_count_at (get_or all k places.None) + data_in zone_size zone (drop (suc k) all)
 
 next-in : (zone_size zone first block : ℕ) (all : List Place) → slice_get (blocks_in zone_size zone first all) 0 ≡ Some block → NextIn zone_size zone first block all
 next-in zone_size zone first block [] there = absurd (cc)
@@ -53,7 +35,7 @@ next-in zone_size zone first block (p ∷ ps) there = by (lies_in zone_size zone
         → (slice_get (blocks_in zone_size zone (first + 1) ps) 0 ≡ Some block → NextIn zone_size zone (first + 1) block ps) → NextIn zone_size zone first block (p ∷ ps)
     by true here there more =
         let same : first ≡ block = cc in
-        let one : ◌≡◌ {A = ℕ} (cond (has_data zone_size zone p) 1 0) (data_blocks p) = rw here (data-one p) in
+        let one : ◌≡◌ {A = ℕ} (cond (has_data zone_size zone p) 1 0) (data_count_at p) = rw here (data-one p) in
         record {
           k = 0;
           block_is = omega (arith, same);
@@ -120,8 +102,8 @@ first-none f (Some b) e = absurd (cc)
 pub record LiveNext (first now : TablesView) (zone : ℕ) (blocks : List ℕ) (with_data from block : ℕ) (place : Place) : Type 0 where
   pub after : from ≤ block
   pub in_range : block < size_of first
-  pub few : with_data + data_blocks place ≤ size_of first
-  pub more : LiveSoFar first now zone (blocks ++ block ∷ []) (with_data + data_blocks place) (block + 1)
+  pub few : with_data + data_count_at place ≤ size_of first
+  pub more : LiveSoFar first now zone (blocks ++ block ∷ []) (with_data + data_count_at place) (block + 1)
 
 pub live-next : (first now new : TablesView) (zone : ℕ) (blocks : List ℕ) (with_data from block : ℕ) (place : Place) → LiveSoFar first now zone blocks with_data from → Some (block, place) ≡ first_record now.map zone from → new ≡ now → LiveNext first new zone blocks with_data from block place
 live-next first now new zone blocks with_data from block place so_far found kept =
@@ -132,8 +114,8 @@ live-next first now new zone blocks with_data from block place so_far found kept
     let beyond : drop (suc next.k) (drop from m.places) ≡ drop (block + 1) m.places = drop-drop (suc next.k) from m.places ∙ ap (λ (n : ℕ). drop n m.places) (omega (arith, next.block_is)) in
     let here : get_or (drop from m.places) next.k places.None ≡ place = get_or-drop from m.places next.k places.None ∙ ap (λ (n : ℕ). get_or m.places n places.None) (sym next.block_is) ∙ sym parts.1 in
     let below : block < length m.places = omega (arith, next.in_range, next.block_is, length-drop from m.places) in
-    let total : with_data + data_blocks place + data_in m.zone_size zone (drop (block + 1) m.places) ≡ data_in m.zone_size zone m.places =
-    omega (arith, so_far.data_is, next.with_data, ap (data_in m.zone_size zone) beyond, ap data_blocks here) in
+    let total : with_data + data_count_at place + data_in m.zone_size zone (drop (block + 1) m.places) ≡ data_in m.zone_size zone m.places =
+    omega (arith, so_far.data_is, next.with_data, ap (data_in m.zone_size zone) beyond, ap data_count_at here) in
     record {
       after = omega (arith, next.block_is);
       in_range = below;

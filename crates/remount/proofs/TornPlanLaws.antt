@@ -20,29 +20,26 @@ use Rattle.batch_log.proofs.LogLaws.{spelled_length}
 use Rattle.logical_map.specs.Live.{blocks_in, lies_in}
 use Rattle.logical_map.specs.declared.place.Place.{Place}
 use Rattle.logical_map.specs.declared.place.Place.TheVariants as places
-use Rattle.zone_choice.specs.Agreement.{drive_logs}
-use Rattle.zone_choice.specs.Records.{IsNewest, Record, batch_records, entry_offset, entry_records, log_records, newest, place, records}
-use Rattle.zone_choice.specs.Repair.{Fits, IsTornAt, is_any, is_data, kept_in, live, live_data, moves}
-use Rattle.zone_choice.specs.Reserve.{batch_most}
-use Rattle.zone_choice.specs.Sizes.{encoded_size, map_of}
+use Rattle.drive_array.specs.ZoneLogs.{HasLog, drive_logs, log_at, log_sequences, readable, sequences, zone_log, zone_tails}
+use Rattle.drive_array.specs.Records.{IsNewest, Record, batch_records, entry_offset, entry_records, log_records, newest, place, records}
+use Rattle.drive_array.specs.Repair.{Fits, IsTornAt, is_any, is_data, kept_in, live_records, live_data, moves}
+use Rattle.drive_array.specs.Reserve.{batch_most}
+use Rattle.drive_array.specs.Sizes.{encoded_size, map_of}
 use Rattle.zone_choice.specs.Tables.{TablesView, size_of}
-use Rattle.zone_choice.specs.ZoneLogs.{HasLog, log_at, log_sequences, readable, sequences, zone_log, zone_tails}
-use Rattle.zone_choice.proofs.AllLaws.{all-append, all-at, all-weaker}
-use Rattle.zone_choice.proofs.NewestLaws.{newest-is}
-use Rattle.zone_choice.proofs.ReadLaws.{all-among}
-use Rattle.remount.specs.declared.heads.Head.{Head}
-use Rattle.remount.specs.declared.scan.ScannedZone.{ScannedZone}
-use Rattle.remount.specs.declared.survey.Survey.{Survey}
-use Rattle.remount.specs.Heads.{HeadsView, heads_after, heads_of, no_heads, with_heading}
-use Rattle.remount.specs.Known.{Knows}
+use Rattle.drive_array.proofs.AllLaws.{all-append, all-at, all-weaker}
+use Rattle.drive_array.proofs.NewestLaws.{all-among, newest-is}
+use Rattle.drive_survey.specs.declared.heads.Head.{Head}
+use Rattle.drive_survey.specs.declared.scan.ScannedZone.{ScannedZone}
+use Rattle.drive_survey.specs.declared.survey.Survey.{Survey}
+use Rattle.drive_survey.specs.Heads.{HeadsView, greatest_sequence, head_sequences, heads_after, heads_of, no_heads, sequences_in, with_heading}
+use Rattle.drive_survey.specs.Known.{Knows}
 use Rattle.remount.specs.declared.repair.Repair.{Repair}
-use Rattle.remount.specs.Heads.{greatest_sequence}
 use Rattle.remount.specs.Mount.{IsOnlyTorn, IsPastRepair, IsPlaced, IsPlan, LacksSequences, NoneIsTorn}
 use Rattle.remount.specs.Resets.{reported_empty}
-use Rattle.remount.specs.Scan.{heads_in}
-use Rattle.remount.specs.Torn.{IsNextTorn, WasSurveyed, data_in, head_sequences, is_torn_in, is_torn_zone, sequences_in}
-use Rattle.remount.proofs.ReadLaws.{known-few}
-use Rattle.remount.proofs.TakeLaws.{blocks-are}
+use Rattle.drive_survey.specs.Scan.{heads_in}
+use Rattle.remount.specs.Torn.{IsNextTorn, WasSurveyed, data_in, is_torn_in, is_torn_zone}
+use Rattle.drive_survey.proofs.ReadLaws.{known-few}
+use Rattle.drive_survey.proofs.TakeLaws.{blocks-are}
 use Rattle.remount.proofs.FinishLaws.{and-both}
 use Rattle.remount.proofs.TornLaws.{has_data}
 
@@ -232,7 +229,7 @@ length-blocks size zone first (p ∷ ps) = by (lies_in size zone p) refl (length
 
 -- how many live records the zone has, and how many of them have data
 pub record CountsLive (drive : DriveState) (n : ℕ) (logs : List (List Batch)) (zone : ℕ) : Type 0 where
-  pub count : length (blocks_in drive.geometry.size zone 0 (map_of drive.geometry.size n logs)) ≡ live (encoded_size n logs) logs zone
+  pub count : length (blocks_in drive.geometry.size zone 0 (map_of drive.geometry.size n logs)) ≡ live_records (encoded_size n logs) logs zone
   pub with_data : data_in drive.geometry.size zone (map_of drive.geometry.size n logs) ≡ live_data (encoded_size n logs) logs zone
 
 pub counts-live : (drive : DriveState) (n : ℕ) (logs : List (List Batch)) (survey : Survey) (zone : ℕ) → Knows drive n logs survey → CountsLive drive n logs zone
@@ -277,7 +274,7 @@ pub record Counted (geometry : Geometry) (n : ℕ) (tables : TablesView) (zone c
 record CountedBy (drive : DriveState) (n : ℕ) (logs : List (List Batch)) (zone count : ℕ) (blocks : List ℕ) (with_data : ℕ) : Type 0 where
   blocks_are : blocks ≡ blocks_in drive.geometry.size zone 0 (map_of drive.geometry.size n logs)
   data_is : with_data ≡ live_data (encoded_size n logs) logs zone
-  count_is : count ≡ moves (batch_most drive.geometry) (live (encoded_size n logs) logs zone)
+  count_is : count ≡ moves (batch_most drive.geometry) (live_records (encoded_size n logs) logs zone)
 
 counted-by : (drive : DriveState) (n : ℕ) (logs : List (List Batch)) (survey : Survey) (tables : TablesView) (zone count : ℕ) (blocks : List ℕ) (with_data : ℕ) → Knows drive n logs survey → IsPlaced drive.geometry n logs tables → Counted drive.geometry n tables zone count blocks with_data
     → CountedBy drive n logs zone count blocks with_data
@@ -310,7 +307,7 @@ lacks-sequences drive n logs survey tables zone count blocks with_data greatest 
       zone = zone;
       torn = only-torn drive n logs survey zone known next none;
       room = omega (arith, room, by.count_is, by.data_is);
-      lacks = λ all. (let lt = greatest-all (2 ^ 63) (moves (batch_most drive.geometry) (live (encoded_size n logs) logs zone)) (sequences logs) (omega (arith, room, by.count_is, known.zones.geometry.capacity, known.zones.geometry.size)) all in omega (arith, lt, late, same, by.count_is));
+      lacks = λ all. (let lt = greatest-all (2 ^ 63) (moves (batch_most drive.geometry) (live_records (encoded_size n logs) logs zone)) (sequences logs) (omega (arith, room, by.count_is, known.zones.geometry.capacity, known.zones.geometry.size)) all in omega (arith, lt, late, same, by.count_is));
     }
 
 pub record PlansFit (drive : DriveState) (n : ℕ) (logs : List (List Batch)) (zone : ℕ) (blocks : List ℕ) : Type 0 where
@@ -328,7 +325,7 @@ plans-fit drive n logs survey tables zone count blocks with_data greatest known 
       torn = only-torn drive n logs survey zone known next none;
       fits = record {
         room = omega (arith, room, by.count_is, by.data_is);
-        numbers = all-greatest (2 ^ 63) (moves (batch_most drive.geometry) (live (encoded_size n logs) logs zone)) (sequences logs) (omega (arith, early, same, by.count_is));
+        numbers = all-greatest (2 ^ 63) (moves (batch_most drive.geometry) (live_records (encoded_size n logs) logs zone)) (sequences logs) (omega (arith, early, same, by.count_is));
       };
       blocks_are = by.blocks_are;
     }

@@ -1,5 +1,5 @@
 -- What the Moves of a repair are, and which logs the whole repair leaves.
-use Rattle.std.proofs.Common.{◌≡◌, ◌≢◌, ◌⊎◌, ℕ, zero, suc, ◌+◌, ◌<◌, List, [], ◌∷◌, ◌++◌, length, map, None, Some, refl, sym, ap, subst, ◌∙◌, arith}
+use Rattle.std.proofs.Common.{◌≡◌, ◌≢◌, ◌⊎◌, ℕ, zero, suc, ◌+◌, ◌<◌, List, [], ◌∷◌, ◌++◌, length, map, None, Some, refl, sym, ap, subst, ◌∙◌, arith, Bool, true, false, cond, eqb}
 use Rattle.std.specs.Prelude.{slice_get, slice_index_or, slice_set}
 use Rattle.std.specs.List.{AllByRecursion, range_with_len}
 use Rattle.std.proofs.lemmas.List.{length-append, length-map, map-append}
@@ -9,20 +9,19 @@ use Rattle.drive_port.specs.Contents.{content_of, contents}
 use Rattle.drive_port.specs.Drive.{DriveState}
 use Rattle.batch_log.specs.Log.{Batch}
 use Rattle.logical_map.specs.declared.place.Place.TheVariants as places
-use Rattle.zone_choice.specs.Agreement.{drive_logs}
-use Rattle.zone_choice.specs.Records.{without}
-use Rattle.zone_choice.specs.Repair.{HasAtMost}
-use Rattle.zone_choice.specs.Sizes.{log_greatest}
-use Rattle.zone_choice.specs.Spare.{IsMoveFrom, IsVacant}
-use Rattle.zone_choice.specs.ZoneLogs.{log_at, zone_log}
+use Rattle.drive_array.specs.ZoneLogs.{drive_logs, log_at, zone_log}
+use Rattle.drive_array.specs.Records.{without}
+use Rattle.drive_array.specs.Repair.{HasAtMost}
+use Rattle.drive_array.specs.Sizes.{log_greatest}
+use Rattle.drive_array.specs.Spare.{IsMoveFrom, IsVacant}
 use Rattle.zone_choice.proofs.AgreementLaws.{zone_log-emptied}
-use Rattle.zone_choice.proofs.AllLaws.{all-append}
-use Rattle.zone_choice.proofs.ZoneLogLaws.{log_at-zone}
-use Rattle.remount.specs.declared.moves.MovePlan.{MovePlan}
-use Rattle.remount.specs.declared.reported.ReportedZone.{ReportedZone}
-use Rattle.remount.specs.declared.survey.Survey.{Survey}
-use Rattle.remount.specs.Moving.{CanMove, EmptiesTorn, Source, move_by, move_count, moves_before, named_by, placed_entry}
-use Rattle.remount.specs.TornRepair.{AreRepairMoves, RepairsTorn}
+use Rattle.drive_array.proofs.AllLaws.{all-append}
+use Rattle.drive_array.proofs.ZoneLogLaws.{log_at-zone}
+use Rattle.remount.specs.declared.repair.moves.MovePlan.{MovePlan}
+use Rattle.drive_survey.specs.declared.reported.ReportedZone.{ReportedZone}
+use Rattle.drive_survey.specs.declared.survey.Survey.{Survey}
+use Rattle.remount.specs.Moving.{CanRepairBy, EmptiesTorn, Source, move_by, move_count, moves_before, named_by, placed_entry}
+use Rattle.remount.specs.TornRepair.{AreRepairMoves, HoldsSize, RepairsTorn}
 use Rattle.remount.proofs.BeginLaws.{IsPrepared}
 use Rattle.remount.proofs.CallLaws.{in-get}
 use Rattle.remount.proofs.MovePlanLaws.{few-named, size-either}
@@ -57,14 +56,25 @@ moves-numbers source plan (suc k) =
     ∙ ap (λ (xs : List ℕ). xs ++ (plan.next + k) ∷ []) (moves-numbers source plan k)
     ∙ sym (range-more plan.next k)
 
-moves-sizes : (geometry : Geometry) (n : ℕ) (logs : List (List Batch)) (source : Source) (plan : MovePlan) (k : ℕ) → CanMove geometry n logs source plan
+moves-sizes : (geometry : Geometry) (n : ℕ) (logs : List (List Batch)) (source : Source) (plan : MovePlan) (k : ℕ) → CanRepairBy geometry n logs source plan
     → AllByRecursion (λ (batch : Batch). (batch.heading.size ≡ log_greatest (log_at logs plan.torn)) ⊎ (batch.heading.size ≡ None)) (moves_before source plan k)
 moves-sizes geometry n logs source plan zero can = tt
 moves-sizes geometry n logs source plan (suc k) can =
     all-append (λ (batch : Batch). (batch.heading.size ≡ log_greatest (log_at logs plan.torn)) ⊎ (batch.heading.size ≡ None)) (moves_before source plan k) (move_by source plan k ∷ [])
     (moves-sizes geometry n logs source plan k can) (size-either geometry n logs source plan k can, tt)
 
-are-moves : (geometry : Geometry) (n : ℕ) (logs : List (List Batch)) (source : Source) (plan : MovePlan) → CanMove geometry n logs source plan → AreRepairMoves geometry n logs plan.torn (moves_before source plan (move_count plan))
+moves-said : (geometry : Geometry) (n : ℕ) (logs : List (List Batch)) (source : Source) (plan : MovePlan) (k : ℕ) → CanRepairBy geometry n logs source plan → (HoldsSize n logs plan.torn → ⊥)
+    → AllByRecursion (λ (batch : Batch). batch.heading.size ≡ log_greatest (log_at logs plan.torn)) (moves_before source plan k)
+moves-said geometry n logs source plan zero can other = tt
+moves-said geometry n logs source plan (suc k) can other =
+    all-append (λ (batch : Batch). batch.heading.size ≡ log_greatest (log_at logs plan.torn)) (moves_before source plan k) (move_by source plan k ∷ [])
+    (moves-said geometry n logs source plan k can other) (said (eqb (k + 1) (move_count plan)) ∙ can.size, tt)
+  where
+    said : (b : Bool) → cond b plan.size plan.early ≡ plan.size
+    said true = refl
+    said false = can.said other
+
+are-moves : (geometry : Geometry) (n : ℕ) (logs : List (List Batch)) (source : Source) (plan : MovePlan) → CanRepairBy geometry n logs source plan → AreRepairMoves geometry n logs plan.torn (moves_before source plan (move_count plan))
 are-moves geometry n logs source plan can =
     let count = moves-count source plan (move_count plan) in
     record {
@@ -73,6 +83,7 @@ are-moves geometry n logs source plan can =
       count = count ∙ can.count;
       numbers = moves-numbers source plan (move_count plan) ∙ ap (λ (a : ℕ). range_with_len a (move_count plan)) can.next ∙ ap (range_with_len _) (sym count);
       size = says-size geometry n logs source plan (move_count plan) can refl (omega arith);
+      said = moves-said geometry n logs source plan (move_count plan) can;
       sizes = moves-sizes geometry n logs source plan (move_count plan) can;
     }
 
@@ -88,7 +99,7 @@ none-vacant n drive survey torn into p none zone lt vacant =
     none zone there.0 lt there.1 (p.vacant zone there.0 there.1 vacant)
 
 pub torn-repaired : (n : ℕ) (start new : DriveState) (survey : Survey) (source : Source) (plan : MovePlan) (torn into : ℕ) → IsPrepared n start survey torn into → plan.torn ≡ torn → plan.into ≡ into → NoneEmptyBelow survey.zones.items into
-    → CanMove start.geometry n (drive_logs start) source plan → EmptiesTorn n start new plan (moves_before source plan (move_count plan)) → RepairsTorn start.geometry n (drive_logs start) torn (drive_logs new)
+    → CanRepairBy start.geometry n (drive_logs start) source plan → EmptiesTorn n start new plan (moves_before source plan (move_count plan)) → RepairsTorn start.geometry n (drive_logs start) torn (drive_logs new)
 torn-repaired n start new survey source plan torn into p torn_is into_is none can e = record {
   into = into;
   in_range = omega (arith, p.in_range, length-map (contents start.zones) (zone_log start.geometry), length-map start.zones content_of);

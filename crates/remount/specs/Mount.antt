@@ -11,26 +11,27 @@ use Rattle.batch_log.specs.Log.{Batch}
 use Rattle.zone_choice.specs.declared.roles.Filling.{Filling}
 use Rattle.zone_choice.specs.declared.roles.Second.{Second}
 use Rattle.zone_choice.specs.declared.roles.Second.TheVariants.{Next}
-use Rattle.zone_choice.specs.Agreement.{Agrees, drive_logs, mounted, spelled}
-use Rattle.zone_choice.specs.Mountable.{HoldDisk, IsMountable, is_partly_written}
-use Rattle.zone_choice.specs.Repair.{Fits, HasAtMost, IsTornAt, live, live_data, moves}
-use Rattle.zone_choice.specs.Reserve.{FitsReserve, batch_most}
+use Rattle.zone_choice.specs.Agreement.{Agrees, mounted}
+use Rattle.drive_array.specs.ZoneLogs.{drive_logs, log_at, sequences, spelled, zone_tails}
+use Rattle.drive_array.specs.Mountable.{HoldDisk, IsMountable, is_partly_written}
+use Rattle.drive_array.specs.Repair.{Fits, HasAtMost, IsTornAt, live_records, live_data, moves}
+use Rattle.drive_array.specs.Reserve.{FitsReserve, batch_most}
 use Rattle.zone_choice.specs.Roles.{RolesView, empty_count, fillings}
-use Rattle.zone_choice.specs.Sizes.{encoded_size, map_of}
-use Rattle.zone_choice.specs.Spare.{HasSpare, IsClearing, IsVacant, NoneBelow, cleared}
+use Rattle.drive_array.specs.Sizes.{encoded_size, map_of}
+use Rattle.drive_array.specs.Spare.{HasSpare, IsClearing, IsVacant, NoneBelow, cleared}
 use Rattle.zone_choice.specs.Tables.{TablesView}
-use Rattle.zone_choice.specs.ZoneLogs.{log_at, sequences, zone_tails}
-use Rattle.remount.specs.declared.fault.MountFault.{MountFault}
-use Rattle.remount.specs.declared.fault.MountFault.TheVariants.{NoSpare, Spent, TornZone}
-use Rattle.remount.specs.declared.reported.ReportedZone.{ReportedZone}
+use Rattle.drive_survey.specs.declared.fault.MountFault.{MountFault}
+use Rattle.drive_survey.specs.declared.fault.MountFault.TheVariants.{NoSpare, Spent, TornZone}
+use Rattle.drive_survey.specs.declared.reported.ReportedZone.{ReportedZone}
 use Rattle.remount.specs.declared.repair.Repair.{Repair}
-use Rattle.remount.specs.declared.survey.Survey.{Survey}
-use Rattle.remount.specs.declared.steps.Plan.{Plan}
-use Rattle.remount.specs.Heads.{greatest_sequence}
-use Rattle.remount.specs.Known.{AreVacantEmpty, HasVacant, Knows}
-use Rattle.remount.specs.Resets.{GoesOn}
+use Rattle.drive_survey.specs.declared.survey.Survey.{Survey}
+use Rattle.remount.specs.declared.plan.Plan.{Plan}
+use Rattle.drive_survey.specs.Heads.{greatest_sequence}
+use Rattle.remount.specs.Kept.{AreVacantEmpty}
+use Rattle.drive_survey.specs.Known.{HasVacant, Knows}
+use Rattle.remount.specs.Resets.{CanBeFilled, KeepsWritten, reported_empty}
 use Rattle.remount.specs.TornRepair.{RepairsTorn}
-use Rattle.remount.specs.Survey.{AreInside, CanScan, HoldLogs, SurveyFails, drive_size}
+use Rattle.drive_survey.specs.Survey.{AreInside, CanScan, HoldLogs, SurveyFails, drive_size}
 
 -- ---- torn zones
 
@@ -47,14 +48,14 @@ pub record IsOnlyTorn (logs : List (List Batch)) (tails : List Bool) (zone : ℕ
 pub record IsPastRepair (geometry : Geometry) (size : ℕ) (logs : List (List Batch)) (tails : List Bool) (zone : ℕ) : Type 0 where
   pub torn : IsTornAt logs tails zone
   pub lowest : (other : ℕ) → other < zone → IsTornAt logs tails other → ⊥
-  pub why : ((other : ℕ) × (zone < other) × IsTornAt logs tails other) ⊎ (geometry.capacity < moves (batch_most geometry) (live size logs zone) + live_data size logs zone)
+  pub why : ((other : ℕ) × (zone < other) × IsTornAt logs tails other) ⊎ (geometry.capacity < moves (batch_most geometry) (live_records size logs zone) + live_data size logs zone)
 
 -- One zone is torn and its live records fit in a zone, but the sequences do not last for the Moves.
 pub record LacksSequences (geometry : Geometry) (size : ℕ) (logs : List (List Batch)) (tails : List Bool) : Type 0 where
   pub zone : ℕ
   pub torn : IsOnlyTorn logs tails zone
-  pub room : moves (batch_most geometry) (live size logs zone) + live_data size logs zone ≤ geometry.capacity
-  pub lacks : AllByRecursion (λ sequence. sequence + moves (batch_most geometry) (live size logs zone) < 2 ^ 63) (sequences logs) → ⊥
+  pub room : moves (batch_most geometry) (live_records size logs zone) + live_data size logs zone ≤ geometry.capacity
+  pub lacks : AllByRecursion (λ sequence. sequence + moves (batch_most geometry) (live_records size logs zone) < 2 ^ 63) (sequences logs) → ⊥
 
 -- why the zones of a cleared drive cannot be repaired
 abbrev pub CannotRepair : Geometry → ℕ → List (List Batch) → List Bool → MountFault → Type 0
@@ -83,9 +84,10 @@ Plans geometry n logs tails (Some repair) = IsPlan geometry n logs tails repair
 
 -- ---- the drive that is left
 
--- Zones without a batch that are not Empty, all of them.
+-- Zones without a batch that were not reported Empty, all of them.
 pub record AreToEmpty (logs : List (List Batch)) (survey : Survey) (zones : List ℕ) : Type 0 where
   pub vacant : AllByRecursion (λ zone. (zone < length logs) × IsVacant logs zone) zones
+  pub needed : AllByRecursion (λ zone. (slice_index_or survey.zones.items zone reported_empty).state ≢ Empty) zones
   pub others : (zone : ℕ) (r : ReportedZone) → slice_get survey.zones.items zone ≡ Some r → IsVacant logs zone → (r.state ≡ Empty) ⊎ Contains zones zone
 
 -- no zone has a torn tail
@@ -93,7 +95,8 @@ abbrev pub AreWhole : List Content → Type 0
 AreWhole zones = (zone : ℕ) → slice_index_or (zone_tails zones) zone false ≡ false
 
 -- A drive that a disk can serve: vacant zones are Empty, and there is one; no zone has a torn tail; and zones that are partly written, two at most, have two free blocks and no batch with more entries than ours.
-pub record IsRepaired (drive : DriveState) (survey : Survey) : Type 0 where
+pub record IsRepaired (drive : DriveState) (n : ℕ) (survey : Survey) : Type 0 where
+  pub known : Knows drive n (drive_logs drive) survey
   pub empty : AreVacantEmpty survey.zones.items (drive_logs drive)
   pub whole : AreWhole (contents drive.zones)
   pub few_partial : count_by is_partly_written (contents drive.zones) ≤ 2
@@ -139,7 +142,7 @@ LeavesCleared n old resets new = LeavesRepaired old.geometry n (cleared (drive_l
 abbrev pub KeepsOthers : DriveState → List ℕ → DriveState → Type 0
 KeepsOthers old resets new =
     NoneIsTorn (cleared (drive_logs old) resets) (zone_tails (contents old.zones))
-    → (zone : ℕ) → log_at (cleared (drive_logs old) resets) zone ≢ [] → GoesOn old zone → content_at (contents new.zones) zone ≡ content_at (contents old.zones) zone
+    → (zone : ℕ) → log_at (cleared (drive_logs old) resets) zone ≢ [] → CanBeFilled old zone → content_at (contents new.zones) zone ≡ content_at (contents old.zones) zone
 
 -- What a mount leaves of a drive: its half clean zones were emptied, the lowest first, and then a torn zone was repaired; where none was torn, no zone was finished without need.
 pub record LeavesMounted (old new : DriveState) (n : ℕ) : Type 0 where
@@ -186,6 +189,12 @@ pub record IsPlanned (drive : DriveState) (n : ℕ) (survey : Survey) (plan : Pl
 abbrev pub PlanFails : DriveState → ℕ → MountFault → Type 0
 PlanFails drive n NoSpare = HasSpare drive.geometry.block n (drive_logs drive) → ⊥
 PlanFails drive n fault = HasSpare drive.geometry.block n (drive_logs drive) × CannotClear drive n fault
+
+-- The half clean zones hold no batch any more, and each zone that has one holds what it held, with its torn tail or without.
+pub record LeavesEmptied (old new : DriveState) (half_clean : List ℕ) : Type 0 where
+  pub logs : drive_logs new ≡ cleared (drive_logs old) half_clean
+  pub others : KeepsWritten old new
+  pub tails : (zone : ℕ) → log_at (drive_logs new) zone ≢ [] → slice_index_or (zone_tails (contents new.zones)) zone false ≡ slice_index_or (zone_tails (contents old.zones)) zone false
 
 -- The zones that are to be emptied were: the drive can be mounted, none of its zones is half clean, and each zone without a batch is Empty.
 pub record IsCleared (drive : DriveState) (n : ℕ) (survey : Survey) : Type 0 where

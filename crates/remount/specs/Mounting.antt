@@ -5,8 +5,8 @@ use Rattle.nvme_wire.specs.declared.zone_state.ZoneState.TheVariants.{Empty}
 use Rattle.zone_states.specs.Transition.{is_open, is_state}
 use Rattle.zone_choice.specs.declared.roles.Filling.{Filling}
 use Rattle.zone_choice.specs.Roles.{RolesView, mounted_as}
-use Rattle.remount.specs.declared.reported.ReportedZone.{ReportedZone}
-use Rattle.remount.specs.Survey.{is_partly_reported}
+use Rattle.drive_survey.specs.declared.reported.ReportedZone.{ReportedZone}
+use Rattle.drive_survey.specs.Survey.{is_partly_reported}
 
 -- a zone was reported Empty
 abbrev pub is_empty_reported : Option ReportedZone → Bool

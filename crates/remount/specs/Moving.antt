@@ -12,25 +12,27 @@ use Rattle.batch_log.specs.Header.{IsHeading}
 use Rattle.batch_log.specs.Log.{Batch, batch_blocks, batch_size, log_size}
 use Rattle.logical_map.specs.declared.place.Place.{Place}
 use Rattle.logical_map.specs.declared.place.Place.TheVariants as places
-use Rattle.zone_choice.specs.Agreement.{IsShut, drive_logs, spelled}
+use Rattle.zone_choice.specs.Agreement.{IsShut}
+use Rattle.drive_array.specs.ZoneLogs.{drive_logs, has_torn_tail, log_at, sequences, spelled, zone_log, zone_tails}
 use Rattle.zone_choice.specs.Builder.{BuilderView, IsBuilt, built}
-use Rattle.zone_choice.specs.Mountable.{IsMountable}
-use Rattle.zone_choice.specs.Records.{Record, newest, records}
-use Rattle.zone_choice.specs.Repair.{live, moves}
-use Rattle.zone_choice.specs.Repairing.{IsOnRepair, IsStillNeeded, LiesIn}
-use Rattle.zone_choice.specs.Reserve.{batch_most}
-use Rattle.zone_choice.specs.Sizes.{encoded_size, log_greatest}
+use Rattle.drive_array.specs.Mountable.{IsMountable}
+use Rattle.drive_array.specs.Records.{Record, newest, records}
+use Rattle.drive_array.specs.Repair.{live_records, moves}
+use Rattle.drive_array.specs.Repairing.{IsOnRepair, IsStillNeeded, LiesIn}
+use Rattle.drive_array.specs.Reserve.{batch_most}
+use Rattle.drive_array.specs.Sizes.{encoded_size, log_greatest}
 use Rattle.zone_choice.specs.Tables.{TablesView, size_of}
-use Rattle.zone_choice.specs.ZoneLogs.{has_torn_tail, log_at, sequences, zone_log, zone_tails}
-use Rattle.remount.specs.declared.clearing.Finding.{Finding}
-use Rattle.remount.specs.declared.clearing.Finding.TheVariants.{NeedsBlock, NeedsSize}
-use Rattle.remount.specs.declared.moves.MovePlan.{MovePlan}
+use Rattle.drive_survey.specs.declared.clearing.Finding.{Finding}
+use Rattle.drive_survey.specs.declared.clearing.Finding.TheVariants.{NeedsBlock, NeedsSize}
+use Rattle.remount.specs.declared.repair.moves.MovePlan.{MovePlan}
 use Rattle.remount.specs.declared.repair.Repair.{Repair}
-use Rattle.remount.specs.declared.survey.Survey.{Survey}
-use Rattle.remount.specs.Heads.{HeadsView, greatest_sequence, heads_of}
-use Rattle.remount.specs.Known.{AreVacantEmpty, KeepsMountable, Knows}
-use Rattle.remount.specs.Reported.{IsKnown}
-use Rattle.remount.specs.Scan.{blocks_of}
+use Rattle.drive_survey.specs.declared.survey.Survey.{Survey}
+use Rattle.drive_survey.specs.Heads.{HeadsView, greatest_sequence, heads_of}
+use Rattle.remount.specs.Kept.{AreVacantEmpty, KeepsMountable}
+use Rattle.drive_survey.specs.Known.{Knows}
+use Rattle.drive_survey.specs.Reported.{IsKnown}
+use Rattle.drive_survey.specs.Scan.{readable_at}
+use Rattle.remount.specs.TornRepair.{HoldsSize}
 
 -- ---- commands of a repair
 
@@ -65,6 +67,12 @@ pub record SettlesZone (n : ℕ) (old new : DriveState) (before after : Survey) 
 abbrev pub AreSettled : DriveState → ℕ → ℕ → Type 0
 AreSettled drive torn limit = (zone : ℕ) → zone < limit → zone ≢ torn → is_active_usage (content_at (contents drive.zones) zone).usage ≡ false
 
+-- All zones but the torn one were settled: all logs and tails stay.
+pub record SettlesOthers (old new : DriveState) (torn : ℕ) : Type 0 where
+  pub logs : drive_logs new ≡ drive_logs old
+  pub tails : zone_tails (contents new.zones) ≡ zone_tails (contents old.zones)
+  pub settled : AreSettled new torn (length new.zones)
+
 -- The drive takes a batch at the end of a zone.
 pub record CanTake (drive : DriveState) (zone : ℕ) (builder : BuilderView) : Type 0 where
   pub range : IsInRange drive.geometry
@@ -73,7 +81,7 @@ pub record CanTake (drive : DriveState) (zone : ℕ) (builder : BuilderView) : T
   pub can : CanAppend drive (zone * drive.geometry.size) (batch_size (built drive.geometry.block builder))
 
 -- It took the first j blocks of the batch.
-pub record TakesFront (old new : DriveState) (zone : ℕ) (batch : Batch) (j : ℕ) : Type 0 where
+pub record TakesFirst (old new : DriveState) (zone : ℕ) (batch : Batch) (j : ℕ) : Type 0 where
   pub geometry : new.geometry ≡ old.geometry
   pub lawful : IsLawful new
   pub refused : new.refused ≡ old.refused
@@ -83,7 +91,7 @@ pub record TakesFront (old new : DriveState) (zone : ℕ) (batch : Batch) (j : �
 
 -- nothing of it, or a front
 abbrev pub TakesSome : DriveState → DriveState → ℕ → Batch → Type 0
-TakesSome old new zone batch = ((n : ℕ) → KeepsMountable n old new) ⊎ ((j : ℕ) × TakesFront old new zone batch j)
+TakesSome old new zone batch = ((n : ℕ) → KeepsMountable n old new) ⊎ ((j : ℕ) × TakesFirst old new zone batch j)
 
 -- ---- one Move
 
@@ -94,7 +102,7 @@ pub record Source : Type 0 where
   pub places : List Place
 
 abbrev pub source_of : DriveState → TablesView → ℕ → Source
-source_of drive tables zone = record { blocks = blocks_of drive zone; start = zone * drive.geometry.size; places = tables.map.places }
+source_of drive tables zone = record { blocks = readable_at drive zone; start = zone * drive.geometry.size; places = tables.map.places }
 
 -- what is said of a block that lies at a place: its data, or none for a trim
 abbrev pub said_at : List (List ℕ) → ℕ → Place → Option (List ℕ)
@@ -104,9 +112,9 @@ said_at blocks start place = None
 abbrev pub said : Source → ℕ → Option (List ℕ)
 said source block = said_at source.blocks source.start (slice_index_or source.places block places.None)
 
-abbrev pub listed : Option (List ℕ) → List (List ℕ)
-listed None = []
-listed (Some bytes) = bytes ∷ []
+abbrev pub blocks_listed : Option (List ℕ) → List (List ℕ)
+blocks_listed None = []
+blocks_listed (Some bytes) = bytes ∷ []
 
 abbrev pub placed_entry : ℕ → Place → Entry
 placed_entry block (places.At address) = record { block = block; trim = false }
@@ -116,7 +124,7 @@ abbrev pub moved_entries : List Place → List ℕ → List Entry
 moved_entries all blocks = map (λ block. placed_entry block (slice_index_or all block places.None)) blocks
 
 abbrev pub moved_data : Source → List ℕ → List (List ℕ)
-moved_data source blocks = flat_map (λ block. listed (said source block)) blocks
+moved_data source blocks = flat_map (λ block. blocks_listed (said source block)) blocks
 
 -- the Move from a zone that says of these blocks what is said there
 abbrev pub move_of : Source → ℕ → ℕ → Option ℕ → List ℕ → Batch
@@ -169,18 +177,19 @@ pub record IsMovable (n : ℕ) (logs : List (List Batch)) (source : Source) (tor
   pub content : newest_is.content ≡ said source block
 
 -- The Moves of a cleared drive repair its torn zone: they name each block once whose newest record lies there, and are no more than that takes; their sequences follow the greatest, and last; there is room for them in one zone; they say the size that the torn zone says, the last one at least; and while some are left, the torn zone is not half clean.
-pub record CanMove (geometry : Geometry) (n : ℕ) (logs : List (List Batch)) (source : Source) (plan : MovePlan) : Type 0 where
+pub record CanRepairBy (geometry : Geometry) (n : ℕ) (logs : List (List Batch)) (source : Source) (plan : MovePlan) : Type 0 where
   pub most : plan.most ≡ batch_most geometry
   pub movable : AllByRecursion (IsMovable n logs source plan.torn) plan.blocks.items
   pub all : (block : ℕ) → LiesIn plan.torn (newest block (records 0 logs)) → Contains plan.blocks.items block
   pub distinct : IsDistinct nat_eq plan.blocks.items
-  pub count : move_count plan ≡ moves (batch_most geometry) (live (encoded_size n logs) logs plan.torn)
+  pub count : move_count plan ≡ moves (batch_most geometry) (live_records (encoded_size n logs) logs plan.torn)
   pub next : plan.next ≡ 1 + greatest_sequence (sequences logs)
   pub later : AllByRecursion (λ sequence. sequence < plan.next) (sequences logs)
   pub last : plan.next + move_count plan ≤ 2 ^ 63
   pub room : log_size (moves_before source plan (move_count plan)) ≤ geometry.capacity
   pub size : plan.size ≡ log_greatest (log_at logs plan.torn)
   pub early : (plan.early ≡ plan.size) ⊎ (plan.early ≡ None)
+  pub said : (HoldsSize n logs plan.torn → ⊥) → plan.early ≡ plan.size
   pub needed : (k : ℕ) → k < move_count plan → IsStillNeeded geometry.block n logs plan.torn plan.into (moves_before source plan k)
 
 -- ---- between two Moves
@@ -208,7 +217,7 @@ pub record IsMoving (n : ℕ) (start now : DriveState) (torn into : ℕ) (made :
 
 -- The first k Moves are made, and their headers are known.
 pub record IsAtMove (n : ℕ) (start now : DriveState) (tables : TablesView) (plan : MovePlan) (k : ℕ) (heads : HeadsView) : Type 0 where
-  pub can : CanMove start.geometry n (drive_logs start) (source_of start tables plan.torn) plan
+  pub can : CanRepairBy start.geometry n (drive_logs start) (source_of start tables plan.torn) plan
   pub known : IsKnown start plan.torn plan.reported
   pub readable_blocks : AllByRecursion (IsReadableAt tables (plan.torn * start.geometry.size) plan.reported.blocks) plan.blocks.items
   pub moving : IsMoving n start now plan.torn plan.into (moves_before (source_of start tables plan.torn) plan k)
@@ -252,5 +261,5 @@ pub record IsMovePlan (drive : DriveState) (n : ℕ) (survey : Survey) (repair :
   pub torn : plan.torn ≡ repair.zone
   pub into_is : plan.into ≡ into
   pub known : IsKnown drive plan.torn plan.reported
-  pub can : CanMove drive.geometry n (drive_logs drive) (source_of drive repair.tables plan.torn) plan
+  pub can : CanRepairBy drive.geometry n (drive_logs drive) (source_of drive repair.tables plan.torn) plan
   pub readable_blocks : AllByRecursion (IsReadableAt repair.tables (plan.torn * drive.geometry.size) plan.reported.blocks) plan.blocks.items

@@ -1,36 +1,28 @@
 -- How a mount finds the place of each block's newest record from the headers that are kept.
-use Rattle.std.specs.Prelude.{◌≡◌, ℕ, ◌+◌, ◌-◌, ◌*◌, ◌/◌, ◌%◌, ◌^◌, ◌==◌, nat_le, nat_lt, min, if◌then◌else◌, Bool, true, List, [], ◌∷◌, slice_index_or, slice_set, Option, Some, None}
+use Rattle.std.specs.Prelude.{◌≡◌, ℕ, ◌+◌, ◌-◌, ◌*◌, ◌/◌, ◌%◌, ◌^◌, ◌==◌, nat_lt, min, if◌then◌else◌, Bool, true, List, [], ◌∷◌, slice_index_or, slice_set, Option, Some, None}
 use Rattle.std.specs.List.{AllByRecursion}
 use Rattle.std.specs.List.Sorted.{IsNonDecreasingBy}
 use Rattle.logical_map.specs.declared.place.Place.{Place}
 use Rattle.logical_map.specs.declared.place.Place.TheVariants as places
 use Rattle.zone_choice.specs.Tables.{TablesView, size_of}
-use Rattle.remount.specs.declared.heads.Head.{Head}
-use Rattle.remount.specs.declared.records.KeptRecord.{KeptRecord}
-use Rattle.remount.specs.Heads.{HeadsView, no_heads}
+use Rattle.drive_survey.specs.declared.heads.Head.{Head}
+use Rattle.drive_survey.specs.declared.records.KeptRecord.{KeptRecord}
+use Rattle.drive_survey.specs.Heads.{HeadsView, no_heads, sequence_at}
 
 -- ---- the sequence of a place
-
--- the sequence of the last of these batches that begins at a block or before it, or else what was found before
-abbrev pub sequence_from : Option ℕ → ℕ → List Head → Option ℕ
-sequence_from found offset [] = found
-sequence_from found offset (head ∷ heads) = if nat_le head.offset offset then sequence_from (Some head.sequence) offset heads else found
-
-abbrev pub sequence_at : List Head → ℕ → Option ℕ
-sequence_at heads offset = sequence_from None offset heads
 
 -- the headers of a zone; of one that is missing none
 abbrev pub heads_at : List HeadsView → ℕ → HeadsView
 heads_at views zone = slice_index_or views zone no_heads
 
 -- of the batch that has the block at an address
-abbrev pub sequence_in : ℕ → List HeadsView → ℕ → Option ℕ
-sequence_in zone_size views address = if zone_size == 0 then None else sequence_at (heads_at views (address / zone_size)).heads (address % zone_size)
+abbrev pub placed_sequence : ℕ → List HeadsView → ℕ → Option ℕ
+placed_sequence zone_size views address = if zone_size == 0 then None else sequence_at (heads_at views (address / zone_size)).heads (address % zone_size)
 
 abbrev pub sequence_of : ℕ → List HeadsView → Place → Option ℕ
 sequence_of zone_size views places.None = None
-sequence_of zone_size views (places.Trimmed address) = sequence_in zone_size views address
-sequence_of zone_size views (places.At address) = sequence_in zone_size views address
+sequence_of zone_size views (places.Trimmed address) = placed_sequence zone_size views address
+sequence_of zone_size views (places.At address) = placed_sequence zone_size views address
 
 -- the headers of each zone stand in the order of their blocks
 abbrev pub AreAscending : List HeadsView → Type 0

@@ -5,18 +5,17 @@ use Rattle.nvme_wire.specs.declared.zone_state.ZoneState.TheVariants.{Empty, Ful
 use Rattle.drive_port.specs.Contents.{Content, Finishes, content_at, contents, emptied}
 use Rattle.drive_port.specs.Drive.{DriveState, IsLawful}
 use Rattle.batch_log.specs.Log.{Batch}
-use Rattle.zone_choice.specs.Agreement.{drive_logs}
-use Rattle.zone_choice.specs.Mountable.{is_partly_written}
-use Rattle.zone_choice.specs.Records.{without}
-use Rattle.zone_choice.specs.Repair.{HasAtMost}
-use Rattle.zone_choice.specs.Reserve.{batch_most}
-use Rattle.zone_choice.specs.Spare.{IsLowest, IsVacant}
-use Rattle.zone_choice.specs.ZoneLogs.{log_at}
-use Rattle.remount.specs.declared.reported.ReportedZone.{ReportedZone}
-use Rattle.remount.specs.declared.survey.Survey.{Survey}
-use Rattle.remount.specs.Heads.{HeadsView}
-use Rattle.remount.specs.Scan.{AreKnown, heads_in, tails_in}
-use Rattle.remount.specs.Survey.{is_partly_reported}
+use Rattle.drive_array.specs.ZoneLogs.{drive_logs, log_at}
+use Rattle.drive_array.specs.Mountable.{is_partly_written}
+use Rattle.drive_array.specs.Records.{without}
+use Rattle.drive_array.specs.Repair.{HasAtMost}
+use Rattle.drive_array.specs.Reserve.{batch_most}
+use Rattle.drive_array.specs.Spare.{IsLowest, IsVacant}
+use Rattle.drive_survey.specs.declared.reported.ReportedZone.{ReportedZone}
+use Rattle.drive_survey.specs.declared.survey.Survey.{Survey}
+use Rattle.drive_survey.specs.Heads.{HeadsView}
+use Rattle.drive_survey.specs.Scan.{AreKnown, heads_in, tails_in}
+use Rattle.drive_survey.specs.Survey.{is_partly_reported}
 
 -- The contents of the zones changed by one command, or, where the drive halted, not at all; and the command was not refused.
 pub record MayChange (Changes : List Content → List Content → Type 0) (old new : DriveState) : Type 0 where
@@ -44,6 +43,7 @@ pub record ResetsAll (old new : DriveState) (before after : Survey) (zones : Lis
   pub heads : heads_in after.scanned.items ≡ heads_in before.scanned.items
   pub tails : tails_in after.scanned.items ≡ set_all (tails_in before.scanned.items) zones false
   pub size : after.size ≡ before.size
+  pub given : after.given ≡ before.given
 
 -- These zones may be reset one after the other: each is vacant at its moment, or the lowest half clean one.
 abbrev pub MayReset : ℕ → ℕ → List (List Batch) → List ℕ → Type 0
@@ -67,6 +67,7 @@ pub record FinishesOne (old new : DriveState) (before after : Survey) (zone : �
   pub reported : after.zones.items ≡ slice_set before.zones.items zone (reported_full old.geometry.capacity)
   pub scanned : after.scanned ≡ before.scanned
   pub size : after.size ≡ before.size
+  pub given : after.given ≡ before.given
 
 -- the test of a zone that was surveyed
 abbrev pub IsTested : ℕ → ℕ → Survey → ℕ → Bool → Type 0
@@ -83,11 +84,11 @@ abbrev pub KeepsWritten : DriveState → DriveState → Type 0
 KeepsWritten old new = (zone : ℕ) → log_at (drive_logs new) zone ≢ [] → content_at (contents new.zones) zone ≡ content_at (contents old.zones) zone
 
 -- A disk goes on with a zone, if it is partly written: it has two free blocks, and no batch with more entries than ours.
-abbrev pub GoesOn : DriveState → ℕ → Type 0
-GoesOn drive zone =
+abbrev pub CanBeFilled : DriveState → ℕ → Type 0
+CanBeFilled drive zone =
     is_partly_written (content_at (contents drive.zones) zone) ≡ true
     → (length (content_at (contents drive.zones) zone).blocks + 2 ≤ drive.geometry.capacity) × AllByRecursion (HasAtMost (batch_most drive.geometry)) (log_at (drive_logs drive) zone)
 
 -- each zone that a disk goes on with, and each that is not partly written, holds what it held
 abbrev pub KeepsGoing : DriveState → DriveState → Type 0
-KeepsGoing old new = (zone : ℕ) → GoesOn old zone → content_at (contents new.zones) zone ≡ content_at (contents old.zones) zone
+KeepsGoing old new = (zone : ℕ) → CanBeFilled old zone → content_at (contents new.zones) zone ≡ content_at (contents old.zones) zone

@@ -1,17 +1,14 @@
 -- What a mount finds of torn zones.
-use Rattle.std.specs.Prelude.{◌≡◌, ℕ, ◌<◌, ◌≤◌, ◌==◌, ◌&&◌, not, Bool, true, false, List, length, map, slice_get, Option, Some, None, count_by}
-use Rattle.std.specs.List.{flat_map}
+use Rattle.std.specs.Prelude.{◌≡◌, ℕ, ◌<◌, ◌≤◌, ◌==◌, ◌&&◌, not, Bool, true, false, List, length, slice_get, Option, Some, None, count_by}
 use Rattle.zone_states.specs.declared.geometry.Geometry.{Geometry}
 use Rattle.drive_port.specs.Drive.{DriveState}
 use Rattle.batch_log.specs.Log.{Batch}
 use Rattle.logical_map.specs.Live.{lies_in}
 use Rattle.logical_map.specs.declared.place.Place.{Place}
 use Rattle.logical_map.specs.declared.place.Place.TheVariants as places
-use Rattle.remount.specs.declared.heads.Head.{Head}
-use Rattle.remount.specs.declared.scan.ScannedZone.{ScannedZone}
-use Rattle.remount.specs.declared.survey.Survey.{Survey}
-use Rattle.remount.specs.Heads.{HeadsView}
-use Rattle.remount.specs.Known.{Knows}
+use Rattle.drive_survey.specs.declared.scan.ScannedZone.{ScannedZone}
+use Rattle.drive_survey.specs.declared.survey.Survey.{Survey}
+use Rattle.drive_survey.specs.Known.{Knows}
 
 -- some drive with this geometry was surveyed, and these of its logs
 pub record WasSurveyed (geometry : Geometry) (n : ℕ) (survey : Survey) : Type 0 where
@@ -45,18 +42,11 @@ is_data_place (places.Trimmed address) = false
 is_data_place (places.At address) = true
 
 -- how many data blocks it has
-abbrev pub data_blocks : Place → ℕ
-data_blocks places.None = 0
-data_blocks (places.Trimmed address) = 0
-data_blocks (places.At address) = 1
+abbrev pub data_count_at : Place → ℕ
+data_count_at places.None = 0
+data_count_at (places.Trimmed address) = 0
+data_count_at (places.At address) = 1
 
 -- how many of these places lie in a zone, and have data
 abbrev pub data_in : ℕ → ℕ → List Place → ℕ
 data_in zone_size zone all = count_by (λ place. lies_in zone_size zone place && is_data_place place) all
-
--- the sequences in headers
-abbrev pub head_sequences : List Head → List ℕ
-head_sequences heads = map (λ (head : Head). head.sequence) heads
-
-abbrev pub sequences_in : List HeadsView → List ℕ
-sequences_in views = flat_map (λ (view : HeadsView). head_sequences view.heads) views

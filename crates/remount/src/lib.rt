@@ -18,45 +18,25 @@
 //!   had, and is Full only if it was, unless it is partly written with fewer than two free blocks or with a batch of
 //!   more entries than ours (`KeepsOthers` in specs/Mount).
 //! * Each fault but `Halted` and `OutOfMemory` is the first one, in the order in which a mount looks (`MountFails`),
-//!   and leaves the drive as it was, but that its controller may have closed zones (`KeepsZones` in specs/Reported).
+//!   and leaves the drive as it was, except that its controller may have closed zones (`KeepsZones` in
+//!   drive_survey/specs/Reported).
 //! * Whatever is answered, a drive that could be mounted still can, with the same array, and no command was refused
-//!   (`KeepsMountable` in specs/Known): also where the drive stopped inside a command, an Append of a repair included.
+//!   (`KeepsMountable` in specs/Kept): also where the drive stopped inside a command, an Append of a repair included.
 //!
 //! # How it goes
 //!
-//! `survey_drive` reads the headers of all batches, which are kept, 16 bytes each and 4 for each entry
-//! (`heads_of` in specs/Heads). `clear_zones` finds in memory which zones are half clean, each the lowest of its
-//! moment, and `plan_repair` which zone is torn then. Only now the drive is changed: `empty_zones` resets the vacant
+//! `survey_drive` of `drive_survey` reads the headers of all batches, and `clear_zones` finds which zones are half
+//! clean. `plan_repair` finds which zone is torn then. Only now the drive is changed: `empty_zones` resets the vacant
 //! zones and the half clean ones, `repair_zone` moves what is live in the torn zone to an empty one and resets it, and
 //! `finish_zones` finishes zones to which no more batches go. `mounted_tables` makes the tables from the headers.
 #![tactic(auto)]
 
-mod beside;
-mod block_records;
-mod clearing;
 mod empty;
-mod fault;
-mod heads;
-mod moved;
-mod moves;
-mod order;
-mod places;
-mod records;
+mod finish;
+mod mounting;
+mod plan;
 mod repair;
-mod reported;
-mod roles;
-mod scan;
-mod sequences;
-mod settle;
-mod shown;
-mod sizes;
-mod steps;
-mod survey;
-mod torn;
+mod tables;
 
-pub use fault::MountFault;
-pub use heads::{Head, ZoneHeads};
-pub use reported::ReportedZone;
-pub use scan::ScannedZone;
-pub use steps::mount;
-pub use survey::{Survey, survey_drive};
+pub use drive_survey::{MountFault, Survey, survey_drive};
+pub use mounting::mount;

@@ -1,22 +1,23 @@
-ghost use Rattle.std.specs.Prelude.{length, IfErr, OnOk};
+ghost use Rattle.std.specs.Prelude.{IfErr, OnOk};
 ghost use Rattle.drive_port.specs.Contents.{contents};
-ghost use Rattle.zone_choice.specs.Agreement.{drive_logs};
-ghost use Rattle.zone_choice.specs.Mountable.{IsMountable};
-ghost use Rattle.zone_choice.specs.Spare.{NoneBelow};
-ghost use Rattle.zone_choice.specs.ZoneLogs.{zone_tails};
-ghost use Rattle.remount.specs.Known.{AreVacantEmpty, KeepsMountable, Knows};
-ghost use Rattle.remount.specs.Known.{HasVacant};
-ghost use Rattle.remount.specs.Mount.{AreWhole, IsPlan};
-ghost use Rattle.remount.specs.Scan.{FailsBy};
+ghost use Rattle.drive_survey.specs.Scan.{IsInterruption};
+ghost use Rattle.drive_array.specs.ZoneLogs.{drive_logs, zone_tails};
+ghost use Rattle.remount.specs.Kept.{KeepsMountable};
+ghost use Rattle.remount.specs.Mount.{IsCleared, IsPlan, IsUntorn};
 ghost use Rattle.remount.specs.TornRepair.{RepairsTorn};
 
-use crate::beside::{close_alone, finish_beside, lowest_empty};
-use crate::fault::MountFault;
-use crate::moves::make_moves;
-use crate::order::plan_moves;
-use crate::settle::{empty_torn, note_repair};
-use crate::survey::Survey;
+mod beside;
+mod moves;
+mod order;
+mod settle;
+pub(crate) mod torn;
+
+use beside::{close_alone, finish_beside, lowest_empty};
 use drive_port::Device;
+use drive_survey::{MountFault, Survey};
+use moves::make_moves;
+use order::plan_moves;
+use settle::{empty_torn, note_repair};
 use std::alloc::Global;
 use zone_choice::Tables;
 
@@ -30,33 +31,26 @@ pub struct Repair {
     pub tables: Tables,
 }
 
-/// Moves the live records of the torn zone of a cleared drive to its lowest Empty zone, and resets it. Another zone
-/// that is partly written is finished before.
+/// Moves the live records of the torn zone of a cleared drive to its lowest Empty zone, and resets it. Each other zone
+/// that is opened or Closed is finished before.
 pub fn repair_zone<D: Device>(
     alloc: Global,
     device: &mut D,
     survey: &mut Survey,
-    blocks: u32,
     repair: &Repair,
 ) -> Result<(), MountFault>
-    requires known { Knows (D.drive device.old) blocks (drive_logs (D.drive device.old)) survey.old }
-    requires mountable { IsMountable (D.drive device.old) blocks }
-    requires cleared { NoneBelow (D.drive device.old).geometry.block blocks (drive_logs (D.drive device.old)) (length (D.drive device.old).zones) }
-    requires vacant { AreVacantEmpty survey.old.zones.items (drive_logs (D.drive device.old)) }
-    requires plan { IsPlan (D.drive device.old).geometry blocks (drive_logs (D.drive device.old)) (zone_tails (contents (D.drive device.old).zones)) repair.now }
-    ensures known { OnOk result (Knows (D.drive device.new) blocks (drive_logs (D.drive device.new)) survey.new) }
-    ensures vacant { OnOk result (AreVacantEmpty survey.new.zones.items (drive_logs (D.drive device.new))) }
-    ensures spare { OnOk result (HasVacant (drive_logs (D.drive device.new))) }
-    ensures whole { OnOk result (AreWhole (contents (D.drive device.new).zones)) }
-    ensures repaired { OnOk result (RepairsTorn (D.drive device.old).geometry blocks (drive_logs (D.drive device.old)) repair.now.zone (drive_logs (D.drive device.new))) }
-    ensures err { IfErr result (FailsBy (λ _. ⊥) (D.drive device.new)) }
-    ensures kept { KeepsMountable blocks (D.drive device.old) (D.drive device.new) }
+    requires cleared { IsCleared (D.drive device.old) survey.old.given survey.old }
+    requires plan { IsPlan (D.drive device.old).geometry survey.old.given (drive_logs (D.drive device.old)) (zone_tails (contents (D.drive device.old).zones)) repair.now }
+    ensures untorn { OnOk result (IsUntorn (D.drive device.new) survey.old.given survey.new) }
+    ensures repaired { OnOk result (RepairsTorn (D.drive device.old).geometry survey.old.given (drive_logs (D.drive device.old)) repair.now.zone (drive_logs (D.drive device.new))) }
+    ensures err { IfErr result (IsInterruption (D.drive device.new)) }
+    ensures kept { KeepsMountable survey.old.given (D.drive device.old) (D.drive device.new) }
 {
-    finish_beside(alloc, device, survey, blocks, repair.zone)?;
+    finish_beside(alloc, device, survey, repair.zone)?;
     let Some(into) = lowest_empty(&survey.zones) else {
         unreachable!();
     };
-    let plan = plan_moves(alloc, device, survey, blocks, repair, into)?;
+    let plan = plan_moves(alloc, device, survey, repair, into)?;
     close_alone(alloc, device, plan.torn, plan.reported)?;
     let heads = make_moves(alloc, device, &plan, &repair.tables)?;
     empty_torn(alloc, device, &plan)?;

@@ -16,7 +16,8 @@ fn image_of(alloc: Global, drive: &Drive) -> Result<Vec<u8>, ScriptFault> {
     Ok(image)
 }
 
-fn image_of_world(alloc: Global, world: &World) -> Result<Vec<u8>, ScriptFault> {
+/// The image of the drive of a script.
+pub fn image_of_world(alloc: Global, world: &World) -> Result<Vec<u8>, ScriptFault> {
     match world.drive(alloc)? {
         Ok(drive) => image_of(alloc, &drive),
         Err(_) => Err(ScriptFault::Words),

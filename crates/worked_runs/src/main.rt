@@ -20,6 +20,7 @@ mod flat;
 mod grammar;
 mod images;
 mod logs;
+mod mounted_images;
 mod mounts;
 mod questions;
 mod requests;

@@ -7,6 +7,7 @@ use crate::fault::ScriptFault;
 use crate::grammar::{show_raw_lines, show_trace_lines};
 use crate::images::{show_all_changes, show_changed_images, show_image, show_random_images};
 use crate::logs::show_logs;
+use crate::mounted_images::show_mounted_changes;
 use crate::mounts::{show_mount, show_mount_halts};
 use crate::questions::{
     show_array, show_contents, show_drive_fault, show_moves, show_reserve, show_room, show_zones,
@@ -315,6 +316,14 @@ impl<'a> Session<'a> {
         show_random_images(self.alloc, self.world.geometry, number(count)?, out)
     }
 
+    // The image of the drive, changed at each place: what is read, or what comes of a mount too.
+    fn changed_image(&self, words: &[&str], out: &mut String) -> Result<(), ScriptFault> {
+        if words.len() == 4 {
+            return show_all_changes(self.alloc, &self.world, words, out);
+        }
+        show_mounted_changes(self.alloc, &self.world, words, out)
+    }
+
     // Lines of more words that ask something.
     fn ask_of(&self, name: &str, words: &[&str], out: &mut String) -> Result<bool, ScriptFault> {
         match name {
@@ -323,7 +332,7 @@ impl<'a> Session<'a> {
             "room" => done(show_room(&self.world.geometry, words, out)),
             "moves" => done(show_moves(&self.world.geometry, words, out)),
             "header" => done(self.header(words, out)),
-            "image" => done(show_all_changes(self.alloc, &self.world, words, out)),
+            "image" => done(self.changed_image(words, out)),
             "images" => done(self.random_images(words, out)),
             _ => Ok(false),
         }

@@ -5,7 +5,7 @@ use Rattle.std.specs.List.{AllByRecursion}
 use Rattle.std.proofs.lemmas.List.{length-append, length-take, take-append-drop}
 use Rattle.batch_log.specs.Header.{Heading, IsHeading, IsHeaderBlock, header_block}
 use Rattle.batch_log.specs.Log.{BeginsWithNoBatch, data_count}
-use Rattle.yardsticks.specs.Batches.{blocks_of, BeginsWithBatch}
+use Rattle.yardsticks.specs.Batches.{held_blocks, BeginsWithBatch}
 use Rattle.batch_log.proofs.HeaderLaws.{one_header}
 
 -- the blocks are a header block and the blocks behind it
@@ -15,12 +15,12 @@ pub record BeginWithHeader (size : ℕ) (blocks : List (List ℕ)) (heading : He
 
 pub begin_with_header : (size : ℕ) (blocks : List (Vec ℕ Global)) (block : Vec ℕ Global) (behind : List (Vec ℕ Global)) (bytes : List ℕ) (h : Heading)
     → AllByRecursion (λ (b : Vec ℕ Global). vec_len b ≡ size) blocks → blocks ≡ block ∷ behind → bytes ≡ block.items → IsHeaderBlock (length bytes) bytes h
-    → BeginWithHeader size (blocks_of blocks) h (blocks_of behind)
+    → BeginWithHeader size (held_blocks blocks) h (held_blocks behind)
 begin_with_header size blocks block behind bytes h all split read is =
     let all' = rw split at all in
     let long : length bytes ≡ size = ap length read ∙ sym block.ok.0 ∙ all'.0 in
     let is' = rw long at is in
-    record { says = is'.says; spelled = ap blocks_of split ∙ ap (λ (b : List ℕ). b ∷ blocks_of behind) (sym read ∙ is'.spelled) }
+    record { says = is'.says; spelled = ap held_blocks split ∙ ap (λ (b : List ℕ). b ∷ held_blocks behind) (sym read ∙ is'.spelled) }
 
 pub begin_with : (size : ℕ) (blocks behind body : List (List ℕ)) (h : Heading) → BeginWithHeader size blocks h behind → data_count h.entries ≤ length behind
     → body ≡ take (data_count h.entries) behind → BeginsWithBatch size blocks (record { heading = h; body = body })

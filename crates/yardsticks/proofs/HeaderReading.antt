@@ -5,7 +5,7 @@ use Rattle.byteorder.specs.Endian.{little_from}
 use Rattle.batch_log.specs.declared.header.Entry.{Entry}
 use Rattle.batch_log.specs.declared.header.Kind.{Kind}
 use Rattle.batch_log.specs.Header.{Heading, IsHeading, IsHeaderBlock, IsNoHeader, entry_room, header_block}
-use Rattle.batch_log.specs.Reading.{kind_of, size_of, entry_of, entries_in, heading_in}
+use Rattle.batch_log.specs.Reading.{kind_of, said_size, entry_of, entries_in, heading_in}
 use Rattle.batch_log.proofs.HeaderLaws.{same_heading, header_again}
 
 pub length-entries_in : (count : ℕ) (bytes : List ℕ) → length (entries_in count bytes) ≡ count
@@ -32,7 +32,7 @@ pub heading_read : (block : List ℕ) (kind : Kind) (count sequence source : ℕ
     → kind ≡ kind_of (little_from 0 2 (from_place 10 block))
     → sequence ≡ little_from 0 8 (from_place 16 block)
     → source ≡ little_from 0 4 (from_place 24 block)
-    → size ≡ size_of (little_from 0 2 (from_place 8 block)) (little_from 0 4 (from_place 28 block))
+    → size ≡ said_size (little_from 0 2 (from_place 8 block)) (little_from 0 4 (from_place 28 block))
     → entries ≡ entries_in count (from_place 32 block)
     → record { kind = kind; sequence = sequence; source = source; size = size; entries = entries } ≡ heading_in block
 unfolding heading_in
@@ -41,8 +41,8 @@ heading_read block kind count sequence source size entries e1 e2 e3 e4 e5 e6 =
     let kind-is : kind ≡ kind_of (little_from 0 2 (drop 10 block)) = e2 ∙ ap (λ (xs : List ℕ). kind_of (little_from 0 2 xs)) (take_rest block 10) in
     let sequence-is : sequence ≡ little_from 0 8 (drop 16 block) = e3 ∙ ap (λ (xs : List ℕ). little_from 0 8 xs) (take_rest block 16) in
     let source-is : source ≡ little_from 0 4 (drop 24 block) = e4 ∙ ap (λ (xs : List ℕ). little_from 0 4 xs) (take_rest block 24) in
-    let size-is : size ≡ size_of (little_from 0 2 (drop 8 block)) (little_from 0 4 (drop 28 block)) =
-    e5 ∙ ap (λ (xs : List ℕ). size_of (little_from 0 2 xs) (little_from 0 4 (from_place 28 block))) (take_rest block 8) ∙ ap (λ (xs : List ℕ). size_of (little_from 0 2 (drop 8 block)) (little_from 0 4 xs)) (take_rest block 28) in
+    let size-is : size ≡ said_size (little_from 0 2 (drop 8 block)) (little_from 0 4 (drop 28 block)) =
+    e5 ∙ ap (λ (xs : List ℕ). said_size (little_from 0 2 xs) (little_from 0 4 (from_place 28 block))) (take_rest block 8) ∙ ap (λ (xs : List ℕ). said_size (little_from 0 2 (drop 8 block)) (little_from 0 4 xs)) (take_rest block 28) in
     let entries-are : entries ≡ entries_in (little_from 0 4 (drop 12 block)) (drop 32 block) = e6 ∙ ap (λ (xs : List ℕ). entries_in count xs) (take_rest block 32) ∙ ap (λ (n : ℕ). entries_in n (drop 32 block)) count-is in
     same_heading _ _ _ _ _ _ _ _ _ _ kind-is sequence-is source-is size-is entries-are
 

@@ -8,12 +8,12 @@ use Rattle.std.specs.declared.alloc.Global.{Global}
 use Rattle.batch_log.specs.declared.header.Entry.{Entry}
 use Rattle.yardsticks.specs.declared.batches.Batch as yardstick
 use Rattle.batch_log.specs.Log.{Batch, batch_size, one_unless}
-use Rattle.yardsticks.specs.Batches.{batch_of, blocks_of}
-use Rattle.zone_choice.specs.Records.{Record, batch_records, entry_records, log_records, newer, newest, record_of, records, shown, told}
-use Rattle.zone_choice.specs.Repair.{is_any, is_data, kept_in, live_by}
-use Rattle.yardsticks.specs.Zones.{Saying, logs_but, heard, is_data_in, is_said_in, later, log_of, saying, shown_by}
-use Rattle.zone_choice.specs.ZoneLogs.{log_at}
-use Rattle.zone_choice.proofs.NewestLaws.{newer-assoc, newer-none}
+use Rattle.yardsticks.specs.Batches.{batch_of, held_blocks}
+use Rattle.drive_array.specs.Records.{Record, batch_records, entry_records, log_records, newer, newest, record_of, records, shown, told}
+use Rattle.drive_array.specs.Repair.{is_any, is_data, kept_in, live_by}
+use Rattle.yardsticks.specs.Zones.{Saying, logs_but, heard, is_data_in, is_said_in, later, held_log, saying, said_block}
+use Rattle.drive_array.specs.ZoneLogs.{log_at}
+use Rattle.drive_array.proofs.NewestLaws.{newer-assoc, newer-none}
 
 pub heard-append : (block : ℕ) (found : Option Saying) (xs ys : List Record) → heard block found (xs ++ ys) ≡ heard block (heard block found xs) ys
 heard-append block found [] ys = refl
@@ -57,7 +57,7 @@ heard-newer block found (r ∷ rs) =
 pub heard-newest : (block : ℕ) (rs : List Record) → heard block None rs ≡ option_map saying (newest block rs)
 heard-newest block rs = heard-newer block None rs
 
-pub shown_by-shown : (block_bytes : ℕ) (r : Option Record) → shown_by block_bytes (option_map saying r) ≡ shown block_bytes r
+pub shown_by-shown : (block_bytes : ℕ) (r : Option Record) → said_block block_bytes (option_map saying r) ≡ shown block_bytes r
 shown_by-shown block_bytes None = refl
 shown_by-shown block_bytes (Some r) = refl
 
@@ -83,11 +83,11 @@ pub entry-step : (block sequence zone k next index : ℕ) (body : List (List ℕ
 entry-step block sequence zone k next index body es found now whole e split so_far here count = rw (here, count) (rw split at so_far)
 
 pub log-step : (block zone index : ℕ) (log : List yardstick.Batch) (found now whole : Option Saying) (b : yardstick.Batch) → drop index log ≡ b ∷ drop (index + 1) log
-    → heard block found (log_records zone 0 (log_of (drop index log))) ≡ whole
+    → heard block found (log_records zone 0 (held_log (drop index log))) ≡ whole
     → ((header : ℕ) → now ≡ heard block found (batch_records zone header (batch_of b)))
-    → heard block now (log_records zone 0 (log_of (drop (index + 1) log))) ≡ whole
+    → heard block now (log_records zone 0 (held_log (drop (index + 1) log))) ≡ whole
 log-step block zone index log found now whole b split so_far here =
-    let rest = log_of (drop (index + 1) log) in
+    let rest = held_log (drop (index + 1) log) in
     let behind : ℕ = 0 + batch_size (batch_of b) in
     rw (here 0) (heard-log block (heard block found (batch_records zone 0 (batch_of b))) zone 0 behind rest ∙ sym (heard-append block found (batch_records zone 0 (batch_of b)) (log_records zone behind rest)) ∙ (rw split at so_far))
 
@@ -106,10 +106,10 @@ pub length-logs_but : (left_out : Option ℕ) (logs : List (List Batch)) → len
 length-logs_but None logs = refl
 length-logs_but (Some zone) logs = length-set logs zone []
 
-pub array-step : (block_bytes block : ℕ) (rs : List Record) (blocks now : List (Vec ℕ Global)) (bytes : Vec ℕ Global) → blocks_of blocks ≡ told (shown block_bytes) block rs
-    → now ≡ blocks ++ bytes ∷ [] → bytes.items ≡ shown block_bytes (newest block rs) → blocks_of now ≡ told (shown block_bytes) (block + 1) rs
+pub array-step : (block_bytes block : ℕ) (rs : List Record) (blocks now : List (Vec ℕ Global)) (bytes : Vec ℕ Global) → held_blocks blocks ≡ told (shown block_bytes) block rs
+    → now ≡ blocks ++ bytes ∷ [] → bytes.items ≡ shown block_bytes (newest block rs) → held_blocks now ≡ told (shown block_bytes) (block + 1) rs
 array-step block_bytes block rs blocks now bytes so_far more is =
-    ap blocks_of more ∙ map_push (λ (b : Vec ℕ Global). b.items) blocks bytes
+    ap held_blocks more ∙ map_push (λ (b : Vec ℕ Global). b.items) blocks bytes
     ∙ rw (so_far, is) (sym (map-range_with_len_more (λ (block : ℕ). shown block_bytes (newest block rs)) 0 block block (omega arith)))
 
 -- ---- live records

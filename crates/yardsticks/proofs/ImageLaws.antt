@@ -7,21 +7,21 @@ use Rattle.std.proofs.lemmas.List.{length-replicate, map_push, replicate-append-
 use Rattle.zone_states.specs.declared.geometry.Geometry.{Geometry}
 use Rattle.drive_port.specs.Contents.{Content, is_full}
 use Rattle.batch_log.specs.Log.{Batch, HaveNoLog, IsLog, has_tail, zero_block}
-use Rattle.yardsticks.specs.Batches.{IsFound, blocks_of}
+use Rattle.yardsticks.specs.Batches.{IsFound, held_blocks}
 use Rattle.batch_log.proofs.LogLaws.{one_log}
 use Rattle.yardsticks.specs.declared.batches.ZoneLog.{ZoneLog}
 use Rattle.yardsticks.specs.declared.logs.ZoneImage.{ZoneImage}
-use Rattle.zone_choice.specs.ZoneLogs.{HasLog, has_torn_tail, padding, readable, zone_log}
-use Rattle.yardsticks.specs.Zones.{HasWholeBlocks, IsZoneLog, image_content, image_contents, log_of}
-use Rattle.zone_choice.proofs.AllLaws.{all-append}
-use Rattle.zone_choice.proofs.ZoneLogLaws.{readable-not_full, zone_log-read}
+use Rattle.drive_array.specs.ZoneLogs.{HasLog, has_torn_tail, padding, readable, zone_log}
+use Rattle.yardsticks.specs.Zones.{HasWholeBlocks, IsZoneLog, image_content, image_contents, held_log}
+use Rattle.drive_array.proofs.AllLaws.{all-append}
+use Rattle.drive_array.proofs.ZoneLogLaws.{readable-not_full, zone_log-read}
 
 -- ---- each readable block has its number of bytes
 
 HasLength : ℕ → List ℕ → Type 0
 HasLength size block = length block ≡ size
 
-items-sized : (size : ℕ) (blocks : List (Vec ℕ Global)) → AllByRecursion (λ (block : Vec ℕ Global). vec_len block ≡ size) blocks → AllByRecursion (HasLength size) (blocks_of blocks)
+items-sized : (size : ℕ) (blocks : List (Vec ℕ Global)) → AllByRecursion (λ (block : Vec ℕ Global). vec_len block ≡ size) blocks → AllByRecursion (HasLength size) (held_blocks blocks)
 unfolding HasLength
 items-sized size [] all = tt
 items-sized size (b ∷ bs) all = (sym b.ok.0 ∙ all.0, items-sized size bs all.1)
@@ -33,30 +33,30 @@ zeros-sized size (suc count) = (length-replicate size 0, zeros-sized size count)
 
 readable-sized : (geometry : Geometry) (image : ZoneImage) → HasWholeBlocks geometry.block image → AllByRecursion (HasLength geometry.block) (readable geometry (image_content image))
 readable-sized geometry image whole =
-    all-append (HasLength geometry.block) (blocks_of image.blocks.items) (padding geometry (is_full (image_content image).usage) (length (blocks_of image.blocks.items)))
+    all-append (HasLength geometry.block) (held_blocks image.blocks.items) (padding geometry (is_full (image_content image).usage) (length (held_blocks image.blocks.items)))
     (items-sized geometry.block image.blocks.items whole) (behind (is_full (image_content image).usage))
   where
-    behind : (full : Bool) → AllByRecursion (HasLength geometry.block) (padding geometry full (length (blocks_of image.blocks.items)))
-    behind true = zeros-sized geometry.block (geometry.capacity - length (blocks_of image.blocks.items))
+    behind : (full : Bool) → AllByRecursion (HasLength geometry.block) (padding geometry full (length (held_blocks image.blocks.items)))
+    behind true = zeros-sized geometry.block (geometry.capacity - length (held_blocks image.blocks.items))
     behind false = tt
 
-vecs-sized : (size : ℕ) (blocks : List (Vec ℕ Global)) → AllByRecursion (HasLength size) (blocks_of blocks) → AllByRecursion (λ (block : Vec ℕ Global). vec_len block ≡ size) blocks
+vecs-sized : (size : ℕ) (blocks : List (Vec ℕ Global)) → AllByRecursion (HasLength size) (held_blocks blocks) → AllByRecursion (λ (block : Vec ℕ Global). vec_len block ≡ size) blocks
 unfolding HasLength
 vecs-sized size [] all = tt
 vecs-sized size (b ∷ bs) all = (b.ok.0 ∙ all.0, vecs-sized size bs all.1)
 
-pub read-sized : (geometry : Geometry) (image : ZoneImage) (blocks : List (Vec ℕ Global)) → HasWholeBlocks geometry.block image → blocks_of blocks ≡ readable geometry (image_content image)
+pub read-sized : (geometry : Geometry) (image : ZoneImage) (blocks : List (Vec ℕ Global)) → HasWholeBlocks geometry.block image → held_blocks blocks ≡ readable geometry (image_content image)
     → AllByRecursion (λ (block : Vec ℕ Global). vec_len block ≡ geometry.block) blocks
 read-sized geometry image blocks whole read = vecs-sized geometry.block blocks (rw read (readable-sized geometry image whole))
 
 -- one zero block more
-pub padded-step : (size i first : ℕ) (was blocks now : List (Vec ℕ Global)) (zeros : Vec ℕ Global) → first ≤ i → blocks_of blocks ≡ blocks_of was ++ replicate (i - first) (zero_block size)
-    → now ≡ blocks ++ zeros ∷ [] → zeros.items ≡ zero_block size → blocks_of now ≡ blocks_of was ++ replicate (i + 1 - first) (zero_block size)
+pub padded-step : (size i first : ℕ) (was blocks now : List (Vec ℕ Global)) (zeros : Vec ℕ Global) → first ≤ i → held_blocks blocks ≡ held_blocks was ++ replicate (i - first) (zero_block size)
+    → now ≡ blocks ++ zeros ∷ [] → zeros.items ≡ zero_block size → held_blocks now ≡ held_blocks was ++ replicate (i + 1 - first) (zero_block size)
 padded-step size i first was blocks now zeros le so_far more is =
     let count : i - first + 1 ≡ i + 1 - first = omega arith in
-    ap blocks_of more ∙ map_push (λ (b : Vec ℕ Global). b.items) blocks zeros
-    ∙ rw (so_far, is) (append_assoc (blocks_of was) (replicate (i - first) (zero_block size)) (zero_block size ∷ [])
-    ∙ ap (λ (bs : List (List ℕ)). blocks_of was ++ bs) (replicate-append-replicate (i - first) 1 (zero_block size) ∙ ap (λ (n : ℕ). replicate n (zero_block size)) count))
+    ap held_blocks more ∙ map_push (λ (b : Vec ℕ Global). b.items) blocks zeros
+    ∙ rw (so_far, is) (append_assoc (held_blocks was) (replicate (i - first) (zero_block size)) (zero_block size ∷ [])
+    ∙ ap (λ (bs : List (List ℕ)). held_blocks was ++ bs) (replicate-append-replicate (i - first) 1 (zero_block size) ∙ ap (λ (n : ℕ). replicate n (zero_block size)) count))
 
 -- ---- the log of a zone
 
@@ -79,11 +79,11 @@ tail_read geometry content true blocks full-is read = rw (← full-is) refl
 tail_read geometry content false blocks full-is read = let same : blocks ≡ content.blocks = read ∙ readable-not_full geometry content (sym full-is) in rw (← full-is, same) refl
 
 pub zone_log-found : (geometry : Geometry) (content : Content) (full : Bool) (blocks : List (List ℕ)) (log : ZoneLog) → geometry.block < 2 ^ 32
-    → full ≡ is_full content.usage → blocks ≡ readable geometry content → IsFound geometry.block full blocks log → IsZoneLog geometry content (log_of log.batches.items) log.is_torn
+    → full ≡ is_full content.usage → blocks ≡ readable geometry content → IsFound geometry.block full blocks log → IsZoneLog geometry content (held_log log.batches.items) log.is_torn
 zone_log-found geometry content full blocks log small full-is read is =
-    let same : zone_log geometry content ≡ log_of log.batches.items = zone_log-read geometry content blocks (sym read) ∙ one_log geometry.block full blocks (log_of log.batches.items) small is.log_is in
+    let same : zone_log geometry content ≡ held_log log.batches.items = zone_log-read geometry content blocks (sym read) ∙ one_log geometry.block full blocks (held_log log.batches.items) small is.log_is in
     record {
-      has = same_log geometry.block full (is_full content.usage) blocks (readable geometry content) (log_of log.batches.items) (zone_log geometry content) (sym full-is) (sym read) same is.log_is;
+      has = same_log geometry.block full (is_full content.usage) blocks (readable geometry content) (held_log log.batches.items) (zone_log geometry content) (sym full-is) (sym read) same is.log_is;
       log_is = sym same;
       torn_is = is.torn_is ∙ tail_read geometry content full blocks full-is read;
     }

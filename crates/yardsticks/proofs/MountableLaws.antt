@@ -8,11 +8,11 @@ use Rattle.batch_log.specs.Log.{Batch}
 use Rattle.yardsticks.specs.declared.batches.Batch as yardstick
 use Rattle.yardsticks.specs.Batches.{batch_of}
 use Rattle.yardsticks.specs.declared.logs.ZoneImage.{ZoneImage}
-use Rattle.zone_choice.specs.Mountable.{AreMountable, IsInside, is_partly_written}
-use Rattle.zone_choice.specs.Repair.{CanRepair}
-use Rattle.zone_choice.specs.Sizes.{encoded_size}
-use Rattle.zone_choice.proofs.ClearingLaws.{one_clearing}
-use Rattle.yardsticks.specs.Zones.{AreOfDisk, AreZoneLogs, IsCleared, image_content, image_contents, logs_of}
+use Rattle.drive_array.specs.Mountable.{AreMountable, IsInside, is_partly_written}
+use Rattle.drive_array.specs.Repair.{CanRepair}
+use Rattle.drive_array.specs.Sizes.{encoded_size}
+use Rattle.drive_array.proofs.ClearingLaws.{one_clearing}
+use Rattle.yardsticks.specs.Zones.{AreOfDisk, AreZoneLogs, HasClearing, image_content, image_contents, held_logs}
 use Rattle.yardsticks.proofs.SpareLaws.{all-map, all-unmap}
 
 pub images-all : (P : Content → Type 0) (images : List ZoneImage) → AllByRecursion (λ image. P (image_content image)) images → AllByRecursion P (image_contents images)
@@ -24,11 +24,11 @@ all-images P [] all = tt
 all-images P (z ∷ zs) all = (all.0, all-images P zs all.1)
 
 pub logs-inside : (size : ℕ) (logs : List (Vec yardstick.Batch Global)) → AllByRecursion (λ (log : Vec yardstick.Batch Global). AllByRecursion (λ batch. IsInside size (batch_of batch)) log.items) logs
-    → AllByRecursion (AllByRecursion (IsInside size)) (logs_of logs)
+    → AllByRecursion (AllByRecursion (IsInside size)) (held_logs logs)
 logs-inside size [] all = tt
 logs-inside size (log ∷ logs) all = (all-map (IsInside size) batch_of log.items all.0, logs-inside size logs all.1)
 
-pub inside-logs : (size : ℕ) (logs : List (Vec yardstick.Batch Global)) → AllByRecursion (AllByRecursion (IsInside size)) (logs_of logs)
+pub inside-logs : (size : ℕ) (logs : List (Vec yardstick.Batch Global)) → AllByRecursion (AllByRecursion (IsInside size)) (held_logs logs)
     → AllByRecursion (λ (log : Vec yardstick.Batch Global). AllByRecursion (λ batch. IsInside size (batch_of batch)) log.items) logs
 inside-logs size [] all = tt
 inside-logs size (log ∷ logs) all = (all-unmap (IsInside size) batch_of log.items all.0, inside-logs size logs all.1)
@@ -38,14 +38,14 @@ inside-logs size (log ∷ logs) all = (all-unmap (IsInside size) batch_of log.it
 pub disk-logs : (geometry : Geometry) (zones : List Content) (n : ℕ) (logs : List (List Batch)) (tails : List Bool) → AreZoneLogs geometry zones logs tails → AreMountable geometry zones n → AreOfDisk geometry n logs
 disk-logs geometry zones n logs tails are mountable = rw are.logs_are (record { sound = mountable.disk.sound; reserve = mountable.disk.reserve; spare = mountable.disk.spare })
 
-pub repair-left : (geometry : Geometry) (zones : List Content) (n : ℕ) (logs left : List (List Batch)) (tails : List Bool) → AreZoneLogs geometry zones logs tails → IsCleared geometry.block n logs left
+pub repair-left : (geometry : Geometry) (zones : List Content) (n : ℕ) (logs left : List (List Batch)) (tails : List Bool) → AreZoneLogs geometry zones logs tails → HasClearing geometry.block n logs left
     → AreMountable geometry zones n → CanRepair geometry (2 ^ 63) (encoded_size n logs) left tails
 repair-left geometry zones n logs left tails are clears mountable =
     rw (clears.left_is, are.tails_are, are.logs_are) (mountable.repair clears.zones (rw are.logs_are at clears.clears))
 
 pub mountable-is : (geometry : Geometry) (zones : List Content) (n : ℕ) (logs left : List (List Batch)) (tails : List Bool) → AreZoneLogs geometry zones logs tails
     → AllByRecursion (λ (zone : Content). is_usable zone.usage ≡ true) zones → count_by is_partly_written zones ≤ 2 → AreOfDisk geometry n logs
-    → IsCleared geometry.block n logs left → CanRepair geometry (2 ^ 63) (encoded_size n logs) left tails → AreMountable geometry zones n
+    → HasClearing geometry.block n logs left → CanRepair geometry (2 ^ 63) (encoded_size n logs) left tails → AreMountable geometry zones n
 mountable-is geometry zones n logs left tails are usable few disk clears can = record {
   disk = record {
     usable = usable;

@@ -3,8 +3,8 @@ use Rattle.std.proofs.Common.{◌≡◌, inl, inr, ℕ, zero, suc, ◌+◌, ◌<
 use Rattle.std.proofs.lemmas.Bool.{cases_eq, cases_lt}
 use Rattle.zone_states.specs.declared.geometry.Geometry.{Geometry}
 use Rattle.batch_log.specs.Log.{Batch}
-use Rattle.zone_choice.specs.Repair.{CanRepair, Fits, IsTornAt}
-use Rattle.zone_choice.specs.ZoneLogs.{log_at}
+use Rattle.drive_array.specs.Repair.{CanRepair, Fits, IsTornAt}
+use Rattle.drive_array.specs.ZoneLogs.{log_at}
 use Rattle.yardsticks.specs.Zones.{NoneTorn}
 
 has-log : (logs : List (List Batch)) (zone : ℕ) → (log_at logs zone ≡ [] → ⊥) → zone < length logs

@@ -4,12 +4,12 @@ use Rattle.std.specs.declared.alloc.Global.{Global}
 use Rattle.std.specs.List.{AllByRecursion}
 use Rattle.batch_log.specs.Log.{Batch}
 use Rattle.yardsticks.specs.declared.batches.Batch as yardstick
-use Rattle.yardsticks.specs.Batches.{batch_of, blocks_of}
-use Rattle.zone_choice.specs.Records.{without}
-use Rattle.zone_choice.specs.Spare.{IsBefore, IsHalfClean, IsLowest, IsMoveFrom, IsSpare, NoneBelow, first_sequence}
-use Rattle.zone_choice.specs.ZoneLogs.{log_at}
-use Rattle.zone_choice.proofs.ClearingLaws.{fewer, has_batch, with_batch}
-use Rattle.yardsticks.specs.Zones.{IsCleared, log_of, logs_of}
+use Rattle.yardsticks.specs.Batches.{batch_of, held_blocks}
+use Rattle.drive_array.specs.Records.{without}
+use Rattle.drive_array.specs.Spare.{IsBefore, IsHalfClean, IsLowest, IsMoveFrom, IsSpare, NoneBelow, first_sequence}
+use Rattle.drive_array.specs.ZoneLogs.{log_at}
+use Rattle.drive_array.proofs.ClearingLaws.{fewer, has_batch, with_batch}
+use Rattle.yardsticks.specs.Zones.{HasClearing, held_log, held_logs}
 
 pub all-map : {X Y : Type 0} (P : Y → Type 0) (f : X → Y) (xs : List X) → AllByRecursion (λ x. P (f x)) xs → AllByRecursion P (map f xs)
 all-map P f [] all = tt
@@ -21,39 +21,39 @@ all-unmap P f (x ∷ xs) all = (all.0, all-unmap P f xs all.1)
 
 -- ---- blocks that are the same
 
-pub same-at : (a b : List (Vec ℕ Global)) (i : ℕ) (x y : Vec ℕ Global) → i < length a → i < length b → x ≡ get_or a i x → y ≡ get_or b i y → blocks_of a ≡ blocks_of b → x.items ≡ y.items
+pub same-at : (a b : List (Vec ℕ Global)) (i : ℕ) (x y : Vec ℕ Global) → i < length a → i < length b → x ≡ get_or a i x → y ≡ get_or b i y → held_blocks a ≡ held_blocks b → x.items ≡ y.items
 same-at [] b i x y lt lt' x-is y-is same = absurd (omega arith)
 same-at (v ∷ vs) [] i x y lt lt' x-is y-is same = absurd (omega arith)
 same-at (v ∷ vs) (w ∷ ws) zero x y lt lt' x-is y-is same =
     let first : v.items ≡ w.items = cc in
     ap (λ (u : Vec ℕ Global). u.items) x-is ∙ first ∙ sym (ap (λ (u : Vec ℕ Global). u.items) y-is)
-same-at (v ∷ vs) (w ∷ ws) (suc i) x y lt lt' x-is y-is same = let rest : blocks_of vs ≡ blocks_of ws = cc in same-at vs ws i x y (omega arith) (omega arith) x-is y-is rest
+same-at (v ∷ vs) (w ∷ ws) (suc i) x y lt lt' x-is y-is same = let rest : held_blocks vs ≡ held_blocks ws = cc in same-at vs ws i x y (omega arith) (omega arith) x-is y-is rest
 
 -- ---- half clean zones
 
-pub log-read : (logs : List (Vec yardstick.Batch Global)) (zone : ℕ) (log : Vec yardstick.Batch Global) → zone < length logs → log ≡ get_or logs zone log → log_of log.items ≡ log_at (logs_of logs) zone
+pub log-read : (logs : List (Vec yardstick.Batch Global)) (zone : ℕ) (log : Vec yardstick.Batch Global) → zone < length logs → log ≡ get_or logs zone log → held_log log.items ≡ log_at (held_logs logs) zone
 log-read [] zone log lt is = absurd (omega arith)
-log-read (l ∷ ls) zero log lt is = ap (λ (v : Vec yardstick.Batch Global). log_of v.items) is
+log-read (l ∷ ls) zero log lt is = ap (λ (v : Vec yardstick.Batch Global). held_log v.items) is
 log-read (l ∷ ls) (suc zone) log lt is = log-read ls zone log (omega arith) is
 
 -- a zone without batches, or with batches that are no Moves from one zone, is not half clean
-pub not_half_clean-mixed : (block_bytes n : ℕ) (logs : List (List Batch)) (zone : ℕ) (log : List yardstick.Batch) → log_of log ≡ log_at logs zone
+pub not_half_clean-mixed : (block_bytes n : ℕ) (logs : List (List Batch)) (zone : ℕ) (log : List yardstick.Batch) → held_log log ≡ log_at logs zone
     → ((source : ℕ) → AllByRecursion (λ batch. IsMoveFrom source (batch_of batch)) log → log ≡ []) → IsHalfClean block_bytes n logs zone → ⊥
 not_half_clean-mixed block_bytes n logs zone log is none half =
     let moves = all-unmap (IsMoveFrom half.victim) batch_of log (rw is half.moves) in
-    has_batch block_bytes n logs zone half (sym is ∙ ap log_of (none half.victim moves))
+    has_batch block_bytes n logs zone half (sym is ∙ ap held_log (none half.victim moves))
 
 one_source : (a b : ℕ) (log : List Batch) → (log ≡ [] → ⊥) → AllByRecursion (IsMoveFrom a) log → AllByRecursion (IsMoveFrom b) log → a ≡ b
 one_source a b [] some all all' = absurd (some refl)
 one_source a b (batch ∷ log) some all all' = sym all.0.1 ∙ all'.0.1
 
 -- the zone from which all batches were moved is the victim
-pub victim-is : (block_bytes n : ℕ) (logs : List (List Batch)) (zone source : ℕ) (log : List yardstick.Batch) → log_of log ≡ log_at logs zone
+pub victim-is : (block_bytes n : ℕ) (logs : List (List Batch)) (zone source : ℕ) (log : List yardstick.Batch) → held_log log ≡ log_at logs zone
     → AllByRecursion (λ batch. IsMoveFrom source (batch_of batch)) log → (half : IsHalfClean block_bytes n logs zone) → half.victim ≡ source
 victim-is block_bytes n logs zone source log is moves half =
     one_source half.victim source (log_at logs zone) (has_batch block_bytes n logs zone half) half.moves (rw (← is) (all-map (IsMoveFrom source) batch_of log moves))
 
-pub half_clean-is : (block_bytes n : ℕ) (logs : List (List Batch)) (zone source : ℕ) (log : List yardstick.Batch) → log_of log ≡ log_at logs zone
+pub half_clean-is : (block_bytes n : ℕ) (logs : List (List Batch)) (zone source : ℕ) (log : List yardstick.Batch) → held_log log ≡ log_at logs zone
     → AllByRecursion (λ batch. IsMoveFrom source (batch_of batch)) log → source ≢ zone → IsBefore (first_sequence (log_at logs source)) (first_sequence (log_at logs zone))
     → IsSpare block_bytes n logs zone → IsHalfClean block_bytes n logs zone
 half_clean-is block_bytes n logs zone source log is moves apart older spare =
@@ -61,10 +61,10 @@ half_clean-is block_bytes n logs zone source log is moves apart older spare =
 
 -- ---- the clearing
 
-pub nothing_clears : (block_bytes n : ℕ) (logs : List (List Batch)) → NoneBelow block_bytes n logs (length logs) → IsCleared block_bytes n logs logs
+pub nothing_clears : (block_bytes n : ℕ) (logs : List (List Batch)) → NoneBelow block_bytes n logs (length logs) → HasClearing block_bytes n logs logs
 nothing_clears block_bytes n logs none = record { zones = []; clears = none; left_is = refl }
 
-pub lowest_clears : (block_bytes n : ℕ) (logs left : List (List Batch)) (zone : ℕ) → IsLowest block_bytes n logs zone → IsCleared block_bytes n (without logs zone) left → IsCleared block_bytes n logs left
+pub lowest_clears : (block_bytes n : ℕ) (logs left : List (List Batch)) (zone : ℕ) → IsLowest block_bytes n logs zone → HasClearing block_bytes n (without logs zone) left → HasClearing block_bytes n logs left
 lowest_clears block_bytes n logs left zone lowest is = record { zones = zone ∷ is.zones; clears = (lowest, is.clears); left_is = is.left_is }
 
 -- fewer zones have a batch after it

@@ -6,11 +6,11 @@ use Rattle.yardsticks.specs.declared.batches.ZoneLog.{ZoneLog}
 use Rattle.batch_log.specs.Header.{heading_of}
 use Rattle.batch_log.specs.Log.{Batch, IsBatch, IsLog, batch_blocks, has_tail}
 
-abbrev pub blocks_of : List (Vec ℕ Global) → List (List ℕ)
-blocks_of blocks = map (λ block. block.items) blocks
+abbrev pub held_blocks : List (Vec ℕ Global) → List (List ℕ)
+held_blocks blocks = map (λ block. block.items) blocks
 
 abbrev pub batch_of : yardstick.Batch → Batch
-batch_of batch = record { heading = heading_of batch.header; body = blocks_of batch.body.items }
+batch_of batch = record { heading = heading_of batch.header; body = held_blocks batch.body.items }
 
 -- the blocks have a log, and it is this one: its batches, and whether a torn tail stands after them
 pub record IsFound (block_bytes : ℕ) (is_full : Bool) (blocks : List (List ℕ)) (log : ZoneLog) : Type 0 where

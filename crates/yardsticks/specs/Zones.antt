@@ -8,33 +8,33 @@ use Rattle.zone_states.specs.Zone.{Zone}
 use Rattle.drive_port.specs.Contents.{Content, content_of, contents}
 use Rattle.yardsticks.specs.declared.batches.Batch as yardstick
 use Rattle.batch_log.specs.Log.{Batch}
-use Rattle.yardsticks.specs.Batches.{batch_of, blocks_of}
+use Rattle.yardsticks.specs.Batches.{batch_of, held_blocks}
 use Rattle.yardsticks.specs.declared.logs.ZoneImage.{ZoneImage}
 use Rattle.yardsticks.specs.declared.array.Said.{Said}
-use Rattle.zone_choice.specs.Records.{Record, shown_content, without}
-use Rattle.zone_choice.specs.Mountable.{AreSound}
-use Rattle.zone_choice.specs.Repair.{IsTornAt}
-use Rattle.zone_choice.specs.Reserve.{FitsReserve}
-use Rattle.zone_choice.specs.Sizes.{encoded_size}
-use Rattle.zone_choice.specs.Spare.{HasSpare, IsClearing, cleared}
-use Rattle.zone_choice.specs.ZoneLogs.{HasLog, has_torn_tail, zone_log, zone_logs, zone_tails}
+use Rattle.drive_array.specs.Records.{Record, shown_content, without}
+use Rattle.drive_array.specs.Mountable.{AreSound}
+use Rattle.drive_array.specs.Repair.{IsTornAt}
+use Rattle.drive_array.specs.Reserve.{FitsReserve}
+use Rattle.drive_array.specs.Sizes.{encoded_size}
+use Rattle.drive_array.specs.Spare.{HasSpare, IsClearing, cleared}
+use Rattle.drive_array.specs.ZoneLogs.{HasLog, has_torn_tail, zone_log, zone_logs, zone_tails}
 
 -- ---- zones and logs
 
-abbrev pub zone_of : ZoneImage → Zone
-zone_of image = record { state = image.state; blocks = blocks_of image.blocks.items }
+abbrev pub held_zone : ZoneImage → Zone
+held_zone image = record { state = image.state; blocks = held_blocks image.blocks.items }
 
 abbrev pub image_content : ZoneImage → Content
-image_content image = content_of (zone_of image)
+image_content image = content_of (held_zone image)
 
 abbrev pub image_contents : List ZoneImage → List Content
-image_contents images = contents (map zone_of images)
+image_contents images = contents (map held_zone images)
 
-abbrev pub log_of : List yardstick.Batch → List Batch
-log_of log = map batch_of log
+abbrev pub held_log : List yardstick.Batch → List Batch
+held_log log = map batch_of log
 
-abbrev pub logs_of : List (Vec yardstick.Batch Global) → List (List Batch)
-logs_of logs = map (λ log. log_of log.items) logs
+abbrev pub held_logs : List (Vec yardstick.Batch Global) → List (List Batch)
+held_logs logs = map (λ log. held_log log.items) logs
 
 -- the zone has a log, and it is this one; and whether a torn tail stands after it
 pub record IsZoneLog (geometry : Geometry) (content : Content) (log : List Batch) (is_torn : Bool) : Type 0 where
@@ -54,7 +54,7 @@ logs_but None logs = logs
 logs_but (Some zone) logs = without logs zone
 
 -- a clearing of the logs leaves these
-pub record IsCleared (block_bytes n : ℕ) (logs left : List (List Batch)) : Type 0 where
+pub record HasClearing (block_bytes n : ℕ) (logs left : List (List Batch)) : Type 0 where
   pub zones : List ℕ
   pub clears : IsClearing block_bytes n logs zones
   pub left_is : left ≡ cleared logs zones
@@ -100,9 +100,9 @@ abbrev pub heard : ℕ → Option Saying → List Record → Option Saying
 heard block found [] = found
 heard block found (r ∷ rs) = heard block (if r.block == block then later found (saying r) else found) rs
 
-abbrev pub shown_by : ℕ → Option Saying → List ℕ
-shown_by block_bytes (Some said) = shown_content block_bytes said.content
-shown_by block_bytes None = replicate block_bytes 0
+abbrev pub said_block : ℕ → Option Saying → List ℕ
+said_block block_bytes (Some said) = shown_content block_bytes said.content
+said_block block_bytes None = replicate block_bytes 0
 
 -- what is said of a block is said in this zone; and it is data
 abbrev pub is_said_in : ℕ → Option Saying → Bool

@@ -5,11 +5,11 @@ ghost use Rattle.std.specs.List.{AllByRecursion};
 ghost use Rattle.std.specs.Option.{option_map};
 ghost use Rattle.zone_states.specs.Geometry.{IsInRange};
 ghost use Rattle.batch_log.specs.Log.{one_unless};
-ghost use Rattle.yardsticks.specs.Batches.{batch_of, blocks_of};
-ghost use Rattle.zone_choice.specs.Records.{batch_records, entry_content, log_records, newest, record_of, records};
-ghost use Rattle.zone_choice.specs.Sizes.{array_of};
-ghost use Rattle.zone_choice.specs.ZoneLogs.{HasLog, log_at, spelled_array};
-ghost use Rattle.yardsticks.specs.Zones.{HasWholeBlocks, heard, image_contents, later, log_of, logs_but, logs_of, saying, saying_of, shown_by};
+ghost use Rattle.yardsticks.specs.Batches.{batch_of, held_blocks};
+ghost use Rattle.drive_array.specs.Records.{batch_records, entry_content, log_records, newest, record_of, records};
+ghost use Rattle.drive_array.specs.Sizes.{array_of};
+ghost use Rattle.drive_array.specs.ZoneLogs.{HasLog, log_at, spelled_array};
+ghost use Rattle.yardsticks.specs.Zones.{HasWholeBlocks, heard, image_contents, later, held_log, logs_but, held_logs, saying, saying_of, said_block};
 
 use crate::batches::Batch;
 use crate::logs::{ZoneImage, zone_logs};
@@ -41,7 +41,7 @@ fn later<'a>(found: Option<Said<'a>>, said: Said<'a>) -> Option<Said<'a>>
 
 // The block of a body with this number.
 fn body_block(body: &[Vec<u8>], number: usize) -> &[u8]
-    ensures { result.now ≡ slice_index_or (blocks_of body.now) number [] }
+    ensures { result.now ≡ slice_index_or (held_blocks body.now) number [] }
 {
     match body.get(number) {
         Some(block) => block,
@@ -54,7 +54,7 @@ fn said_by<'a>(zone: usize, batch: &'a Batch, entry: &Entry, number: usize) -> S
     ensures { saying_of result ≡ record {
       sequence = batch.now.header.sequence;
       zone = zone;
-      content = entry_content entry.now.trim (blocks_of batch.now.body.items) number;
+      content = entry_content entry.now.trim (held_blocks batch.now.body.items) number;
     } }
 {
     let sequence = batch.header.sequence;
@@ -90,7 +90,7 @@ fn heard_in_entry<'a>(
     number: usize,
 ) -> Option<Said<'a>>
     ensures { let sequence = batch.now.header.sequence in
-        let body = blocks_of batch.now.body.items in
+        let body = held_blocks batch.now.body.items in
         (header : ℕ) → option_map saying_of result ≡ heard block (option_map saying_of found.entry)
         (record_of sequence body zone header number entry.now ∷ []) }
 {
@@ -127,7 +127,7 @@ fn heard_in_log<'a>(
     log: &'a [Batch],
 ) -> Option<Said<'a>>
     ensures { option_map saying_of result
-        ≡ heard block (option_map saying_of found.entry) (log_records zone 0 (log_of log.now)) }
+        ≡ heard block (option_map saying_of found.entry) (log_records zone 0 (held_log log.now)) }
 {
     let mut latest = found;
     for batch in log {
@@ -142,7 +142,7 @@ pub(crate) fn newest<'a>(
     left_out: Option<usize>,
     block: u64,
 ) -> Option<Said<'a>>
-    ensures { let found = newest block (records 0 (logs_but left_out (logs_of logs.now))) in
+    ensures { let found = newest block (records 0 (logs_but left_out (held_logs logs.now))) in
         option_map saying_of result ≡ option_map saying found }
 {
     let mut latest = None;
@@ -155,7 +155,7 @@ pub(crate) fn newest<'a>(
 // The data of a block of which this is said.
 fn shown(alloc: Global, said: Option<Said>, block_bytes: usize) -> Result<Vec<u8>, AllocError>
     ensures { let says = option_map saying_of said.entry in
-        IfOk result (λ bytes. bytes.items ≡ shown_by block_bytes says) }
+        IfOk result (λ bytes. bytes.items ≡ said_block block_bytes says) }
 {
     if let Some(said) = said {
         if let Some(content) = said.content {
@@ -174,8 +174,8 @@ pub(crate) fn array(
     logs: &[Vec<Batch>],
     left_out: Option<usize>,
 ) -> Result<Vec<Vec<u8>>, AllocError>
-    ensures { let kept = logs_but left_out (logs_of logs.now) in
-        IfOk result (λ blocks. blocks_of blocks.items ≡ array_of block_bytes n kept) }
+    ensures { let kept = logs_but left_out (held_logs logs.now) in
+        IfOk result (λ blocks. held_blocks blocks.items ≡ array_of block_bytes n kept) }
 {
     let mut blocks = Vec::new(alloc);
     for block in 0..encoded_size(n, logs, left_out) {
@@ -197,7 +197,7 @@ pub fn spelled_array(
     requires geometry { IsInRange geometry.now }
     requires whole { AllByRecursion (HasWholeBlocks geometry.now.block) zones.now }
     ensures some { let array = spelled_array geometry.now (image_contents zones.now) n in
-        IfOk result (λ found. IfSome found (λ blocks. blocks_of blocks.items ≡ array)) }
+        IfOk result (λ found. IfSome found (λ blocks. held_blocks blocks.items ≡ array)) }
     ensures logs { let contents = image_contents zones.now in
         IfOk result (λ found. IsSome found ↔ AllByRecursion (HasLog geometry.now) contents) }
 {

@@ -5,9 +5,9 @@ ghost use Rattle.batch_log.specs.declared.header.Kind.TheVariants.{Host};
 ghost use Rattle.std.specs.List.{AllByRecursion, IsDistinct, list_any};
 ghost use Rattle.byteorder.specs.Endian.{little_from};
 ghost use Rattle.batch_log.specs.Header.{IsHeading, IsHeaderBlock, IsNoHeader, IsSize, heading_of, header_block, head_size, entry_room};
-ghost use Rattle.batch_log.specs.Reading.{entry_of, entries_in, kind_of, size_of, heading_in};
+ghost use Rattle.batch_log.specs.Reading.{entry_of, entries_in, kind_of, said_size, heading_in};
 ghost use Rattle.batch_log.specs.Log.{BeginsWithNoBatch, HaveNoLog, IsTail, IsTorn, data_count, zero_block};
-ghost use Rattle.yardsticks.specs.Batches.{blocks_of, batch_of, BeginsWithBatch, IsFound};
+ghost use Rattle.yardsticks.specs.Batches.{held_blocks, batch_of, BeginsWithBatch, IsFound};
 
 use batch_log::{Entry, Header, Kind, header_bytes};
 use byteorder::{ByteOrder, LittleEndian};
@@ -78,7 +78,7 @@ fn kind_at(bytes: &[u8]) -> Kind
 fn size_at(version: &[u8], word: &[u8]) -> Option<u32>
     requires version { 2 ≤ length version.now }
     requires word { 4 ≤ length word.now }
-    ensures { result ≡ size_of (little_from 0 2 version.now) (little_from 0 4 word.now) }
+    ensures { result ≡ said_size (little_from 0 2 version.now) (little_from 0 4 word.now) }
 {
     if LittleEndian::read_u16(version) == 2 {
         Some(LittleEndian::read_u32(word))
@@ -222,7 +222,7 @@ fn data_blocks(entries: &[Entry]) -> usize
 }
 
 pub(crate) fn copied(alloc: Global, blocks: &[Vec<u8>]) -> Result<Vec<Vec<u8>>, AllocError>
-    ensures { IfOk result (λ copy. blocks_of copy.items ≡ blocks_of blocks.now) }
+    ensures { IfOk result (λ copy. held_blocks copy.items ≡ held_blocks blocks.now) }
 {
     let mut copy = Vec::new(alloc);
     for block in blocks {
@@ -239,9 +239,9 @@ fn first_batch(
 ) -> Result<Option<Batch>, AllocError>
     requires size { (block_bytes ≡ 512) ⊎ (block_bytes ≡ 4096) }
     requires sizes { AllByRecursion (λ block. vec_len block ≡ block_bytes) blocks.now }
-    ensures some { let all = blocks_of blocks.now in
+    ensures some { let all = held_blocks blocks.now in
         IfOk result (λ found. IfSome found (λ batch. BeginsWithBatch block_bytes all (batch_of batch))) }
-    ensures none { IfOk result (λ found. IfNone found (BeginsWithNoBatch block_bytes (blocks_of blocks.now))) }
+    ensures none { IfOk result (λ found. IfNone found (BeginsWithNoBatch block_bytes (held_blocks blocks.now))) }
 {
     let Some((block, after)) = blocks.split_first() else {
         return Ok(None);
@@ -273,8 +273,8 @@ fn are_zero(blocks: &[Vec<u8>]) -> bool
 fn are_torn(alloc: Global, blocks: &[Vec<u8>], block_bytes: usize) -> Result<bool, AllocError>
     requires size { (block_bytes ≡ 512) ⊎ (block_bytes ≡ 4096) }
     requires sizes { AllByRecursion (λ block. vec_len block ≡ block_bytes) blocks.now }
-    requires none { BeginsWithNoBatch block_bytes (blocks_of blocks.now) }
-    ensures { let all = blocks_of blocks.now in
+    requires none { BeginsWithNoBatch block_bytes (held_blocks blocks.now) }
+    ensures { let all = held_blocks blocks.now in
         IfOk result (λ b. IsTrue b ↔ IsTorn block_bytes all) }
 {
     let Some((block, _)) = blocks.split_first() else {
@@ -295,8 +295,8 @@ fn are_tail(
 ) -> Result<bool, AllocError>
     requires size { (block_bytes ≡ 512) ⊎ (block_bytes ≡ 4096) }
     requires sizes { AllByRecursion (λ block. vec_len block ≡ block_bytes) blocks.now }
-    requires none { BeginsWithNoBatch block_bytes (blocks_of blocks.now) }
-    ensures { let all = blocks_of blocks.now in
+    requires none { BeginsWithNoBatch block_bytes (held_blocks blocks.now) }
+    ensures { let all = held_blocks blocks.now in
         IfOk result (λ b. IsTrue b ↔ IsTail block_bytes is_full all) }
 {
     if is_full {
@@ -325,9 +325,9 @@ pub fn log(
 ) -> Result<Option<ZoneLog>, AllocError>
     requires size { (block_bytes ≡ 512) ⊎ (block_bytes ≡ 4096) }
     requires sizes { AllByRecursion (λ block. vec_len block ≡ block_bytes) blocks.now }
-    ensures some { let all = blocks_of blocks.now in
+    ensures some { let all = held_blocks blocks.now in
         IfOk result (λ found. IfSome found (λ log. IsFound block_bytes is_full all log)) }
-    ensures none { IfOk result (λ found. IfNone found (HaveNoLog block_bytes is_full (blocks_of blocks.now))) }
+    ensures none { IfOk result (λ found. IfNone found (HaveNoLog block_bytes is_full (held_blocks blocks.now))) }
 {
     let mut batches = Vec::new(alloc);
     let mut rest = blocks;

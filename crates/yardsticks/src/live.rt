@@ -2,8 +2,8 @@
 
 ghost use Rattle.std.specs.Prelude.{◌≡◌};
 ghost use Rattle.std.specs.Option.{option_map};
-ghost use Rattle.zone_choice.specs.Repair.{live, live_data};
-ghost use Rattle.yardsticks.specs.Zones.{is_data_in, is_said_in, logs_of, saying_of};
+ghost use Rattle.drive_array.specs.Repair.{live_records, live_data};
+ghost use Rattle.yardsticks.specs.Zones.{is_data_in, is_said_in, held_logs, saying_of};
 
 use crate::array::{Said, newest};
 use crate::batches::Batch;
@@ -28,7 +28,7 @@ fn is_data_in(said: Option<Said>, zone: usize) -> bool
 
 // Of the blocks below a size, how many have their newest record in a zone.
 pub(crate) fn live(size: u32, logs: &[Vec<Batch>], zone: usize) -> u32
-    ensures { result ≡ live size (logs_of logs.now) zone }
+    ensures { result ≡ live_records size (held_logs logs.now) zone }
 {
     let mut count = 0;
     for block in 0..size {
@@ -41,7 +41,7 @@ pub(crate) fn live(size: u32, logs: &[Vec<Batch>], zone: usize) -> u32
 
 // And how many of these records are data.
 pub(crate) fn live_data(size: u32, logs: &[Vec<Batch>], zone: usize) -> u32
-    ensures { result ≡ live_data size (logs_of logs.now) zone }
+    ensures { result ≡ live_data size (held_logs logs.now) zone }
 {
     let mut count = 0;
     for block in 0..size {

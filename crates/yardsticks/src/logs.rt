@@ -4,9 +4,9 @@ ghost use Rattle.std.specs.Prelude.{◌≡◌, ◌<◌, ◌++◌, length, true, 
 ghost use Rattle.std.specs.List.{AllByRecursion};
 ghost use Rattle.zone_states.specs.Geometry.{IsInRange};
 ghost use Rattle.drive_port.specs.Contents.{usage_of, is_full};
-ghost use Rattle.yardsticks.specs.Batches.{blocks_of};
-ghost use Rattle.zone_choice.specs.ZoneLogs.{HasLog, padding, readable};
-ghost use Rattle.yardsticks.specs.Zones.{AreZoneLogs, HasWholeBlocks, IsZoneLog, image_content, image_contents, log_of, logs_of};
+ghost use Rattle.yardsticks.specs.Batches.{held_blocks};
+ghost use Rattle.drive_array.specs.ZoneLogs.{HasLog, padding, readable};
+ghost use Rattle.yardsticks.specs.Zones.{AreZoneLogs, HasWholeBlocks, IsZoneLog, image_content, image_contents, held_log, held_logs};
 
 use crate::batches::{Batch, ZoneLog, copied, log};
 use nvme_wire::ZoneState;
@@ -34,7 +34,7 @@ fn padded(
     mut blocks: Vec<Vec<u8>>,
 ) -> Result<Vec<Vec<u8>>, AllocError>
     ensures { let zeros = padding geometry.now true (length blocks.items) in
-        IfOk result (λ padded. blocks_of padded.items ≡ blocks_of blocks.items ++ zeros) }
+        IfOk result (λ padded. held_blocks padded.items ≡ held_blocks blocks.items ++ zeros) }
 {
     for _number in blocks.len()..geometry.capacity as usize {
         blocks.push(vec![in alloc; 0; geometry.block as usize]?)?;
@@ -58,7 +58,7 @@ fn readable(
     zone: &ZoneImage,
 ) -> Result<Vec<Vec<u8>>, AllocError>
     ensures { let all = readable geometry.now (image_content zone.now) in
-        IfOk result (λ blocks. blocks_of blocks.items ≡ all) }
+        IfOk result (λ blocks. held_blocks blocks.items ≡ all) }
 {
     let blocks = copied(alloc, &zone.blocks)?;
     if !is_full(zone.state) {
@@ -77,7 +77,7 @@ fn zone_log(
     requires whole { HasWholeBlocks geometry.now.block zone.now }
     ensures some { let content = image_content zone.now in
         IfOk result (λ found. IfSome found (λ log.
-        IsZoneLog geometry.now content (log_of log.batches.items) log.is_torn)) }
+        IsZoneLog geometry.now content (held_log log.batches.items) log.is_torn)) }
     ensures none { let content = image_content zone.now in
         IfOk result (λ found. IfNone found (HasLog geometry.now content → ⊥)) }
 {
@@ -95,7 +95,7 @@ pub(crate) fn zone_logs(
     requires whole { AllByRecursion (HasWholeBlocks geometry.now.block) zones.now }
     ensures some { let contents = image_contents zones.now in
         IfOk result (λ found. IfSome found (λ drive.
-        AreZoneLogs geometry.now contents (logs_of drive.logs.items) drive.tails.items)) }
+        AreZoneLogs geometry.now contents (held_logs drive.logs.items) drive.tails.items)) }
     ensures none { let contents = image_contents zones.now in
         IfOk result (λ found. IfNone found (AllByRecursion (HasLog geometry.now) contents → ⊥)) }
 {

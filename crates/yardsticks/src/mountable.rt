@@ -5,8 +5,8 @@ ghost use Rattle.std.specs.List.{AllByRecursion};
 ghost use Rattle.zone_states.specs.Geometry.{IsInRange};
 ghost use Rattle.drive_port.specs.Contents.{is_active_usage, is_usable, usage_of};
 ghost use Rattle.yardsticks.specs.Batches.{batch_of};
-ghost use Rattle.zone_choice.specs.Mountable.{AreMountable, AreSound, IsInside, is_partly_written};
-ghost use Rattle.yardsticks.specs.Zones.{AreOfDisk, HasWholeBlocks, image_content, image_contents, logs_of};
+ghost use Rattle.drive_array.specs.Mountable.{AreMountable, AreSound, IsInside, is_partly_written};
+ghost use Rattle.yardsticks.specs.Zones.{AreOfDisk, HasWholeBlocks, image_content, image_contents, held_logs};
 
 use crate::batches::Batch;
 use crate::logs::{ZoneImage, zone_logs};
@@ -84,7 +84,7 @@ fn are_inside(logs: &[Vec<Batch>], size: u32) -> bool
 }
 
 fn are_sound(alloc: Global, n: u32, logs: &[Vec<Batch>]) -> Result<bool, AllocError>
-    ensures { let all = logs_of logs.now in
+    ensures { let all = held_logs logs.now in
         IfOk result (λ b. IsTrue b ↔ AreSound (2 ^ 63) n all) }
 {
     let numbers = sequences(alloc, logs)?;
@@ -105,7 +105,7 @@ fn are_of_disk(
     logs: &[Vec<Batch>],
 ) -> Result<bool, AllocError>
     requires { IsInRange geometry.now }
-    ensures { let all = logs_of logs.now in
+    ensures { let all = held_logs logs.now in
         IfOk result (λ b. IsTrue b ↔ AreOfDisk geometry.now n all) }
 {
     if !are_sound(alloc, n, logs)? {

@@ -3,9 +3,9 @@
 ghost use Rattle.std.specs.Prelude.{◌≡◌, ◌↔◌, ◌≤◌, ◌<◌, ◌^◌, ◌+◌, ℕ, length, IfNone, IfOk, IfSome, IsTrue};
 ghost use Rattle.std.specs.List.{AllByRecursion};
 ghost use Rattle.zone_states.specs.Geometry.{IsInRange};
-ghost use Rattle.zone_choice.specs.Repair.{CanRepair, Fits, IsTornAt, moves};
-ghost use Rattle.zone_choice.specs.Reserve.{batch_most};
-ghost use Rattle.yardsticks.specs.Zones.{IsFirstTorn, NoneTorn, logs_of};
+ghost use Rattle.drive_array.specs.Repair.{CanRepair, Fits, IsTornAt, moves};
+ghost use Rattle.drive_array.specs.Reserve.{batch_most};
+ghost use Rattle.yardsticks.specs.Zones.{IsFirstTorn, NoneTorn, held_logs};
 
 use crate::batches::Batch;
 use crate::live::{live, live_data};
@@ -17,7 +17,7 @@ use zone_states::Geometry;
 // Whether a zone has a batch, and a torn tail after its batches.
 fn is_torn(logs: &[Vec<Batch>], tails: &[bool], zone: usize) -> bool
     requires { zone < length logs.now }
-    ensures { IsTrue result ↔ IsTornAt (logs_of logs.now) tails.now zone }
+    ensures { IsTrue result ↔ IsTornAt (held_logs logs.now) tails.now zone }
 {
     if logs[zone].is_empty() {
         return false;
@@ -30,9 +30,9 @@ fn is_torn(logs: &[Vec<Batch>], tails: &[bool], zone: usize) -> bool
 
 // The first torn zone from one on, if there is one.
 fn first_torn(logs: &[Vec<Batch>], tails: &[bool], from: usize) -> Option<usize>
-    ensures some { let all = logs_of logs.now in
+    ensures some { let all = held_logs logs.now in
         IfSome result (IsFirstTorn all tails.now from) }
-    ensures none { let all = logs_of logs.now in
+    ensures none { let all = held_logs logs.now in
         IfNone result (NoneTorn all tails.now from (length all)) }
 {
     for zone in from..logs.len() {
@@ -63,7 +63,7 @@ fn fits(
     zone: usize,
 ) -> Result<bool, AllocError>
     requires { IsInRange geometry.now }
-    ensures { let all = logs_of logs.now in
+    ensures { let all = held_logs logs.now in
         IfOk result (λ b. IsTrue b ↔ Fits geometry.now (2 ^ 63) size all zone) }
 {
     let moves = moves(geometry, live(size, logs, zone));
@@ -82,7 +82,7 @@ pub(crate) fn can_repair(
     tails: &[bool],
 ) -> Result<bool, AllocError>
     requires { IsInRange geometry.now }
-    ensures { let all = logs_of logs.now in
+    ensures { let all = held_logs logs.now in
         IfOk result (λ b. IsTrue b ↔ CanRepair geometry.now (2 ^ 63) size all tails.now) }
 {
     let Some(zone) = first_torn(logs, tails, 0) else {

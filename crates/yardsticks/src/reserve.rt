@@ -1,7 +1,7 @@
 //! The quota of a geometry, by trial.
 
 ghost use Rattle.zone_states.specs.Geometry.{IsInRange};
-ghost use Rattle.zone_choice.specs.Reserve.{IsQuota, batch_most};
+ghost use Rattle.drive_array.specs.Reserve.{IsQuota, batch_most};
 
 use zone_choice::fill;
 use zone_states::Geometry;

@@ -2,15 +2,15 @@
 
 ghost use Rattle.std.specs.Prelude.{◌≡◌, ◌↔◌, ◌<◌, ◌++◌, nat_eq, IfOk, IsTrue, OnOk};
 ghost use Rattle.std.specs.List.{AllByRecursion, IsDistinct};
-ghost use Rattle.zone_choice.specs.ZoneLogs.{log_sequences, sequences};
-ghost use Rattle.yardsticks.specs.Zones.{log_of, logs_of};
+ghost use Rattle.drive_array.specs.ZoneLogs.{log_sequences, sequences};
+ghost use Rattle.yardsticks.specs.Zones.{held_log, held_logs};
 
 use crate::batches::Batch;
 use std::alloc::{AllocError, Global};
 
 // Puts the sequences of a log after these numbers.
 fn add_sequences(numbers: &mut Vec<u64>, log: &[Batch]) -> Result<(), AllocError>
-    ensures { OnOk result (numbers.new.items ≡ numbers.old.items ++ log_sequences (log_of log.now)) }
+    ensures { OnOk result (numbers.new.items ≡ numbers.old.items ++ log_sequences (held_log log.now)) }
 {
     for batch in log {
         numbers.push(batch.header.sequence)?;
@@ -19,7 +19,7 @@ fn add_sequences(numbers: &mut Vec<u64>, log: &[Batch]) -> Result<(), AllocError
 }
 
 pub(crate) fn sequences(alloc: Global, logs: &[Vec<Batch>]) -> Result<Vec<u64>, AllocError>
-    ensures { IfOk result (λ numbers. numbers.items ≡ sequences (logs_of logs.now)) }
+    ensures { IfOk result (λ numbers. numbers.items ≡ sequences (held_logs logs.now)) }
 {
     let mut numbers = Vec::new(alloc);
     for log in logs {

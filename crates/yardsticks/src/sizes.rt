@@ -1,9 +1,9 @@
 //! The size that the headers of logs say.
 
 ghost use Rattle.std.specs.Prelude.{◌≡◌, ◌<◌, length};
-ghost use Rattle.zone_choice.specs.Sizes.{encoded_size, greatest, larger, log_greatest};
-ghost use Rattle.zone_choice.specs.ZoneLogs.{log_at};
-ghost use Rattle.yardsticks.specs.Zones.{log_of, logs_but, logs_of};
+ghost use Rattle.drive_array.specs.Sizes.{encoded_size, greatest, larger, log_greatest};
+ghost use Rattle.drive_array.specs.ZoneLogs.{log_at};
+ghost use Rattle.yardsticks.specs.Zones.{held_log, logs_but, held_logs};
 
 use crate::batches::Batch;
 
@@ -14,7 +14,7 @@ pub(crate) fn log_but<'a>(
     zone: usize,
 ) -> &'a [Batch]
     requires { zone < length logs.now }
-    ensures { log_of result.now ≡ log_at (logs_but left_out (logs_of logs.now)) zone }
+    ensures { held_log result.now ≡ log_at (logs_but left_out (held_logs logs.now)) zone }
 {
     if left_out == Some(zone) {
         return &[];
@@ -34,7 +34,7 @@ fn larger(size: Option<u32>, other: Option<u32>) -> Option<u32>
 
 // The greatest size in the headers of a log.
 fn log_greatest(log: &[Batch]) -> Option<u32>
-    ensures { result ≡ log_greatest (log_of log.now) }
+    ensures { result ≡ log_greatest (held_log log.now) }
 {
     let mut found = None;
     for batch in log {
@@ -45,7 +45,7 @@ fn log_greatest(log: &[Batch]) -> Option<u32>
 
 // The greatest size in the headers of all logs, where those of one zone may be left out.
 fn greatest(logs: &[Vec<Batch>], left_out: Option<usize>) -> Option<u32>
-    ensures { result ≡ greatest (logs_but left_out (logs_of logs.now)) }
+    ensures { result ≡ greatest (logs_but left_out (held_logs logs.now)) }
 {
     let mut found = None;
     for zone in 0..logs.len() {
@@ -57,7 +57,7 @@ fn greatest(logs: &[Vec<Batch>], left_out: Option<usize>) -> Option<u32>
 // The number of blocks that the logs encode, where the batches of one zone may be left out: n where no
 // header has a size.
 pub(crate) fn encoded_size(n: u32, logs: &[Vec<Batch>], left_out: Option<usize>) -> u32
-    ensures { result ≡ encoded_size n (logs_but left_out (logs_of logs.now)) }
+    ensures { result ≡ encoded_size n (logs_but left_out (held_logs logs.now)) }
 {
     match greatest(logs, left_out) {
         Some(size) => size,

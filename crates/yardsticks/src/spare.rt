@@ -2,11 +2,11 @@
 
 ghost use Rattle.std.specs.Prelude.{◌≡◌, ◌⊎◌, ◌↔◌, ◌<◌, ◌≤◌, ℕ, [], length, IfNone, IfOk, IfSome, IsTrue, OnOk};
 ghost use Rattle.std.specs.List.{AllByRecursion};
-ghost use Rattle.yardsticks.specs.Batches.{batch_of, blocks_of};
-ghost use Rattle.zone_choice.specs.Records.{without};
-ghost use Rattle.zone_choice.specs.Spare.{HasSpare, IsBefore, IsHalfClean, IsLowest, IsMoveFrom, IsSpare, IsVacant, NoneBelow, first_sequence};
-ghost use Rattle.zone_choice.specs.ZoneLogs.{log_at};
-ghost use Rattle.yardsticks.specs.Zones.{IsCleared, logs_of};
+ghost use Rattle.yardsticks.specs.Batches.{batch_of, held_blocks};
+ghost use Rattle.drive_array.specs.Records.{without};
+ghost use Rattle.drive_array.specs.Spare.{HasSpare, IsBefore, IsHalfClean, IsLowest, IsMoveFrom, IsSpare, IsVacant, NoneBelow, first_sequence};
+ghost use Rattle.drive_array.specs.ZoneLogs.{log_at};
+ghost use Rattle.yardsticks.specs.Zones.{HasClearing, held_logs};
 
 use crate::array::array;
 use crate::batches::Batch;
@@ -44,15 +44,15 @@ fn moved_from(log: &[Batch]) -> Option<u32>
 
 // The sequence of the first batch of a zone.
 fn first_sequence(logs: &[Vec<Batch>], zone: usize) -> Option<u64>
-    ensures { result ≡ first_sequence (log_at (logs_of logs.now) zone) }
+    ensures { result ≡ first_sequence (log_at (held_logs logs.now) zone) }
 {
     Some(logs.get(zone)?.first()?.header.sequence)
 }
 
 // Whether both zones have a batch, and the first batch of the one is older than that of the other.
 fn is_older(logs: &[Vec<Batch>], zone: usize, other: usize) -> bool
-    ensures { IsTrue result ↔ IsBefore (first_sequence (log_at (logs_of logs.now) zone))
-        (first_sequence (log_at (logs_of logs.now) other)) }
+    ensures { IsTrue result ↔ IsBefore (first_sequence (log_at (held_logs logs.now) zone))
+        (first_sequence (log_at (held_logs logs.now) other)) }
 {
     match (first_sequence(logs, zone), first_sequence(logs, other)) {
         (Some(old), Some(new)) => old < new,
@@ -67,7 +67,7 @@ fn is_same(block: &[u8], other: &[u8]) -> bool
 }
 
 fn are_same(blocks: &[Vec<u8>], others: &[Vec<u8>]) -> bool
-    ensures { IsTrue result ↔ (blocks_of blocks.now ≡ blocks_of others.now) }
+    ensures { IsTrue result ↔ (held_blocks blocks.now ≡ held_blocks others.now) }
 {
     if blocks.len() != others.len() {
         return false;
@@ -88,7 +88,7 @@ fn is_spare(
     logs: &[Vec<Batch>],
     zone: usize,
 ) -> Result<bool, AllocError>
-    ensures { IfOk result (λ b. IsTrue b ↔ IsSpare block_bytes n (logs_of logs.now) zone) }
+    ensures { IfOk result (λ b. IsTrue b ↔ IsSpare block_bytes n (held_logs logs.now) zone) }
 {
     let all = array(alloc, block_bytes, n, logs, None)?;
     let rest = array(alloc, block_bytes, n, logs, Some(zone))?;
@@ -103,7 +103,7 @@ fn is_half_clean(
     zone: usize,
 ) -> Result<bool, AllocError>
     requires { zone < length logs.now }
-    ensures { IfOk result (λ b. IsTrue b ↔ IsHalfClean block_bytes n (logs_of logs.now) zone) }
+    ensures { IfOk result (λ b. IsTrue b ↔ IsHalfClean block_bytes n (held_logs logs.now) zone) }
 {
     let Some(source) = moved_from(&logs[zone]) else {
         return Ok(false);
@@ -125,7 +125,7 @@ fn is_vacant_or_half_clean(
     zone: usize,
 ) -> Result<bool, AllocError>
     requires { zone < length logs.now }
-    ensures { let all = logs_of logs.now in
+    ensures { let all = held_logs logs.now in
         IfOk result (λ b. IsTrue b ↔ (IsVacant all zone ⊎ IsHalfClean block_bytes n all zone)) }
 {
     if logs[zone].is_empty() {
@@ -140,7 +140,7 @@ pub(crate) fn has_spare(
     n: u32,
     logs: &[Vec<Batch>],
 ) -> Result<bool, AllocError>
-    ensures { IfOk result (λ b. IsTrue b ↔ HasSpare block_bytes n (logs_of logs.now)) }
+    ensures { IfOk result (λ b. IsTrue b ↔ HasSpare block_bytes n (held_logs logs.now)) }
 {
     for zone in 0..logs.len() {
         if is_vacant_or_half_clean(alloc, block_bytes, n, logs, zone)? {
@@ -157,9 +157,9 @@ fn lowest_half_clean(
     n: u32,
     logs: &[Vec<Batch>],
 ) -> Result<Option<usize>, AllocError>
-    ensures some { let all = logs_of logs.now in
+    ensures some { let all = held_logs logs.now in
         IfOk result (λ found. IfSome found (IsLowest block_bytes n all)) }
-    ensures none { let all = logs_of logs.now in
+    ensures none { let all = held_logs logs.now in
         IfOk result (λ found. IfNone found (NoneBelow block_bytes n all (length all))) }
 {
     for zone in 0..logs.len() {
@@ -172,7 +172,7 @@ fn lowest_half_clean(
 
 fn empty_zone(logs: &mut Vec<Vec<Batch>>, zone: usize)
     requires { zone < length logs.old.items }
-    ensures { logs_of logs.new.items ≡ without (logs_of logs.old.items) zone }
+    ensures { held_logs logs.new.items ≡ without (held_logs logs.old.items) zone }
 {
     logs[zone].clear();
 }
@@ -184,7 +184,7 @@ pub(crate) fn clear(
     n: u32,
     logs: &mut Vec<Vec<Batch>>,
 ) -> Result<(), AllocError>
-    ensures { OnOk result (IsCleared block_bytes n (logs_of logs.old.items) (logs_of logs.new.items)) }
+    ensures { OnOk result (HasClearing block_bytes n (held_logs logs.old.items) (held_logs logs.new.items)) }
 {
     loop {
         let Some(zone) = lowest_half_clean(alloc, block_bytes, n, logs)? else {

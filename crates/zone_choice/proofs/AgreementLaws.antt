@@ -14,25 +14,25 @@ use Rattle.logical_map.specs.declared.place.Place.{Place}
 use Rattle.logical_map.specs.declared.place.Place.TheVariants as places
 use Rattle.zone_choice.specs.declared.roles.Filling.{Filling}
 use Rattle.zone_choice.specs.declared.roles.Second.{Second}
-use Rattle.zone_choice.specs.Records.{Record, append_log, batch_records, new_records, over, place, shown}
+use Rattle.drive_array.specs.Records.{Record, append_log, batch_records, new_records, over, place, shown}
 use Rattle.zone_choice.specs.Changes.{size_with, tables_closed}
-use Rattle.zone_choice.specs.Repair.{HasAtMost}
-use Rattle.zone_choice.specs.Reserve.{FitsReserve, batch_most}
-use Rattle.zone_choice.specs.Sizes.{encoded_size, extended, map_of}
-use Rattle.zone_choice.specs.Spare.{HasSpare}
-use Rattle.zone_choice.specs.ZoneLogs.{HasLog, has_torn_tail, log_at, sequences, spelled_array, zone_log, zone_logs, zone_tails}
-use Rattle.zone_choice.specs.Mountable.{AreSound, IsMountable, is_partly_written}
+use Rattle.drive_array.specs.Repair.{HasAtMost}
+use Rattle.drive_array.specs.Reserve.{FitsReserve, batch_most}
+use Rattle.drive_array.specs.Sizes.{encoded_size, extended, map_of}
+use Rattle.drive_array.specs.Spare.{HasSpare}
+use Rattle.drive_array.specs.ZoneLogs.{HasLog, drive_logs, has_torn_tail, log_at, sequences, spelled, spelled_array, zone_log, zone_logs, zone_tails}
+use Rattle.drive_array.specs.Mountable.{AreSound, IsMountable, is_partly_written}
 use Rattle.zone_choice.specs.Roles.{RolesView, closed_unless, empty_count, fillings, is_empty_at, is_filling_at, taken, wrote}
 use Rattle.zone_choice.specs.Tables.{SameButReady, TablesView, size_of}
-use Rattle.zone_choice.specs.Agreement.{Agrees, HoldsFilling, Mounted, RolesAgree, drive_logs, mounted, spelled}
-use Rattle.zone_choice.specs.Laws.{IsNext, Writes}
-use Rattle.zone_choice.proofs.AllLaws.{all-at, all-weaker}
+use Rattle.zone_choice.specs.Agreement.{Agrees, HoldsFilling, MountedView, RolesAgree, mounted}
+use Rattle.drive_array.specs.Laws.{IsNext, Writes}
+use Rattle.drive_array.proofs.AllLaws.{all-at, all-weaker}
 use Rattle.zone_choice.proofs.ContentLaws.{all-usable, count-fillings, few-write, filling-log, roles-close, roles-finish, roles-seal, roles-settled, roles-take, roles-write, settled-whole}
-use Rattle.zone_choice.proofs.MountLaws.{NoTails, untorn_mounts}
+use Rattle.drive_array.proofs.MountLaws.{NoTails, untorn_mounts}
 use Rattle.zone_choice.proofs.OpenLaws.{OpensNone, OpensOnly, ShutBeside, all-tells_closed, all-tells_grown, emptied-shut, tells-kept}
 use Rattle.zone_choice.proofs.RolesLaws.{all-filling, all-with, closed-zone, few-fillings, filling-occupied, roles_with, second_list}
-use Rattle.zone_choice.proofs.SizeLaws.{append_writes, array_length, next_is_last, told-length}
-use Rattle.zone_choice.proofs.ZoneLogLaws.{append_logs, finish_logs, full-untorn, log_at-zone, readable-not_full, tail-at, zone_log-read}
+use Rattle.drive_array.proofs.SizeLaws.{append_writes, array_length, next_is_last, told-length}
+use Rattle.drive_array.proofs.ZoneLogLaws.{append_logs, finish_logs, full-untorn, log_at-zone, readable-not_full, tail-at, zone_log-read}
 
 abbrev pub tables_with : MapView → RolesView → ℕ → ℕ → TablesView
 tables_with places roles next given = record { map = places; roles = roles; next = next; given = given }
@@ -46,7 +46,7 @@ sound-weaker limit more n logs le sound = record {
 }
 
 -- the tables have a place for each block of the array
-pub size-encoded : (disk : Mounted) → Agrees disk → size_of disk.tables ≡ encoded_size disk.tables.given (drive_logs disk.drive)
+pub size-encoded : (disk : MountedView) → Agrees disk → size_of disk.tables ≡ encoded_size disk.tables.given (drive_logs disk.drive)
 size-encoded disk agrees = ap length agrees.places ∙ told-length (place disk.drive.geometry.size) disk.tables.given (drive_logs disk.drive)
 
 -- ---- commands that change no content
@@ -415,8 +415,3 @@ agrees_mountable drive tables agrees spare =
         spare = spare;
       });
     }
-
--- the array has the drive's size
-pub length-spelled : (drive : DriveState) (n : ℕ) → length (spelled drive n) ≡ encoded_size n (drive_logs drive)
-unfolding spelled_array
-length-spelled drive n = array_length drive.geometry.block n (drive_logs drive)

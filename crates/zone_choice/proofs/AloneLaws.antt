@@ -7,12 +7,13 @@ use Rattle.drive_port.specs.Drive.{DriveState}
 use Rattle.drive_port.specs.declared.device.Halt.{Halt}
 use Rattle.drive_port.specs.declared.device.Halt.TheVariants as halt
 use Rattle.batch_log.specs.Log.{Batch}
-use Rattle.zone_choice.specs.Agreement.{Agrees, Mounted, drive_logs, mounted_array}
+use Rattle.zone_choice.specs.Agreement.{Agrees, MountedView, mounted_array}
+use Rattle.drive_array.specs.ZoneLogs.{drive_logs}
 use Rattle.zone_choice.specs.Builder.{BuilderView, IsBuilt, built}
-use Rattle.zone_choice.specs.Changes.{AloneLeaves, AppendLeaves, CanPlace, ClosesBeside, KeepsArray, KeepsContents, Places, StopsInside, roles_alone, tables_closed}
-use Rattle.zone_choice.specs.Mountable.{IsMountable}
+use Rattle.zone_choice.specs.Changes.{AloneLeaves, BatchLeaves, CanPlace, ClosesBeside, KeepsArray, KeepsContents, Places, StopsInside, roles_alone, tables_closed}
+use Rattle.drive_array.specs.Mountable.{IsMountable}
 use Rattle.zone_choice.specs.Roles.{RolesView, closed_beside, closed_unless, second_with}
-use Rattle.zone_choice.specs.Spare.{HasSpare}
+use Rattle.drive_array.specs.Spare.{HasSpare}
 use Rattle.zone_choice.specs.Tables.{TablesView}
 use Rattle.zone_choice.proofs.AgreementLaws.{agrees_mountable, spelled_same}
 use Rattle.zone_choice.proofs.ChangeLaws.{keeps-refl}
@@ -34,7 +35,7 @@ closed-twice tables zone = ap (λ (r : RolesView). record tables { roles = r }) 
 -- ---- then the batch can be placed
 
 -- after the zone beside was closed
-can-closed : (a b : Mounted) (zone : ℕ) (batch : Batch) → ClosesBeside a b zone → CanPlace a zone batch → CanPlace b zone batch
+can-closed : (a b : MountedView) (zone : ℕ) (batch : Batch) → ClosesBeside a b zone → CanPlace a zone batch → CanPlace b zone batch
 can-closed a b zone batch closes can =
     let same = closes.kept.same in
     let roles : b.tables.roles ≡ closed_beside a.tables.roles zone = ap (λ (t : TablesView). t.roles) closes.tables in
@@ -54,23 +55,23 @@ can-closed a b zone batch closes can =
       ready = rw closes.tables can.ready;
     }
 
-can-alone : (a b : Mounted) (zone : ℕ) (batch : Batch) → AloneLeaves a b zone (Ok tt) → CanPlace a zone batch → CanPlace b zone batch
+can-alone : (a b : MountedView) (zone : ℕ) (batch : Batch) → AloneLeaves a b zone (Ok tt) → CanPlace a zone batch → CanPlace b zone batch
 can-alone a b zone batch leaves can = elim leaves.1 as (λ _. CanPlace b zone batch) [
-  | inl same ↦ subst (λ (m : Mounted). CanPlace m zone batch) (sym same) can
+  | inl same ↦ subst (λ (m : MountedView). CanPlace m zone batch) (sym same) can
   | inr closes ↦ can-closed a b zone batch closes can
 ]
 
-geometry-alone : (a b : Mounted) (zone : ℕ) → AloneLeaves a b zone (Ok tt) → b.drive.geometry ≡ a.drive.geometry
-geometry-alone a b zone leaves = elim leaves.1 as (λ _. b.drive.geometry ≡ a.drive.geometry) [ inl same ↦ ap (λ (m : Mounted). m.drive.geometry) same | inr closes ↦ closes.kept.same.geometry ]
+geometry-alone : (a b : MountedView) (zone : ℕ) → AloneLeaves a b zone (Ok tt) → b.drive.geometry ≡ a.drive.geometry
+geometry-alone a b zone leaves = elim leaves.1 as (λ _. b.drive.geometry ≡ a.drive.geometry) [ inl same ↦ ap (λ (m : MountedView). m.drive.geometry) same | inr closes ↦ closes.kept.same.geometry ]
 
 -- the batch is built for its geometry
-pub is-built : (a b : Mounted) (zone : ℕ) (builder : BuilderView) → AloneLeaves a b zone (Ok tt) → IsBuilt a.drive.geometry.block builder → IsBuilt b.drive.geometry.block builder
+pub is-built : (a b : MountedView) (zone : ℕ) (builder : BuilderView) → AloneLeaves a b zone (Ok tt) → IsBuilt a.drive.geometry.block builder → IsBuilt b.drive.geometry.block builder
 is-built a b zone builder leaves is = rw (geometry-alone a b zone leaves) is
 
-pub can-built : (a b : Mounted) (zone : ℕ) (builder : BuilderView) → AloneLeaves a b zone (Ok tt) → CanPlace a zone (built a.drive.geometry.block builder) → CanPlace b zone (built b.drive.geometry.block builder)
+pub can-built : (a b : MountedView) (zone : ℕ) (builder : BuilderView) → AloneLeaves a b zone (Ok tt) → CanPlace a zone (built a.drive.geometry.block builder) → CanPlace b zone (built b.drive.geometry.block builder)
 can-built a b zone builder leaves can = subst (λ (g : Geometry). CanPlace b zone (built g.block builder)) (sym (geometry-alone a b zone leaves)) (can-alone a b zone (built a.drive.geometry.block builder) leaves can)
 
-pub noted-alone : (a b : Mounted) (zone : ℕ) → AloneLeaves a b zone (Ok tt) → roles_alone b.drive.geometry b.tables.roles zone ≡ b.tables.roles
+pub noted-alone : (a b : MountedView) (zone : ℕ) → AloneLeaves a b zone (Ok tt) → roles_alone b.drive.geometry b.tables.roles zone ≡ b.tables.roles
 noted-alone a b zone leaves = rw (geometry-alone a b zone leaves, leaves.0) (alone-twice a.drive.geometry a.tables.roles zone)
 
 -- ---- and what its Append leaves
@@ -78,7 +79,7 @@ noted-alone a b zone leaves = rw (geometry-alone a b zone leaves, leaves.0) (alo
 logs-same : (a b : DriveState) → SameContents a b → drive_logs b ≡ drive_logs a
 logs-same a b same = rw (same.geometry, same.contents) refl
 
-places-closed : (a b c : Mounted) (zone : ℕ) (batch : Batch) → ClosesBeside a b zone → b.tables.roles ≡ roles_alone a.drive.geometry a.tables.roles zone → Places b c zone batch → Places a c zone batch
+places-closed : (a b c : MountedView) (zone : ℕ) (batch : Batch) → ClosesBeside a b zone → b.tables.roles ≡ roles_alone a.drive.geometry a.tables.roles zone → Places b c zone batch → Places a c zone batch
 places-closed a b c zone batch closes noted placed =
     let same = closes.kept.same in
     let array : mounted_array b ≡ mounted_array a = rw closes.tables (spelled_same a.drive b.drive a.tables.given same) in
@@ -97,7 +98,7 @@ places-closed a b c zone batch closes noted placed =
       appended = placed.appended ∙ ap (λ (n : ℕ). n + 1) closes.kept.appended;
     }
 
-closes-join : (a b c : Mounted) (zone : ℕ) → ClosesBeside a b zone → ClosesBeside b c zone → ClosesBeside a c zone
+closes-join : (a b c : MountedView) (zone : ℕ) → ClosesBeside a b zone → ClosesBeside b c zone → ClosesBeside a c zone
 closes-join a b c zone p q = record {
   limit = p.limit;
   other = p.other;
@@ -111,7 +112,7 @@ closes-join a b c zone p q = record {
   };
 }
 
-stops-closed : (a b c : Mounted) (zone : ℕ) (batch : Batch) → ClosesBeside a b zone → StopsInside b c zone batch → StopsInside a c zone batch
+stops-closed : (a b c : MountedView) (zone : ℕ) (batch : Batch) → ClosesBeside a b zone → StopsInside b c zone batch → StopsInside a c zone batch
 stops-closed a b c zone batch closes stops =
     let same = closes.kept.same in
     let array : mounted_array b ≡ mounted_array a = rw closes.tables (spelled_same a.drive b.drive a.tables.given same) in
@@ -129,26 +130,26 @@ stops-closed a b c zone batch closes stops =
       appended = stops.appended ∙ closes.kept.appended;
     }
 
-append-closed : (a b c : Mounted) (zone : ℕ) (batch : Batch) (result : Result (Unit {0}) Halt) → ClosesBeside a b zone → b.tables.roles ≡ roles_alone a.drive.geometry a.tables.roles zone → AppendLeaves b c zone batch result → AppendLeaves a c zone batch result
+append-closed : (a b c : MountedView) (zone : ℕ) (batch : Batch) (result : Result (Unit {0}) Halt) → ClosesBeside a b zone → b.tables.roles ≡ roles_alone a.drive.geometry a.tables.roles zone → BatchLeaves b c zone batch result → BatchLeaves a c zone batch result
 append-closed a b c zone batch (Ok done) closes noted leaves = places-closed a b c zone batch closes noted leaves
 append-closed a b c zone batch (Err halt.Memory) closes noted leaves = elim leaves as (λ _. (c ≡ a) ⊎ ClosesBeside a c zone) [
-  | inl same ↦ inr (subst (λ (m : Mounted). ClosesBeside a m zone) (sym same) closes)
+  | inl same ↦ inr (subst (λ (m : MountedView). ClosesBeside a m zone) (sym same) closes)
   | inr more ↦ inr (closes-join a b c zone closes more)
 ]
 append-closed a b c zone batch (Err halt.Stopped) closes noted leaves = stops-closed a b c zone batch closes leaves
 
-append-with : (a b c : Mounted) (zone : ℕ) (batch : Batch) (result : Result (Unit {0}) Halt) → AloneLeaves a b zone (Ok tt) → AppendLeaves b c zone batch result → AppendLeaves a c zone batch result
-append-with a b c zone batch result alone leaves = elim alone.1 as (λ _. AppendLeaves a c zone batch result) [
-  | inl same ↦ subst (λ (m : Mounted). AppendLeaves m c zone batch result) same leaves
+append-with : (a b c : MountedView) (zone : ℕ) (batch : Batch) (result : Result (Unit {0}) Halt) → AloneLeaves a b zone (Ok tt) → BatchLeaves b c zone batch result → BatchLeaves a c zone batch result
+append-with a b c zone batch result alone leaves = elim alone.1 as (λ _. BatchLeaves a c zone batch result) [
+  | inl same ↦ subst (λ (m : MountedView). BatchLeaves m c zone batch result) same leaves
   | inr closes ↦ append-closed a b c zone batch result closes alone.0 leaves
 ]
 
-pub append-alone : (a b c : Mounted) (zone : ℕ) (builder : BuilderView) (result : Result (Unit {0}) Halt) → AloneLeaves a b zone (Ok tt) → AppendLeaves b c zone (built b.drive.geometry.block builder) result → AppendLeaves a c zone (built a.drive.geometry.block builder) result
-append-alone a b c zone builder result alone leaves = append-with a b c zone (built a.drive.geometry.block builder) result alone (subst (λ (g : Geometry). AppendLeaves b c zone (built g.block builder) result) (geometry-alone a b zone alone) leaves)
+pub append-alone : (a b c : MountedView) (zone : ℕ) (builder : BuilderView) (result : Result (Unit {0}) Halt) → AloneLeaves a b zone (Ok tt) → BatchLeaves b c zone (built b.drive.geometry.block builder) result → BatchLeaves a c zone (built a.drive.geometry.block builder) result
+append-alone a b c zone builder result alone leaves = append-with a b c zone (built a.drive.geometry.block builder) result alone (subst (λ (g : Geometry). BatchLeaves b c zone (built g.block builder) result) (geometry-alone a b zone alone) leaves)
 
 -- ---- where the device halted before
 
-stops-before : (a b : Mounted) (zone : ℕ) (batch : Batch) → (b.drive.stopped ≡ true) × (b.tables ≡ a.tables) × KeepsContents a b → StopsInside a b zone batch
+stops-before : (a b : MountedView) (zone : ℕ) (batch : Batch) → (b.drive.stopped ≡ true) × (b.tables ≡ a.tables) × KeepsContents a b → StopsInside a b zone batch
 stops-before a b zone batch stops =
     let kept = stops.2 in
     let block : b.drive.geometry.block ≡ a.drive.geometry.block = ap (λ (g : Geometry). g.block) kept.same.geometry in
@@ -163,11 +164,11 @@ stops-before a b zone batch stops =
       appended = kept.appended;
     }
 
-halts-before : (a b : Mounted) (zone : ℕ) (batch : Batch) (fault : Halt) → AloneLeaves a b zone (Err fault) → AppendLeaves a b zone batch (Err fault)
+halts-before : (a b : MountedView) (zone : ℕ) (batch : Batch) (fault : Halt) → AloneLeaves a b zone (Err fault) → BatchLeaves a b zone batch (Err fault)
 halts-before a b zone batch halt.Memory leaves = inl leaves
 halts-before a b zone batch halt.Stopped leaves = stops-before a b zone batch leaves
 
-pub halted-before : (a b : Mounted) (zone : ℕ) (batch : Batch) (fault : Halt) (result : Result (Unit {0}) Halt) → result ≡ Err fault → AloneLeaves a b zone (Err fault) → AppendLeaves a b zone batch result
+pub halted-before : (a b : MountedView) (zone : ℕ) (batch : Batch) (fault : Halt) (result : Result (Unit {0}) Halt) → result ≡ Err fault → AloneLeaves a b zone (Err fault) → BatchLeaves a b zone batch result
 halted-before a b zone batch fault result is leaves = rw is (halts-before a b zone batch fault leaves)
 
 -- ---- what callers see of it
@@ -187,7 +188,7 @@ alone-second geometry roles zone none = at (nat_lt 1 geometry.open)
     at true = none
     at false = ap (option_map (second_with (closed_unless zone))) none
 
-closes-keeps : (a b : Mounted) (zone : ℕ) → ClosesBeside a b zone → KeepsArray a b
+closes-keeps : (a b : MountedView) (zone : ℕ) → ClosesBeside a b zone → KeepsArray a b
 closes-keeps a b zone closes =
     let kept = closes.kept in
     let tables = closes.tables in
@@ -207,7 +208,7 @@ closes-keeps a b zone closes =
     }
 
 -- where memory failed, the array is the same
-pub memory-keeps : (a b : Mounted) (zone : ℕ) (batch : Batch) → Agrees a → AppendLeaves a b zone batch (Err halt.Memory) → KeepsArray a b
+pub memory-keeps : (a b : MountedView) (zone : ℕ) (batch : Batch) → Agrees a → BatchLeaves a b zone batch (Err halt.Memory) → KeepsArray a b
 memory-keeps a b zone batch agrees leaves = elim leaves as (λ _. KeepsArray a b) [
   | inl same ↦ subst (KeepsArray a) (sym same) (keeps-refl a.drive a.tables agrees)
   | inr closes ↦ closes-keeps a b zone closes
@@ -219,7 +220,7 @@ pub record SameBut (old new : TablesView) : Type 0 where
   pub next : new.next ≡ old.next
   pub given : new.given ≡ old.given
 
-pub stops-tables : (a b : Mounted) (zone : ℕ) (batch : Batch) → StopsInside a b zone batch → SameBut a.tables b.tables
+pub stops-tables : (a b : MountedView) (zone : ℕ) (batch : Batch) → StopsInside a b zone batch → SameBut a.tables b.tables
 stops-tables a b zone batch stops = elim stops.tables as (λ _. SameBut a.tables b.tables) [
   | inl same ↦ rw same (record { map = refl; next = refl; given = refl })
   | inr closed ↦ rw closed.1 (record { map = refl; next = refl; given = refl })

@@ -7,10 +7,10 @@ use Rattle.std.proofs.lemmas.List.{drop_more, length-set, set_comm}
 use Rattle.batch_log.specs.declared.header.Entry.{Entry}
 use Rattle.batch_log.specs.Log.{data_count, one_unless}
 use Rattle.logical_map.specs.declared.place.Place.{Place}
-use Rattle.logical_map.specs.Places.{address_of}
+use Rattle.logical_map.specs.Places.{place_address}
 use Rattle.zone_choice.specs.Builder.{entries_from, entry_place, placed}
-use Rattle.zone_choice.specs.Records.{entry_records, over, place, record_of}
-use Rattle.zone_choice.specs.Tables.{TablesView}
+use Rattle.drive_array.specs.Records.{entry_records, over, place, record_of}
+use Rattle.zone_choice.specs.Tables.{TablesView, with_places}
 
 -- ---- entries of blocks that follow one another
 
@@ -59,9 +59,6 @@ pub record Placing (header : ℕ) (entries : List Entry) (old now : TablesView) 
 pub placing-none : (header : ℕ) (entries : List Entry) (tables : TablesView) → Placing header entries tables tables (header + 1) 0
 placing-none header entries tables = record { left = refl; data_left = refl; above = omega arith; long = refl; rest = refl }
 
-abbrev pub with_places : TablesView → List Place → TablesView
-with_places tables all = record tables { map = record tables.map { places = all } }
-
 pub placing-more : (header : ℕ) (entries : List Entry) (old now new : TablesView) (address i : ℕ) (e d : Entry) (p : Place) (more : ℕ) → Placing header entries old now address i → IsDistinct nat_eq (blocks_named entries) → i < length entries → e ≡ get_or entries i d
     → p ≡ entry_place e.trim header address → more ≡ one_unless e.trim → new ≡ with_places now (set now.map.places e.block p) → Placing header entries old new (address + more) (i + 1)
 placing-more header entries old now new address i e d p more was distinct lt is place-is more-is new-is =
@@ -81,7 +78,7 @@ placing-more header entries old now new address i e d p more was distinct lt is 
     })
 
 -- a place among these is no higher than the next address
-pub entry_place-fits : (trim : Bool) (header address : ℕ) → header < address → address + 1 < 2 ^ 63 → address_of (entry_place trim header address) + 1 < 2 ^ 63
+pub entry_place-fits : (trim : Bool) (header address : ℕ) → header < address → address + 1 < 2 ^ 63 → place_address (entry_place trim header address) + 1 < 2 ^ 63
 entry_place-fits true header address above fits = omega arith
 entry_place-fits false header address above fits = fits
 

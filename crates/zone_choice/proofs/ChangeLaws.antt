@@ -22,16 +22,17 @@ use Rattle.batch_log.proofs.HeaderLaws.{header_length}
 use Rattle.logical_map.specs.Places.{IsReady, MapView}
 use Rattle.logical_map.specs.declared.place.Place.{Place}
 use Rattle.logical_map.specs.declared.place.Place.TheVariants as places
-use Rattle.zone_choice.specs.Agreement.{Agrees, Mounted, drive_logs, mounted, mounted_array, spelled}
+use Rattle.zone_choice.specs.Agreement.{Agrees, MountedView, mounted, mounted_array}
+use Rattle.drive_array.specs.ZoneLogs.{drive_logs, spelled}
 use Rattle.zone_choice.specs.Builder.{BuilderView, IsBuilt, built, placed}
-use Rattle.zone_choice.specs.Changes.{AppendLeaves, CanPlace, IsHalt, KeepsArray, Places, StopsInside, halt_of, roles_alone, size_with, told_over}
-use Rattle.zone_choice.specs.Records.{append_log, batch_records, entry_records, over, place, record_of, shown}
+use Rattle.zone_choice.specs.Changes.{BatchLeaves, CanPlace, IsHalt, KeepsArray, Places, StopsInside, fault_halt, roles_alone, size_with, told_over}
+use Rattle.drive_array.specs.Records.{append_log, batch_records, entry_records, over, place, record_of, shown}
 use Rattle.zone_choice.specs.Roles.{RolesView, closed, fillings, second_with, wrote}
-use Rattle.zone_choice.specs.Sizes.{extended, size_or}
-use Rattle.zone_choice.specs.Tables.{GrowsTo, SameButReady, TablesView, size_of}
+use Rattle.drive_array.specs.Sizes.{extended, size_or}
+use Rattle.zone_choice.specs.Tables.{GrowsTo, SameButReady, TablesView, size_of, with_places}
 use Rattle.zone_choice.proofs.AgreementLaws.{AppendsBatch, IsPlaced, agrees_append, agrees_room, agrees_same, length-extended, size-placed, spelled_append, spelled_same, tables_after, written_in}
-use Rattle.zone_choice.proofs.AllLaws.{all-weaker}
-use Rattle.zone_choice.proofs.BuilderLaws.{placed-over, with_places}
+use Rattle.drive_array.proofs.AllLaws.{all-weaker}
+use Rattle.zone_choice.proofs.BuilderLaws.{placed-over}
 use Rattle.zone_choice.proofs.CommandLaws.{can_append, fillings-few, filling-in_range, zone-start}
 use Rattle.zone_choice.proofs.OpenLaws.{OpensNone, OpensOnly, append-opens}
 use Rattle.zone_choice.proofs.StopLaws.{Left, left-same, left-torn, left-whole}
@@ -65,7 +66,7 @@ keeps-same old new tables agrees same opens lawful refused appended = record {
 pub keeps-contents : (old new : DriveState) (tables : TablesView) → Agrees (mounted old tables) → SameContents old new → OpensNone old.zones new.zones → IsLawful new → Counts old new 0 → KeepsArray (mounted old tables) (mounted new tables)
 keeps-contents old new tables agrees same opens lawful counts = keeps-same old new tables agrees same opens lawful counts.refused (omega (arith, counts.appended))
 
-pub keeps-join : (a b c : Mounted) → KeepsArray a b → KeepsArray b c → KeepsArray a c
+pub keeps-join : (a b c : MountedView) → KeepsArray a b → KeepsArray b c → KeepsArray a c
 keeps-join a b c p q = record {
   agrees = q.agrees;
   logs = q.logs ∙ p.logs;
@@ -345,7 +346,7 @@ stops_inside old new tables zone start builder is can start-is kept leaves obeys
 -- an Append that did not succeed
 pub record Halted (old new : DriveState) (tables : TablesView) (zone : ℕ) (b : Batch) (fault : PortFault) : Type 0 where
   pub halt : IsHalt fault
-  pub leaves : AppendLeaves (mounted old tables) (mounted new tables) zone b (Err (halt_of fault))
+  pub leaves : BatchLeaves (mounted old tables) (mounted new tables) zone b (Err (fault_halt fault))
 
 pub place_halts : (old new : DriveState) (tables : TablesView) (zone start : ℕ) (builder : BuilderView) (bytes : List ℕ) (fault : PortFault) → bytes ≡ builder.bytes → IsBuilt old.geometry.block builder → CanPlace (mounted old tables) zone (built old.geometry.block builder) → roles_alone old.geometry tables.roles zone ≡ tables.roles → start ≡ zone * old.geometry.size
     → AppendGives old start bytes (Err fault) new → AppendKeeps old start bytes (Err fault) new → PortLeaves old start bytes (Err fault) new → Obeys {V = ℕ} old (Err fault) new → (CanAppend old start (block_count old.geometry bytes) → IsNotRefused {V = ℕ} (Err fault))

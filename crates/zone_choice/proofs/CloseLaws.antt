@@ -13,8 +13,9 @@ use Rattle.drive_port.specs.Step.{nowhere, zone_at}
 use Rattle.drive_port.specs.declared.calls.PortFault.{PortFault}
 use Rattle.drive_port.specs.declared.calls.PortFault.TheVariants as port
 use Rattle.zone_choice.specs.declared.roles.Filling.{Filling}
-use Rattle.zone_choice.specs.Agreement.{Agrees, HoldsFilling, IsShut, drive_logs, mounted}
-use Rattle.zone_choice.specs.Changes.{AloneLeaves, CloseLeaves, ClosesBeside, IsHalt, KeepsContents, halt_of, roles_alone, tables_closed}
+use Rattle.zone_choice.specs.Agreement.{Agrees, HoldsFilling, IsShut, mounted}
+use Rattle.drive_array.specs.ZoneLogs.{drive_logs}
+use Rattle.zone_choice.specs.Changes.{AloneLeaves, CloseBesideLeaves, ClosesBeside, IsHalt, KeepsContents, fault_halt, roles_alone, tables_closed}
 use Rattle.zone_choice.specs.Roles.{IsOccupied, RolesView, fillings, is_filling_at, is_open_beside, open_beside}
 use Rattle.zone_choice.specs.Tables.{TablesView}
 use Rattle.zone_choice.proofs.AgreementLaws.{agrees_close, agrees_same}
@@ -91,7 +92,7 @@ other_closed old new tables zone start other agrees here is start-is same leaves
 -- a Close that did not succeed
 pub record CloseHalts (old new : DriveState) (tables : TablesView) (zone : ℕ) (fault : PortFault) : Type 0 where
   pub halt : IsHalt fault
-  pub leaves : CloseLeaves old tables zone new (Err (halt_of fault))
+  pub leaves : CloseBesideLeaves old tables zone new (Err (fault_halt fault))
 
 pub close_halts : (old new : DriveState) (tables : TablesView) (zone start : ℕ) (other : Filling) (fault : PortFault) → Agrees (mounted old tables) → open_beside tables.roles zone ≡ Some other → other.written ≢ old.geometry.capacity → start ≡ other.zone * old.geometry.size
     → CloseGives {V = Unit {0}} old start (Err fault) new → SameContents old new → PortLeaves {V = Unit {0}} old start (Err fault) new → Obeys {V = Unit {0}} old (Err fault) new → (CanClose old start → IsNotRefused {V = Unit {0}} (Err fault)) → CloseHalts old new tables zone fault
@@ -115,7 +116,7 @@ close_halts old new tables zone start other port.Stopped agrees is room start-is
 -- ---- the tables say so
 
 -- and then the zone is the only one that may be open
-pub leaves-alone : (old new : DriveState) (tables after : TablesView) (zone : ℕ) → old.geometry.open ≤ 1 → after ≡ tables_closed tables zone → CloseLeaves old tables zone new (Ok tt) → AloneLeaves (mounted old tables) (mounted new after) zone (Ok tt)
+pub leaves-alone : (old new : DriveState) (tables after : TablesView) (zone : ℕ) → old.geometry.open ≤ 1 → after ≡ tables_closed tables zone → CloseBesideLeaves old tables zone new (Ok tt) → AloneLeaves (mounted old tables) (mounted new after) zone (Ok tt)
 leaves-alone old new tables after zone few after-is leaves =
     let one : nat_lt 1 old.geometry.open ≡ false = le-ltb 1 old.geometry.open few in
     let roles : after.roles ≡ roles_alone old.geometry tables.roles zone = rw (after-is, one) refl in

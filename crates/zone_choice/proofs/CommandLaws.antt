@@ -17,12 +17,14 @@ use Rattle.drive_port.specs.Contents.{Content, full, content_at, content_of, con
 use Rattle.drive_port.specs.Step.{nowhere, zone_at}
 use Rattle.batch_log.specs.Log.{Batch}
 use Rattle.zone_choice.specs.declared.roles.Filling.{Filling}
-use Rattle.zone_choice.specs.Agreement.{Agrees, HoldsFilling, RolesAgree, drive_logs, mounted}
+use Rattle.zone_choice.specs.Agreement.{Agrees, HoldsFilling, RolesAgree, mounted}
+use Rattle.drive_array.specs.ZoneLogs.{drive_logs}
 use Rattle.zone_choice.specs.Roles.{IsOccupied, RolesView, closed_beside, fillings, is_at, is_filling_at}
 use Rattle.zone_choice.specs.Changes.{roles_alone}
 use Rattle.zone_choice.specs.Tables.{TablesView}
-use Rattle.zone_choice.proofs.AllLaws.{all-at}
-use Rattle.zone_choice.proofs.ContentLaws.{IsSettled, all-usable, count-fillings, count-zero, filling-writable, roles-settled}
+use Rattle.drive_array.proofs.AllLaws.{all-at}
+use Rattle.zone_choice.proofs.ContentLaws.{IsSettled, all-usable, count-fillings, filling-writable, roles-settled}
+use Rattle.drive_array.proofs.CountLaws.{count-zero}
 use Rattle.zone_choice.proofs.OpenLaws.{all-shut, noted-shut}
 use Rattle.zone_choice.proofs.RolesLaws.{few-fillings, filling-occupied}
 

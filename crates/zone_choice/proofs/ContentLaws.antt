@@ -9,29 +9,15 @@ use Rattle.batch_log.specs.Log.{Batch, batch_size, log_size}
 use Rattle.zone_choice.specs.declared.roles.Filling.{Filling}
 use Rattle.zone_choice.specs.declared.roles.Second.{Second}
 use Rattle.zone_choice.specs.Agreement.{HoldsFilling, IsSealed, RolesAgree}
-use Rattle.zone_choice.specs.Mountable.{is_partly_written}
-use Rattle.zone_choice.specs.Records.{append_log}
+use Rattle.drive_array.specs.Mountable.{is_partly_written}
+use Rattle.drive_array.specs.Records.{append_log}
 use Rattle.zone_choice.specs.Roles.{Differ, RolesView, closed, closed_beside, closed_unless, filling_of, fillings, grown, is_at, is_empty_at, is_filling_at, taken, wrote}
-use Rattle.zone_choice.specs.ZoneLogs.{log_at}
-use Rattle.zone_choice.specs.Repair.{HasAtMost}
-use Rattle.zone_choice.proofs.AllLaws.{all-append, all-from, all-weaker}
+use Rattle.drive_array.specs.ZoneLogs.{log_at}
+use Rattle.drive_array.specs.Repair.{HasAtMost}
+use Rattle.drive_array.proofs.AllLaws.{all-append, all-from, all-weaker}
 use Rattle.zone_choice.proofs.RolesLaws.{all-filling, all-map, all-with, apart-seal, apart-take, apart-with, closed-zone, filling-occupied, filling_at-with, fillings-with, grown-zone, roles_with, second_list}
-
--- ---- the log of a zone, with a batch more
-
-pub log_size-append : (log : List Batch) (b : Batch) → log_size (log ++ b ∷ []) ≡ log_size log + batch_size b
-log_size-append [] b = omega arith
-log_size-append (x ∷ log) b = omega (arith, log_size-append log b)
-
-pub log_size-some : (log : List Batch) → 1 ≤ log_size log → 1 ≤ length log
-log_size-some [] some = some
-log_size-some (b ∷ log) some = omega arith
-
-pub log_at-same : (logs : List (List Batch)) (zone : ℕ) (b : Batch) → zone < length logs → log_at (append_log logs zone b) zone ≡ log_at logs zone ++ b ∷ []
-log_at-same logs zone b lt = get_or-set_same logs zone (log_at logs zone ++ b ∷ []) [] lt
-
-pub log_at-other : (logs : List (List Batch)) (zone k : ℕ) (b : Batch) → k ≢ zone → log_at (append_log logs zone b) k ≡ log_at logs k
-log_at-other logs zone k b other = get_or-set_other logs zone k (log_at logs zone ++ b ∷ []) [] other
+use Rattle.drive_array.proofs.AppendLaws.{log_size-some, log_size-append, log_at-other, log_at-same}
+use Rattle.drive_array.proofs.CountLaws.{count-set, count-zero}
 
 -- ---- blocks are written to a zone that is being filled
 
@@ -248,19 +234,6 @@ pub settled-whole : (content : Content) → IsSettled content.usage → is_partl
 settled-whole content h = elim h as (λ _. is_partly_written content ≡ false) [ inl e ↦ rw e refl | inr e ↦ rw e refl ]
 
 -- ---- counts of zones that are not settled
-
-pub count-zero : {X : Type 0} (p : X → Bool) (xs : List X) (d : X) → ((k : ℕ) → k < length xs → p (get_or xs k d) ≡ false) → count_by p xs ≡ 0
-count-zero p [] d none = refl
-count-zero p (x ∷ xs) d none = let here : p x ≡ false = none 0 (omega arith) in rw here (count-zero p xs d (λ k lt. none (suc k) (omega arith)))
-
-pub at_most : (b : Bool) → cond {A = ℕ} b 1 0 ≤ 1
-at_most true = omega arith
-at_most false = omega arith
-
-count-set : {X : Type 0} (p : X → Bool) (xs : List X) (i : ℕ) (d : X) → p d ≡ false → i < length xs → count_by p xs ≤ count_by p (set xs i d) + 1
-count-set p xs i d off lt =
-    let none : cond {A = ℕ} (p d) 1 0 ≡ 0 = rw off refl in
-    omega (arith, sum_by-set (λ y. cond {A = ℕ} (p y) 1 0) xs i d d lt, none, at_most (p (get_or xs i d)))
 
 -- where what isn't among these zones isn't counted, no more than these are
 pub count-fillings : {X : Type 0} (p : X → Bool) (xs : List X) (fs : List Filling) (d : X) → p d ≡ false → ((k : ℕ) → k < length xs → list_any (is_at k) fs ≡ false → p (get_or xs k d) ≡ false) → count_by p xs ≤ length fs

@@ -10,16 +10,16 @@ use Rattle.drive_port.specs.Drive.{DriveState, IsLawful}
 use Rattle.drive_port.specs.Contents.{Content, content_at, content_of, contents, emptied}
 use Rattle.logical_map.specs.declared.place.Place.TheVariants as places
 use Rattle.batch_log.specs.Log.{Batch, zero_block}
-use Rattle.zone_choice.specs.Roles.{empty_count, unused}
+use Rattle.zone_choice.specs.Roles.{empty_count, unused_roles}
 use Rattle.zone_choice.specs.Tables.{TablesView, size_of}
-use Rattle.zone_choice.specs.Records.{Record, place, records, shown}
-use Rattle.zone_choice.specs.ZoneLogs.{HasLog, sequences, spelled_array, zone_logs}
-use Rattle.zone_choice.specs.Mountable.{IsInside}
-use Rattle.zone_choice.specs.Sizes.{encoded_size, greatest}
-use Rattle.zone_choice.specs.Reserve.{FitsReserve}
-use Rattle.zone_choice.specs.Agreement.{Agrees, RolesAgree, drive_logs, mounted, spelled}
+use Rattle.drive_array.specs.Records.{Record, place, records, shown}
+use Rattle.drive_array.specs.ZoneLogs.{HasLog, drive_logs, sequences, spelled, spelled_array, zone_logs}
+use Rattle.drive_array.specs.Mountable.{IsInside}
+use Rattle.drive_array.specs.Sizes.{encoded_size, greatest}
+use Rattle.drive_array.specs.Reserve.{FitsReserve}
+use Rattle.zone_choice.specs.Agreement.{Agrees, RolesAgree, mounted}
 use Rattle.zone_choice.proofs.AgreementLaws.{zone_log-emptied}
-use Rattle.zone_choice.proofs.MountLaws.{emptied-log}
+use Rattle.drive_array.proofs.MountLaws.{emptied-log}
 
 abbrev pub AllEmptied : List Content → Type 0
 AllEmptied zones = AllByRecursion (λ zone. zone ≡ emptied) zones
@@ -73,7 +73,7 @@ count-all : (n : ℕ) → count_by (λ b. b) (replicate n true) ≡ n
 count-all zero = refl
 count-all (suc n) = omega (arith, sum_by-cons (λ (b : Bool). cond {A = ℕ} b 1 0) true (replicate n true), count-all n)
 
-fresh-roles : (capacity : ℕ) (zones : List Content) (logs : List (List Batch)) → AllEmptied zones → RolesAgree capacity zones logs (unused (length zones))
+fresh-roles : (capacity : ℕ) (zones : List Content) (logs : List (List Batch)) → AllEmptied zones → RolesAgree capacity zones logs (unused_roles (length zones))
 fresh-roles capacity zones logs all = record {
   count = length-replicate (length zones) true;
   apart = record { occupied = tt; differ = tt };
@@ -87,7 +87,7 @@ pub record IsFreshTables (geometry : Geometry) (tables : TablesView) (n : ℕ) :
   pub places : tables.map.places ≡ replicate n places.None
   pub zones : tables.map.zones ≡ geometry.zones
   pub zone_size : tables.map.zone_size ≡ geometry.size
-  pub roles : tables.roles ≡ unused geometry.zones
+  pub roles : tables.roles ≡ unused_roles geometry.zones
   pub next : tables.next ≡ 1
   pub given : tables.given ≡ n
 
@@ -109,7 +109,7 @@ fresh_agrees drive tables n range reserve lawful all fresh =
       zones = fresh.zones;
       zone_size = fresh.zone_size;
       places = rw (fresh.given, fresh-greatest g zones all) (fresh.places ∙ rw (fresh-records g 0 zones all) (sym (told-none (place g.size) 0 n)));
-      roles = rw (fresh.roles ∙ ap unused count) (fresh-roles g.capacity zones (drive_logs drive) all);
+      roles = rw (fresh.roles ∙ ap unused_roles count) (fresh-roles g.capacity zones (drive_logs drive) all);
       few = rw fresh.roles tt;
       open_zones = rw fresh.roles tt;
     }

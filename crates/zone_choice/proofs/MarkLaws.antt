@@ -7,7 +7,7 @@ use Rattle.std.proofs.lemmas.List.{get_or-set_same, get_or-set_other, get_or_pas
 use Rattle.zone_choice.specs.declared.roles.Filling.{Filling}
 use Rattle.zone_choice.specs.declared.roles.Second.{Second}
 use Rattle.zone_choice.specs.declared.roles.Second.TheVariants.{Next, Destination}
-use Rattle.zone_choice.specs.Roles.{AreApart, AreMarked, Differ, IsLowestIn, IsOccupied, RolesView, clean_ended, filling_of, fillings, is_at, is_empty_at, is_filling_at, is_sealed_at, listed, marked, mounted_as, ended, promoted, sealed, taken, unmarked, with_destination, with_fillings}
+use Rattle.zone_choice.specs.Roles.{AreApart, AreMarked, Differ, IsLowestIn, IsOccupied, RolesView, clean_ended, filling_of, fillings, is_at, is_empty_at, is_filling_at, is_sealed_at, filling_list, marked, mounted_as, ended, promoted, sealed, taken, unmarked, with_destination, with_fillings}
 use Rattle.zone_choice.proofs.RolesLaws.{KeepsZone, filling_at-with, occupied-set, roles_with, second_list}
 
 -- ---- sealed zones
@@ -110,7 +110,7 @@ ended-list (Some (Next f)) = refl
 ended-list (Some (Destination f)) = refl
 
 pub filling_at-ended : (roles : RolesView) (victim k : ℕ) → is_filling_at (clean_ended roles victim) k ≡ is_filling_at roles k
-filling_at-ended roles victim k = ap (λ (fs : List Filling). list_any (is_at k) (listed roles.host ++ fs)) (ended-list roles.second)
+filling_at-ended roles victim k = ap (λ (fs : List Filling). list_any (is_at k) (filling_list roles.host ++ fs)) (ended-list roles.second)
 
 occupied-ended : (empties : List Bool) (victim : ℕ) (fs : List Filling) → list_any (is_at victim) fs ≡ false → AllByRecursion (IsOccupied empties) fs → AllByRecursion (IsOccupied (set empties victim true)) fs
 occupied-ended empties victim [] none all = tt
@@ -131,7 +131,7 @@ differ-ended (Some f) (Some (Destination s)) h = h
 
 pub apart-ended : (roles : RolesView) (victim : ℕ) → AreApart roles → is_sealed_at roles victim ≡ true → AreApart (clean_ended roles victim)
 apart-ended roles victim apart is = record {
-  occupied = subst (λ (fs : List Filling). AllByRecursion (IsOccupied (set roles.empty victim true)) (listed roles.host ++ fs)) (sym (ended-list roles.second)) (occupied-ended roles.empty victim (fillings roles) (sealed-parts roles victim is).not_filling apart.occupied);
+  occupied = subst (λ (fs : List Filling). AllByRecursion (IsOccupied (set roles.empty victim true)) (filling_list roles.host ++ fs)) (sym (ended-list roles.second)) (occupied-ended roles.empty victim (fillings roles) (sealed-parts roles victim is).not_filling apart.occupied);
   differ = differ-ended roles.host roles.second apart.differ;
 }
 
@@ -160,7 +160,7 @@ sealed-seal roles zone is =
     rest true e = absurd (cc)
     rest false e = e
 
-    out : (host : Option Filling) → list_any (is_at zone) (listed host ++ second_list roles.second) ≡ false → list_any (is_at zone) (second_list roles.second) ≡ false
+    out : (host : Option Filling) → list_any (is_at zone) (filling_list host ++ second_list roles.second) ≡ false → list_any (is_at zone) (second_list roles.second) ≡ false
     out None e = e
     out (Some h) e = rest (eqb h.zone zone) e
 
@@ -170,7 +170,7 @@ sealed-take roles zone taken_zone none empty is =
     let was = sealed-parts roles zone is in
     let ne : zone ≢ taken_zone = λ same. (let yes = rw (← same) at empty in let no = was.not_empty in absurd (cc)) in
     let other : eqb taken_zone zone ≡ false = ne_eqb taken_zone zone (λ same. ne (sym same)) in
-    let here : list_any (is_at zone) (listed None ++ second_list roles.second) ≡ false = rw none at was.not_filling in
+    let here : list_any (is_at zone) (filling_list None ++ second_list roles.second) ≡ false = rw none at was.not_filling in
     sealed-made (taken roles taken_zone) zone (omega (arith, was.in_range, length-set roles.empty taken_zone false)) (get_or-set_other roles.empty taken_zone zone false false ne ∙ was.not_empty) (ap (λ (b : Bool). b || list_any (is_at zone) (second_list roles.second)) other ∙ here)
 
 -- ---- after a mount

@@ -19,7 +19,7 @@ use Rattle.drive_port.proofs.ClosingLaws.{zone_at-closing}
 use Rattle.zone_choice.specs.declared.roles.Filling.{Filling}
 use Rattle.zone_choice.specs.Agreement.{IsShut, TellsOpen}
 use Rattle.zone_choice.specs.Roles.{RolesView, closed, closed_beside, closed_unless, fillings, grown, is_at, is_open_beside, wrote}
-use Rattle.zone_choice.proofs.AllLaws.{all-weaker}
+use Rattle.drive_array.proofs.AllLaws.{all-weaker}
 use Rattle.zone_choice.proofs.ContentLaws.{IsSettled}
 use Rattle.zone_choice.proofs.RolesLaws.{all-filling, all-map, fillings-with}
 

@@ -18,16 +18,16 @@ use Rattle.batch_log.specs.Header.{header_block}
 use Rattle.batch_log.specs.Log.{Batch, IsBatch, IsLog, batch_blocks, batch_size, data_count, one_unless, zero_block}
 use Rattle.logical_map.specs.declared.place.Place.{Place}
 use Rattle.logical_map.specs.declared.place.Place.TheVariants as places
-use Rattle.zone_choice.specs.Records.{IsNewest, Record, batch_records, entry_content, entry_offset, entry_records, log_records, newest, place, records, shown}
-use Rattle.zone_choice.specs.Sizes.{array_of, encoded_size}
-use Rattle.zone_choice.specs.ZoneLogs.{HasLog, padding, readable, spelled_array, zone_log, zone_logs}
-use Rattle.zone_choice.specs.Agreement.{Agrees, drive_logs, mounted, spelled}
+use Rattle.drive_array.specs.Records.{IsNewest, Record, batch_records, entry_content, entry_offset, entry_records, log_records, newest, place, records, shown}
+use Rattle.drive_array.specs.Sizes.{array_of, encoded_size}
+use Rattle.drive_array.specs.ZoneLogs.{HasLog, drive_logs, padding, readable, spelled, spelled_array, zone_log, zone_logs}
+use Rattle.zone_choice.specs.Agreement.{Agrees, mounted}
 use Rattle.zone_choice.specs.Tables.{TablesView, size_of}
 use Rattle.zone_choice.proofs.AgreementLaws.{size-encoded}
-use Rattle.zone_choice.proofs.AllLaws.{all-append, all-at, all-weaker}
+use Rattle.drive_array.proofs.AllLaws.{all-append, all-at, all-weaker}
 use Rattle.zone_choice.proofs.CommandLaws.{content-zone, zone-few}
 use Rattle.zone_choice.proofs.ContentLaws.{all-usable}
-use Rattle.zone_choice.proofs.NewestLaws.{newest-is}
+use Rattle.drive_array.proofs.NewestLaws.{all-among, newest-is}
 
 -- ---- in one zone
 
@@ -134,9 +134,6 @@ usable-online states.Closed h = refl
 usable-online states.ReadOnly h = refl
 usable-online states.Full h = refl
 usable-online states.Offline h = absurd (cc)
-
-pub all-among : (P : Record → Type 0) (rs : List Record) (r : Record) → AllByRecursion P rs → Contains rs r → P r
-all-among P rs r all c = subst P c.2 (all-at P rs c.0 r all c.1)
 
 -- ---- a block of the array
 

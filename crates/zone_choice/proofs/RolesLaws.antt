@@ -7,8 +7,8 @@ use Rattle.std.proofs.lemmas.List.{get_or-set_same, get_or-set_other, length-set
 use Rattle.zone_choice.specs.declared.roles.Filling.{Filling}
 use Rattle.zone_choice.specs.declared.roles.Second.{Second}
 use Rattle.zone_choice.specs.declared.roles.Second.TheVariants.{Next, Destination}
-use Rattle.zone_choice.specs.Roles.{AreApart, Differ, IsOccupied, RolesView, closed, closed_beside, closed_unless, filling_of, fillings, grown, is_at, is_filling_at, is_open_beside, listed, open_beside, sealed, second_with, taken, with_fillings}
-use Rattle.zone_choice.proofs.AllLaws.{all-parts, all-weaker}
+use Rattle.zone_choice.specs.Roles.{AreApart, Differ, IsOccupied, RolesView, closed, closed_beside, closed_unless, filling_of, fillings, grown, is_at, is_filling_at, is_open_beside, filling_list, open_beside, sealed, second_with, taken, with_fillings}
+use Rattle.drive_array.proofs.AllLaws.{all-parts, all-weaker}
 
 pub all-map : {X Y : Type 0} (P : Y → Type 0) (f : X → Y) (xs : List X) → AllByRecursion (λ x. P (f x)) xs → AllByRecursion P (map f xs)
 all-map P f [] all = tt
@@ -20,9 +20,9 @@ abbrev pub roles_with : List Bool → Option Filling → Option Second → Roles
 roles_with empties host second = record { empty = empties; host = host; second = second }
 
 abbrev pub second_list : Option Second → List Filling
-second_list second = listed (option_map filling_of second)
+second_list second = filling_list (option_map filling_of second)
 
-fillings_few : (host : Option Filling) (second : Option Second) → length (listed host ++ second_list second) ≤ 2
+fillings_few : (host : Option Filling) (second : Option Second) → length (filling_list host ++ second_list second) ≤ 2
 fillings_few None None = omega arith
 fillings_few None (Some second) = omega arith
 fillings_few (Some host) None = omega arith
@@ -50,7 +50,7 @@ filling-occupied roles zone apart some =
 abbrev pub KeepsZone : (Filling → Filling) → Type 0
 KeepsZone change = (f : Filling) → (change f).zone ≡ f.zone
 
-fillings_with : (change : Filling → Filling) (host : Option Filling) (second : Option Second) → listed (option_map change host) ++ second_list (option_map (second_with change) second) ≡ map change (listed host ++ second_list second)
+fillings_with : (change : Filling → Filling) (host : Option Filling) (second : Option Second) → filling_list (option_map change host) ++ second_list (option_map (second_with change) second) ≡ map change (filling_list host ++ second_list second)
 fillings_with change None None = refl
 fillings_with change None (Some (Next s)) = refl
 fillings_with change None (Some (Destination s)) = refl
@@ -148,7 +148,7 @@ second-same zone None none = refl
 second-same zone (Some (Next f)) none = ap (λ (g : Filling). Some (Next g)) (closed-same zone f (find-none (is_open_beside zone) f [] none).0)
 second-same zone (Some (Destination f)) none = ap (λ (g : Filling). Some (Destination g)) (closed-same zone f (find-none (is_open_beside zone) f [] none).0)
 
-roles-same : (zone : ℕ) (empties : List Bool) (host : Option Filling) (second : Option Second) → find (is_open_beside zone) (listed host ++ second_list second) ≡ None → closed_beside (roles_with empties host second) zone ≡ roles_with empties host second
+roles-same : (zone : ℕ) (empties : List Bool) (host : Option Filling) (second : Option Second) → find (is_open_beside zone) (filling_list host ++ second_list second) ≡ None → closed_beside (roles_with empties host second) zone ≡ roles_with empties host second
 roles-same zone empties None second none = ap (λ (s : Option Second). roles_with empties None s) (second-same zone second none)
 roles-same zone empties (Some f) second none =
     let both = find-none (is_open_beside zone) f (second_list second) none in
@@ -176,7 +176,7 @@ same-second roles zone = second-closed zone roles.second
 -- ---- the host zone is sealed
 
 pub apart-seal : (roles : RolesView) → AreApart roles → AreApart (sealed roles)
-apart-seal roles apart = record { occupied = (all-parts (IsOccupied roles.empty) (listed roles.host) (second_list roles.second) apart.occupied).1; differ = tt }
+apart-seal roles apart = record { occupied = (all-parts (IsOccupied roles.empty) (filling_list roles.host) (second_list roles.second) apart.occupied).1; differ = tt }
 
 -- ---- an empty zone becomes the host zone
 
@@ -191,7 +191,7 @@ differ-take empties zone (Some s) here all = λ e. (let no = all.0.not_empty in 
 
 pub apart-take : (roles : RolesView) (zone : ℕ) → AreApart roles → zone < length roles.empty → get_or roles.empty zone false ≡ true → AreApart (taken roles zone)
 apart-take roles zone apart lt here =
-    let second = (all-parts (IsOccupied roles.empty) (listed roles.host) (second_list roles.second) apart.occupied).1 in
+    let second = (all-parts (IsOccupied roles.empty) (filling_list roles.host) (second_list roles.second) apart.occupied).1 in
     record {
       occupied = (
         record { in_range = omega (arith, lt, length-set roles.empty zone false); not_empty = get_or-set_same roles.empty zone false false lt },

@@ -8,25 +8,26 @@ use Rattle.drive_port.specs.Drive.{DriveState, IsLawful}
 use Rattle.batch_log.specs.Log.{Batch, IsBatch, batch_blocks, batch_size, zero_block}
 use Rattle.logical_map.specs.Places.{MapView}
 use Rattle.logical_map.specs.declared.place.Place.TheVariants as places
-use Rattle.zone_choice.specs.Agreement.{Agrees, drive_logs, mounted, spelled}
+use Rattle.zone_choice.specs.Agreement.{Agrees, mounted}
+use Rattle.drive_array.specs.ZoneLogs.{HasLog, drive_logs, log_at, spelled, spelled_array, zone_tails}
 use Rattle.zone_choice.specs.Changes.{Encodes, sequence_end, size_with}
-use Rattle.zone_choice.specs.Laws.{OnlyTorn, SameLogs}
-use Rattle.zone_choice.specs.Mountable.{HoldDisk, IsMountable, is_partly_written}
-use Rattle.zone_choice.specs.Records.{append_log, batch_records, over, place, shown}
-use Rattle.zone_choice.specs.Repair.{HasAtMost}
-use Rattle.zone_choice.specs.Reserve.{batch_most}
+use Rattle.drive_array.specs.Laws.{OnlyTorn, SameLogs}
+use Rattle.drive_array.specs.Mountable.{HoldDisk, IsMountable, is_partly_written}
+use Rattle.drive_array.specs.Records.{append_log, batch_records, over, place, shown}
+use Rattle.drive_array.specs.Repair.{HasAtMost}
+use Rattle.drive_array.specs.Reserve.{batch_most}
 use Rattle.zone_choice.specs.Roles.{fillings, is_filling_at}
-use Rattle.zone_choice.specs.Sizes.{extended}
-use Rattle.zone_choice.specs.Spare.{HasSpare}
+use Rattle.drive_array.specs.Sizes.{extended}
+use Rattle.drive_array.specs.Spare.{HasSpare}
 use Rattle.zone_choice.specs.Tables.{TablesView}
-use Rattle.zone_choice.specs.ZoneLogs.{HasLog, log_at, spelled_array, zone_tails}
 use Rattle.zone_choice.proofs.AgreementLaws.{AppendsBatch, IsPlaced, agrees_append, agrees_mountable, no_tails, size-encoded, sound-weaker, spelled_append, spelled_same, written_in, zone-untorn}
-use Rattle.zone_choice.proofs.AllLaws.{all-at, all-set}
+use Rattle.drive_array.proofs.AllLaws.{all-at, all-set}
 use Rattle.zone_choice.proofs.ContentLaws.{all-usable, count-fillings, filling-log, roles-settled, settled-whole}
-use Rattle.zone_choice.proofs.MountLaws.{torn_mounts}
-use Rattle.zone_choice.proofs.ReserveLaws.{positive-most}
+use Rattle.drive_array.proofs.MountLaws.{torn_mounts}
+use Rattle.drive_array.proofs.ReserveLaws.{positive-most}
 use Rattle.zone_choice.proofs.RolesLaws.{all-filling, few-fillings}
-use Rattle.zone_choice.proofs.ZoneLogLaws.{torn_logs}
+use Rattle.drive_array.proofs.ZoneLogLaws.{torn_logs}
+use Rattle.drive_array.proofs.UsageLaws.{filled-usable}
 
 -- the Append of a batch's first j blocks, but not all
 pub record TornBatch (old new : DriveState) (tables : TablesView) (zone j : ℕ) (b : Batch) : Type 0 where
@@ -38,13 +39,6 @@ pub record TornBatch (old new : DriveState) (tables : TablesView) (zone j : ℕ)
   pub geometry : new.geometry ≡ old.geometry
   pub lawful : IsLawful new
   pub appends : Appends (contents old.zones) (contents new.zones) old.geometry.capacity zone (take j (batch_blocks old.geometry.block b))
-
-pub filled-usable : (capacity : ℕ) (blocks : List (List ℕ)) → is_usable (filled capacity blocks).usage ≡ true
-filled-usable capacity blocks = by (eqb (length blocks) capacity)
-  where
-    by : (b : Bool) → is_usable (cond b full active) ≡ true
-    by true = refl
-    by false = refl
 
 -- one tail at most where there was none
 only-set : (tails : List Bool) (zone : ℕ) (b : Bool) → ((other : ℕ) → get_or tails other false ≡ false) → (other : ℕ) → get_or (set tails zone b) other false ≡ true → other ≡ zone

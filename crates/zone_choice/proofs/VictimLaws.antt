@@ -10,13 +10,13 @@ use Rattle.drive_port.specs.Contents.{content_of}
 use Rattle.logical_map.specs.Live.{is_zone, lies_in, live, zone_of}
 use Rattle.logical_map.specs.declared.place.Place.{Place}
 use Rattle.zone_choice.specs.declared.roles.Filling.{Filling}
-use Rattle.zone_choice.specs.Agreement.{Agrees, Mounted}
-use Rattle.zone_choice.specs.Reserve.{batch_most}
-use Rattle.zone_choice.specs.Roles.{RolesView, is_at, is_filling_at, listed}
+use Rattle.zone_choice.specs.Agreement.{Agrees, MountedView}
+use Rattle.drive_array.specs.Reserve.{batch_most}
+use Rattle.zone_choice.specs.Roles.{RolesView, is_at, is_filling_at, filling_list}
 use Rattle.zone_choice.specs.Tables.{size_of}
 use Rattle.zone_choice.specs.Victim.{HasSealed, LeastCanMove}
 use Rattle.zone_choice.proofs.MarkLaws.{sealed-made}
-use Rattle.zone_choice.proofs.ReserveLaws.{fill-mono, positive-most}
+use Rattle.drive_array.proofs.ReserveLaws.{fill-mono, positive-most}
 use Rattle.zone_choice.proofs.RolesLaws.{second_list}
 
 -- ---- all live records together
@@ -91,9 +91,9 @@ some-unmarked (true ∷ marks) less =
 -- ---- a disk with one empty zone, and all others sealed
 
 none-filled : (roles : RolesView) → roles.host ≡ None → roles.second ≡ None → (k : ℕ) → is_filling_at roles k ≡ false
-none-filled roles host second k = ap (list_any (is_at k)) (ap (λ (h : Option Filling). listed h ++ second_list roles.second) host ∙ ap second_list second)
+none-filled roles host second k = ap (list_any (is_at k)) (ap (λ (h : Option Filling). filling_list h ++ second_list roles.second) host ∙ ap second_list second)
 
-zones-counted : (disk : Mounted) → Agrees disk → length disk.tables.roles.empty ≡ disk.drive.geometry.zones
+zones-counted : (disk : MountedView) → Agrees disk → length disk.tables.roles.empty ≡ disk.drive.geometry.zones
 zones-counted disk agrees = omega (arith, agrees.roles.count, agrees.lawful.count, length-map disk.drive.zones content_of)
 
 pub has_sealed : HasSealed

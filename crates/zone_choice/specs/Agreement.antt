@@ -9,25 +9,26 @@ use Rattle.drive_port.specs.Contents.{Content, full, content_at, contents, empti
 use Rattle.drive_port.specs.Step.{zone_at}
 use Rattle.batch_log.specs.Log.{Batch, log_size}
 use Rattle.zone_choice.specs.declared.roles.Filling.{Filling}
-use Rattle.zone_choice.specs.Reserve.{FitsReserve, batch_most}
-use Rattle.zone_choice.specs.Sizes.{map_of}
-use Rattle.zone_choice.specs.ZoneLogs.{HasLog, log_at, spelled_array, zone_logs}
-use Rattle.zone_choice.specs.Mountable.{AreSound}
-use Rattle.zone_choice.specs.Repair.{HasAtMost}
+use Rattle.drive_array.specs.Reserve.{FitsReserve, batch_most}
+use Rattle.drive_array.specs.Sizes.{map_of}
+use Rattle.drive_array.specs.ZoneLogs.{HasLog, drive_logs, log_at, spelled, spelled_array, zone_logs}
+use Rattle.drive_array.specs.Mountable.{AreSound}
+use Rattle.drive_array.specs.Repair.{HasAtMost}
 use Rattle.zone_choice.specs.Roles.{AreApart, RolesView, fillings, is_empty_at, is_filling_at}
 use Rattle.zone_choice.specs.Tables.{TablesView, size_of}
 
 -- a drive, and the tables of the disk that is mounted on it
-pub record Mounted : Type 0 where
+pub record MountedView : Type 0 where
   pub drive : DriveState
   pub tables : TablesView
 
-abbrev pub mounted : DriveState → TablesView → Mounted
+abbrev pub mounted : DriveState → TablesView → MountedView
 mounted drive tables = record { drive = drive; tables = tables }
 
 -- ---- roles and contents
 
--- A zone that is being filled can be written, or is full already, up to its capacity. Its written blocks are counted, and all of them belong to batches. Only a zone with some may be open.
+-- A zone that is being filled can be written, or is full already, up to its capacity. Its written blocks are counted,
+-- and all of them belong to batches. Only a zone with some may be open.
 pub record HoldsFilling (capacity : ℕ) (zones : List Content) (logs : List (List Batch)) (filling : Filling) : Type 0 where
   pub written : length (content_at zones filling.zone).blocks ≡ filling.written
   pub usage : (is_writable (content_at zones filling.zone).usage ≡ true) ⊎ (((content_at zones filling.zone).usage ≡ full) × (filling.written ≡ capacity))
@@ -56,23 +57,16 @@ IsShut zones zone = is_open (zone_at zones zone).state ≡ false
 abbrev pub TellsOpen : List Zone → Filling → Type 0
 TellsOpen zones filling = filling.may_open ≡ false → IsShut zones filling.zone
 
--- ---- what a drive encodes
-
-abbrev pub drive_logs : DriveState → List (List Batch)
-drive_logs drive = zone_logs drive.geometry (contents drive.zones)
-
--- the array that a drive encodes, of n blocks where no header has a size
-abbrev pub spelled : DriveState → ℕ → List (List ℕ)
-spelled drive n = spelled_array drive.geometry (contents drive.zones) n
-
 -- the array of a mounted disk
-abbrev pub mounted_array : Mounted → List (List ℕ)
+abbrev pub mounted_array : MountedView → List (List ℕ)
 mounted_array disk = spelled disk.drive disk.tables.given
 
 -- ---- tables and drive
 
--- The tables describe the drive: every zone holds a log, the batches are sound, with sequences below the next one; the map has the place of each block's newest record; and each zone is what its role says. No zone that is being filled has a batch with more entries than ours have, and none is open unless the tables say that it may be.
-pub record Agrees (disk : Mounted) : Type 0 where
+-- The tables describe the drive: every zone holds a log, the batches are sound, with sequences below the next one; the
+-- map has the place of each block's newest record; and each zone is what its role says. No zone that is being filled has
+-- a batch with more entries than ours have, and none is open unless the tables say that it may be.
+pub record Agrees (disk : MountedView) : Type 0 where
   pub geometry : IsInRange disk.drive.geometry
   pub reserve : FitsReserve disk.drive.geometry (size_of disk.tables)
   pub lawful : IsLawful disk.drive

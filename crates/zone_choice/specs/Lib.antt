@@ -1,15 +1,6 @@
-pub mod Reserve
-pub mod Records
-pub mod Sizes
-pub mod ZoneLogs
-pub mod Spare
-pub mod Repair
-pub mod Repairing
-pub mod Mountable
 pub mod Roles
 pub mod Tables
 pub mod Agreement
 pub mod Changes
 pub mod Builder
 pub mod Victim
-pub mod Laws

@@ -16,13 +16,13 @@ abbrev pub filling_of : Second → Filling
 filling_of (Next filling) = filling
 filling_of (Destination filling) = filling
 
-abbrev pub listed : Option Filling → List Filling
-listed None = []
-listed (Some filling) = filling ∷ []
+abbrev pub filling_list : Option Filling → List Filling
+filling_list None = []
+filling_list (Some filling) = filling ∷ []
 
 -- the zones that are being filled, two at most
 abbrev pub fillings : RolesView → List Filling
-fillings roles = listed roles.host ++ listed (option_map filling_of roles.second)
+fillings roles = filling_list roles.host ++ filling_list (option_map filling_of roles.second)
 
 abbrev pub is_empty_at : RolesView → ℕ → Bool
 is_empty_at roles zone = slice_index_or roles.empty zone false
@@ -150,8 +150,8 @@ marked marks None = marks
 marked marks (Some filling) = slice_set marks filling.zone true
 
 -- all zones are empty
-abbrev pub unused : ℕ → RolesView
-unused zones = record { empty = replicate zones true; host = None; second = None }
+abbrev pub unused_roles : ℕ → RolesView
+unused_roles zones = record { empty = replicate zones true; host = None; second = None }
 
 -- one marked zone less, if there is one
 abbrev pub unmarked : List Bool → Option Filling → List Bool

@@ -2,11 +2,13 @@
 use Rattle.std.specs.Prelude.{◌≡◌, ℕ, ◌+◌, ◌≤◌, ◌<◌, true, List, length, slice_index}
 use Rattle.logical_map.specs.Live.{live}
 use Rattle.logical_map.specs.Places.{IsReady, MapView}
+use Rattle.logical_map.specs.declared.place.Place.{Place}
 use Rattle.logical_map.specs.declared.place.Place.TheVariants as places
 use Rattle.zone_choice.specs.Roles.{RolesView, is_sealed_at}
-use Rattle.zone_choice.specs.Sizes.{extended}
+use Rattle.drive_array.specs.Sizes.{extended}
 
--- where the newest record of each block lies, what the zones are for, the sequence of the next batch, and the number of logical blocks that the mount was given: the drive has as many where no header has a size
+-- where the newest record of each block lies, what the zones are for, the sequence of the next batch, and the number of
+-- logical blocks that the mount was given: the drive has as many where no header has a size
 pub record TablesView : Type 0 where
   pub map : MapView
   pub roles : RolesView
@@ -16,6 +18,10 @@ pub record TablesView : Type 0 where
 -- how many logical blocks there are
 abbrev pub size_of : TablesView → ℕ
 size_of tables = length tables.map.places
+
+-- the tables with these places of all blocks
+abbrev pub with_places : TablesView → List Place → TablesView
+with_places tables all = record tables { map = record tables.map { places = all } }
 
 -- how many live records each zone of the drive has
 pub record AreLive (map : MapView) (counts : List ℕ) : Type 0 where

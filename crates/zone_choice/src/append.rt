@@ -2,24 +2,24 @@ ghost use Rattle.std.specs.Prelude.{◌≡◌, ◌+◌, ◌*◌, ◌≤◌, ◌<
 ghost use Rattle.std.specs.List.{AllByRecursion, IsDistinct};
 ghost use Rattle.batch_log.specs.Log.{data_count, one_unless};
 ghost use Rattle.logical_map.specs.Places.{IsReady};
-ghost use Rattle.zone_choice.specs.Agreement.{Agrees, mounted};
-ghost use Rattle.zone_choice.specs.Builder.{IsBuilt, built, entry_place, placed};
-ghost use Rattle.zone_choice.specs.Changes.{AloneLeaves, AppendLeaves, CanPlace, CloseLeaves, IsHalt, close_count, closes_before, halt_of, roles_alone};
-ghost use Rattle.zone_choice.specs.Roles.{is_filling_at, open_beside};
-ghost use Rattle.zone_choice.specs.Sizes.{size_or};
-ghost use Rattle.zone_choice.specs.Tables.{GrowsTo, size_of};
+ghost use Rattle.zone_choice.specs.Agreement.{Agrees};
+ghost use Rattle.zone_choice.specs.Builder.{IsBuilt, entry_place, placed};
+ghost use Rattle.zone_choice.specs.Changes.{AloneLeaves, BatchLeaves, CanPlace, CloseBesideLeaves, IsHalt, built_for, closes_before, closes_beside, fault_halt, roles_alone};
+ghost use Rattle.zone_choice.specs.Roles.{is_filling_at};
+ghost use Rattle.drive_array.specs.Sizes.{size_or};
+ghost use Rattle.zone_choice.specs.Tables.{GrowsTo, size_of, with_places};
 
 use crate::batch::BatchBuilder;
+use crate::mounted::Mounted;
 use crate::tables::Tables;
 use batch_log::Entry;
 use drive_port::{Device, Halt, PortFault, append, close};
 use logical_map::Place;
-use std::alloc::Global;
 
 /// What a fault is of a command that the drive does not refuse.
 pub fn halt_of(fault: PortFault) -> Halt
     requires { IsHalt fault }
-    ensures { result ≡ halt_of fault }
+    ensures { result ≡ fault_halt fault }
 {
     match fault {
         PortFault::Memory => Halt::Memory,
@@ -57,7 +57,7 @@ fn place_blocks(tables: &mut Tables, entries: &[Entry], header: u64) -> u32
     requires few { length entries.now < 2 ^ 31 }
     requires size { size_of tables.old ≤ 2 ^ 31 }
     requires fits { header < 2 ^ 62 }
-    ensures placed { tables.new ≡ record tables.old { map = record tables.old.map { places = placed header (header + 1) entries.now tables.old.map.places } } }
+    ensures placed { tables.new ≡ with_places tables.old (placed header (header + 1) entries.now tables.old.map.places) }
     ensures blocks { result ≡ 1 + data_count entries.now }
 {
     let mut address = header + 1;
@@ -79,70 +79,60 @@ fn grow_to(tables: &mut Tables, size: Option<u32>)
 }
 
 /// Sends Close to the zone that is being filled beside this one, if it may be open. A full one is not.
-fn send_close<D: Device>(
-    alloc: Global,
-    tables: &Tables,
-    device: &mut D,
-    zone: u32,
-) -> Result<(), Halt>
-    requires agrees { Agrees (mounted (D.drive device.old) tables.now) }
-    requires filling { is_filling_at tables.now.roles zone ≡ true }
-    ensures leaves { CloseLeaves (D.drive device.old) tables.now zone (D.drive device.new) result }
-    ensures completed { (D.drive device.new).completed ≤ (D.drive device.old).completed + close_count (D.drive device.old).geometry.capacity (open_beside tables.now.roles zone) }
+fn send_close<D: Device>(disk: &mut Mounted<D>, zone: u32) -> Result<(), Halt>
+    requires agrees { Agrees disk.old }
+    requires filling { is_filling_at disk.old.tables.roles zone ≡ true }
+    ensures leaves { CloseBesideLeaves disk.old.drive disk.old.tables zone disk.new.drive result }
+    ensures kept { disk.new.tables ≡ disk.old.tables }
+    ensures completed { disk.new.drive.completed ≤ disk.old.drive.completed + closes_beside disk.old zone }
 {
-    let Some(other) = tables.open_beside(zone) else {
+    let Some(other) = disk.tables.open_beside(zone) else {
         return Ok(());
     };
-    let geometry = device.geometry();
+    let geometry = disk.geometry();
     if other.written == geometry.capacity {
         return Ok(());
     }
-    match close(alloc, device, other.zone as u64 * geometry.size as u64) {
-        Ok(()) => Ok(()),
-        Err(fault) => Err(halt_of(fault)),
+    let start = other.zone as u64 * geometry.size as u64;
+    if let Err(fault) = close(disk.alloc, &mut disk.device, start) {
+        return Err(halt_of(fault));
     }
+    Ok(())
 }
 
 /// At an open limit of 1, makes this zone the only one that may be open.
-fn close_beside<D: Device>(
-    alloc: Global,
-    tables: &mut Tables,
-    device: &mut D,
-    zone: u32,
-) -> Result<(), Halt>
-    requires agrees { Agrees (mounted (D.drive device.old) tables.old) }
-    requires filling { is_filling_at tables.old.roles zone ≡ true }
-    ensures leaves { AloneLeaves (mounted (D.drive device.old) tables.old) (mounted (D.drive device.new) tables.new) zone result }
-    ensures completed { (D.drive device.new).completed ≤ (D.drive device.old).completed + closes_before (D.drive device.old).geometry tables.old.roles zone }
+fn close_beside<D: Device>(disk: &mut Mounted<D>, zone: u32) -> Result<(), Halt>
+    requires agrees { Agrees disk.old }
+    requires filling { is_filling_at disk.old.tables.roles zone ≡ true }
+    ensures leaves { AloneLeaves disk.old disk.new zone result }
+    ensures completed { disk.new.drive.completed ≤ disk.old.drive.completed + closes_before disk.old zone }
 {
-    if device.geometry().open > 1 {
+    if disk.geometry().open > 1 {
         return Ok(());
     }
-    send_close(alloc, tables, device, zone)?;
-    tables.closed_beside(zone);
+    send_close(disk, zone)?;
+    disk.tables.closed_beside(zone);
     Ok(())
 }
 
 /// Appends a batch to a zone that is being filled. At an open limit of 1 it is the only one that may be open.
 fn append_alone<D: Device>(
-    alloc: Global,
-    tables: &mut Tables,
-    device: &mut D,
+    disk: &mut Mounted<D>,
     zone: u32,
     batch: &BatchBuilder,
 ) -> Result<(), Halt>
-    requires built { IsBuilt (D.drive device.old).geometry.block batch.now }
-    requires can { CanPlace (mounted (D.drive device.old) tables.old) zone (built (D.drive device.old).geometry.block batch.now) }
-    requires alone { roles_alone (D.drive device.old).geometry tables.old.roles zone ≡ tables.old.roles }
-    ensures leaves { AppendLeaves (mounted (D.drive device.old) tables.old) (mounted (D.drive device.new) tables.new) zone (built (D.drive device.old).geometry.block batch.now) result }
-    ensures completed { (D.drive device.new).completed ≤ (D.drive device.old).completed + 1 }
+    requires built { IsBuilt disk.old.drive.geometry.block batch.now }
+    requires can { CanPlace disk.old zone (built_for disk.old batch.now) }
+    requires alone { roles_alone disk.old.drive.geometry disk.old.tables.roles zone ≡ disk.old.tables.roles }
+    ensures leaves { BatchLeaves disk.old disk.new zone (built_for disk.old batch.now) result }
+    ensures completed { disk.new.drive.completed ≤ disk.old.drive.completed + 1 }
 {
-    let start = zone as u64 * device.geometry().size as u64;
-    match append(alloc, device, start, batch.bytes()) {
+    let start = zone as u64 * disk.geometry().size as u64;
+    match append(disk.alloc, &mut disk.device, start, batch.bytes()) {
         Ok(address) => {
-            grow_to(tables, batch.size());
-            let blocks = place_blocks(tables, batch.entries(), address);
-            tables.appended(zone, blocks);
+            grow_to(&mut disk.tables, batch.size());
+            let blocks = place_blocks(&mut disk.tables, batch.entries(), address);
+            disk.tables.appended(zone, blocks);
             Ok(())
         }
         Err(fault) => Err(halt_of(fault)),
@@ -155,17 +145,15 @@ fn append_alone<D: Device>(
 /// the zone beside may be closed. If it stops, the batch may be there, or a torn tail, and the tables are as
 /// they were, but that they may say that the zone beside is closed.
 pub fn append_batch<D: Device>(
-    alloc: Global,
-    tables: &mut Tables,
-    device: &mut D,
+    disk: &mut Mounted<D>,
     zone: u32,
     batch: &BatchBuilder,
 ) -> Result<(), Halt>
-    requires built { IsBuilt (D.drive device.old).geometry.block batch.now }
-    requires can { CanPlace (mounted (D.drive device.old) tables.old) zone (built (D.drive device.old).geometry.block batch.now) }
-    ensures leaves { AppendLeaves (mounted (D.drive device.old) tables.old) (mounted (D.drive device.new) tables.new) zone (built (D.drive device.old).geometry.block batch.now) result }
-    ensures completed { (D.drive device.new).completed ≤ (D.drive device.old).completed + closes_before (D.drive device.old).geometry tables.old.roles zone + 1 }
+    requires built { IsBuilt disk.old.drive.geometry.block batch.now }
+    requires can { CanPlace disk.old zone (built_for disk.old batch.now) }
+    ensures leaves { BatchLeaves disk.old disk.new zone (built_for disk.old batch.now) result }
+    ensures completed { disk.new.drive.completed ≤ disk.old.drive.completed + closes_before disk.old zone + 1 }
 {
-    close_beside(alloc, tables, device, zone)?;
-    append_alone(alloc, tables, device, zone, batch)
+    close_beside(disk, zone)?;
+    append_alone(disk, zone, batch)
 }

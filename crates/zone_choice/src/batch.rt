@@ -1,10 +1,9 @@
 ghost use Rattle.std.specs.Prelude.{◌≡◌, ◌⊎◌, ◌++◌, ◌+◌, ◌≤◌, ◌<◌, ◌^◌, [], OnOk, OnErr, drop, length, replicate, take};
 ghost use Rattle.batch_log.specs.Header.{IsHeading, header_block, heading_of};
-ghost use Rattle.drive_port.specs.Calls.{CanRead, IsNotRefused, Obeys, ReadGives};
-ghost use Rattle.drive_port.specs.Contents.{Counts, SameContents, bytes_at, contents};
-ghost use Rattle.drive_port.specs.Drive.{IsClosing};
+ghost use Rattle.drive_port.specs.Calls.{ReadGives};
+ghost use Rattle.drive_port.specs.Contents.{bytes_at, contents};
 ghost use Rattle.drive_port.specs.Halting.{Adds};
-ghost use Rattle.zone_choice.specs.Builder.{data_entries, entries_from, trim_entries};
+ghost use Rattle.zone_choice.specs.Builder.{ReadLeaves, data_entries, entries_from, naming, trim_entries};
 
 use batch_log::{Entry, Header, Kind, header_bytes};
 use drive_port::{Device, PortFault, read_extending};
@@ -77,7 +76,7 @@ impl BatchBuilder {
     /// Names `count` blocks more, from `first` on, that the batch has data of.
     pub fn name_data(&mut self, first: u32, count: u32) -> Result<(), AllocError>
         requires { first + count < 2 ^ 32 }
-        ensures heading { OnOk result (self.new.heading ≡ record self.old.heading { entries = self.old.heading.entries ++ data_entries first count }) }
+        ensures heading { OnOk result (self.new.heading ≡ naming self.old.heading (data_entries first count)) }
         ensures bytes { self.new.bytes ≡ self.old.bytes }
     {
         self.name(first, count, false)
@@ -86,7 +85,7 @@ impl BatchBuilder {
     /// Names `count` blocks more, from `first` on, that the batch trims.
     pub fn name_trims(&mut self, first: u32, count: u32) -> Result<(), AllocError>
         requires { first + count < 2 ^ 32 }
-        ensures heading { OnOk result (self.new.heading ≡ record self.old.heading { entries = self.old.heading.entries ++ trim_entries first count }) }
+        ensures heading { OnOk result (self.new.heading ≡ naming self.old.heading (trim_entries first count)) }
         ensures bytes { self.new.bytes ≡ self.old.bytes }
     {
         self.name(first, count, true)
@@ -141,11 +140,7 @@ impl BatchBuilder {
         ensures shown { OnOk result (self.new.bytes ≡ self.old.bytes ++ bytes_at (D.drive device.old).geometry (contents (D.drive device.old).zones) address 1) }
         ensures length { OnOk result (length self.new.bytes ≡ length self.old.bytes + (D.drive device.old).geometry.block) }
         ensures err { OnErr result (self.new.bytes ≡ self.old.bytes) }
-        ensures counts { OnOk result (Counts (D.drive device.old) (D.drive device.new) 0) }
-        ensures kept { SameContents (D.drive device.old) (D.drive device.new) }
-        ensures closing { IsClosing (D.drive device.old).zones (D.drive device.new).zones }
-        ensures taken { CanRead (D.drive device.old) address 1 → IsNotRefused result }
-        ensures obeys { Obeys (D.drive device.old) result (D.drive device.new) }
+        ensures leaves { ReadLeaves (D.drive device.old) address result (D.drive device.new) }
     {
         read_extending(device, address, 1, &mut self.bytes)
     }
@@ -180,7 +175,7 @@ impl BatchBuilder {
 
     fn name(&mut self, first: u32, count: u32, trim: bool) -> Result<(), AllocError>
         requires { first + count < 2 ^ 32 }
-        ensures heading { OnOk result (self.new.heading ≡ record self.old.heading { entries = self.old.heading.entries ++ entries_from trim first count }) }
+        ensures heading { OnOk result (self.new.heading ≡ naming self.old.heading (entries_from trim first count)) }
         ensures bytes { self.new.bytes ≡ self.old.bytes }
     {
         for i in 0..count {

@@ -1,17 +1,18 @@
-//! What the zones of a drive hold, taken together: the records of all batches, the array that the
-//! newest of them encode, which drives can be mounted, how many blocks are kept in reserve, and how
-//! the tables of a mounted disk follow its drive, batch by batch.
+//! The tables of a mounted disk, and how they follow its drive, batch by batch: where the newest record
+//! of each block is, what each zone is for, and which sequence is next. What a drive means, its array and
+//! whether it can be mounted, is defined in `drive_array`, whose reserve and laws are offered here too.
 //!
 //! ```text
-//! let mut tables = Tables::new(alloc, geometry.zones, geometry.size, 9, 9)?;
-//! let zone = tables.take_empty()?;                       // the host zone
+//! let tables = Tables::new(alloc, geometry.zones, geometry.size, 9, 9)?;
+//! let mut disk = Mounted::new(alloc, drive, tables);
+//! let zone = disk.tables.take_empty()?;                  // the host zone
 //! let mut batch = BatchBuilder::new(alloc);
-//! batch.start(Kind::Host, tables.next(), 0, Some(tables.blocks()));
+//! batch.start(Kind::Host, disk.tables.next(), 0, Some(disk.tables.blocks()));
 //! batch.name_data(2, 3)?;                                // blocks 2 to 4
 //! batch.encode(geometry.block)?;                         // the header block
 //! batch.fill(3 * geometry.block as usize, 0xaa)?;        // their data
-//! tables.reserve(zone, 2, 3)?;                           // the last allocation
-//! append_batch(alloc, &mut tables, &mut drive, zone, &batch)?;
+//! disk.tables.reserve(zone, 2, 3)?;                      // the last allocation
+//! append_batch(&mut disk, zone, &batch)?;
 //! ```
 //!
 //! What is promised, of any drive that obeys its rules: a batch that is appended changes the array by
@@ -23,24 +24,25 @@
 //! live records (`least_sealed`), and take note of what a clean makes of the zones. A mount places the
 //! records that it finds (`place`), and says what the zones are for (`begin`). While tables and drive
 //! agree (`Agrees` in specs/Agreement) and a zone is kept empty, the drive can be mounted (`IsMountable`
-//! in specs/Mountable). `laws` has what holds of all drives' contents.
+//! of `drive_array`). `a_zone_can_be_cleaned` is what the reserve gives a cleaner.
 #![tactic(auto)]
 
 mod append;
 mod batch;
 mod empties;
 mod laws;
-mod reserve;
+mod mounted;
 mod roles;
 mod tables;
 
 pub use append::{append_batch, halt_of};
 pub use batch::BatchBuilder;
-pub use laws::{
-    a_zone_can_be_cleaned, append_first, append_logs, append_writes, empty_spare, finish_logs,
-    finish_mounts, greatest_is, newest_is_live, one_clearing, repair_mounts, resets_mount,
-    spelled_blocks, torn_mounts,
+pub use drive_array::{
+    append_first, append_logs, append_writes, batch_most, empty_spare, fill, finish_logs,
+    finish_mounts, fits_reserve, greatest_is, most_blocks, newest_is_live, one_clearing,
+    repair_mounts, resets_mount, spelled_blocks, torn_mounts,
 };
-pub use reserve::{batch_most, fill, fits_reserve, most_blocks};
+pub use laws::a_zone_can_be_cleaned;
+pub use mounted::Mounted;
 pub use roles::{Filling, Roles, Second};
 pub use tables::Tables;

@@ -1,6 +1,6 @@
 ghost use Rattle.std.specs.Prelude.{◌≡◌, ◌≤◌, ◌<◌, ◌+◌, ◌^◌, ℕ, IfOk, IfSome, IfNone, None, Some, false, length, replicate, slice_index_or, true};
 ghost use Rattle.std.specs.List.{AllByRecursion};
-ghost use Rattle.zone_choice.specs.Roles.{AreApart, AreMarked, IsLowestEmpty, clean_ended, closed_beside, closed_unless, empty_count, filling_of, fillings, grown, is_open_beside, is_sealed_at, listed, marked, mounted_as, ended, next_of, open_beside, promoted, sealed, second_with, taken, unmarked, unused, with_destination, wrote};
+ghost use Rattle.zone_choice.specs.Roles.{AreApart, AreMarked, IsLowestEmpty, clean_ended, closed_beside, closed_unless, empty_count, filling_of, fillings, grown, is_open_beside, is_sealed_at, filling_list, marked, mounted_as, ended, next_of, open_beside, promoted, sealed, second_with, taken, unmarked, unused_roles, with_destination, wrote};
 ghost use Rattle.std.specs.Option.{option_map};
 
 use crate::empties::EmptyZones;
@@ -102,7 +102,7 @@ impl Second {
 impl Roles {
     /// All zones are empty, and none is being filled.
     pub fn new(alloc: Global, zones: u32) -> Result<Roles, AllocError>
-        ensures { IfOk result (λ r. r ≡ unused zones) }
+        ensures { IfOk result (λ r. r ≡ unused_roles zones) }
     {
         Ok(Roles {
             empty: EmptyZones::new(alloc, zones)?,
@@ -300,7 +300,7 @@ fn make_next(second: &mut Option<Second>)
 }
 
 fn grow(filling: &mut Option<Filling>, zone: u32, blocks: u32)
-    requires { AllByRecursion (λ filling. filling.written + blocks < 2 ^ 32) (listed filling.old) }
+    requires { AllByRecursion (λ filling. filling.written + blocks < 2 ^ 32) (filling_list filling.old) }
     ensures { filling.new ≡ option_map (grown zone blocks) filling.old }
 {
     if let Some(filling) = filling {
@@ -309,7 +309,7 @@ fn grow(filling: &mut Option<Filling>, zone: u32, blocks: u32)
 }
 
 fn grow_second(second: &mut Option<Second>, zone: u32, blocks: u32)
-    requires { AllByRecursion (λ filling. filling.written + blocks < 2 ^ 32) (listed (option_map filling_of second.old)) }
+    requires { AllByRecursion (λ filling. filling.written + blocks < 2 ^ 32) (filling_list (option_map filling_of second.old)) }
     ensures { second.new ≡ option_map (second_with (grown zone blocks)) second.old }
 {
     match second {

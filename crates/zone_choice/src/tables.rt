@@ -2,10 +2,10 @@ ghost use Rattle.std.specs.Prelude.{◌≡◌, ◌≢◌, ◌≤◌, ◌<◌, �
 ghost use Rattle.std.specs.List.{AllByRecursion};
 ghost use Rattle.logical_map.specs.Counts.{lowered, raised};
 ghost use Rattle.logical_map.specs.Live.{first_record, live};
-ghost use Rattle.logical_map.specs.Places.{ArePlacedReady, IsReady, Reserves, address_of};
+ghost use Rattle.logical_map.specs.Places.{ArePlacedReady, IsReady, Reserves, place_address};
 ghost use Rattle.logical_map.specs.declared.place.Place.TheVariants as places;
-ghost use Rattle.zone_choice.specs.Roles.{IsLowestEmpty, clean_ended, closed_beside, empty_count, fillings, is_sealed_at, next_of, open_beside, promoted, sealed, taken, unused, with_destination, wrote};
-ghost use Rattle.zone_choice.specs.Tables.{AreReserved, GrowsTo, IsLeastSealed, SameButReady, size_of};
+ghost use Rattle.zone_choice.specs.Roles.{IsLowestEmpty, clean_ended, closed_beside, empty_count, fillings, is_sealed_at, next_of, open_beside, promoted, sealed, taken, unused_roles, with_destination, wrote};
+ghost use Rattle.zone_choice.specs.Tables.{AreReserved, GrowsTo, IsLeastSealed, SameButReady, size_of, with_places};
 
 use crate::roles::{Filling, Roles, Second};
 use live_index::LiveIndex;
@@ -48,7 +48,7 @@ impl Tables {
         ensures places { IfOk result (λ tables. tables.map.places ≡ replicate blocks places.None) }
         ensures zones { IfOk result (λ tables. tables.map.zones ≡ zones) }
         ensures zone_size { IfOk result (λ tables. tables.map.zone_size ≡ zone_size) }
-        ensures roles { IfOk result (λ tables. tables.roles ≡ unused zones) }
+        ensures roles { IfOk result (λ tables. tables.roles ≡ unused_roles zones) }
         ensures next { IfOk result (λ tables. tables.next ≡ 1) }
         ensures given { IfOk result (λ tables. tables.given ≡ given) }
     {
@@ -238,9 +238,9 @@ impl Tables {
     pub fn place(&mut self, block: u32, place: Place)
         requires in_range { block < size_of self.old }
         requires ready { IsReady self.old.map block }
-        requires fits { address_of place + 1 < 2 ^ 63 }
+        requires fits { place_address place + 1 < 2 ^ 63 }
         requires few { size_of self.old ≤ 2 ^ 31 }
-        ensures { self.new ≡ record self.old { map = record self.old.map { places = slice_set self.old.map.places block place } } }
+        ensures { self.new ≡ with_places self.old (slice_set self.old.map.places block place) }
     {
         let moved = self.map.set(block, place);
         lower(&mut self.index, moved.from);

@@ -10,14 +10,14 @@ use Rattle.batch_log.specs.Log.{Batch, batch_size}
 use Rattle.zone_choice.specs.declared.roles.Filling.{Filling}
 use Rattle.zone_choice.specs.declared.roles.Second.{Second}
 use Rattle.zone_choice.specs.declared.roles.Second.TheVariants.{Destination, Next}
-use Rattle.zone_choice.specs.Agreement.{Mounted, drive_logs}
-use Rattle.zone_choice.specs.Changes.{AppendLeaves, CanPlace, KeepsArray, Places, StopsInside, close_count, closes_before, roles_alone}
-use Rattle.zone_choice.specs.Records.{append_log}
-use Rattle.zone_choice.specs.Mountable.{IsMountable}
-use Rattle.zone_choice.specs.Reserve.{batch_most}
+use Rattle.zone_choice.specs.Agreement.{MountedView}
+use Rattle.drive_array.specs.ZoneLogs.{drive_logs, log_at}
+use Rattle.zone_choice.specs.Changes.{BatchLeaves, CanPlace, KeepsArray, Places, StopsInside, close_count, closes_before, closes_beside, roles_alone}
+use Rattle.drive_array.specs.Records.{append_log}
+use Rattle.drive_array.specs.Mountable.{IsMountable}
+use Rattle.drive_array.specs.Reserve.{batch_most}
 use Rattle.zone_choice.specs.Roles.{RolesView, Differ, closed_beside, closed_unless, grown, second_with, wrote, open_beside}
-use Rattle.zone_choice.specs.Spare.{HasSpare}
-use Rattle.zone_choice.specs.ZoneLogs.{log_at}
+use Rattle.drive_array.specs.Spare.{HasSpare}
 use Rattle.zone_choice.proofs.AgreementLaws.{empty-spare_after, sound-weaker}
 use Rattle.zone_choice.proofs.AloneLaws.{alone-empty, memory-keeps, stops-tables}
 use Rattle.zone_choice.proofs.CommandLaws.{filling-in_range}
@@ -67,7 +67,7 @@ host-apart host second h f differ host-is second-is = let here = rw (host-is, se
 
 -- ---- a batch of the host
 
-pub host_cleaned : (before after : Mounted) (clean : Option CleanView) (host : Filling) (b : Batch) → AgreesWithClean before clean → before.tables.roles.host ≡ Some host → CanPlace before host.zone b → Places before after host.zone b → AgreesWithClean after (option_map (forgotten b.heading.entries) clean)
+pub host_cleaned : (before after : MountedView) (clean : Option CleanView) (host : Filling) (b : Batch) → AgreesWithClean before clean → before.tables.roles.host ≡ Some host → CanPlace before host.zone b → Places before after host.zone b → AgreesWithClean after (option_map (forgotten b.heading.entries) clean)
 host_cleaned before after None host b is host-is can done =
     (done.agrees, (rw (done.roles, alone-empty before.drive.geometry before.tables.roles host.zone) is.1.0, rw (done.roles, done.geometry) (alone-beside before.drive.geometry before.tables.roles host (batch_size b) (rw host-is at is.0.roles.apart.differ) is.1.1)))
 host_cleaned before after (Some c) host b is host-is can done =
@@ -75,7 +75,7 @@ host_cleaned before after (Some c) host b is host-is can done =
     (done.agrees, (host_gives before after c host.zone b is.1 can apart done).clean)
 
 -- as many turns are left as before, or fewer
-pub host_turns : (before after : Mounted) (clean : Option CleanView) (host : Filling) (b : Batch) → AgreesWithClean before clean → before.tables.roles.host ≡ Some host → CanPlace before host.zone b → Places before after host.zone b
+pub host_turns : (before after : MountedView) (clean : Option CleanView) (host : Filling) (b : Batch) → AgreesWithClean before clean → before.tables.roles.host ≡ Some host → CanPlace before host.zone b → Places before after host.zone b
     → turns_left (batch_most before.drive.geometry) after.tables (option_map (forgotten b.heading.entries) clean) ≤ turns_left (batch_most before.drive.geometry) before.tables clean
 host_turns before after None host b is host-is can done = omega arith
 host_turns before after (Some c) host b is host-is can done =
@@ -84,7 +84,7 @@ host_turns before after (Some c) host b is host-is can done =
 
 -- ---- a stop inside its Append
 
-spare-beside : (before : Mounted) (clean : Option CleanView) (host : Filling) (b : Batch) → AgreesWithClean before clean → before.tables.roles.host ≡ Some host → CanPlace before host.zone b → HasSpare before.drive.geometry.block before.tables.given (append_log (drive_logs before.drive) host.zone b)
+spare-beside : (before : MountedView) (clean : Option CleanView) (host : Filling) (b : Batch) → AgreesWithClean before clean → before.tables.roles.host ≡ Some host → CanPlace before host.zone b → HasSpare before.drive.geometry.block before.tables.given (append_log (drive_logs before.drive) host.zone b)
 spare-beside before None host b is host-is can = empty-spare_after before.drive before.tables host.zone b is.0 is.1.0 can.filling
 spare-beside before (Some c) host b is host-is can =
     let f = is.1.destination in
@@ -99,7 +99,7 @@ spare-beside before (Some c) host b is host-is can =
     moves_have_spare before.drive.geometry.block before.tables.given c.victim f.zone (append_log logs host.zone b) (sealed-apart before.tables.roles c.victim f.zone is.1.victim filling)
     (omega (arith, below, length-set logs host.zone (log_at logs host.zone ++ b ∷ []))) moves
 
-pub host_stops : (before after : Mounted) (clean : Option CleanView) (host : Filling) (b : Batch) → AgreesWithClean before clean → before.tables.roles.host ≡ Some host → CanPlace before host.zone b → StopsInside before after host.zone b → IsMountable after.drive after.tables.given
+pub host_stops : (before after : MountedView) (clean : Option CleanView) (host : Filling) (b : Batch) → AgreesWithClean before clean → before.tables.roles.host ≡ Some host → CanPlace before host.zone b → StopsInside before after host.zone b → IsMountable after.drive after.tables.given
 host_stops before after clean host b is host-is can stops =
     let spare : HasSpare before.drive.geometry.block before.tables.given (drive_logs after.drive) = elim stops.left [
       | inl same ↦ rw same.logs_are (cleans-spare before clean is)
@@ -109,33 +109,33 @@ host_stops before after clean host b is host-is can stops =
 
 -- ---- what it leaves, by its answer
 
-pub kept_turns : (before after : Mounted) (clean : Option CleanView) (most : ℕ) → AgreesWithClean before clean → KeepsArray before after → turns_left most after.tables clean ≤ turns_left most before.tables clean
+pub kept_turns : (before after : MountedView) (clean : Option CleanView) (most : ℕ) → AgreesWithClean before clean → KeepsArray before after → turns_left most after.tables clean ≤ turns_left most before.tables clean
 kept_turns before after None most is kept = omega arith
 kept_turns before after (Some c) most is kept = omega (arith, turns_kept before after c most is.0 kept is.1)
 
 -- the blocks that the batch names are those of its entries
-pub host-leaves : (before after : Mounted) (clean : Option CleanView) (host : Filling) (b : Batch) → AgreesWithClean before clean → before.tables.roles.host ≡ Some host → CanPlace before host.zone b → Places before after host.zone b
+pub host-leaves : (before after : MountedView) (clean : Option CleanView) (host : Filling) (b : Batch) → AgreesWithClean before clean → before.tables.roles.host ≡ Some host → CanPlace before host.zone b → Places before after host.zone b
     → HostLeaves before clean host.zone b (Ok tt) after (option_map (forgotten b.heading.entries) clean)
 host-leaves before after clean host b is host-is can done = (done, refl, record { cleaned = host_cleaned before after clean host b is host-is can done; turns = host_turns before after clean host b is host-is can done })
 
-pub host-halts : (before after : Mounted) (clean : Option CleanView) (host : Filling) (b : Batch) (fault : Halt) → AgreesWithClean before clean → before.tables.roles.host ≡ Some host → CanPlace before host.zone b → AppendLeaves before after host.zone b (Err fault) → HostLeaves before clean host.zone b (Err fault) after clean
+pub host-halts : (before after : MountedView) (clean : Option CleanView) (host : Filling) (b : Batch) (fault : Halt) → AgreesWithClean before clean → before.tables.roles.host ≡ Some host → CanPlace before host.zone b → BatchLeaves before after host.zone b (Err fault) → HostLeaves before clean host.zone b (Err fault) after clean
 host-halts before after clean host b halt.Memory is host-is can leaves =
     let kept = memory-keeps before after host.zone b is.0 leaves in
     (kept, refl, record { cleaned = cleaned_kept before after clean is kept; turns = kept_turns before after clean (batch_most before.drive.geometry) is kept }, memory-closes before after host.zone b leaves)
 host-halts before after clean host b halt.Stopped is host-is can leaves = (leaves, refl, host_stops before after clean host b is host-is can leaves)
 
 -- one Close at most comes before it
-pub few-closes : (geometry : Geometry) (roles : RolesView) (zone : ℕ) → closes_before geometry roles zone ≤ 1
-few-closes geometry roles zone = by (ltb 1 geometry.open)
+pub few-closes : (disk : MountedView) (zone : ℕ) → closes_before disk zone ≤ 1
+few-closes disk zone = by (ltb 1 disk.drive.geometry.open)
   where
     one : (b : Bool) → cond {A = ℕ} b 0 1 ≤ 1
     one true = omega arith
     one false = omega arith
 
-    count : (other : Option Filling) → close_count geometry.capacity other ≤ 1
+    count : (other : Option Filling) → close_count disk.drive.geometry.capacity other ≤ 1
     count None = omega arith
-    count (Some filling) = one (eqb filling.written geometry.capacity)
+    count (Some filling) = one (eqb filling.written disk.drive.geometry.capacity)
 
-    by : (b : Bool) → cond {A = ℕ} b 0 (close_count geometry.capacity (open_beside roles zone)) ≤ 1
+    by : (b : Bool) → cond {A = ℕ} b 0 (closes_beside disk zone) ≤ 1
     by true = omega arith
-    by false = count (open_beside roles zone)
+    by false = count (open_beside disk.tables.roles zone)

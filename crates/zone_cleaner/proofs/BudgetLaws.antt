@@ -2,8 +2,8 @@
 use Rattle.std.proofs.Common.{◌≡◌, ℕ, zero, suc, ◌+◌, ◌<◌, ◌≤◌, max, refl, ap, ◌∙◌, inl, inr, arith}
 use Rattle.std.specs.Int.{div_ceil}
 use Rattle.std.proofs.lemmas.Bool.{cases_lt}
-use Rattle.zone_choice.specs.Reserve.{fill}
-use Rattle.zone_choice.proofs.ReserveLaws.{div_ceil-add, div_ceil-last, div_ceil-mono, div_ceil-none, div_ceil-positive}
+use Rattle.drive_array.specs.Reserve.{move_blocks}
+use Rattle.drive_array.proofs.ReserveLaws.{div_ceil-add, div_ceil-last, div_ceil-mono, div_ceil-none, div_ceil-positive}
 use Rattle.zone_cleaner.specs.Clean.{HasRoomFor, moves_due}
 
 unwritten-some : (written : ℕ) → 0 < written → moves_due written ≡ 0
@@ -48,7 +48,7 @@ pub fewer-room : (c k written more fewer : ℕ) → 0 < k → fewer ≤ more →
 fewer-room c k written more fewer pos le room = omega (arith, le, room, div_ceil-mono fewer more k pos le)
 
 -- a clean that begins
-pub start-room : (c k r : ℕ) → fill k r + 2 ≤ c → HasRoomFor c k 0 r
+pub start-room : (c k r : ℕ) → move_blocks k r + 2 ≤ c → HasRoomFor c k 0 r
 start-room c k r fits = omega (arith, fits)
 
 -- of a clean that runs fewer turns are left than a zone has blocks
@@ -62,7 +62,7 @@ few-turns c k used u r pos le room = elim (cases_lt 0 r) as (λ _. u + max (move
   | inr none ↦ omega (arith, le, none, room)
 ]
 
-pub start-turns : (c k r : ℕ) → 0 < k → fill k r + 2 ≤ c → r + max (moves_due 0) (div_ceil r k) + 1 + 1 ≤ c
+pub start-turns : (c k r : ℕ) → 0 < k → move_blocks k r + 2 ≤ c → r + max (moves_due 0) (div_ceil r k) + 1 + 1 ≤ c
 start-turns c k r pos fits = elim (cases_lt 0 r) as (λ _. r + max (moves_due 0) (div_ceil r k) + 1 + 1 ≤ c) [
   | inl some ↦ omega (arith, fits, div_ceil-positive r k pos some)
   | inr none ↦ omega (arith, fits)

@@ -12,18 +12,20 @@ use Rattle.logical_map.specs.declared.place.Place.{Place}
 use Rattle.logical_map.specs.declared.place.Place.TheVariants as places
 use Rattle.zone_choice.specs.declared.roles.Filling.{Filling}
 use Rattle.zone_choice.specs.declared.roles.Second.TheVariants.{Destination}
-use Rattle.zone_choice.specs.Agreement.{Agrees, HoldsFilling, Mounted, drive_logs, mounted_array}
+use Rattle.zone_choice.specs.Agreement.{Agrees, HoldsFilling, MountedView, mounted_array}
+use Rattle.drive_array.specs.ZoneLogs.{drive_logs}
 use Rattle.zone_choice.specs.Builder.{placed}
 use Rattle.zone_choice.specs.Changes.{next_address, placed_with, told_over}
-use Rattle.zone_choice.specs.Reserve.{batch_most}
+use Rattle.drive_array.specs.Reserve.{batch_most}
 use Rattle.zone_choice.specs.Roles.{grown}
 use Rattle.zone_choice.specs.Tables.{size_of}
-use Rattle.zone_choice.proofs.AgreementLaws.{extended-same, length-spelled, size-encoded}
+use Rattle.zone_choice.proofs.AgreementLaws.{extended-same, size-encoded}
+use Rattle.drive_array.proofs.WholeLaws.{length-spelled}
 use Rattle.zone_choice.proofs.BuilderLaws.{blocks_named, data_count-few}
 use Rattle.zone_choice.proofs.ReadLaws.{HoldsPlace, holds_place}
-use Rattle.zone_choice.proofs.ReserveLaws.{positive-most}
+use Rattle.drive_array.proofs.ReserveLaws.{positive-most}
 use Rattle.zone_cleaner.specs.Clean.{CleanView, HasRoomFor, IsClean, destination_written, untaken}
-use Rattle.zone_cleaner.specs.LiveRecords.{LiveRecord, entries_of, entry_of, move_of, records_in, without_all}
+use Rattle.zone_cleaner.specs.LiveRecords.{LiveRecord, gathered_entries, gathered_entry, gathered_move, records_in, without_all}
 use Rattle.zone_cleaner.proofs.BudgetLaws.{AfterMove, after-move}
 use Rattle.zone_cleaner.proofs.CleanLaws.{live-parts}
 use Rattle.zone_cleaner.proofs.MoveLaws.{PlacedAway, elsewhere, length-placed, move-same, placed-away, placed-rest, without-own}
@@ -38,7 +40,7 @@ place-zeros drive array block places.None h = h
 place-zeros drive array block (places.Trimmed address) h = h
 place-zeros drive array block (places.At address) h = tt
 
-pub gathered-say : (disk : Mounted) (c : CleanView) → Agrees disk → IsClean disk c → SayTheArray (mounted_array disk) disk.drive.geometry.block c.gathered
+pub gathered-say : (disk : MountedView) (c : CleanView) → Agrees disk → IsClean disk c → SayTheArray (mounted_array disk) disk.drive.geometry.block c.gathered
 gathered-say disk c agrees is =
     let m = disk.tables.map in
     rw is.gathers.gathered (say-the-array (mounted_array disk) disk.drive.geometry.block m.zone_size c.victim 0 (take c.cursor m.places) each)
@@ -53,7 +55,7 @@ gathered-say disk c agrees is =
 
 -- ---- the array stays
 
-pub told_same : (disk : Mounted) (c : CleanView) → Agrees disk → IsClean disk c → told_over disk.drive.geometry.block (move_of (size_of disk.tables) disk.tables.next c.victim c.gathered) (mounted_array disk) ≡ mounted_array disk
+pub told_same : (disk : MountedView) (c : CleanView) → Agrees disk → IsClean disk c → told_over disk.drive.geometry.block (gathered_move (size_of disk.tables) disk.tables.next c.victim c.gathered) (mounted_array disk) ≡ mounted_array disk
 told_same disk c agrees is =
     let block = disk.drive.geometry.block in
     let array = mounted_array disk in
@@ -62,26 +64,26 @@ told_same disk c agrees is =
 
 -- ---- where the records lie
 
-pub entries-below : (rs : List LiveRecord) (low high : ℕ) → AreBetween low high rs → AllByRecursion (λ (e : Entry). e.block < high) (entries_of rs)
+pub entries-below : (rs : List LiveRecord) (low high : ℕ) → AreBetween low high rs → AllByRecursion (λ (e : Entry). e.block < high) (gathered_entries rs)
 entries-below [] low high all = tt
 entries-below (r ∷ rs) low high all = (one r.block r.content all.0.1, entries-below rs low high all.1)
   where
-    one : (block : ℕ) (content : Option (List ℕ)) → block < high → (entry_of block content).block < high
+    one : (block : ℕ) (content : Option (List ℕ)) → block < high → (gathered_entry block content).block < high
     one block None lt = lt
     one block (Some bytes) lt = lt
 
-named-blocks : (rs : List LiveRecord) → blocks_named (entries_of rs) ≡ map (λ (r : LiveRecord). r.block) rs
+named-blocks : (rs : List LiveRecord) → blocks_named (gathered_entries rs) ≡ map (λ (r : LiveRecord). r.block) rs
 named-blocks [] = refl
 named-blocks (r ∷ rs) = rw (one r.block r.content, named-blocks rs) refl
   where
-    one : (block : ℕ) (content : Option (List ℕ)) → (entry_of block content).block ≡ block
+    one : (block : ℕ) (content : Option (List ℕ)) → (gathered_entry block content).block ≡ block
     one block None = refl
     one block (Some bytes) = refl
 
-pub gathered-below : (disk : Mounted) (c : CleanView) → IsClean disk c → AreBetween 0 c.cursor c.gathered
+pub gathered-below : (disk : MountedView) (c : CleanView) → IsClean disk c → AreBetween 0 c.cursor c.gathered
 gathered-below disk c is = let m = disk.tables.map in rw is.gathers.gathered (between (mounted_array disk) m.zone_size c.victim 0 c.cursor (take c.cursor m.places) (omega (arith, length-take c.cursor m.places)))
 
-pub gathered-distinct : (disk : Mounted) (c : CleanView) → IsClean disk c → IsDistinct nat_eq (blocks_named (entries_of c.gathered))
+pub gathered-distinct : (disk : MountedView) (c : CleanView) → IsClean disk c → IsDistinct nat_eq (blocks_named (gathered_entries c.gathered))
 gathered-distinct disk c is =
     let m = disk.tables.map in
     rw (named-blocks c.gathered, is.gathers.gathered) (distinct-blocks (mounted_array disk) m.zone_size c.victim 0 (take c.cursor m.places))
@@ -91,42 +93,42 @@ gathered-distinct disk c is =
 pub grown-self : (f : Filling) (zone n : ℕ) → f.zone ≡ zone → grown zone n f ≡ record { zone = f.zone; written = f.written + n; may_open = true }
 grown-self f zone n e = ap (λ (b : Bool). cond b (record { zone = f.zone; written = f.written + n; may_open = true }) f) (eq-eqb f.zone zone e)
 
-pub data-entries : (rs : List LiveRecord) → data_count (entries_of rs) ≤ length rs
-data-entries rs = omega (arith, data_count-few (entries_of rs), length-map rs (λ (r : LiveRecord). entry_of r.block r.content))
+pub data-entries : (rs : List LiveRecord) → data_count (gathered_entries rs) ≤ length rs
+data-entries rs = omega (arith, data_count-few (gathered_entries rs), length-map rs (λ (r : LiveRecord). gathered_entry r.block r.content))
 
 nil-of : {X : Type 0} (xs : List X) → length xs ≡ 0 → xs ≡ []
 nil-of [] e = refl
 nil-of (x ∷ xs) e = absurd (omega arith)
 
 -- the batch takes no more blocks than the budget has for it
-pub record FitsMove (disk : Mounted) (c : CleanView) (destination : Filling) : Type 0 where
-  pub room : destination.written + (1 + data_count (entries_of c.gathered)) + 2 ≤ disk.drive.geometry.capacity
-  pub after : AfterMove disk.drive.geometry.capacity (batch_most disk.drive.geometry) destination.written (destination.written + (1 + data_count (entries_of c.gathered))) (untaken disk.tables c) (length c.gathered)
+pub record FitsMove (disk : MountedView) (c : CleanView) (destination : Filling) : Type 0 where
+  pub room : destination.written + (1 + data_count (gathered_entries c.gathered)) + 2 ≤ disk.drive.geometry.capacity
+  pub after : AfterMove disk.drive.geometry.capacity (batch_most disk.drive.geometry) destination.written (destination.written + (1 + data_count (gathered_entries c.gathered))) (untaken disk.tables c) (length c.gathered)
 
-pub fits-move : (disk : Mounted) (c : CleanView) → Agrees disk → (is : IsClean disk c) → MoveDue disk (batch_most disk.drive.geometry) c → FitsMove disk c is.destination
+pub fits-move : (disk : MountedView) (c : CleanView) → Agrees disk → (is : IsClean disk c) → MoveDue disk (batch_most disk.drive.geometry) c → FitsMove disk c is.destination
 fits-move disk c agrees is due =
     let g = disk.drive.geometry in
     let k = batch_most g in
-    let d = data_count (entries_of c.gathered) in
+    let d = data_count (gathered_entries c.gathered) in
     let moved : destination_written disk.tables.roles.second ≡ is.destination.written = ap destination_written is.second in
     let room : HasRoomFor g.capacity k is.destination.written (untaken disk.tables c + length c.gathered) = rw (← live-parts disk c is) is.room in
     let after = after-move g.capacity k is.destination.written (is.destination.written + (1 + d)) (untaken disk.tables c) (length c.gathered) d (positive-most g agrees.geometry) is.gathers.few (data-entries c.gathered) due.whole (λ some. due.some (omega (arith, moved, some))) refl room in
     record { room = omega (arith, after.room); after = after }
 
 -- where the gathered blocks lie
-pub record MovedPlaces (disk : Mounted) (c : CleanView) (destination : Filling) (new : List Place) : Type 0 where
+pub record MovedPlaces (disk : MountedView) (c : CleanView) (destination : Filling) (new : List Place) : Type 0 where
   pub long : length new ≡ size_of disk.tables
   pub taken : records_in (mounted_array disk) disk.tables.map.zone_size c.victim 0 (take c.cursor new) ≡ []
   pub rest : drop c.cursor new ≡ drop c.cursor disk.tables.map.places
   pub live_is : live_in disk.tables.map.zone_size c.victim new ≡ untaken disk.tables c
 
-pub moved_places : (disk : Mounted) (c : CleanView) (new : List Place) → Agrees disk → (is : IsClean disk c) → MoveDue disk (batch_most disk.drive.geometry) c
-    → new ≡ placed_with disk is.destination.zone (move_of (size_of disk.tables) disk.tables.next c.victim c.gathered) → MovedPlaces disk c is.destination new
+pub moved_places : (disk : MountedView) (c : CleanView) (new : List Place) → Agrees disk → (is : IsClean disk c) → MoveDue disk (batch_most disk.drive.geometry) c
+    → new ≡ placed_with disk is.destination.zone (gathered_move (size_of disk.tables) disk.tables.next c.victim c.gathered) → MovedPlaces disk c is.destination new
 moved_places disk c new agrees is due new-is =
     let m = disk.tables.map in
     let g = disk.drive.geometry in
     let f = is.destination in
-    let es = entries_of c.gathered in
+    let es = gathered_entries c.gathered in
     let header = next_address disk.drive f.zone in
     let count = 1 + data_count es in
     let filled = of-second (HoldsFilling g.capacity (contents disk.drive.zones) (drive_logs disk.drive)) disk.tables.roles (Destination f) is.second agrees.roles.fillings_are in

@@ -7,16 +7,17 @@ use Rattle.zone_states.specs.declared.geometry.Geometry.{Geometry}
 use Rattle.logical_map.specs.Live.{first_record, live, records_of}
 use Rattle.logical_map.specs.declared.place.Place.{Place}
 use Rattle.logical_map.specs.declared.place.Place.TheVariants as places
-use Rattle.zone_choice.specs.Agreement.{Agrees, Mounted, drive_logs, mounted_array}
+use Rattle.zone_choice.specs.Agreement.{Agrees, MountedView, mounted_array}
+use Rattle.drive_array.specs.ZoneLogs.{drive_logs}
 use Rattle.zone_choice.specs.Changes.{KeepsArray}
-use Rattle.zone_choice.specs.Reserve.{batch_most}
-use Rattle.zone_choice.specs.Spare.{HasSpare}
+use Rattle.drive_array.specs.Reserve.{batch_most}
+use Rattle.drive_array.specs.Spare.{HasSpare}
 use Rattle.zone_choice.specs.declared.roles.Second.TheVariants.{Destination, Next}
 use Rattle.zone_choice.specs.Roles.{closed, second_with}
 use Rattle.zone_choice.proofs.CommandLaws.{filling-in_range}
 use Rattle.zone_choice.specs.Tables.{size_of}
 use Rattle.zone_cleaner.specs.Clean.{CleanView, IsClean, destination_written, turns_left, untaken}
-use Rattle.zone_cleaner.specs.LiveRecords.{LiveRecord, content_of}
+use Rattle.zone_cleaner.specs.LiveRecords.{LiveRecord, live_content}
 use Rattle.zone_choice.specs.declared.roles.Filling.{Filling}
 use Rattle.zone_choice.specs.declared.roles.Second.{Second}
 use Rattle.zone_cleaner.specs.Turns.{with_record}
@@ -26,7 +27,7 @@ use Rattle.zone_cleaner.proofs.SealedLaws.{sealed-apart, second-filling, zone-lo
 
 -- ---- nothing that a clean depends on changes
 
-same-zones : (before after : Mounted) → Agrees before → KeepsArray before after → after.tables.map.zone_size ≡ before.tables.map.zone_size
+same-zones : (before after : MountedView) → Agrees before → KeepsArray before after → after.tables.map.zone_size ≡ before.tables.map.zone_size
 same-zones before after agrees kept = kept.agrees.zone_size ∙ ap (λ (g : Geometry). g.size) kept.geometry ∙ sym agrees.zone_size
 
 destination_zone : Option Second → ℕ
@@ -46,7 +47,7 @@ kept-destination None f e = absurd (cc)
 kept-destination (Some (Next g)) f e = absurd (cc)
 kept-destination (Some (Destination g)) f e = record { filling = g; is = refl; zone = ap destination_zone e; written = ap destination_written e }
 
-pub clean_kept : (before after : Mounted) (c : CleanView) → Agrees before → KeepsArray before after → IsClean before c → IsClean after c
+pub clean_kept : (before after : MountedView) (c : CleanView) → Agrees before → KeepsArray before after → IsClean before c → IsClean after c
 clean_kept before after c agrees kept is =
     let zones = same-zones before after agrees kept in
     let same = kept-destination after.tables.roles.second is.destination (kept.second ∙ ap (option_map (second_with closed)) is.second) in
@@ -64,7 +65,7 @@ clean_kept before after c agrees kept is =
     }
 
 -- the same turns are left
-pub turns_kept : (before after : Mounted) (c : CleanView) (most : ℕ) → Agrees before → KeepsArray before after → IsClean before c → turns_left most after.tables (Some c) ≡ turns_left most before.tables (Some c)
+pub turns_kept : (before after : MountedView) (c : CleanView) (most : ℕ) → Agrees before → KeepsArray before after → IsClean before c → turns_left most after.tables (Some c) ≡ turns_left most before.tables (Some c)
 turns_kept before after c most agrees kept is =
     let zones = same-zones before after agrees kept in
     let same = kept-destination after.tables.roles.second is.destination (kept.second ∙ ap (option_map (second_with closed)) is.second) in
@@ -74,7 +75,7 @@ turns_kept before after c most agrees kept is =
 -- ---- a stop
 
 -- at each moment of a clean the destination is vacant or half clean
-pub clean_spare : (disk : Mounted) (c : CleanView) → Agrees disk → IsClean disk c → HasSpare disk.drive.geometry.block disk.tables.given (drive_logs disk.drive)
+pub clean_spare : (disk : MountedView) (c : CleanView) → Agrees disk → IsClean disk c → HasSpare disk.drive.geometry.block disk.tables.given (drive_logs disk.drive)
 clean_spare disk c agrees is =
     let f = is.destination in
     let filling = second-filling disk.tables.roles (Destination f) is.second in
@@ -100,17 +101,17 @@ found-parts f (Some b) block place e =
     spot (Some p) = p.1
 
 -- of the gathered records no more than one Move takes, and one fewer is left
-pub record GatherGives (disk : Mounted) (c new : CleanView) : Type 0 where
+pub record GatherGives (disk : MountedView) (c new : CleanView) : Type 0 where
   pub clean : IsClean disk new
   pub fewer : untaken disk.tables new + 1 ≡ untaken disk.tables c
 
-pub gather_gives : (disk : Mounted) (c : CleanView) (block : ℕ) (place : Place) → IsClean disk c → first_record disk.tables.map c.victim c.cursor ≡ Some (block, place) → length c.gathered < batch_most disk.drive.geometry
-    → GatherGives disk c (with_record c block (content_of (mounted_array disk) block place))
+pub gather_gives : (disk : MountedView) (c : CleanView) (block : ℕ) (place : Place) → IsClean disk c → first_record disk.tables.map c.victim c.cursor ≡ Some (block, place) → length c.gathered < batch_most disk.drive.geometry
+    → GatherGives disk c (with_record c block (live_content (mounted_array disk) block place))
 gather_gives disk c block place is found few =
     let m = disk.tables.map in
     let parts = found-parts (λ b. get_or m.places b places.None) (slice_get (records_of m c.victim c.cursor) 0) block place found in
     let took = takes-next (mounted_array disk) m.zone_size c.victim c.cursor block m.places is.gathers.within parts.0 in
-    let one : LiveRecord = record { block = block; content = content_of (mounted_array disk) block place } in
+    let one : LiveRecord = record { block = block; content = live_content (mounted_array disk) block place } in
     record {
       clean = record {
         destination = is.destination;
@@ -132,19 +133,19 @@ none-parts f None e = refl
 none-parts f (Some b) e = absurd (cc)
 
 -- no record is left to take
-pub untaken_none : (disk : Mounted) (c : CleanView) → first_record disk.tables.map c.victim c.cursor ≡ None → untaken disk.tables c ≡ 0
+pub untaken_none : (disk : MountedView) (c : CleanView) → first_record disk.tables.map c.victim c.cursor ≡ None → untaken disk.tables c ≡ 0
 untaken_none disk c none =
     let m = disk.tables.map in
     takes-none m.zone_size c.victim c.cursor m.places (none-parts (λ b. get_or m.places b places.None) (slice_get (records_of m c.victim c.cursor) 0) none)
 
 -- the gathered records, and those not yet taken, are the live records of the victim
-pub live-parts : (disk : Mounted) (c : CleanView) → IsClean disk c → live disk.tables.map c.victim ≡ untaken disk.tables c + length c.gathered
+pub live-parts : (disk : MountedView) (c : CleanView) → IsClean disk c → live disk.tables.map c.victim ≡ untaken disk.tables c + length c.gathered
 live-parts disk c is =
     let m = disk.tables.map in
     omega (arith, ap length is.gathers.gathered, length-records_in (mounted_array disk) m.zone_size c.victim 0 (take c.cursor m.places), live_in-split m.zone_size c.victim c.cursor m.places)
 
 -- the next record lies past the cursor
-pub gather-next : (disk : Mounted) (c : CleanView) (block : ℕ) (place : Place) → IsClean disk c → first_record disk.tables.map c.victim c.cursor ≡ Some (block, place)
+pub gather-next : (disk : MountedView) (c : CleanView) (block : ℕ) (place : Place) → IsClean disk c → first_record disk.tables.map c.victim c.cursor ≡ Some (block, place)
     → (block < size_of disk.tables) × (c.cursor ≤ block) × (place ≡ get_or disk.tables.map.places block places.None)
 gather-next disk c block place is found =
     let m = disk.tables.map in

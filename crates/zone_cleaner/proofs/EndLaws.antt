@@ -13,26 +13,26 @@ use Rattle.drive_port.specs.declared.device.Halt.TheVariants as halt
 use Rattle.batch_log.specs.Log.{Batch}
 use Rattle.zone_choice.specs.declared.roles.Filling.{Filling}
 use Rattle.zone_choice.specs.declared.roles.Second.TheVariants.{Destination}
-use Rattle.zone_choice.specs.Agreement.{Agrees, Mounted, drive_logs, mounted, mounted_array, spelled}
-use Rattle.zone_choice.specs.Builder.{BuilderView, IsBuilt, built}
-use Rattle.zone_choice.specs.Changes.{AppendLeaves, CanPlace, IsHalt, Places, StopsInside, halt_of, sequence_end}
-use Rattle.zone_choice.specs.Records.{append_log}
-use Rattle.zone_choice.specs.Reserve.{batch_most}
+use Rattle.zone_choice.specs.Agreement.{Agrees, MountedView, mounted, mounted_array}
+use Rattle.drive_array.specs.ZoneLogs.{drive_logs, log_at, spelled, spelled_array}
+use Rattle.zone_choice.specs.Builder.{BuilderView, IsBuilt}
+use Rattle.zone_choice.specs.Changes.{BatchLeaves, CanPlace, IsHalt, Places, StopsInside, built_for, fault_halt, sequence_end}
+use Rattle.drive_array.specs.Records.{append_log}
+use Rattle.drive_array.specs.Reserve.{batch_most}
 use Rattle.zone_choice.specs.Roles.{clean_ended}
-use Rattle.zone_choice.specs.Sizes.{array_of}
-use Rattle.zone_choice.specs.Spare.{HasSpare}
+use Rattle.drive_array.specs.Sizes.{array_of}
+use Rattle.drive_array.specs.Spare.{HasSpare}
 use Rattle.zone_choice.specs.Tables.{TablesView, size_of}
-use Rattle.zone_choice.specs.ZoneLogs.{log_at, spelled_array}
 use Rattle.zone_choice.proofs.AgreementLaws.{size-encoded}
 use Rattle.zone_choice.proofs.AloneLaws.{memory-keeps, stops-tables}
 use Rattle.zone_choice.proofs.ChangeLaws.{keeps-halt, keeps-same}
 use Rattle.zone_choice.proofs.CommandLaws.{content-zone, filling-in_range, start-below, zone-start}
 use Rattle.zone_choice.proofs.OpenLaws.{OpensNone, reset-opens}
-use Rattle.zone_choice.proofs.ReserveLaws.{positive-most}
+use Rattle.drive_array.proofs.ReserveLaws.{positive-most}
 use Rattle.zone_cleaner.specs.declared.step.Step.TheVariants.{Move, Reset}
 use Rattle.zone_cleaner.specs.Clean.{CleanView, IsClean}
-use Rattle.zone_cleaner.specs.LiveRecords.{data_of, move_of}
-use Rattle.zone_cleaner.specs.Turns.{EmptiesVictim, MovesRecords, OnlyMoves, StepFails, StopsClean, clean_fault, next_step}
+use Rattle.zone_cleaner.specs.LiveRecords.{gathered_data, gathered_move}
+use Rattle.zone_cleaner.specs.Turns.{EmptiesVictim, IsAtStep, MovesRecords, OnlyMoves, StepFails, StopsClean, clean_fault}
 use Rattle.zone_cleaner.proofs.OnlyLaws.{only-more, only-same, only-without}
 use Rattle.zone_cleaner.proofs.CarryLaws.{told_same}
 use Rattle.zone_cleaner.proofs.CleanLaws.{clean_spare}
@@ -52,7 +52,7 @@ use Rattle.logical_map.specs.Places.{ArePlacedReady}
 -- ---- a Move stops
 
 -- the logs encode the array
-encoded : (disk : Mounted) → array_of disk.drive.geometry.block disk.tables.given (drive_logs disk.drive) ≡ mounted_array disk
+encoded : (disk : MountedView) → array_of disk.drive.geometry.block disk.tables.given (drive_logs disk.drive) ≡ mounted_array disk
 unfolding spelled_array
 encoded disk = refl
 
@@ -60,22 +60,22 @@ logs-array : (drive : DriveState) (n : ℕ) (g : Geometry) (logs : List (List Ba
 unfolding spelled_array
 logs-array drive n g logs e same = rw (← e, ← same) refl
 
-pub carry_stops : (before after : Mounted) (c : CleanView) → Agrees before → (is : IsClean before c) → StopsInside before after is.destination.zone (move_of (size_of before.tables) before.tables.next c.victim c.gathered) → StopsClean before after
+pub carry_stops : (before after : MountedView) (c : CleanView) → Agrees before → (is : IsClean before c) → StopsInside before after is.destination.zone (gathered_move (size_of before.tables) before.tables.next c.victim c.gathered) → StopsClean before after
 carry_stops before after c agrees is stops =
-    let kept = stops-tables before after is.destination.zone (move_of (size_of before.tables) before.tables.next c.victim c.gathered) stops in
+    let kept = stops-tables before after is.destination.zone (gathered_move (size_of before.tables) before.tables.next c.victim c.gathered) stops in
     record {
       stopped = stops.stopped;
       moves = only;
       mountable = rw kept.given (stops.mountable spare);
       array = ap (spelled after.drive) kept.given ∙ array;
-      tables = stops-close before after is.destination.zone (move_of (size_of before.tables) before.tables.next c.victim c.gathered) stops;
+      tables = stops-close before after is.destination.zone (gathered_move (size_of before.tables) before.tables.next c.victim c.gathered) stops;
       geometry = stops.geometry;
       refused = stops.refused;
       appended = stops.appended;
     }
   where
     b : Batch
-    b = move_of (size_of before.tables) before.tables.next c.victim c.gathered
+    b = gathered_move (size_of before.tables) before.tables.next c.victim c.gathered
 
     zone : ℕ
     zone = is.destination.zone
@@ -122,9 +122,9 @@ carry_stops before after c agrees is stops =
             moves_have_spare g.block before.tables.given c.victim f.zone (append_log logs f.zone b) apart (omega (arith, below, length-set logs f.zone (log_at logs f.zone ++ b ∷ []))) moved
 
 -- a Move that was not appended
-pub carry_fails : (before after : Mounted) (c : CleanView) (fault : Halt) → Agrees before → (is : IsClean before c) → AppendLeaves before after is.destination.zone (move_of (size_of before.tables) before.tables.next c.victim c.gathered) (Err fault) → StepFails Move (clean_fault fault) before after
+pub carry_fails : (before after : MountedView) (c : CleanView) (fault : Halt) → Agrees before → (is : IsClean before c) → BatchLeaves before after is.destination.zone (gathered_move (size_of before.tables) before.tables.next c.victim c.gathered) (Err fault) → StepFails Move (clean_fault fault) before after
 carry_fails before after c halt.Memory agrees is leaves =
-    let b = move_of (size_of before.tables) before.tables.next c.victim c.gathered in
+    let b = gathered_move (size_of before.tables) before.tables.next c.victim c.gathered in
     (memory-keeps before after is.destination.zone b agrees leaves, memory-closes before after is.destination.zone b leaves)
 carry_fails before after c halt.Stopped agrees is leaves = carry_stops before after c agrees is leaves
 
@@ -147,7 +147,7 @@ can_reset drive tables c start agrees is start-is =
 -- a Reset that was not done
 pub record ResetFails (old new : DriveState) (tables : TablesView) (fault : PortFault) : Type 0 where
   pub halt : IsHalt fault
-  pub fails : StepFails Reset (clean_fault (halt_of fault)) (mounted old tables) (mounted new tables)
+  pub fails : StepFails Reset (clean_fault (fault_halt fault)) (mounted old tables) (mounted new tables)
 
 pub reset_fails : (old new : DriveState) (tables : TablesView) (c : CleanView) (start : ℕ) (fault : PortFault) → Agrees (mounted old tables) → IsClean (mounted old tables) c → ResetDue (mounted old tables) c → start ≡ c.victim * old.geometry.size
     → ResetGives {V = Unit {0}} old start (Err fault) new → ResetKeeps {V = Unit {0}} old start (Err fault) new → ResetLeaves {V = Unit {0}} old start (Err fault) new → Obeys {V = Unit {0}} old (Err fault) new → (CanReset old start → IsNotRefused {V = Unit {0}} (Err fault)) → ResetFails old new tables fault
@@ -199,44 +199,40 @@ pub destination-is : (a b : Filling) → Some (Destination a) ≡ Some (Destinat
 destination-is a b e = cc
 
 -- the Move is built, and the drive takes it
-pub record CarryReady (drive : DriveState) (mid : TablesView) (zone : ℕ) (builder : BuilderView) : Type 0 where
-  pub built_is : IsBuilt drive.geometry.block builder
-  pub can : CanPlace (mounted drive mid) zone (built drive.geometry.block builder)
+pub record CarryReady (disk : MountedView) (zone : ℕ) (builder : BuilderView) : Type 0 where
+  pub built_is : IsBuilt disk.drive.geometry.block builder
+  pub can : CanPlace disk zone (built_for disk builder)
 
 -- what is known before it is sent
-pub record Carries (drive : DriveState) (tables mid : TablesView) (c : CleanView) (f : Filling) (builder : BuilderView) : Type 0 where
-  pub agrees : Agrees (mounted drive tables)
-  pub clean : IsClean (mounted drive tables) c
-  pub due : next_step (batch_most drive.geometry) tables c ≡ Move
-  pub second : tables.roles.second ≡ Some (Destination f)
-  pub mid_is : mid ≡ tables
-  pub heading : builder.heading ≡ (move_of (size_of tables) tables.next c.victim c.gathered).heading
-  pub bytes : builder.bytes ≡ header_block drive.geometry.block builder.heading ++ concat (data_of c.gathered)
+pub record Carries (disk : MountedView) (c : CleanView) (f : Filling) (builder : BuilderView) : Type 0 where
+  pub at : IsAtStep Move disk c
+  pub second : disk.tables.roles.second ≡ Some (Destination f)
+  pub heading : builder.heading ≡ (gathered_move (size_of disk.tables) disk.tables.next c.victim c.gathered).heading
+  pub bytes : builder.bytes ≡ header_block disk.drive.geometry.block builder.heading ++ concat (gathered_data c.gathered)
 
-carries-due : (drive : DriveState) (tables mid : TablesView) (c : CleanView) (f : Filling) (builder : BuilderView) → Carries drive tables mid c f builder → MoveDue (mounted drive tables) (batch_most drive.geometry) c
-carries-due drive tables mid c f builder k = move-due (mounted drive tables) (batch_most drive.geometry) c k.due (positive-most drive.geometry k.agrees.geometry) k.clean.gathers.few
+carries-due : (disk : MountedView) (c : CleanView) (f : Filling) (builder : BuilderView) → Carries disk c f builder → MoveDue disk (batch_most disk.drive.geometry) c
+carries-due disk c f builder k = move-due disk (batch_most disk.drive.geometry) c k.at.due (positive-most disk.drive.geometry k.at.agrees.geometry) k.at.clean_is.gathers.few
 
-carries-built : (drive : DriveState) (tables mid : TablesView) (c : CleanView) (f : Filling) (builder : BuilderView) → Carries drive tables mid c f builder → MoveBuilt (mounted drive tables) c builder
-carries-built drive tables mid c f builder k = move_built (mounted drive tables) c builder k.agrees k.clean k.heading k.bytes
+carries-built : (disk : MountedView) (c : CleanView) (f : Filling) (builder : BuilderView) → Carries disk c f builder → MoveBuilt disk c builder
+carries-built disk c f builder k = move_built disk c builder k.at.agrees k.at.clean_is k.heading k.bytes
 
-pub carry_ready : (drive : DriveState) (tables mid : TablesView) (c : CleanView) (f : Filling) (builder : BuilderView) → Carries drive tables mid c f builder → tables.next < sequence_end drive.geometry → ArePlacedReady tables.map → CarryReady drive mid f.zone builder
-carry_ready drive tables mid c f builder k next ready =
-    let made = carries-built drive tables mid c f builder k in
-    let same : k.clean.destination ≡ f = destination-is k.clean.destination f (sym k.clean.second ∙ k.second) in
-    let can = move-can (mounted drive tables) c k.agrees k.clean (carries-due drive tables mid c f builder k) next ready in
-    record { built_is = made.is; can = rw (k.mid_is, made.batch, ← same) can }
+carries-to : (disk : MountedView) (c : CleanView) (f : Filling) (builder : BuilderView) → (k : Carries disk c f builder) → k.at.clean_is.destination ≡ f
+carries-to disk c f builder k = destination-is k.at.clean_is.destination f (sym k.at.clean_is.second ∙ k.second)
 
-pub carry_done : (old new : DriveState) (tables mid after : TablesView) (c : CleanView) (f : Filling) (builder : BuilderView) → Carries old tables mid c f builder → Places (mounted old mid) (mounted new after) f.zone (built old.geometry.block builder) → MovesRecords (mounted old tables) c (mounted new after)
-carry_done old new tables mid after c f builder k placed =
-    let made = carries-built old tables mid c f builder k in
-    let same : k.clean.destination ≡ f = destination-is k.clean.destination f (sym k.clean.second ∙ k.second) in
-    (move_gives (mounted old tables) (mounted new after) c k.agrees k.clean (carries-due old tables mid c f builder k) (rw (same, ← made.batch, ← k.mid_is) placed)).done
+pub carry_ready : (disk : MountedView) (c : CleanView) (f : Filling) (builder : BuilderView) → Carries disk c f builder → disk.tables.next < sequence_end disk.drive.geometry → ArePlacedReady disk.tables.map → CarryReady disk f.zone builder
+carry_ready disk c f builder k next ready =
+    let made = carries-built disk c f builder k in
+    let can = move-can disk c k.at.agrees k.at.clean_is (carries-due disk c f builder k) next ready in
+    record { built_is = made.is; can = rw (made.batch, ← carries-to disk c f builder k) can }
 
-pub carry_failed : (old new : DriveState) (tables mid after : TablesView) (c : CleanView) (f : Filling) (builder : BuilderView) (fault : Halt) → Carries old tables mid c f builder → AppendLeaves (mounted old mid) (mounted new after) f.zone (built old.geometry.block builder) (Err fault)
-    → StepFails Move (clean_fault fault) (mounted old tables) (mounted new after)
-carry_failed old new tables mid after c f builder fault k leaves =
-    let made = carries-built old tables mid c f builder k in
-    let same : k.clean.destination ≡ f = destination-is k.clean.destination f (sym k.clean.second ∙ k.second) in
-    let b = move_of (size_of tables) tables.next c.victim c.gathered in
-    let P : Filling → Batch → TablesView → Type 0 = λ x batch t. AppendLeaves (mounted old t) (mounted new after) x.zone batch (Err fault) in
-    carry_fails (mounted old tables) (mounted new after) c fault k.agrees k.clean (subst (λ x. P x b tables) (sym same) (subst (λ batch. P f batch tables) made.batch (subst (P f (built old.geometry.block builder)) k.mid_is leaves)))
+pub carry_done : (before after : MountedView) (c : CleanView) (f : Filling) (builder : BuilderView) → Carries before c f builder → Places before after f.zone (built_for before builder) → MovesRecords before c after
+carry_done before after c f builder k placed =
+    let made = carries-built before c f builder k in
+    (move_gives before after c k.at.agrees k.at.clean_is (carries-due before c f builder k) (rw (carries-to before c f builder k, ← made.batch) placed)).done
+
+pub carry_failed : (before after : MountedView) (c : CleanView) (f : Filling) (builder : BuilderView) (fault : Halt) → Carries before c f builder → BatchLeaves before after f.zone (built_for before builder) (Err fault) → StepFails Move (clean_fault fault) before after
+carry_failed before after c f builder fault k leaves =
+    let made = carries-built before c f builder k in
+    let b = gathered_move (size_of before.tables) before.tables.next c.victim c.gathered in
+    let P : Filling → Batch → Type 0 = λ x batch. BatchLeaves before after x.zone batch (Err fault) in
+    carry_fails before after c fault k.at.agrees k.at.clean_is (subst (λ x. P x b) (sym (carries-to before c f builder k)) (subst (P f) made.batch leaves))

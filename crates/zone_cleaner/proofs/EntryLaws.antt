@@ -1,4 +1,7 @@
 -- What an edit of the map's entries, and of the data beside them, does to the records.
+use Rattle.zone_cleaner.specs.Moving.{HoldsMove, headed_bytes}
+use Rattle.zone_choice.specs.Builder.{BuilderView}
+use Rattle.batch_log.specs.Log.{Batch}
 use Rattle.std.proofs.Common.{◌≡◌, ◌⊎◌, inl, inr, ℕ, ◌+◌, ◌-◌, ◌<◌, ◌≤◌, Result, Ok, Err, Bool, true, false, cond, eqb, List, [], ◌∷◌, ◌++◌, map, length, take, drop, Option, None, Some, refl, sym, ap, ◌∙◌, arith}
 use Rattle.std.specs.Prelude.{IfSome, IsOk, OnOk}
 use Rattle.std.specs.List.{AllByRecursion, concat, flat_map}
@@ -9,26 +12,26 @@ use Rattle.std.proofs.lemmas.List.{append-nil, append_assoc, drop-append-le, dro
 use Rattle.batch_log.specs.Header.{Heading, IsHeading, header_block}
 use Rattle.batch_log.proofs.HeaderLaws.{header_length}
 use Rattle.indexmap.specs.IndexMap.{insert_entry}
-use Rattle.zone_cleaner.specs.Gathered.{AreOfLength, AreWithin, block_at, bytes_in, entries_for, entry_for, shown}
-use Rattle.zone_cleaner.specs.LiveRecords.{LiveRecord, data_of, entries_of, with_data, without_block}
+use Rattle.zone_cleaner.specs.Gathered.{AreOfLength, AreWithin, block_from, bytes_in, entries_for, entry_for, gathered_records}
+use Rattle.zone_cleaner.specs.LiveRecords.{LiveRecord, gathered_data, gathered_entries, with_data, without_block}
 
 abbrev pub Blocks : Type 0
 Blocks = List (ℕ × Option ℕ)
 
 abbrev one_shown : ℕ → List ℕ → ℕ × Option ℕ → LiveRecord
-one_shown n bytes b = record { block = b.0; content = option_map (block_at n bytes) b.1 }
+one_shown n bytes b = record { block = b.0; content = option_map (block_from n bytes) b.1 }
 
-pub length-shown : (n : ℕ) (bytes : List ℕ) (bs : Blocks) → length (shown n bytes bs) ≡ length bs
+pub length-shown : (n : ℕ) (bytes : List ℕ) (bs : Blocks) → length (gathered_records n bytes bs) ≡ length bs
 length-shown n bytes bs = length-map bs (one_shown n bytes)
 
 -- ---- a record fewer
 
-pub shown-remove : (n block : ℕ) (bytes : List ℕ) (bs : Blocks) → shown n bytes (remove_entry (eqb block) bs) ≡ without_block block (shown n bytes bs)
+pub shown-remove : (n block : ℕ) (bytes : List ℕ) (bs : Blocks) → gathered_records n bytes (remove_entry (eqb block) bs) ≡ without_block block (gathered_records n bytes bs)
 shown-remove n block bytes [] = refl
 shown-remove n block bytes (b ∷ bs) = by (eqb block b.0) (shown-remove n block bytes bs)
   where
-    by : (h : Bool) → shown n bytes (remove_entry (eqb block) bs) ≡ without_block block (shown n bytes bs)
-        → shown n bytes (cond h bs (b ∷ remove_entry (eqb block) bs)) ≡ cond h (shown n bytes bs) (one_shown n bytes b ∷ without_block block (shown n bytes bs))
+    by : (h : Bool) → gathered_records n bytes (remove_entry (eqb block) bs) ≡ without_block block (gathered_records n bytes bs)
+        → gathered_records n bytes (cond h bs (b ∷ remove_entry (eqb block) bs)) ≡ cond h (gathered_records n bytes bs) (one_shown n bytes b ∷ without_block block (gathered_records n bytes bs))
     by true rest = refl
     by false rest = rw rest refl
 
@@ -42,13 +45,13 @@ within-remove n end block (b ∷ bs) all = by (eqb block b.0) (within-remove n e
 
 -- ---- a record more
 
-inserted : (n block : ℕ) (position : Option ℕ) (bytes : List ℕ) (bs : Blocks) → AllByRecursion (λ (r : LiveRecord). r.block < block) (shown n bytes bs) → insert_entry eqb bs block position ≡ bs ++ (block, position) ∷ []
+inserted : (n block : ℕ) (position : Option ℕ) (bytes : List ℕ) (bs : Blocks) → AllByRecursion (λ (r : LiveRecord). r.block < block) (gathered_records n bytes bs) → insert_entry eqb bs block position ≡ bs ++ (block, position) ∷ []
 inserted n block position bytes [] all = refl
 inserted n block position bytes (b ∷ bs) all =
     let other : eqb block b.0 ≡ false = ne_eqb block b.0 (λ same. omega (arith, same, all.0)) in
     ap (λ (h : Bool). cond {A = Blocks} h ((b.0, position) ∷ bs) (b ∷ insert_entry eqb bs block position)) other ∙ ap (λ (rest : Blocks). b ∷ rest) (inserted n block position bytes bs all.1)
 
-shown-append : (n : ℕ) (bytes : List ℕ) (bs more : Blocks) → shown n bytes (bs ++ more) ≡ shown n bytes bs ++ shown n bytes more
+shown-append : (n : ℕ) (bytes : List ℕ) (bs more : Blocks) → gathered_records n bytes (bs ++ more) ≡ gathered_records n bytes bs ++ gathered_records n bytes more
 shown-append n bytes [] more = refl
 shown-append n bytes (b ∷ bs) more = ap (λ (rs : List LiveRecord). one_shown n bytes b ∷ rs) (shown-append n bytes bs more)
 
@@ -64,7 +67,7 @@ within-more n end later (b ∷ bs) le all = (one b.1 all.0, within-more n end la
     one None within = tt
     one (Some p) within = (within.0, omega (arith, within.1, le))
 
-data-append : (rs : List LiveRecord) (r : LiveRecord) → concat (data_of (rs ++ r ∷ [])) ≡ concat (data_of rs) ++ bytes_in r.content
+data-append : (rs : List LiveRecord) (r : LiveRecord) → concat (gathered_data (rs ++ r ∷ [])) ≡ concat (gathered_data rs) ++ bytes_in r.content
 data-append [] r = last r.content
   where
     last : (content : Option (List ℕ)) → concat (with_data content []) ≡ bytes_in content
@@ -72,33 +75,33 @@ data-append [] r = last r.content
     last (Some bytes) = append-nil bytes
 data-append (first ∷ rs) r = by first.content (data-append rs r)
   where
-    by : (content : Option (List ℕ)) → concat (data_of (rs ++ r ∷ [])) ≡ concat (data_of rs) ++ bytes_in r.content → concat (with_data content (data_of (rs ++ r ∷ []))) ≡ concat (with_data content (data_of rs)) ++ bytes_in r.content
+    by : (content : Option (List ℕ)) → concat (gathered_data (rs ++ r ∷ [])) ≡ concat (gathered_data rs) ++ bytes_in r.content → concat (with_data content (gathered_data (rs ++ r ∷ []))) ≡ concat (with_data content (gathered_data rs)) ++ bytes_in r.content
     by None rest = rest
-    by (Some bytes) rest = ap (λ (xs : List ℕ). bytes ++ xs) rest ∙ sym (append_assoc bytes (concat (data_of rs)) (bytes_in r.content))
+    by (Some bytes) rest = ap (λ (xs : List ℕ). bytes ++ xs) rest ∙ sym (append_assoc bytes (concat (gathered_data rs)) (bytes_in r.content))
 
 -- What adding a record does, whose data is the last block of the bytes then.
 pub record AddsRecord (n block : ℕ) (content : Option (List ℕ)) (old new : Blocks) (bytes all : List ℕ) : Type 0 where
   pub within : AreWithin n (length all) new
-  pub shows : shown n all new ≡ shown n bytes old ++ record { block = block; content = content } ∷ []
-  pub order : concat (data_of (shown n bytes old)) ≡ drop n bytes → concat (data_of (shown n all new)) ≡ drop n all
+  pub shows : gathered_records n all new ≡ gathered_records n bytes old ++ record { block = block; content = content } ∷ []
+  pub order : concat (gathered_data (gathered_records n bytes old)) ≡ drop n bytes → concat (gathered_data (gathered_records n all new)) ≡ drop n all
 
-pub adds-trim : (n block : ℕ) (old new : Blocks) (bytes : List ℕ) → AreWithin n (length bytes) old → AllByRecursion (λ (r : LiveRecord). r.block < block) (shown n bytes old) → new ≡ insert_entry eqb old block None
+pub adds-trim : (n block : ℕ) (old new : Blocks) (bytes : List ℕ) → AreWithin n (length bytes) old → AllByRecursion (λ (r : LiveRecord). r.block < block) (gathered_records n bytes old) → new ≡ insert_entry eqb old block None
     → AddsRecord n block None old new bytes bytes
 adds-trim n block old new bytes within above new-is =
     let last : new ≡ old ++ (block, None) ∷ [] = new-is ∙ inserted n block None bytes old above in
-    let shows : shown n bytes new ≡ shown n bytes old ++ record { block = block; content = None } ∷ [] = ap (shown n bytes) last ∙ shown-append n bytes old ((block, None) ∷ []) in
+    let shows : gathered_records n bytes new ≡ gathered_records n bytes old ++ record { block = block; content = None } ∷ [] = ap (gathered_records n bytes) last ∙ shown-append n bytes old ((block, None) ∷ []) in
     record {
       within = rw last (within-append n (length bytes) old (block, None) within tt);
       shows = shows;
-      order = λ before. ap (λ (rs : List LiveRecord). concat (data_of rs)) shows ∙ data-append (shown n bytes old) (record { block = block; content = None }) ∙ append-nil (concat (data_of (shown n bytes old))) ∙ before;
+      order = λ before. ap (λ (rs : List LiveRecord). concat (gathered_data rs)) shows ∙ data-append (gathered_records n bytes old) (record { block = block; content = None }) ∙ append-nil (concat (gathered_data (gathered_records n bytes old))) ∙ before;
     }
 
 -- blocks of data stay where they are when more is read
-same-before : (n : ℕ) (bytes more : List ℕ) (bs : Blocks) → AreWithin n (length bytes) bs → shown n (bytes ++ more) bs ≡ shown n bytes bs
+same-before : (n : ℕ) (bytes more : List ℕ) (bs : Blocks) → AreWithin n (length bytes) bs → gathered_records n (bytes ++ more) bs ≡ gathered_records n bytes bs
 same-before n bytes more [] all = refl
-same-before n bytes more (b ∷ bs) all = ap (λ (content : Option (List ℕ)). record { block = b.0; content = content } ∷ shown n (bytes ++ more) bs) (one b.1 all.0) ∙ ap (λ (rs : List LiveRecord). one_shown n bytes b ∷ rs) (same-before n bytes more bs all.1)
+same-before n bytes more (b ∷ bs) all = ap (λ (content : Option (List ℕ)). record { block = b.0; content = content } ∷ gathered_records n (bytes ++ more) bs) (one b.1 all.0) ∙ ap (λ (rs : List LiveRecord). one_shown n bytes b ∷ rs) (same-before n bytes more bs all.1)
   where
-    one : (position : Option ℕ) → IfSome position (λ p. (n ≤ p) × (p + n ≤ length bytes)) → option_map (block_at n (bytes ++ more)) position ≡ option_map (block_at n bytes) position
+    one : (position : Option ℕ) → IfSome position (λ p. (n ≤ p) × (p + n ≤ length bytes)) → option_map (block_from n (bytes ++ more)) position ≡ option_map (block_from n bytes) position
     one None within = refl
     one (Some p) within = ap (λ (xs : List ℕ). Some (take n xs)) (drop-append-le p bytes more (omega (arith, within.1))) ∙ ap (λ (xs : List ℕ). Some xs) (take-append-le n (drop p bytes) more (omega (arith, within.1, length-drop p bytes)))
 
@@ -106,17 +109,17 @@ same-before n bytes more (b ∷ bs) all = ap (λ (content : Option (List ℕ)). 
 pub record KeepsData (n : ℕ) (bs : Blocks) (bytes new : List ℕ) : Type 0 where
   pub room : n ≤ length new
   pub within : AreWithin n (length new) bs
-  pub shows : shown n new bs ≡ shown n bytes bs
-  pub order : concat (data_of (shown n bytes bs)) ≡ drop n bytes → concat (data_of (shown n new bs)) ≡ drop n new
+  pub shows : gathered_records n new bs ≡ gathered_records n bytes bs
+  pub order : concat (gathered_data (gathered_records n bytes bs)) ≡ drop n bytes → concat (gathered_data (gathered_records n new bs)) ≡ drop n new
 
-same-behind : (n end : ℕ) (bytes new : List ℕ) (bs : Blocks) → AreWithin n end bs → drop n new ≡ drop n bytes → shown n new bs ≡ shown n bytes bs
+same-behind : (n end : ℕ) (bytes new : List ℕ) (bs : Blocks) → AreWithin n end bs → drop n new ≡ drop n bytes → gathered_records n new bs ≡ gathered_records n bytes bs
 same-behind n end bytes new [] all same = refl
-same-behind n end bytes new (b ∷ bs) all same = ap (λ (content : Option (List ℕ)). record { block = b.0; content = content } ∷ shown n new bs) (one b.1 all.0) ∙ ap (λ (rs : List LiveRecord). one_shown n bytes b ∷ rs) (same-behind n end bytes new bs all.1 same)
+same-behind n end bytes new (b ∷ bs) all same = ap (λ (content : Option (List ℕ)). record { block = b.0; content = content } ∷ gathered_records n new bs) (one b.1 all.0) ∙ ap (λ (rs : List LiveRecord). one_shown n bytes b ∷ rs) (same-behind n end bytes new bs all.1 same)
   where
     behind : (p : ℕ) (xs : List ℕ) → n ≤ p → drop p xs ≡ drop (p - n) (drop n xs)
     behind p xs le = sym (drop-drop (p - n) n xs ∙ ap (λ (k : ℕ). drop k xs) (omega (arith, le)))
 
-    one : (position : Option ℕ) → IfSome position (λ p. (n ≤ p) × (p + n ≤ end)) → option_map (block_at n new) position ≡ option_map (block_at n bytes) position
+    one : (position : Option ℕ) → IfSome position (λ p. (n ≤ p) × (p + n ≤ end)) → option_map (block_from n new) position ≡ option_map (block_from n bytes) position
     one None within = refl
     one (Some p) within = ap (λ (xs : List ℕ). Some (take n xs)) (behind p new within.0 ∙ ap (drop (p - n)) same ∙ sym (behind p bytes within.0))
 
@@ -127,22 +130,22 @@ keeps-data n bs bytes new room within long same =
       room = omega (arith, room, long);
       within = rw long within;
       shows = shows;
-      order = λ before. ap (λ (rs : List LiveRecord). concat (data_of rs)) shows ∙ before ∙ sym same;
+      order = λ before. ap (λ (rs : List LiveRecord). concat (gathered_data rs)) shows ∙ before ∙ sym same;
     }
 
-pub adds-data : (n block position : ℕ) (old new : Blocks) (bytes more all : List ℕ) → n ≤ length bytes → AreWithin n (length bytes) old → AllByRecursion (λ (r : LiveRecord). r.block < block) (shown n bytes old) → position ≡ length bytes
+pub adds-data : (n block position : ℕ) (old new : Blocks) (bytes more all : List ℕ) → n ≤ length bytes → AreWithin n (length bytes) old → AllByRecursion (λ (r : LiveRecord). r.block < block) (gathered_records n bytes old) → position ≡ length bytes
     → new ≡ insert_entry eqb old block (Some position) → all ≡ bytes ++ more → length all ≡ length bytes + n → AddsRecord n block (Some more) old new bytes all
 adds-data n block position old new bytes more all room within above at new-is all-is longer =
     let last : new ≡ old ++ (block, Some position) ∷ [] = new-is ∙ inserted n block (Some position) bytes old above in
     let one : length more ≡ n = omega (arith, longer, ap length all-is, length-append bytes more) in
-    let data_is : block_at n all position ≡ more = rw (all-is, at) (ap (take n) (drop_at bytes more (length bytes) refl) ∙ take_all n more (omega (arith, one))) in
-    let shows : shown n all new ≡ shown n bytes old ++ record { block = block; content = Some more } ∷ [] =
-    ap (shown n all) last ∙ shown-append n all old ((block, Some position) ∷ []) ∙ ap (λ (xs : List ℕ). shown n all old ++ record { block = block; content = Some xs } ∷ []) data_is
-    ∙ ap (λ (rs : List LiveRecord). rs ++ record { block = block; content = Some more } ∷ []) (ap (λ (xs : List ℕ). shown n xs old) all-is ∙ same-before n bytes more old within) in
+    let data_is : block_from n all position ≡ more = rw (all-is, at) (ap (take n) (drop_at bytes more (length bytes) refl) ∙ take_all n more (omega (arith, one))) in
+    let shows : gathered_records n all new ≡ gathered_records n bytes old ++ record { block = block; content = Some more } ∷ [] =
+    ap (gathered_records n all) last ∙ shown-append n all old ((block, Some position) ∷ []) ∙ ap (λ (xs : List ℕ). gathered_records n all old ++ record { block = block; content = Some xs } ∷ []) data_is
+    ∙ ap (λ (rs : List LiveRecord). rs ++ record { block = block; content = Some more } ∷ []) (ap (λ (xs : List ℕ). gathered_records n xs old) all-is ∙ same-before n bytes more old within) in
     record {
       within = rw last (within-append n (length all) old (block, Some position) (within-more n (length bytes) (length all) old (omega (arith, longer)) within) (omega (arith, at, room), omega (arith, at, longer)));
       shows = shows;
-      order = λ before. ap (λ (rs : List LiveRecord). concat (data_of rs)) shows ∙ data-append (shown n bytes old) (record { block = block; content = Some more }) ∙ ap (λ (xs : List ℕ). xs ++ more) before
+      order = λ before. ap (λ (rs : List LiveRecord). concat (gathered_data rs)) shows ∙ data-append (gathered_records n bytes old) (record { block = block; content = Some more }) ∙ ap (λ (xs : List ℕ). xs ++ more) before
           ∙ sym (ap (drop n) all-is ∙ drop-append-le n bytes more room);
     }
 
@@ -151,22 +154,22 @@ adds-data n block position old new bytes more all room within above at new-is al
 -- What making room for a header of another length does, where no record has data.
 pub record MakesRoom (m n : ℕ) (bs : Blocks) (bytes room : List ℕ) : Type 0 where
   pub within : AreWithin m (length room) bs
-  pub shows : shown m room bs ≡ shown n bytes bs
-  pub order : concat (data_of (shown m room bs)) ≡ drop m room
+  pub shows : gathered_records m room bs ≡ gathered_records n bytes bs
+  pub order : concat (gathered_data (gathered_records m room bs)) ≡ drop m room
 
 abbrev NoneHasData : Blocks → Type 0
 NoneHasData bs = AllByRecursion (λ (b : ℕ × Option ℕ). b.1 ≡ None) bs
 
-none-has : (m n : ℕ) (bytes : List ℕ) (bs : Blocks) → AreWithin n (length bytes) bs → AreOfLength m (data_of (shown n bytes bs)) → (n ≡ m → ⊥) → NoneHasData bs
+none-has : (m n : ℕ) (bytes : List ℕ) (bs : Blocks) → AreWithin n (length bytes) bs → AreOfLength m (gathered_data (gathered_records n bytes bs)) → (n ≡ m → ⊥) → NoneHasData bs
 none-has m n bytes [] within whole other = tt
 none-has m n bytes (b ∷ bs) within whole other = by b.1 within.0 (none-has m n bytes bs within.1) whole
   where
-    by : (position : Option ℕ) → IfSome position (λ p. (n ≤ p) × (p + n ≤ length bytes)) → (AreOfLength m (data_of (shown n bytes bs)) → (n ≡ m → ⊥) → NoneHasData bs)
-        → AreOfLength m (with_data (option_map (block_at n bytes) position) (data_of (shown n bytes bs))) → (position ≡ None) × NoneHasData bs
+    by : (position : Option ℕ) → IfSome position (λ p. (n ≤ p) × (p + n ≤ length bytes)) → (AreOfLength m (gathered_data (gathered_records n bytes bs)) → (n ≡ m → ⊥) → NoneHasData bs)
+        → AreOfLength m (with_data (option_map (block_from n bytes) position) (gathered_data (gathered_records n bytes bs))) → (position ≡ None) × NoneHasData bs
     by None at rest whole = (refl, rest whole other)
     by (Some p) at rest whole = absurd (other (omega (arith, whole.0, length-take n (drop p bytes), length-drop p bytes, at.1)))
 
-pub makes-room : (m n : ℕ) (bs : Blocks) (bytes room : List ℕ) → AreWithin n (length bytes) bs → AreOfLength m (data_of (shown n bytes bs)) → (n ≡ m → ⊥) → length room ≡ m → MakesRoom m n bs bytes room
+pub makes-room : (m n : ℕ) (bs : Blocks) (bytes room : List ℕ) → AreWithin n (length bytes) bs → AreOfLength m (gathered_data (gathered_records n bytes bs)) → (n ≡ m → ⊥) → length room ≡ m → MakesRoom m n bs bytes room
 makes-room m n bs bytes room within whole other long =
     let none = none-has m n bytes bs within whole other in
     record { within = go bs none; shows = same bs none; order = empty bs none ∙ sym (drop_all m room (omega (arith, long))) }
@@ -175,38 +178,38 @@ makes-room m n bs bytes room within whole other long =
     go [] none = tt
     go (b ∷ bs) none = (rw none.0 tt, go bs none.1)
 
-    same : (bs : Blocks) → NoneHasData bs → shown m room bs ≡ shown n bytes bs
+    same : (bs : Blocks) → NoneHasData bs → gathered_records m room bs ≡ gathered_records n bytes bs
     same [] none = refl
     same (b ∷ bs) none = rw none.0 (ap (λ (rs : List LiveRecord). record { block = b.0; content = None } ∷ rs) (same bs none.1))
 
-    empty : (bs : Blocks) → NoneHasData bs → concat (data_of (shown m room bs)) ≡ []
+    empty : (bs : Blocks) → NoneHasData bs → concat (gathered_data (gathered_records m room bs)) ≡ []
     empty [] none = refl
     empty (b ∷ bs) none = rw none.0 (empty bs none.1)
 
 -- ---- the Move
 
-pub entries-shown : (n : ℕ) (bytes : List ℕ) (bs : Blocks) → entries_of (shown n bytes bs) ≡ entries_for bs
+pub entries-shown : (n : ℕ) (bytes : List ℕ) (bs : Blocks) → gathered_entries (gathered_records n bytes bs) ≡ entries_for bs
 entries-shown n bytes [] = refl
 entries-shown n bytes (b ∷ bs) = by b.1 (entries-shown n bytes bs)
   where
-    by : (position : Option ℕ) → entries_of (shown n bytes bs) ≡ entries_for bs → entries_of (record { block = b.0; content = option_map (block_at n bytes) position } ∷ shown n bytes bs) ≡ entry_for b.0 position ∷ entries_for bs
+    by : (position : Option ℕ) → gathered_entries (gathered_records n bytes bs) ≡ entries_for bs → gathered_entries (record { block = b.0; content = option_map (block_from n bytes) position } ∷ gathered_records n bytes bs) ≡ entry_for b.0 position ∷ entries_for bs
     by None rest = ap (λ es. entry_for b.0 None ∷ es) rest
     by (Some p) rest = ap (λ es. entry_for b.0 (Some p) ∷ es) rest
 
-pub each-shown : (n bound : ℕ) (bytes : List ℕ) (bs : Blocks) → AllByRecursion (λ (r : LiveRecord). r.block + 1 < bound) (shown n bytes bs) → AllByRecursion (λ (b : ℕ × Option ℕ). b.0 + 1 < bound) bs
+pub each-shown : (n bound : ℕ) (bytes : List ℕ) (bs : Blocks) → AllByRecursion (λ (r : LiveRecord). r.block + 1 < bound) (gathered_records n bytes bs) → AllByRecursion (λ (b : ℕ × Option ℕ). b.0 + 1 < bound) bs
 each-shown n bound bytes [] all = tt
 each-shown n bound bytes (b ∷ bs) all = (all.0, each-shown n bound bytes bs all.1)
 
--- the data of all records, one after the other
-pub bytes-shown : (n : ℕ) (bytes : List ℕ) (bs : Blocks) → flat_map (λ (position : Option ℕ). bytes_in (option_map (block_at n bytes) position)) (map (λ (b : ℕ × Option ℕ). b.1) bs) ≡ concat (data_of (shown n bytes bs))
+-- the body of all records, one after the other
+pub bytes-shown : (n : ℕ) (bytes : List ℕ) (bs : Blocks) → flat_map (λ (position : Option ℕ). bytes_in (option_map (block_from n bytes) position)) (map (λ (b : ℕ × Option ℕ). b.1) bs) ≡ concat (gathered_data (gathered_records n bytes bs))
 bytes-shown n bytes [] = refl
 bytes-shown n bytes (b ∷ bs) = one b.1 (bytes-shown n bytes bs)
   where
-    one : (position : Option ℕ) → flat_map (λ (position : Option ℕ). bytes_in (option_map (block_at n bytes) position)) (map (λ (b : ℕ × Option ℕ). b.1) bs) ≡ concat (data_of (shown n bytes bs))
-        → bytes_in (option_map (block_at n bytes) position) ++ flat_map (λ (position : Option ℕ). bytes_in (option_map (block_at n bytes) position)) (map (λ (b : ℕ × Option ℕ). b.1) bs)
-        ≡ concat (with_data (option_map (block_at n bytes) position) (data_of (shown n bytes bs)))
+    one : (position : Option ℕ) → flat_map (λ (position : Option ℕ). bytes_in (option_map (block_from n bytes) position)) (map (λ (b : ℕ × Option ℕ). b.1) bs) ≡ concat (gathered_data (gathered_records n bytes bs))
+        → bytes_in (option_map (block_from n bytes) position) ++ flat_map (λ (position : Option ℕ). bytes_in (option_map (block_from n bytes) position)) (map (λ (b : ℕ × Option ℕ). b.1) bs)
+        ≡ concat (with_data (option_map (block_from n bytes) position) (gathered_data (gathered_records n bytes bs)))
     one None rest = rest
-    one (Some p) rest = ap (λ (xs : List ℕ). block_at n bytes p ++ xs) rest
+    one (Some p) rest = ap (λ (xs : List ℕ). block_from n bytes p ++ xs) rest
 
 pub within-values : (n end : ℕ) (bs : Blocks) → AreWithin n end bs → AllByRecursion (λ (position : Option ℕ). IfSome position (λ p. p + n ≤ end)) (map (λ (b : ℕ × Option ℕ). b.1) bs)
 within-values n end [] all = tt
@@ -231,3 +234,11 @@ header-long n heading bytes built either says room built-is =
 pub on-ok : {V E : Type 0} {P : Type 0} (result : Result V E) → IsOk result → OnOk result P → P
 on-ok (Ok value) ok p = p
 on-ok (Err error) ok p = absurd (cc)
+
+-- ---- the Move
+
+-- its header was written before its data
+pub holds-move : {E : Type 0} (result : Result (Unit {0}) E) (builder : BuilderView) (block_bytes : ℕ) (move : Batch) (old : List ℕ) → OnOk result (builder.heading ≡ move.heading) → OnOk result (builder.bytes ≡ headed_bytes block_bytes builder.heading old) → drop block_bytes old ≡ concat move.body
+    → OnOk result (HoldsMove builder block_bytes move)
+holds-move (Ok done) builder block_bytes move old heading bytes body = record { heading = heading; bytes = bytes ∙ ap (λ (d : List ℕ). header_block block_bytes builder.heading ++ d) body }
+holds-move (Err fault) builder block_bytes move old heading bytes body = tt

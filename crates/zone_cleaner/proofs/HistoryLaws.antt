@@ -3,17 +3,17 @@ use Rattle.std.proofs.Common.{◌≡◌, ◌≢◌, ℕ, ◌<◌, ◌≤◌, max
 use Rattle.std.specs.List.{AllByRecursion}
 use Rattle.std.proofs.lemmas.List.{set-set}
 use Rattle.batch_log.specs.Log.{Batch}
-use Rattle.zone_choice.specs.Laws.{IsNext}
-use Rattle.zone_choice.specs.Mountable.{AreSound}
-use Rattle.zone_choice.specs.Records.{append_log}
-use Rattle.zone_choice.specs.Sizes.{IsUpTo, array_of, encoded_size, greatest, larger, log_greatest, size_or}
-use Rattle.zone_choice.specs.Spare.{HasSpare, IsBefore, IsHalfClean, IsMoveFrom, first_sequence}
-use Rattle.zone_choice.specs.ZoneLogs.{log_at, sequences}
-use Rattle.zone_choice.proofs.AllLaws.{all-append}
-use Rattle.zone_choice.proofs.ContentLaws.{log_at-other, log_at-same}
-use Rattle.zone_choice.proofs.DeadLaws.{greatest-absorbs}
-use Rattle.zone_choice.proofs.SizeLaws.{append_keeps_spare, larger-assoc, log_greatest-more}
-use Rattle.zone_choice.proofs.SequenceLaws.{first-below, zone-sequences}
+use Rattle.drive_array.specs.Laws.{IsNext}
+use Rattle.drive_array.specs.Mountable.{AreSound}
+use Rattle.drive_array.specs.Records.{append_log}
+use Rattle.drive_array.specs.Sizes.{IsUpTo, array_of, encoded_size, greatest, larger, log_greatest, size_or}
+use Rattle.drive_array.specs.Spare.{HasSpare, IsBefore, IsHalfClean, IsMoveFrom, first_sequence}
+use Rattle.drive_array.specs.ZoneLogs.{log_at, sequences}
+use Rattle.drive_array.proofs.AllLaws.{all-append}
+use Rattle.drive_array.proofs.AppendLaws.{log_at-other, log_at-same}
+use Rattle.drive_array.proofs.DeadLaws.{greatest-absorbs}
+use Rattle.drive_array.proofs.SizeLaws.{append_keeps_spare, larger-assoc, log_greatest-more}
+use Rattle.drive_array.proofs.SequenceLaws.{first-below, zone-sequences}
 use Rattle.zone_cleaner.specs.Clean.{AreMoves, Follows}
 
 -- ---- sizes of one zone

@@ -15,19 +15,21 @@ use Rattle.logical_map.specs.declared.place.Place.TheVariants as places
 use Rattle.zone_choice.specs.declared.roles.Filling.{Filling}
 use Rattle.zone_choice.specs.declared.roles.Second.{Second}
 use Rattle.zone_choice.specs.declared.roles.Second.TheVariants.{Destination}
-use Rattle.zone_choice.specs.Agreement.{Mounted, drive_logs, mounted_array}
+use Rattle.zone_choice.specs.Agreement.{MountedView, mounted_array}
+use Rattle.drive_array.specs.ZoneLogs.{drive_logs}
 use Rattle.zone_choice.specs.Builder.{entry_place, placed}
 use Rattle.zone_choice.specs.Changes.{CanPlace, Places, next_address, roles_alone, size_with}
-use Rattle.zone_choice.specs.Laws.{IsNext}
-use Rattle.zone_choice.specs.Records.{entry_records, over, shown}
-use Rattle.zone_choice.specs.Reserve.{batch_most}
+use Rattle.drive_array.specs.Laws.{IsNext}
+use Rattle.drive_array.specs.Records.{entry_records, over, shown}
+use Rattle.drive_array.specs.Reserve.{batch_most}
 use Rattle.zone_choice.specs.Roles.{RolesView, closed, closed_beside, closed_unless, grown, second_with, wrote}
-use Rattle.zone_choice.specs.Sizes.{extended, size_or}
+use Rattle.drive_array.specs.Sizes.{extended, size_or}
 use Rattle.zone_choice.specs.Tables.{size_of}
-use Rattle.zone_choice.proofs.AgreementLaws.{length-extended, length-spelled, size-encoded, sound-weaker}
-use Rattle.zone_choice.proofs.AllLaws.{all-weaker}
+use Rattle.zone_choice.proofs.AgreementLaws.{length-extended, size-encoded, sound-weaker}
+use Rattle.drive_array.proofs.WholeLaws.{length-spelled}
+use Rattle.drive_array.proofs.AllLaws.{all-weaker}
 use Rattle.zone_choice.proofs.CommandLaws.{filling-in_range}
-use Rattle.zone_choice.proofs.ReserveLaws.{div_ceil-mono, positive-most}
+use Rattle.drive_array.proofs.ReserveLaws.{div_ceil-mono, positive-most}
 use Rattle.zone_cleaner.specs.Clean.{CleanView, IsClean, forgotten, destination_written, turns_left, moves_due, untaken}
 use Rattle.zone_cleaner.specs.LiveRecords.{LiveRecord, records_in, without_all, without_block}
 use Rattle.zone_cleaner.proofs.BudgetLaws.{fewer-room}
@@ -121,7 +123,7 @@ length-without_all (e ∷ es) rs = omega (arith, length-without_all es (without_
 
 -- ---- a batch of the host
 
-pub record HostGives (before after : Mounted) (c new : CleanView) : Type 0 where
+pub record HostGives (before after : MountedView) (c new : CleanView) : Type 0 where
   pub clean : IsClean after new
   pub turns : turns_left (batch_most before.drive.geometry) after.tables (Some new) ≤ turns_left (batch_most before.drive.geometry) before.tables (Some c)
 
@@ -129,12 +131,12 @@ turns-le : (k u u' a a' l l' : ℕ) → 0 < k → u' ≤ u → l' ≤ l → a' �
 turns-le k u u' a a' l l' pos left fewer same = rw same (omega (arith, left, div_ceil-mono l' l k pos fewer))
 
 -- what the batch does to the places, as far as the clean looks
-record HostPlaces (before after : Mounted) (c : CleanView) (es : List Entry) : Type 0 where
+record HostPlaces (before after : MountedView) (c : CleanView) (es : List Entry) : Type 0 where
   taken : without_all es c.gathered ≡ records_in (mounted_array after) before.tables.map.zone_size c.victim 0 (take c.cursor after.tables.map.places)
   fewer : live_in before.tables.map.zone_size c.victim after.tables.map.places ≤ live_in before.tables.map.zone_size c.victim before.tables.map.places
   left : live_in before.tables.map.zone_size c.victim (drop c.cursor after.tables.map.places) ≤ live_in before.tables.map.zone_size c.victim (drop c.cursor before.tables.map.places)
 
-host-places : (before after : Mounted) (c : CleanView) (zone : ℕ) (b : Batch) → IsClean before c → CanPlace before zone b → Places before after zone b → HostPlaces before after c b.heading.entries
+host-places : (before after : MountedView) (c : CleanView) (zone : ℕ) (b : Batch) → IsClean before c → CanPlace before zone b → Places before after zone b → HostPlaces before after c b.heading.entries
 host-places before after c zone b is can done =
     let m = before.tables.map in
     let moved = away-is in
@@ -190,7 +192,7 @@ host-places before after c zone b is can done =
         ∙ other-over before.drive.geometry.block b.heading.sequence 0 0 0 k b.body es (extended (zero_block before.drive.geometry.block) (size_or (length array) b.heading.size) array) out
         ∙ left-extended (zero_block before.drive.geometry.block) [] (size_or (length array) b.heading.size) k array short)
 
-pub next-batch : (before : Mounted) (zone : ℕ) (b : Batch) → CanPlace before zone b → IsNext (before.tables.next + 1) before.tables.given (drive_logs before.drive) (size_with before.tables b) b
+pub next-batch : (before : MountedView) (zone : ℕ) (b : Batch) → CanPlace before zone b → IsNext (before.tables.next + 1) before.tables.given (drive_logs before.drive) (size_with before.tables b) b
 next-batch before zone b can = record {
   has = can.size;
   grows = omega (arith, can.grows, size-encoded before can.agrees);
@@ -199,7 +201,7 @@ next-batch before zone b can = record {
   greatest = rw can.sequence can.agrees.sound.numbers;
 }
 
-pub host_gives : (before after : Mounted) (c : CleanView) (zone : ℕ) (b : Batch) → (is : IsClean before c) → CanPlace before zone b → zone ≢ is.destination.zone → Places before after zone b → HostGives before after c (forgotten b.heading.entries c)
+pub host_gives : (before after : MountedView) (c : CleanView) (zone : ℕ) (b : Batch) → (is : IsClean before c) → CanPlace before zone b → zone ≢ is.destination.zone → Places before after zone b → HostGives before after c (forgotten b.heading.entries c)
 host_gives before after c zone b is can ne done =
     let g = before.drive.geometry in
     let k = batch_most g in

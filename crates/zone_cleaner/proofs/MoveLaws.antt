@@ -10,9 +10,9 @@ use Rattle.batch_log.specs.Log.{data_count, one_unless}
 use Rattle.logical_map.specs.Live.{lies_in}
 use Rattle.logical_map.specs.declared.place.Place.{Place}
 use Rattle.zone_choice.specs.Builder.{entry_place, placed}
-use Rattle.zone_choice.specs.Records.{entry_records, over, shown, shown_content}
+use Rattle.drive_array.specs.Records.{entry_records, over, shown, shown_content}
 use Rattle.zone_choice.proofs.BuilderLaws.{blocks_named, placed-first}
-use Rattle.zone_cleaner.specs.LiveRecords.{LiveRecord, data_of, entries_of, entry_of, records_in, without_all, without_block}
+use Rattle.zone_cleaner.specs.LiveRecords.{LiveRecord, gathered_data, gathered_entries, gathered_entry, records_in, without_all, without_block}
 use Rattle.zone_cleaner.proofs.RecordLaws.{SayTheArray, left-set, live_in, live_in-set, taken-set}
 
 -- ---- it says what the array has
@@ -22,31 +22,31 @@ get_or-middle [] rest x = refl
 get_or-middle (y ∷ front) rest x = get_or-middle front rest x
 
 -- records that say what an array has already
-over-same : (array : List (List ℕ)) (bytes sequence zone header k : ℕ) (front body : List (List ℕ)) (rs : List LiveRecord) → SayTheArray array bytes rs → k ≡ length front → body ≡ front ++ data_of rs
-    → over (shown bytes) (entry_records sequence body zone header k (entries_of rs)) array ≡ array
+over-same : (array : List (List ℕ)) (bytes sequence zone header k : ℕ) (front body : List (List ℕ)) (rs : List LiveRecord) → SayTheArray array bytes rs → k ≡ length front → body ≡ front ++ gathered_data rs
+    → over (shown bytes) (entry_records sequence body zone header k (gathered_entries rs)) array ≡ array
 over-same array bytes sequence zone header k front body [] says at is = refl
 over-same array bytes sequence zone header k front body (r ∷ rs) says at is =
     one (λ k' front' at' is'. over-same array bytes sequence zone header k' front' body rs says.1 at' is') r.block r.content says.0 is
   where
     Again : Type 0
-    Again = (k' : ℕ) (front' : List (List ℕ)) → k' ≡ length front' → body ≡ front' ++ data_of rs → over (shown bytes) (entry_records sequence body zone header k' (entries_of rs)) array ≡ array
+    Again = (k' : ℕ) (front' : List (List ℕ)) → k' ≡ length front' → body ≡ front' ++ gathered_data rs → over (shown bytes) (entry_records sequence body zone header k' (gathered_entries rs)) array ≡ array
 
-    one : Again → (block : ℕ) (c : Option (List ℕ)) → get_or array block [] ≡ shown_content bytes c → body ≡ front ++ data_of (record { block = block; content = c } ∷ rs)
-        → over (shown bytes) (entry_records sequence body zone header k (entry_of block c ∷ entries_of rs)) array ≡ array
+    one : Again → (block : ℕ) (c : Option (List ℕ)) → get_or array block [] ≡ shown_content bytes c → body ≡ front ++ gathered_data (record { block = block; content = c } ∷ rs)
+        → over (shown bytes) (entry_records sequence body zone header k (gathered_entry block c ∷ gathered_entries rs)) array ≡ array
     one again block None same e =
         let next : k + 0 ≡ length front = omega (arith, at) in
         ap (λ (xs : List (List ℕ)). set xs block (replicate bytes 0)) (again (k + 0) front next e)
         ∙ ap (λ (c : List ℕ). set array block c) (sym same) ∙ set-get_or array block []
     one again block (Some content) same e =
-        let rest = data_of rs in
+        let rest = gathered_data rs in
         let here : get_or body k [] ≡ content = rw (at, e) (get_or-middle front rest content) in
         let more : body ≡ (front ++ content ∷ []) ++ rest = e ∙ sym (append_assoc front (content ∷ []) rest) in
         let next : k + 1 ≡ length (front ++ content ∷ []) = omega (arith, at, length-append front (content ∷ [])) in
         ap (λ (xs : List (List ℕ)). set xs block (get_or body k [])) (again (k + 1) (front ++ content ∷ []) next more)
         ∙ ap (λ (c : List ℕ). set array block c) (here ∙ sym same) ∙ set-get_or array block []
 
-pub move-same : (array : List (List ℕ)) (bytes sequence : ℕ) (rs : List LiveRecord) → SayTheArray array bytes rs → over (shown bytes) (entry_records sequence (data_of rs) 0 0 0 (entries_of rs)) array ≡ array
-move-same array bytes sequence rs says = over-same array bytes sequence 0 0 0 [] (data_of rs) rs says refl refl
+pub move-same : (array : List (List ℕ)) (bytes sequence : ℕ) (rs : List LiveRecord) → SayTheArray array bytes rs → over (shown bytes) (entry_records sequence (gathered_data rs) 0 0 0 (gathered_entries rs)) array ≡ array
+move-same array bytes sequence rs says = over-same array bytes sequence 0 0 0 [] (gathered_data rs) rs says refl refl
 
 -- ---- no gathered block lies in the victim after it
 
@@ -54,16 +54,16 @@ pub without-none : (es : List Entry) → without_all es [] ≡ []
 without-none [] = refl
 without-none (e ∷ es) = without-none es
 
-entry-block : (block : ℕ) (c : Option (List ℕ)) → (entry_of block c).block ≡ block
+entry-block : (block : ℕ) (c : Option (List ℕ)) → (gathered_entry block c).block ≡ block
 entry-block block None = refl
 entry-block block (Some content) = refl
 
 -- all of them
-pub without-own : (rs : List LiveRecord) → without_all (entries_of rs) rs ≡ []
+pub without-own : (rs : List LiveRecord) → without_all (gathered_entries rs) rs ≡ []
 without-own [] = refl
 without-own (r ∷ rs) =
-    let here : eqb (entry_of r.block r.content).block r.block ≡ true = eq-eqb (entry_of r.block r.content).block r.block (entry-block r.block r.content) in
-    ap (λ (b : Bool). without_all (entries_of rs) (cond b rs (r ∷ without_block (entry_of r.block r.content).block rs))) here ∙ without-own rs
+    let here : eqb (gathered_entry r.block r.content).block r.block ≡ true = eq-eqb (gathered_entry r.block r.content).block r.block (entry-block r.block r.content) in
+    ap (λ (b : Bool). without_all (gathered_entries rs) (cond b rs (r ∷ without_block (gathered_entry r.block r.content).block rs))) here ∙ without-own rs
 
 -- the addresses of a batch lie in another zone
 abbrev pub Elsewhere : ℕ → ℕ → ℕ → ℕ → Type 0

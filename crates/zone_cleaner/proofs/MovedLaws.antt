@@ -6,18 +6,18 @@ use Rattle.zone_states.specs.declared.geometry.Geometry.{Geometry}
 use Rattle.batch_log.specs.Log.{batch_size, data_count}
 use Rattle.zone_choice.specs.declared.roles.Filling.{Filling}
 use Rattle.zone_choice.specs.declared.roles.Second.TheVariants.{Destination}
-use Rattle.zone_choice.specs.Agreement.{Agrees, Mounted, drive_logs, mounted_array}
+use Rattle.zone_choice.specs.Agreement.{Agrees, MountedView, mounted_array}
+use Rattle.drive_array.specs.ZoneLogs.{drive_logs, spelled_array}
 use Rattle.zone_choice.specs.Changes.{Places}
-use Rattle.zone_choice.specs.Records.{append_log}
-use Rattle.zone_choice.specs.Reserve.{batch_most}
+use Rattle.drive_array.specs.Records.{append_log}
+use Rattle.drive_array.specs.Reserve.{batch_most}
 use Rattle.zone_choice.specs.Roles.{RolesView, grown, second_with}
-use Rattle.zone_choice.specs.Sizes.{array_of}
+use Rattle.drive_array.specs.Sizes.{array_of}
 use Rattle.zone_choice.specs.Tables.{size_of}
-use Rattle.zone_choice.specs.ZoneLogs.{spelled_array}
 use Rattle.zone_choice.proofs.AgreementLaws.{size-encoded}
 use Rattle.zone_choice.proofs.CommandLaws.{filling-in_range}
 use Rattle.zone_cleaner.specs.Clean.{CleanView, IsClean, destination_written, turns_left, moves_due, untaken}
-use Rattle.zone_cleaner.specs.LiveRecords.{entries_of, move_of}
+use Rattle.zone_cleaner.specs.LiveRecords.{gathered_entries, gathered_move}
 use Rattle.zone_cleaner.specs.Turns.{MovesRecords, after_move}
 use Rattle.zone_cleaner.proofs.CarryLaws.{fits-move, grown-self, moved_places, told_same}
 use Rattle.zone_cleaner.proofs.CleanLaws.{live-parts}
@@ -27,13 +27,13 @@ use Rattle.zone_cleaner.proofs.SealedLaws.{alone-own, sealed-alone, sealed-apart
 use Rattle.zone_cleaner.proofs.StepLaws.{MoveDue}
 
 -- what a Move that is done gives
-pub record MoveGives (before after : Mounted) (c : CleanView) : Type 0 where
+pub record MoveGives (before after : MountedView) (c : CleanView) : Type 0 where
   pub done : MovesRecords before c after
   pub clean : IsClean after (after_move c)
   pub fewer : turns_left (batch_most before.drive.geometry) after.tables (Some (after_move c)) < turns_left (batch_most before.drive.geometry) before.tables (Some c)
 
 -- the logs encode the array, before and after
-encoded : (disk : Mounted) → array_of disk.drive.geometry.block disk.tables.given (drive_logs disk.drive) ≡ mounted_array disk
+encoded : (disk : MountedView) → array_of disk.drive.geometry.block disk.tables.given (drive_logs disk.drive) ≡ mounted_array disk
 unfolding spelled_array
 encoded disk = refl
 
@@ -42,15 +42,15 @@ turns-less : (k u u' w w' a a' l l' g : ℕ) → u' ≡ u → l' ≡ u → l ≡
     → u' + max (moves_due a') (div_ceil l' k) + 1 < u + max (moves_due a) (div_ceil l k) + 1
 turns-less k u u' w w' a a' l l' g left now parts was is fewer = rw (left, now, parts, was, is) (omega (arith, fewer))
 
-pub move_gives : (before after : Mounted) (c : CleanView) → Agrees before → (is : IsClean before c) → MoveDue before (batch_most before.drive.geometry) c
-    → Places before after is.destination.zone (move_of (size_of before.tables) before.tables.next c.victim c.gathered) → MoveGives before after c
+pub move_gives : (before after : MountedView) (c : CleanView) → Agrees before → (is : IsClean before c) → MoveDue before (batch_most before.drive.geometry) c
+    → Places before after is.destination.zone (gathered_move (size_of before.tables) before.tables.next c.victim c.gathered) → MoveGives before after c
 move_gives before after c agrees is due placed =
     let g = before.drive.geometry in
     let f = is.destination in
     let logs = drive_logs before.drive in
     let given = before.tables.given in
     let size = size_of before.tables in
-    let b = move_of size before.tables.next c.victim c.gathered in
+    let b = gathered_move size before.tables.next c.victim c.gathered in
     let filling = second-filling before.tables.roles (Destination f) is.second in
     let apart = sealed-apart before.tables.roles c.victim f.zone is.victim filling in
     let below : f.zone < length logs = omega (arith, filling-in_range before.drive before.tables f.zone agrees filling, zone-logs before.drive) in
@@ -62,7 +62,7 @@ move_gives before after c agrees is due placed =
     let zones : after.tables.map.zone_size ≡ before.tables.map.zone_size = placed.agrees.zone_size ∙ ap (λ (x : Geometry). x.size) placed.geometry ∙ sym agrees.zone_size in
     let second : after.tables.roles.second ≡ Some (Destination (record { zone = f.zone; written = f.written + batch_size b; may_open = true })) =
     ap (λ (r : RolesView). r.second) placed.roles ∙ ap (option_map (second_with (grown f.zone (batch_size b)))) (alone-own g before.tables.roles f is.second) ∙ ap (λ (x : Filling). Some (Destination x)) (grown-self f f.zone (batch_size b) refl) in
-    let count : batch_size b ≡ 1 + data_count (entries_of c.gathered) = omega arith in
+    let count : batch_size b ≡ 1 + data_count (gathered_entries c.gathered) = omega arith in
     let now : live_in after.tables.map.zone_size c.victim after.tables.map.places ≡ untaken before.tables c = ap (λ (z : ℕ). live_in z c.victim after.tables.map.places) zones ∙ moved.live_is in
     let left : untaken after.tables (after_move c) ≡ untaken before.tables c = ap (λ (z : ℕ). live_in z c.victim (drop c.cursor after.tables.map.places)) zones ∙ ap (live_in before.tables.map.zone_size c.victim) moved.rest in
     record {
@@ -82,5 +82,5 @@ move_gives before after c agrees is due placed =
           same = after_array ∙ same ∙ sym (encoded before);
         }) is.moves);
       };
-      fewer = turns-less (batch_most g) (untaken before.tables c) (untaken after.tables (after_move c)) f.written (f.written + (1 + data_count (entries_of c.gathered))) (destination_written before.tables.roles.second) (destination_written after.tables.roles.second) _ _ (length c.gathered) left now (live-parts before c is) (ap destination_written is.second) (ap destination_written second ∙ omega (arith, count)) fits.after.fewer;
+      fewer = turns-less (batch_most g) (untaken before.tables c) (untaken after.tables (after_move c)) f.written (f.written + (1 + data_count (gathered_entries c.gathered))) (destination_written before.tables.roles.second) (destination_written after.tables.roles.second) _ _ (length c.gathered) left now (live-parts before c is) (ap destination_written is.second) (ap destination_written second ∙ omega (arith, count)) fits.after.fewer;
     }

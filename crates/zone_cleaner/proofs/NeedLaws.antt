@@ -2,25 +2,23 @@
 use Rattle.std.proofs.Common.{◌≡◌, ◌⊎◌, ℕ, zero, suc, ◌+◌, ◌<◌, ◌≤◌, Bool, true, false, length, Option, Some, None, Result, Ok, Err, is_some, refl, ap, subst, inl, inr, arith}
 use Rattle.std.specs.Prelude.{OnOk}
 use Rattle.std.proofs.lemmas.Bool.{cases_eq, cases_lt}
-use Rattle.zone_states.specs.declared.geometry.Geometry.{Geometry}
-use Rattle.drive_port.specs.Drive.{DriveState}
 use Rattle.logical_map.specs.Live.{live}
 use Rattle.zone_choice.specs.declared.roles.Second.{Second}
 use Rattle.zone_choice.specs.declared.roles.Second.TheVariants.{Destination, Next}
-use Rattle.zone_choice.specs.Agreement.{Mounted, mounted}
-use Rattle.zone_choice.specs.Reserve.{batch_most}
+use Rattle.zone_choice.specs.Agreement.{MountedView}
+use Rattle.drive_array.specs.Reserve.{batch_most}
 use Rattle.zone_choice.specs.Roles.{empty_count, is_sealed_at, next_of}
 use Rattle.zone_choice.specs.Tables.{IsLeastSealed, TablesView}
 use Rattle.zone_choice.specs.Victim.{IsInUse}
 use Rattle.zone_choice.proofs.MarkLaws.{sealed-parts}
-use Rattle.zone_choice.proofs.ReserveLaws.{positive-most}
+use Rattle.drive_array.proofs.ReserveLaws.{positive-most}
 use Rattle.zone_choice.proofs.VictimLaws.{has_sealed, least_can_move}
 use Rattle.zone_cleaner.specs.Clean.{CleanView, HasNoDestination, destination_written, turns_left, moves_due, untaken}
 use Rattle.zone_cleaner.specs.declared.fault.CleanFault.{CleanFault}
-use Rattle.zone_cleaner.specs.Start.{AgreesWithClean, IsDue, KeepsByCleaning, LeavesNextZone, StartLeaves, TurnLeaves}
+use Rattle.zone_cleaner.specs.Start.{AgreesWithClean, CleanDone, HasNextZone, IsDue, KeepsByCleaning, LacksZones, StartLeaves, TurnLeaves}
 use Rattle.zone_cleaner.proofs.BudgetLaws.{few-turns}
 use Rattle.zone_cleaner.proofs.CleanLaws.{live-parts}
-use Rattle.zone_cleaner.proofs.RoomLaws.{room-done}
+use Rattle.zone_cleaner.proofs.RoomLaws.{turn-room}
 use Rattle.zone_cleaner.proofs.TurnLaws.{turn_gives, turns_fewer}
 
 -- ---- the lowest of those with the fewest
@@ -88,60 +86,56 @@ no-second capacity None alone none = refl
 no-second capacity (Some (Next filling)) alone none = absurd (cc)
 no-second capacity (Some (Destination filling)) alone none = absurd alone
 
-pub is-in_use : (disk : Mounted) → AgreesWithClean disk None → disk.tables.roles.host ≡ None → next_of disk.tables.roles.second ≡ None → empty_count disk.tables.roles < 2 → IsInUse disk
+pub is-in_use : (disk : MountedView) → AgreesWithClean disk None → disk.tables.roles.host ≡ None → next_of disk.tables.roles.second ≡ None → empty_count disk.tables.roles < 2 → IsInUse disk
 is-in_use disk is host next few = record { agrees = is.0; host = host; second = no-second disk.drive.geometry.capacity disk.tables.roles.second is.1.1 next; empty = omega (arith, few, is.1.0) }
 
-is-due : (disk : Mounted) → IsInUse disk → (victim : ℕ) × IsDue disk.drive.geometry disk.tables victim
+is-due : (disk : MountedView) → IsInUse disk → (victim : ℕ) × IsDue disk.drive.geometry disk.tables victim
 is-due disk in_use =
     let sealed = has_sealed disk in_use in
     let victim = least-sealed disk.tables sealed.0 sealed.1 in
     (victim.0, record { alone = in_use.second; some = omega (arith, in_use.empty); few = omega (arith, in_use.empty); least = victim.1; fits = least_can_move disk victim.0 in_use victim.1 })
 
 -- so it starts
-pub must-start : (disk : Mounted) (new : TablesView) (clean : Option CleanView) → IsInUse disk → StartLeaves disk.drive.geometry disk.tables new clean → is_some clean ≡ true
+pub must-start : (disk : MountedView) (new : TablesView) (clean : Option CleanView) → IsInUse disk → StartLeaves disk.drive.geometry disk.tables new clean → is_some clean ≡ true
 must-start disk new (Some c) in_use leaves = refl
 must-start disk new None in_use leaves = let due = is-due disk in_use in absurd (leaves.0 due.0 due.1)
 
 -- ---- how many turns are left of it
 
 -- fewer than a zone has blocks
-pub turns-few : (disk : Mounted) (c : CleanView) → AgreesWithClean disk (Some c) → turns_left (batch_most disk.drive.geometry) disk.tables (Some c) + 1 ≤ disk.drive.geometry.capacity
+pub turns-few : (disk : MountedView) (c : CleanView) → AgreesWithClean disk (Some c) → turns_left (batch_most disk.drive.geometry) disk.tables (Some c) + 1 ≤ disk.drive.geometry.capacity
 turns-few disk c is =
     let most = batch_most disk.drive.geometry in
     let moved : moves_due (destination_written disk.tables.roles.second) ≡ moves_due is.1.destination.written = ap moves_due (ap destination_written is.1.second) in
     omega (arith, moved, few-turns disk.drive.geometry.capacity most is.1.destination.written (untaken disk.tables c) (live disk.tables.map c.victim) (positive-most disk.drive.geometry is.0.geometry) (omega (arith, live-parts disk c is.1)) is.1.room)
 
 -- and no more where none runs
-pub left-few : (disk : Mounted) (clean : Option CleanView) → AgreesWithClean disk clean → turns_left (batch_most disk.drive.geometry) disk.tables clean + 1 ≤ disk.drive.geometry.capacity
+pub left-few : (disk : MountedView) (clean : Option CleanView) → AgreesWithClean disk clean → turns_left (batch_most disk.drive.geometry) disk.tables clean + 1 ≤ disk.drive.geometry.capacity
 left-few disk None is = omega (arith, is.0.geometry.capacity)
 left-few disk (Some c) is = turns-few disk c is
 
 -- ---- a clean that has to begin
 
-pub record Begins (before after : Mounted) (new : Option CleanView) : Type 0 where
+pub record Begins (before after : MountedView) (new : Option CleanView) : Type 0 where
   pub cleaned : AgreesWithClean after new
   pub runs : is_some new ≡ true
   pub host : after.tables.roles.host ≡ None
   pub turns : turns_left (batch_most before.drive.geometry) after.tables new + 1 ≤ before.drive.geometry.capacity
   pub keeps : KeepsByCleaning before after
 
-pub begins : (geometry : Geometry) (drive : DriveState) (old tables : TablesView) (clean new : Option CleanView) → geometry ≡ drive.geometry → is_some clean ≡ false → AgreesWithClean (mounted drive old) clean → old.roles.host ≡ None → next_of old.roles.second ≡ None → empty_count old.roles < 2
-    → StartLeaves geometry old tables new → Begins (mounted drive old) (mounted drive tables) new
-begins geometry drive old tables (Some c) new same idle is host next few leaves = absurd (cc)
-begins geometry drive old tables None new same idle is host next few leaves =
-    let before = mounted drive old in
-    let after = mounted drive tables in
-    let due : StartLeaves drive.geometry old tables new = subst (λ (g : Geometry). StartLeaves g old tables new) same leaves in
-    let turn : TurnLeaves before None (Ok tt) after new = (refl, due) in
+pub begins : (before after : MountedView) (clean new : Option CleanView) → is_some clean ≡ false → AgreesWithClean before clean → LacksZones before.tables.roles → TurnLeaves before None (Ok tt) after new → Begins before after new
+begins before after (Some c) new idle is lacks turn = absurd (cc)
+begins before after None new idle is lacks turn =
     let gives = turn_gives before after None new (Ok tt) is turn in
     record {
       cleaned = gives.goes_on;
-      runs = must-start before tables new (is-in_use before is host next few) due;
-      host = (room-done before after None new (Ok tt) is turn).host host;
+      runs = must-start before after.tables new (is-in_use before is lacks.host lacks.next lacks.few) turn.1;
+      host = (turn-room before after None new is turn).host lacks.host;
       turns = (turns_fewer before after None new is turn).bound refl;
       keeps = gives.keeps;
     }
 
-pub on-room : (result : Result (Unit {0}) CleanFault) (before after : Mounted) (old : Option CleanView) → OnOk result (LeavesNextZone before after old None) → is_some old ≡ true → before.tables.roles.host ≡ None → OnOk result ((after.tables.roles.host ≡ None) × (is_some (next_of after.tables.roles.second) ≡ true))
-on-room (Ok done) before after old room runs host = (room.host host, room.next runs refl)
-on-room (Err fault) before after old room runs host = tt
+-- once it has ended, there is a next zone
+pub next-zone : (result : Result (Unit {0}) CleanFault) (before after : MountedView) (old new : Option CleanView) → OnOk result (CleanDone before after old new) → is_some old ≡ true → before.tables.roles.host ≡ None → OnOk result (HasNextZone after new)
+next-zone (Ok done) before after old new is runs host = record { ended = is.ended; host = is.room.host host; next = is.room.next runs refl }
+next-zone (Err fault) before after old new is runs host = tt

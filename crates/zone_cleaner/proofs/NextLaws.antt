@@ -6,7 +6,8 @@ use Rattle.logical_map.specs.Places.{MapView}
 use Rattle.zone_choice.specs.declared.roles.Filling.{Filling}
 use Rattle.zone_choice.specs.declared.roles.Second.{Second}
 use Rattle.zone_choice.specs.declared.roles.Second.TheVariants.{Destination, Next}
-use Rattle.zone_choice.specs.Agreement.{Agrees, Mounted, drive_logs, mounted}
+use Rattle.zone_choice.specs.Agreement.{Agrees, MountedView, mounted}
+use Rattle.drive_array.specs.ZoneLogs.{drive_logs}
 use Rattle.zone_choice.specs.Changes.{KeepsArray}
 use Rattle.zone_choice.specs.Roles.{closed, next_of, promoted, second_with, with_next}
 use Rattle.zone_choice.specs.Tables.{TablesView}
@@ -35,11 +36,11 @@ closed-alone capacity (Some (Destination g)) None same alone = absurd (cc)
 closed-alone capacity (Some (Destination g)) (Some (Next f)) same alone = absurd (cc)
 closed-alone capacity (Some (Destination g)) (Some (Destination f)) same alone = absurd alone
 
-pub cleaned_kept : (before after : Mounted) (clean : Option CleanView) → AgreesWithClean before clean → KeepsArray before after → AgreesWithClean after clean
+pub cleaned_kept : (before after : MountedView) (clean : Option CleanView) → AgreesWithClean before clean → KeepsArray before after → AgreesWithClean after clean
 cleaned_kept before after None is kept = (kept.agrees, (kept.spare is.1.0, rw kept.geometry (closed-alone before.drive.geometry.capacity after.tables.roles.second before.tables.roles.second kept.second is.1.1)))
 cleaned_kept before after (Some c) is kept = (kept.agrees, clean_kept before after c is.0 kept is.1)
 
-pub cleaning_kept : (before after : Mounted) (clean : Option CleanView) → AgreesWithClean before clean → KeepsArray before after → KeepsByCleaning before after
+pub cleaning_kept : (before after : MountedView) (clean : Option CleanView) → AgreesWithClean before clean → KeepsArray before after → KeepsByCleaning before after
 cleaning_kept before after clean is kept = record {
   mountable = cleans_mountable after clean (cleaned_kept before after clean is kept);
   array = kept.array;

@@ -4,9 +4,9 @@ use Rattle.std.specs.List.{AllByRecursion}
 use Rattle.std.proofs.lemmas.Bool.{cases_eq}
 use Rattle.std.proofs.lemmas.List.{get_or-set_other, get_or-set_same}
 use Rattle.batch_log.specs.Log.{Batch}
-use Rattle.zone_choice.specs.Records.{append_log, without}
-use Rattle.zone_choice.specs.ZoneLogs.{log_at}
-use Rattle.zone_choice.proofs.ContentLaws.{log_at-other, log_at-same}
+use Rattle.drive_array.specs.Records.{append_log, without}
+use Rattle.drive_array.specs.ZoneLogs.{log_at}
+use Rattle.drive_array.proofs.AppendLaws.{log_at-other, log_at-same}
 use Rattle.zone_cleaner.specs.Turns.{IsMove, OnlyMoves}
 
 -- no log has changed

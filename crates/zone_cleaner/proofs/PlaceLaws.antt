@@ -13,15 +13,15 @@ use Rattle.batch_log.specs.declared.header.Entry.{Entry}
 use Rattle.batch_log.specs.Log.{Batch, IsBatch, batch_blocks, batch_size, data_count, log_size, one_unless, zero_block}
 use Rattle.logical_map.specs.Live.{lies_in, live}
 use Rattle.logical_map.specs.declared.place.Place.TheVariants as places
-use Rattle.zone_choice.specs.Agreement.{Agrees, drive_logs, mounted}
-use Rattle.zone_choice.specs.Records.{Record, batch_records, entry_offset, entry_records, log_records, newest, place, records}
-use Rattle.zone_choice.specs.Sizes.{encoded_size}
+use Rattle.zone_choice.specs.Agreement.{Agrees, mounted}
+use Rattle.drive_array.specs.ZoneLogs.{HasLog, drive_logs, padding, readable, zone_log, zone_logs}
+use Rattle.drive_array.specs.Records.{Record, batch_records, entry_offset, entry_records, log_records, newest, place, records}
+use Rattle.drive_array.specs.Sizes.{encoded_size}
 use Rattle.zone_choice.specs.Tables.{TablesView}
-use Rattle.zone_choice.specs.ZoneLogs.{HasLog, padding, readable, zone_log, zone_logs}
 use Rattle.zone_choice.proofs.AgreementLaws.{size-encoded}
-use Rattle.zone_choice.proofs.AllLaws.{all-append, all-from, all-weaker}
+use Rattle.drive_array.proofs.AllLaws.{all-append, all-from, all-weaker}
 use Rattle.zone_choice.proofs.CommandLaws.{zone-few}
-use Rattle.zone_choice.proofs.DeadLaws.{NotIn, OnRecord, on-newest}
+use Rattle.drive_array.proofs.DeadLaws.{NotIn, OnRecord, on-newest}
 
 -- ---- records lie within their zone
 

@@ -8,8 +8,8 @@ use Rattle.std.proofs.lemmas.List.Sums.{sum_by-cons, sum_by-take-drop}
 use Rattle.logical_map.specs.Live.{blocks_in, lies_in}
 use Rattle.logical_map.specs.declared.place.Place.{Place}
 use Rattle.logical_map.specs.declared.place.Place.TheVariants as places
-use Rattle.zone_choice.specs.Records.{shown_content}
-use Rattle.zone_cleaner.specs.LiveRecords.{LiveRecord, content_of, records_in, without_block}
+use Rattle.drive_array.specs.Records.{shown_content}
+use Rattle.zone_cleaner.specs.LiveRecords.{LiveRecord, live_content, records_in, without_block}
 
 -- how many of these places lie in a zone
 abbrev pub live_in : ℕ → ℕ → List Place → ℕ
@@ -29,7 +29,7 @@ length-records_in array size zone first [] = refl
 length-records_in array size zone first (p ∷ ps) = by (lies_in size zone p) (length-records_in array size zone (first + 1) ps) ∙ sym (live_in-cons size zone p ps)
   where
     by : (b : Bool) → length (records_in array size zone (first + 1) ps) ≡ live_in size zone ps
-        → length (one_more b (record { block = first; content = content_of array first p }) (records_in array size zone (first + 1) ps)) ≡ cond {A = ℕ} b 1 0 + live_in size zone ps
+        → length (one_more b (record { block = first; content = live_content array first p }) (records_in array size zone (first + 1) ps)) ≡ cond {A = ℕ} b 1 0 + live_in size zone ps
     by true h = omega (arith, h)
     by false h = omega (arith, h)
 
@@ -39,8 +39,8 @@ records_in-append array size zone first (p ∷ xs) ys =
     by (lies_in size zone p) (records_in array size zone (first + 1) (xs ++ ys)) (records_in array size zone (first + 1) xs) (records_in array size zone (first + length (p ∷ xs)) ys) (records_in-append array size zone (first + 1) xs ys ∙ ap (λ (k : ℕ). records_in array size zone (first + 1) xs ++ records_in array size zone k ys) (omega arith))
   where
     by : (b : Bool) (all front rest : List LiveRecord) → all ≡ front ++ rest
-        → one_more b (record { block = first; content = content_of array first p }) all ≡ one_more b (record { block = first; content = content_of array first p }) front ++ rest
-    by true all front rest h = ap (λ (rs : List LiveRecord). record { block = first; content = content_of array first p } ∷ rs) h
+        → one_more b (record { block = first; content = live_content array first p }) all ≡ one_more b (record { block = first; content = live_content array first p }) front ++ rest
+    by true all front rest h = ap (λ (rs : List LiveRecord). record { block = first; content = live_content array first p } ∷ rs) h
     by false all front rest h = h
 
 -- ---- the next record
@@ -59,7 +59,7 @@ record IsFirst (array : List (List ℕ)) (size zone first : ℕ) (ps : List Plac
   k : ℕ
   at : block ≡ first + k
   below : k < length ps
-  only : records_in array size zone first (take (suc k) ps) ≡ record { block = block; content = content_of array block (get_or ps k places.None) } ∷ []
+  only : records_in array size zone first (take (suc k) ps) ≡ record { block = block; content = live_content array block (get_or ps k places.None) } ∷ []
   rest : live_in size zone (drop (suc k) ps) + 1 ≡ live_in size zone ps
 
 head-some : (x : ℕ) (xs : List ℕ) (block : ℕ) → slice_get (x ∷ xs) 0 ≡ Some block → x ≡ block
@@ -96,7 +96,7 @@ first-in array size zone first block (p ∷ ps) e = by (lies_in size zone p) ref
 pub record Takes (array : List (List ℕ)) (size zone from : ℕ) (ps : List Place) (block : ℕ) : Type 0 where
   pub below : block < length ps
   pub after : from ≤ block
-  pub more : records_in array size zone 0 (take (block + 1) ps) ≡ records_in array size zone 0 (take from ps) ++ record { block = block; content = content_of array block (get_or ps block places.None) } ∷ []
+  pub more : records_in array size zone 0 (take (block + 1) ps) ≡ records_in array size zone 0 (take from ps) ++ record { block = block; content = live_content array block (get_or ps block places.None) } ∷ []
   pub rest : live_in size zone (drop (block + 1) ps) + 1 ≡ live_in size zone (drop from ps)
 
 drop-drop : {X : Type 0} (i n : ℕ) (xs : List X) → drop n (drop i xs) ≡ drop (i + n) xs
@@ -158,7 +158,7 @@ between array size zone first high (p ∷ ps) le = by (lies_in size zone p) (low
     lower (r ∷ rs) all = ((omega (arith, all.0.0), all.0.1), lower rs all.1)
 
     by : (b : Bool) → AreBetween first high (records_in array size zone (first + 1) ps)
-        → AreBetween first high (one_more b (record { block = first; content = content_of array first p }) (records_in array size zone (first + 1) ps))
+        → AreBetween first high (one_more b (record { block = first; content = live_content array first p }) (records_in array size zone (first + 1) ps))
     by true all = ((omega arith, omega (arith, le)), all)
     by false all = all
 
@@ -172,7 +172,7 @@ distinct-blocks array size zone first [] = tt
 distinct-blocks array size zone first (p ∷ ps) = by (lies_in size zone p) (distinct-blocks array size zone (first + 1) ps)
   where
     by : (b : Bool) → IsDistinct nat_eq (map (λ (r : LiveRecord). r.block) (records_in array size zone (first + 1) ps))
-        → IsDistinct nat_eq (map (λ (r : LiveRecord). r.block) (one_more b (record { block = first; content = content_of array first p }) (records_in array size zone (first + 1) ps)))
+        → IsDistinct nat_eq (map (λ (r : LiveRecord). r.block) (one_more b (record { block = first; content = live_content array first p }) (records_in array size zone (first + 1) ps)))
     by true rest = (apart (first + 1) (first + 1 + length ps) first (records_in array size zone (first + 1) ps) (omega arith) (between array size zone (first + 1) (first + 1 + length ps) ps (omega arith)), rest)
     by false rest = rest
 
@@ -195,7 +195,7 @@ say-the-array array bytes size zone first (p ∷ ps) each =
     same : first + 0 ≡ first
     same = omega arith
 
-    one : (p : Place) → ZerosUnlessData array bytes first p → get_or array first [] ≡ shown_content bytes (content_of array first p)
+    one : (p : Place) → ZerosUnlessData array bytes first p → get_or array first [] ≡ shown_content bytes (live_content array first p)
     one places.None zeros = zeros
     one (places.Trimmed address) zeros = zeros
     one (places.At address) says = refl
@@ -203,8 +203,8 @@ say-the-array array bytes size zone first (p ∷ ps) each =
     rest : (k : ℕ) → k < length ps → ZerosUnlessData array bytes (first + 1 + k) (get_or ps k places.None)
     rest k lt = let next : first + suc k ≡ first + 1 + k = omega arith in rw next at (each (suc k) (omega (arith, lt)))
 
-    by : (b : Bool) → get_or array first [] ≡ shown_content bytes (content_of array first p) → SayTheArray array bytes (records_in array size zone (first + 1) ps)
-        → SayTheArray array bytes (one_more b (record { block = first; content = content_of array first p }) (records_in array size zone (first + 1) ps))
+    by : (b : Bool) → get_or array first [] ≡ shown_content bytes (live_content array first p) → SayTheArray array bytes (records_in array size zone (first + 1) ps)
+        → SayTheArray array bytes (one_more b (record { block = first; content = live_content array first p }) (records_in array size zone (first + 1) ps))
     by true says all = (says, all)
     by false says all = all
 
@@ -226,13 +226,13 @@ records_in-set array size zone first zero block (q ∷ ps) p e away =
     rw away (by (lies_in size zone q) (absent (first + 1) (first + 1 + length ps) block (records_in array size zone (first + 1) ps) (omega (arith, e)) low))
   where
     by : (b : Bool) → without_block block (records_in array size zone (first + 1) ps) ≡ records_in array size zone (first + 1) ps
-        → records_in array size zone (first + 1) ps ≡ without_block block (one_more b (record { block = first; content = content_of array first q }) (records_in array size zone (first + 1) ps))
+        → records_in array size zone (first + 1) ps ≡ without_block block (one_more b (record { block = first; content = live_content array first q }) (records_in array size zone (first + 1) ps))
     by true none = let here : eqb block first ≡ true = eq-eqb block first (omega (arith, e)) in rw here refl
     by false none = sym none
 records_in-set array size zone first (suc k) block (q ∷ ps) p e away =
     let other : eqb block first ≡ false = ne_eqb block first (λ same. omega (arith, same, e)) in
-    ap (one_more (lies_in size zone q) (record { block = first; content = content_of array first q })) (records_in-set array size zone (first + 1) k block ps p (omega (arith, e)) away)
-    ∙ skip-one (lies_in size zone q) block (record { block = first; content = content_of array first q }) (records_in array size zone (first + 1) ps) other
+    ap (one_more (lies_in size zone q) (record { block = first; content = live_content array first q })) (records_in-set array size zone (first + 1) k block ps p (omega (arith, e)) away)
+    ∙ skip-one (lies_in size zone q) block (record { block = first; content = live_content array first q }) (records_in array size zone (first + 1) ps) other
 
 take-set : {X : Type 0} (n k : ℕ) (xs : List X) (x : X) → take n (set xs k x) ≡ set (take n xs) k x
 take-set zero k [] x = refl
@@ -270,13 +270,13 @@ records_in-array old new size zone first (p ∷ ps) same =
     rest : (k : ℕ) → k < length ps → lies_in size zone (get_or ps k places.None) ≡ true → get_or new (first + 1 + k) [] ≡ get_or old (first + 1 + k) []
     rest k lt lies = let next : first + suc k ≡ first + 1 + k = omega arith in rw next at (same (suc k) (omega (arith, lt)) lies)
 
-    one : (q : Place) → get_or new first [] ≡ get_or old first [] → content_of new first q ≡ content_of old first q
+    one : (q : Place) → get_or new first [] ≡ get_or old first [] → live_content new first q ≡ live_content old first q
     one places.None e = refl
     one (places.Trimmed address) e = refl
     one (places.At address) e = ap (λ (c : List ℕ). Some c) e
 
     by : (b : Bool) → lies_in size zone p ≡ b → records_in new size zone (first + 1) ps ≡ records_in old size zone (first + 1) ps
-        → one_more b (record { block = first; content = content_of new first p }) (records_in new size zone (first + 1) ps) ≡ one_more b (record { block = first; content = content_of old first p }) (records_in old size zone (first + 1) ps)
+        → one_more b (record { block = first; content = live_content new first p }) (records_in new size zone (first + 1) ps) ≡ one_more b (record { block = first; content = live_content old first p }) (records_in old size zone (first + 1) ps)
     by true is e =
         let here : first + 0 ≡ first = omega arith in
         let content = one p (rw here at (same 0 (omega arith) is)) in

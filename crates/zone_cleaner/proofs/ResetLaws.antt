@@ -11,28 +11,28 @@ use Rattle.logical_map.specs.Live.{live}
 use Rattle.zone_choice.specs.declared.roles.Filling.{Filling}
 use Rattle.zone_choice.specs.declared.roles.Second.{Second}
 use Rattle.zone_choice.specs.declared.roles.Second.TheVariants.{Next, Destination}
-use Rattle.zone_choice.specs.Agreement.{Agrees, HoldsFilling, Mounted, RolesAgree, drive_logs, mounted, spelled}
-use Rattle.zone_choice.specs.Laws.{OnlyTorn}
-use Rattle.zone_choice.specs.Mountable.{IsMountable}
-use Rattle.zone_choice.specs.Records.{place, shown, without}
-use Rattle.zone_choice.specs.Repair.{HasAtMost}
-use Rattle.zone_choice.specs.Reserve.{batch_most}
-use Rattle.zone_choice.specs.Roles.{Differ, IsOccupied, RolesView, fillings, is_at, is_filling_at, listed}
-use Rattle.zone_choice.specs.Sizes.{larger, log_greatest, map_of}
-use Rattle.zone_choice.specs.Spare.{IsSpare}
+use Rattle.zone_choice.specs.Agreement.{Agrees, HoldsFilling, MountedView, RolesAgree, mounted}
+use Rattle.drive_array.specs.ZoneLogs.{HasLog, drive_logs, log_at, spelled, spelled_array, zone_log}
+use Rattle.drive_array.specs.Laws.{OnlyTorn}
+use Rattle.drive_array.specs.Mountable.{IsMountable}
+use Rattle.drive_array.specs.Records.{place, shown, without}
+use Rattle.drive_array.specs.Repair.{HasAtMost}
+use Rattle.drive_array.specs.Reserve.{batch_most}
+use Rattle.zone_choice.specs.Roles.{Differ, IsOccupied, RolesView, fillings, is_at, is_filling_at, filling_list}
+use Rattle.drive_array.specs.Sizes.{larger, log_greatest, map_of}
+use Rattle.drive_array.specs.Spare.{IsSpare}
 use Rattle.zone_choice.specs.Tables.{TablesView}
-use Rattle.zone_choice.specs.ZoneLogs.{HasLog, log_at, spelled_array, zone_log}
 use Rattle.zone_choice.proofs.AgreementLaws.{agrees_mountable, no_tails}
-use Rattle.zone_choice.proofs.AllLaws.{all-set}
+use Rattle.drive_array.proofs.AllLaws.{all-set}
 use Rattle.zone_choice.proofs.CommandLaws.{filling-in_range}
 use Rattle.zone_choice.proofs.ContentLaws.{same-filled}
-use Rattle.zone_choice.proofs.MountLaws.{emptied-log, spare_resets}
+use Rattle.drive_array.proofs.MountLaws.{emptied-log, spare_resets}
 use Rattle.zone_choice.proofs.OpenLaws.{OpensNone, tells-kept}
 use Rattle.zone_choice.proofs.RolesLaws.{second_list}
-use Rattle.zone_choice.proofs.SizeLaws.{empty_spare}
+use Rattle.drive_array.proofs.SizeLaws.{empty_spare}
 use Rattle.zone_cleaner.specs.Clean.{CleanView, Follows, IsClean, destination_written}
 use Rattle.zone_choice.specs.Roles.{clean_ended, ended, is_sealed_at}
-use Rattle.zone_choice.proofs.DeadLaws.{greatest-without, told-without}
+use Rattle.drive_array.proofs.DeadLaws.{greatest-without, told-without}
 use Rattle.zone_cleaner.proofs.CleanLaws.{clean_spare, live-parts}
 use Rattle.zone_cleaner.proofs.PlaceLaws.{dead-zone}
 use Rattle.zone_cleaner.proofs.SealedLaws.{of-second, sealed-apart, sealed-in_range, sealed-zone, second-filling, zone-logs}
@@ -40,7 +40,7 @@ use Rattle.zone_cleaner.proofs.StepLaws.{ResetDue}
 
 -- ---- roles
 
-fillings_ended : (host : Option Filling) (second : Option Second) → listed host ++ second_list (option_map ended second) ≡ listed host ++ second_list second
+fillings_ended : (host : Option Filling) (second : Option Second) → filling_list host ++ second_list (option_map ended second) ≡ filling_list host ++ second_list second
 fillings_ended host None = refl
 fillings_ended host (Some (Next f)) = refl
 fillings_ended host (Some (Destination f)) = refl
@@ -98,7 +98,7 @@ roles-reset capacity old new logs roles victim agree is resets long =
 -- ---- nothing is lost with the victim
 
 -- all its records are moved: without it the array and the map are the same
-record NothingLost (disk : Mounted) (victim : ℕ) : Type 0 where
+record NothingLost (disk : MountedView) (victim : ℕ) : Type 0 where
   array : IsSpare disk.drive.geometry.block disk.tables.given (drive_logs disk.drive) victim
   map_is : map_of disk.drive.geometry.size disk.tables.given (without (drive_logs disk.drive) victim) ≡ map_of disk.drive.geometry.size disk.tables.given (drive_logs disk.drive)
 
@@ -106,7 +106,7 @@ log-some : (log : List Batch) → 1 ≤ log_size log → (b : Batch) × (rest : 
 log-some [] some = absurd (omega arith)
 log-some (b ∷ rest) some = (b, rest, refl)
 
-nothing_lost : (disk : Mounted) (c : CleanView) → Agrees disk → (is : IsClean disk c) → ResetDue disk c → NothingLost disk c.victim
+nothing_lost : (disk : MountedView) (c : CleanView) → Agrees disk → (is : IsClean disk c) → ResetDue disk c → NothingLost disk c.victim
 nothing_lost disk c agrees is due =
     let f = is.destination in
     let g = disk.drive.geometry in

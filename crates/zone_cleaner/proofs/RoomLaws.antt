@@ -1,16 +1,15 @@
 -- What turns that are done leave of the zones being filled: room for the host.
-use Rattle.std.proofs.Common.{◌≡◌, ℕ, Bool, true, false, cond, ltb, Option, Some, None, Result, Ok, Err, refl, sym, ap, ◌∙◌}
+use Rattle.std.proofs.Common.{◌≡◌, ℕ, Bool, true, false, cond, ltb, Option, Some, None, Ok, refl, sym, ap, ◌∙◌}
 use Rattle.std.specs.Option.{option_map}
-use Rattle.std.specs.Prelude.{OnOk, is_some}
+use Rattle.std.specs.Prelude.{is_some}
 use Rattle.zone_states.specs.declared.geometry.Geometry.{Geometry}
 use Rattle.zone_choice.specs.declared.roles.Filling.{Filling}
 use Rattle.zone_choice.specs.declared.roles.Second.{Second}
 use Rattle.zone_choice.specs.declared.roles.Second.TheVariants.{Destination}
-use Rattle.zone_choice.specs.Agreement.{Mounted}
+use Rattle.zone_choice.specs.Agreement.{MountedView}
 use Rattle.zone_choice.specs.Changes.{roles_alone}
-use Rattle.zone_choice.specs.Reserve.{batch_most}
+use Rattle.drive_array.specs.Reserve.{batch_most}
 use Rattle.zone_choice.specs.Roles.{RolesView, closed_beside, closed_unless, ended, grown, next_of, wrote}
-use Rattle.zone_cleaner.specs.declared.fault.CleanFault.{CleanFault}
 use Rattle.zone_cleaner.specs.declared.step.Step.{Step}
 use Rattle.zone_cleaner.specs.declared.step.Step.TheVariants.{Gather, Move, Reset}
 use Rattle.zone_cleaner.specs.Clean.{CleanView}
@@ -29,7 +28,7 @@ move-host geometry roles zone blocks none = by (ltb 1 geometry.open)
 has-next : (second : Option Second) (filling : Filling) → second ≡ Some (Destination filling) → is_some (next_of (option_map ended second)) ≡ true
 has-next second filling is = rw is refl
 
-step-room : (before after : Mounted) (c : CleanView) (new : Option CleanView) (step : Step) → AgreesWithClean before (Some c) → StepDone step before c after new → LeavesNextZone before after (Some c) new
+step-room : (before after : MountedView) (c : CleanView) (new : Option CleanView) (step : Step) → AgreesWithClean before (Some c) → StepDone step before c after new → LeavesNextZone before after (Some c) new
 step-room before after c new (Gather block place) is done = record {
   host = λ none. rw done.1 none;
   next = λ some ended. let bad : None ≡ Some _ = sym ended ∙ done.2 in absurd (cc);
@@ -45,17 +44,13 @@ step-room before after c new Reset is done = record {
 
 -- ---- turns
 
-turn-room : (before after : Mounted) (old new : Option CleanView) → AgreesWithClean before old → TurnLeaves before old (Ok tt) after new → LeavesNextZone before after old new
+pub turn-room : (before after : MountedView) (old new : Option CleanView) → AgreesWithClean before old → TurnLeaves before old (Ok tt) after new → LeavesNextZone before after old new
 turn-room before after (Some c) new is leaves = step-room before after c new (next_step (batch_most before.drive.geometry) before.tables c) is leaves
 turn-room before after None None is leaves = record { host = λ none. rw leaves.1.1 none; next = λ some. let bad : false ≡ true = some in absurd (cc) }
 turn-room before after None (Some c) is leaves = record { host = λ none. rw leaves.1.tables none; next = λ some. let bad : false ≡ true = some in absurd (cc) }
 
-pub room-done : (before after : Mounted) (old new : Option CleanView) (result : Result (Unit {0}) CleanFault) → AgreesWithClean before old → TurnLeaves before old result after new → OnOk result (LeavesNextZone before after old new)
-room-done before after old new (Ok done) is leaves = turn-room before after old new is leaves
-room-done before after old new (Err fault) is leaves = tt
-
 -- the same before any turn
-pub room-none : (disk : Mounted) (clean : Option CleanView) → LeavesNextZone disk disk clean clean
+pub room-none : (disk : MountedView) (clean : Option CleanView) → LeavesNextZone disk disk clean clean
 room-none disk clean = record { host = λ none. none; next = λ some none. by clean some none }
   where
     by : (clean : Option CleanView) → is_some clean ≡ true → clean ≡ None → is_some (next_of disk.tables.roles.second) ≡ true
@@ -63,7 +58,7 @@ room-none disk clean = record { host = λ none. none; next = λ some none. by cl
     by (Some c) some none = let bad : Some c ≡ None = none in absurd (cc)
 
 -- and after one turn more, of a clean that ran
-pub room-more : (first before after : Mounted) (old middle new : Option CleanView) → is_some middle ≡ true → LeavesNextZone first before old middle → LeavesNextZone before after middle new → LeavesNextZone first after old new
+pub room-more : (first before after : MountedView) (old middle new : Option CleanView) → is_some middle ≡ true → LeavesNextZone first before old middle → LeavesNextZone before after middle new → LeavesNextZone first after old new
 room-more first before after old middle new ran p q = record {
   host = λ none. q.host (p.host none);
   next = λ some none. q.next ran none;

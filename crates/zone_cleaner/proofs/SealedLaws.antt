@@ -8,9 +8,9 @@ use Rattle.drive_port.specs.Contents.{content_of, contents}
 use Rattle.zone_choice.specs.declared.roles.Filling.{Filling}
 use Rattle.zone_choice.specs.declared.roles.Second.{Second}
 use Rattle.zone_choice.specs.declared.roles.Second.TheVariants.{Destination}
-use Rattle.zone_choice.specs.Agreement.{Agrees, IsSealed, Mounted, drive_logs}
-use Rattle.zone_choice.specs.Roles.{RolesView, filling_of, closed, closed_beside, closed_unless, fillings, grown, is_at, is_empty_at, is_filling_at, listed, second_with, wrote}
-use Rattle.zone_choice.specs.ZoneLogs.{zone_log}
+use Rattle.zone_choice.specs.Agreement.{Agrees, IsSealed, MountedView}
+use Rattle.drive_array.specs.ZoneLogs.{drive_logs, zone_log}
+use Rattle.zone_choice.specs.Roles.{RolesView, filling_of, closed, closed_beside, closed_unless, fillings, grown, is_at, is_empty_at, is_filling_at, filling_list, second_with, wrote}
 use Rattle.zone_choice.proofs.MarkLaws.{sealed-with}
 use Rattle.zone_choice.proofs.RolesLaws.{closed-zone, filling_at-with, grown-zone, second_list}
 use Rattle.zone_choice.specs.Changes.{roles_alone}
@@ -65,10 +65,10 @@ zone-logs drive = length-map (contents drive.zones) (zone_log drive.geometry) �
 
 -- ---- the victim
 
-pub sealed-in_range : (disk : Mounted) (zone : ℕ) → Agrees disk → is_sealed_at disk.tables.roles zone ≡ true → zone < length disk.drive.zones
+pub sealed-in_range : (disk : MountedView) (zone : ℕ) → Agrees disk → is_sealed_at disk.tables.roles zone ≡ true → zone < length disk.drive.zones
 sealed-in_range disk zone agrees is = omega (arith, (sealed-zone disk.tables.roles zone is).in_range, agrees.roles.count, length-map disk.drive.zones content_of)
 
-pub sealed-holds : (disk : Mounted) (zone : ℕ) → Agrees disk → is_sealed_at disk.tables.roles zone ≡ true → IsSealed (contents disk.drive.zones) (drive_logs disk.drive) zone
+pub sealed-holds : (disk : MountedView) (zone : ℕ) → Agrees disk → is_sealed_at disk.tables.roles zone ≡ true → IsSealed (contents disk.drive.zones) (drive_logs disk.drive) zone
 sealed-holds disk zone agrees is =
     let was = sealed-zone disk.tables.roles zone is in
     agrees.roles.sealed_are zone (omega (arith, was.in_range, agrees.roles.count)) was.not_empty was.not_filling
@@ -76,14 +76,14 @@ sealed-holds disk zone agrees is =
 -- ---- the second zone
 
 pub of-second : (P : Filling → Type 0) (roles : RolesView) (second : Second) → roles.second ≡ Some second → AllByRecursion P (fillings roles) → P (filling_of second)
-of-second P roles second e all = by roles.host (let Q : Option Second → Type 0 = λ o. AllByRecursion P (listed roles.host ++ second_list o) in subst Q e all)
+of-second P roles second e all = by roles.host (let Q : Option Second → Type 0 = λ o. AllByRecursion P (filling_list roles.host ++ second_list o) in subst Q e all)
   where
-    by : (host : Option Filling) → AllByRecursion P (listed host ++ second_list (Some second)) → P (filling_of second)
+    by : (host : Option Filling) → AllByRecursion P (filling_list host ++ second_list (Some second)) → P (filling_of second)
     by None all = all.0
     by (Some host) all = all.1.0
 
 pub second-filling : (roles : RolesView) (second : Second) → roles.second ≡ Some second → is_filling_at roles (filling_of second).zone ≡ true
-second-filling roles second e = ap (λ (o : Option Second). list_any (is_at zone) (listed roles.host ++ second_list o)) e ∙ by roles.host
+second-filling roles second e = ap (λ (o : Option Second). list_any (is_at zone) (filling_list roles.host ++ second_list o)) e ∙ by roles.host
   where
     zone : ℕ
     zone = (filling_of second).zone
@@ -92,7 +92,7 @@ second-filling roles second e = ap (λ (o : Option Second). list_any (is_at zone
     any true = refl
     any false = ap (λ (c : Bool). c || false) (eq-eqb zone zone refl)
 
-    by : (host : Option Filling) → list_any (is_at zone) (listed host ++ second_list (Some second)) ≡ true
+    by : (host : Option Filling) → list_any (is_at zone) (filling_list host ++ second_list (Some second)) ≡ true
     by None = ap (λ (c : Bool). c || false) (eq-eqb zone zone refl)
     by (Some host) = any (eqb host.zone zone)
 

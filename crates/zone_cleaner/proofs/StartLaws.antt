@@ -11,17 +11,17 @@ use Rattle.logical_map.specs.Live.{live}
 use Rattle.zone_choice.specs.declared.roles.Filling.{Filling}
 use Rattle.zone_choice.specs.declared.roles.Second.{Second}
 use Rattle.zone_choice.specs.declared.roles.Second.TheVariants.{Destination}
-use Rattle.zone_choice.specs.Agreement.{Agrees, HoldsFilling, Mounted, RolesAgree, TellsOpen, drive_logs, mounted}
-use Rattle.zone_choice.specs.Repair.{HasAtMost}
-use Rattle.zone_choice.specs.Reserve.{batch_most, fill}
-use Rattle.zone_choice.specs.Roles.{IsLowestEmpty, IsLowestIn, is_at, is_sealed_at, listed, with_destination}
-use Rattle.zone_choice.specs.Sizes.{array_of}
+use Rattle.zone_choice.specs.Agreement.{Agrees, HoldsFilling, MountedView, RolesAgree, TellsOpen, mounted}
+use Rattle.drive_array.specs.ZoneLogs.{drive_logs, log_at}
+use Rattle.drive_array.specs.Repair.{HasAtMost}
+use Rattle.drive_array.specs.Reserve.{batch_most, move_blocks}
+use Rattle.zone_choice.specs.Roles.{IsLowestEmpty, IsLowestIn, is_at, is_sealed_at, filling_list, with_destination}
+use Rattle.drive_array.specs.Sizes.{array_of}
 use Rattle.zone_choice.specs.Tables.{IsLeastSealed, TablesView}
-use Rattle.zone_choice.specs.ZoneLogs.{log_at}
 use Rattle.zone_choice.proofs.AgreementLaws.{vacant-emptied}
 use Rattle.zone_choice.proofs.MarkLaws.{apart-destination, sealed-made, sealed-parts}
 use Rattle.zone_choice.proofs.OpenLaws.{emptied-shut}
-use Rattle.zone_choice.proofs.ReserveLaws.{positive-most}
+use Rattle.drive_array.proofs.ReserveLaws.{positive-most}
 use Rattle.zone_choice.proofs.RolesLaws.{roles_with, second_list}
 use Rattle.zone_cleaner.specs.Clean.{started, turns_left}
 use Rattle.zone_cleaner.specs.Start.{AgreesWithClean, IsDue, NoneIsDue}
@@ -33,11 +33,11 @@ abbrev fresh : ℕ → Filling
 fresh zone = record { zone = zone; written = 0; may_open = false }
 
 -- its fillings are the host zone and the destination
-all-fillings : (P : Filling → Type 0) (host : Option Filling) (zone : ℕ) → AllByRecursion P (listed host ++ second_list None) → P (fresh zone) → AllByRecursion P (listed host ++ second_list (Some (Destination (fresh zone))))
+all-fillings : (P : Filling → Type 0) (host : Option Filling) (zone : ℕ) → AllByRecursion P (filling_list host ++ second_list None) → P (fresh zone) → AllByRecursion P (filling_list host ++ second_list (Some (Destination (fresh zone))))
 all-fillings P None zone all one = (one, tt)
 all-fillings P (Some h) zone all one = (all.0, (one, tt))
 
-any-fillings : (k zone : ℕ) (host : Option Filling) → list_any (is_at k) (listed host ++ second_list (Some (Destination (fresh zone)))) ≡ false → (eqb zone k ≡ false) × (list_any (is_at k) (listed host ++ second_list None) ≡ false)
+any-fillings : (k zone : ℕ) (host : Option Filling) → list_any (is_at k) (filling_list host ++ second_list (Some (Destination (fresh zone)))) ≡ false → (eqb zone k ≡ false) × (list_any (is_at k) (filling_list host ++ second_list None) ≡ false)
 any-fillings k zone None e = (one (eqb zone k) e, refl)
   where
     one : (b : Bool) → (b || false) ≡ false → b ≡ false
@@ -70,7 +70,7 @@ roles-destination capacity zones logs empties host zone agree lowest no_log =
 
 -- ---- the clean after it
 
-pub record StartGives (disk : Mounted) (tables : TablesView) (victim : ℕ) : Type 0 where
+pub record StartGives (disk : MountedView) (tables : TablesView) (victim : ℕ) : Type 0 where
   pub cleaned : AgreesWithClean (mounted disk.drive tables) (Some (started victim))
   pub turns : turns_left (batch_most disk.drive.geometry) tables (Some (started victim)) + 1 ≤ disk.drive.geometry.capacity
 
@@ -115,13 +115,13 @@ start_gives drive tables new victim zone agrees due lowest new-is =
       turns = start-turns g.capacity k (live tables.map victim) (positive-most g agrees.geometry) due.fits;
     })
   where
-    not-filling : (host : Option Filling) → list_any (is_at victim) (listed host ++ second_list tables.roles.second) ≡ false → victim ≢ zone → list_any (is_at victim) (listed host ++ second_list (Some (Destination (fresh zone)))) ≡ false
+    not-filling : (host : Option Filling) → list_any (is_at victim) (filling_list host ++ second_list tables.roles.second) ≡ false → victim ≢ zone → list_any (is_at victim) (filling_list host ++ second_list (Some (Destination (fresh zone)))) ≡ false
     not-filling host out ne = by host (rw due.alone at out)
       where
         other : eqb zone victim ≡ false
         other = ne_eqb zone victim (λ same. ne (sym same))
 
-        by : (host : Option Filling) → list_any (is_at victim) (listed host ++ second_list None) ≡ false → list_any (is_at victim) (listed host ++ second_list (Some (Destination (fresh zone)))) ≡ false
+        by : (host : Option Filling) → list_any (is_at victim) (filling_list host ++ second_list None) ≡ false → list_any (is_at victim) (filling_list host ++ second_list (Some (Destination (fresh zone)))) ≡ false
         by None out = ap (λ (b : Bool). b || false) other
         by (Some h) out = rw other out
 
@@ -139,12 +139,12 @@ pub second-not_due : (geometry : Geometry) (tables : TablesView) → is_some tab
 second-not_due geometry tables some victim due = let none : is_some tables.roles.second ≡ false = ap is_some due.alone in absurd (cc)
 
 -- too many live records
-pub full-not_due : (geometry : Geometry) (tables : TablesView) (zone : ℕ) → IsLeastSealed tables zone → geometry.capacity < fill (batch_most geometry) (live tables.map zone) + 2 → NoneIsDue geometry tables
+pub full-not_due : (geometry : Geometry) (tables : TablesView) (zone : ℕ) → IsLeastSealed tables zone → geometry.capacity < move_blocks (batch_most geometry) (live tables.map zone) + 2 → NoneIsDue geometry tables
 full-not_due geometry tables zone least more victim due =
     let low = least.least victim due.least.sealed_is in
     let high = due.least.least zone least.sealed_is in
     let same : live tables.map zone ≡ live tables.map victim = omega (arith, low, high) in
-    absurd (omega (arith, due.fits, ap (fill (batch_most geometry)) same, more))
+    absurd (omega (arith, due.fits, ap (move_blocks (batch_most geometry)) same, more))
 
 -- no sealed zone
 pub none-not_due : (geometry : Geometry) (tables : TablesView) → ((zone : ℕ) → is_sealed_at tables.roles zone ≡ false) → NoneIsDue geometry tables

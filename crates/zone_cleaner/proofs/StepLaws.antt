@@ -4,7 +4,7 @@ use Rattle.std.proofs.lemmas.Bool.{ltb-false, ltb-true}
 use Rattle.logical_map.specs.Live.{first_record}
 use Rattle.logical_map.specs.declared.place.Place.{Place}
 use Rattle.logical_map.specs.declared.place.Place.TheVariants as places
-use Rattle.zone_choice.specs.Agreement.{Mounted}
+use Rattle.zone_choice.specs.Agreement.{MountedView}
 use Rattle.zone_cleaner.specs.declared.step.Step.{Step}
 use Rattle.zone_cleaner.specs.declared.step.Step.TheVariants.{Gather, Move, Reset}
 use Rattle.zone_cleaner.specs.Clean.{CleanView, destination_written, untaken}
@@ -22,7 +22,7 @@ spot step = places.None
 
 -- ---- a record is gathered
 
-pub record GatherDue (disk : Mounted) (most : ℕ) (c : CleanView) (block : ℕ) (place : Place) : Type 0 where
+pub record GatherDue (disk : MountedView) (most : ℕ) (c : CleanView) (block : ℕ) (place : Place) : Type 0 where
   pub few : length c.gathered < most
   pub found : first_record disk.tables.map c.victim c.cursor ≡ Some (block, place)
 
@@ -31,7 +31,7 @@ last-not_gather zero rs block place e = let bad : Move ≡ Gather block place = 
 last-not_gather (suc written) [] block place e = let bad : Reset ≡ Gather block place = e in absurd (cc)
 last-not_gather (suc written) (r ∷ rs) block place e = let bad : Move ≡ Gather block place = e in absurd (cc)
 
-pub gather-due : (disk : Mounted) (most : ℕ) (c : CleanView) (block : ℕ) (place : Place) → next_step most disk.tables c ≡ Gather block place → GatherDue disk most c block place
+pub gather-due : (disk : MountedView) (most : ℕ) (c : CleanView) (block : ℕ) (place : Place) → next_step most disk.tables c ≡ Gather block place → GatherDue disk most c block place
 unfolding number spot
 gather-due disk most c block place e = by (ltb (length c.gathered) most) refl (first_record disk.tables.map c.victim c.cursor) refl e
   where
@@ -51,7 +51,7 @@ gather-due disk most c block place e = by (ltb (length c.gathered) most) refl (f
 -- ---- a Move, or the Reset
 
 -- a Move is due where no more records fit, or none is left; and one in any case
-pub record MoveDue (disk : Mounted) (most : ℕ) (c : CleanView) : Type 0 where
+pub record MoveDue (disk : MountedView) (most : ℕ) (c : CleanView) : Type 0 where
   pub whole : 0 < untaken disk.tables c → length c.gathered ≡ most
   pub some : 0 < destination_written disk.tables.roles.second → 0 < length c.gathered
 
@@ -60,7 +60,7 @@ last-some zero rs e some = absurd (omega arith)
 last-some (suc written) [] e some = let bad : Reset ≡ Move = e in absurd (cc)
 last-some (suc written) (r ∷ rs) e some = omega arith
 
-pub move-due : (disk : Mounted) (most : ℕ) (c : CleanView) → next_step most disk.tables c ≡ Move → 1 ≤ most → length c.gathered ≤ most → MoveDue disk most c
+pub move-due : (disk : MountedView) (most : ℕ) (c : CleanView) → next_step most disk.tables c ≡ Move → 1 ≤ most → length c.gathered ≤ most → MoveDue disk most c
 move-due disk most c e one few = by (ltb (length c.gathered) most) refl (first_record disk.tables.map c.victim c.cursor) refl e
   where
     last : Step
@@ -76,7 +76,7 @@ move-due disk most c e one few = by (ltb (length c.gathered) most) refl (first_r
     by true is (Some found) o-is e = let bad : Gather found.0 found.1 ≡ Move = e in absurd (cc)
 
 -- the Reset is due where all records are moved, and a Move was written
-pub record ResetDue (disk : Mounted) (c : CleanView) : Type 0 where
+pub record ResetDue (disk : MountedView) (c : CleanView) : Type 0 where
   pub taken : untaken disk.tables c ≡ 0
   pub none : length c.gathered ≡ 0
   pub moved : 0 < destination_written disk.tables.roles.second
@@ -86,7 +86,7 @@ last-reset zero rs e = let bad : Move ≡ Reset = e in absurd (cc)
 last-reset (suc written) [] e = (refl, omega arith)
 last-reset (suc written) (r ∷ rs) e = let bad : Move ≡ Reset = e in absurd (cc)
 
-pub reset-due : (disk : Mounted) (most : ℕ) (c : CleanView) → next_step most disk.tables c ≡ Reset → ResetDue disk c
+pub reset-due : (disk : MountedView) (most : ℕ) (c : CleanView) → next_step most disk.tables c ≡ Reset → ResetDue disk c
 reset-due disk most c e = by (ltb (length c.gathered) most) refl (first_record disk.tables.map c.victim c.cursor) refl e
   where
     last : Step

@@ -2,30 +2,32 @@
 use Rattle.std.proofs.Common.{◌≡◌, ℕ, ◌+◌, ◌<◌, ◌≤◌, Bool, true, false, cond, map, length, set, get_or, Option, Some, None, Result, Ok, Err, refl, sym, ap, ◌∙◌, arith}
 use Rattle.std.specs.List.{count_by}
 use Rattle.std.specs.Option.{option_map}
-use Rattle.std.specs.Prelude.{IfErr, OnErr, OnOk}
+use Rattle.std.specs.Prelude.{OnErr, OnOk}
 use Rattle.std.proofs.lemmas.List.Sums.{get_or-le-sum_by, sum_by-set}
 use Rattle.drive_port.specs.Drive.{DriveState}
 use Rattle.zone_choice.specs.declared.roles.Filling.{Filling}
 use Rattle.zone_choice.specs.declared.roles.Second.{Second}
 use Rattle.zone_choice.specs.declared.roles.Second.TheVariants.{Destination}
-use Rattle.zone_choice.specs.Agreement.{Mounted, drive_logs, mounted, mounted_array}
+use Rattle.zone_choice.specs.Agreement.{MountedView, mounted, mounted_array}
+use Rattle.drive_array.specs.ZoneLogs.{drive_logs}
 use Rattle.zone_choice.specs.Changes.{KeepsArray, Places, sequence_end}
-use Rattle.zone_choice.specs.Mountable.{IsMountable}
-use Rattle.zone_choice.specs.Reserve.{batch_most}
+use Rattle.drive_array.specs.Mountable.{IsMountable}
+use Rattle.drive_array.specs.Reserve.{batch_most}
 use Rattle.zone_choice.specs.Roles.{RolesView, clean_ended, empty_count, ended}
-use Rattle.zone_choice.specs.Spare.{HasSpare}
+use Rattle.drive_array.specs.Spare.{HasSpare}
 use Rattle.zone_choice.specs.Tables.{TablesView, size_of}
 use Rattle.zone_choice.proofs.AgreementLaws.{agrees_mountable, empty-spare}
 use Rattle.zone_choice.proofs.MarkLaws.{sealed-parts}
-use Rattle.zone_choice.proofs.ReserveLaws.{positive-most}
+use Rattle.drive_array.proofs.ReserveLaws.{positive-most}
 use Rattle.zone_cleaner.specs.declared.fault.CleanFault.{CleanFault}
 use Rattle.zone_cleaner.specs.declared.fault.CleanFault.TheVariants as faults
 use Rattle.zone_cleaner.specs.declared.step.Step.{Step}
 use Rattle.zone_cleaner.specs.declared.step.Step.TheVariants.{Gather, Move, Reset}
 use Rattle.zone_cleaner.specs.Clean.{CleanView, HasNoDestination, turns_left}
-use Rattle.zone_cleaner.specs.LiveRecords.{content_of, move_of}
-use Rattle.zone_cleaner.specs.Start.{GoesOn, AgreesWithClean, IsCleaningCause, KeepsByCleaning, StartLeaves, TurnLeaves, TurnsFewer, trims}
+use Rattle.zone_cleaner.specs.LiveRecords.{live_content, gathered_move}
+use Rattle.zone_cleaner.specs.Start.{AgreesWithClean, CleaningLeaves, KeepsByCleaning, StartLeaves, TurnDone, TurnLeaves, TurnsFewer, trims}
 use Rattle.zone_cleaner.specs.Turns.{StepDone, StepFails, StepLeaves, next_step, with_record}
+use Rattle.zone_cleaner.proofs.RoomLaws.{turn-room}
 use Rattle.zone_cleaner.proofs.CleanLaws.{clean_kept, clean_spare, gather_gives, turns_kept}
 use Rattle.zone_cleaner.proofs.CloseLaws.{close-keeps, close-turns}
 use Rattle.zone_cleaner.proofs.EndLaws.{destination-is}
@@ -39,17 +41,17 @@ use Rattle.zone_cleaner.proofs.StepLaws.{gather-due, move-due}
 
 -- ---- a drive that is cleaned can be mounted
 
-pub cleans-spare : (disk : Mounted) (clean : Option CleanView) → AgreesWithClean disk clean → HasSpare disk.drive.geometry.block disk.tables.given (drive_logs disk.drive)
+pub cleans-spare : (disk : MountedView) (clean : Option CleanView) → AgreesWithClean disk clean → HasSpare disk.drive.geometry.block disk.tables.given (drive_logs disk.drive)
 cleans-spare disk None is = empty-spare disk.drive disk.tables is.0 is.1.0
 cleans-spare disk (Some c) is = clean_spare disk c is.0 is.1
 
-pub cleans_mountable : (disk : Mounted) (clean : Option CleanView) → AgreesWithClean disk clean → IsMountable disk.drive disk.tables.given
+pub cleans_mountable : (disk : MountedView) (clean : Option CleanView) → AgreesWithClean disk clean → IsMountable disk.drive disk.tables.given
 cleans_mountable disk clean is = agrees_mountable disk.drive disk.tables is.0 (cleans-spare disk clean is)
 
 -- ---- one step
 
 -- the clean goes on, with fewer turns left
-pub record GoesForward (most : ℕ) (before : Mounted) (c : CleanView) (after : Mounted) (new : Option CleanView) : Type 0 where
+pub record GoesForward (most : ℕ) (before : MountedView) (c : CleanView) (after : MountedView) (new : Option CleanView) : Type 0 where
   pub cleaned : AgreesWithClean after new
   pub fewer : turns_left most after.tables new < turns_left most before.tables (Some c)
 
@@ -67,18 +69,18 @@ empty-more roles victim lt =
         let one : cond {A = ℕ} (get_or roles.empty victim false) 1 0 ≡ 1 = rw e refl in
         omega (arith, more, one, get_or-le-sum_by (λ (x : Bool). cond {A = ℕ} x 1 0) roles.empty victim false lt)
 
-pub step_forward : (before after : Mounted) (c : CleanView) (new : Option CleanView) (step : Step) → AgreesWithClean before (Some c) → next_step (batch_most before.drive.geometry) before.tables c ≡ step → StepDone step before c after new → GoesForward (batch_most before.drive.geometry) before c after new
+pub step_forward : (before after : MountedView) (c : CleanView) (new : Option CleanView) (step : Step) → AgreesWithClean before (Some c) → next_step (batch_most before.drive.geometry) before.tables c ≡ step → StepDone step before c after new → GoesForward (batch_most before.drive.geometry) before c after new
 step_forward before after c new (Gather block place) is due done =
     let most = batch_most before.drive.geometry in
     let g = gather-due before most c block place due in
     let gives = gather_gives before c block place is.1 g.found g.few in
-    let next = with_record c block (content_of (mounted_array before) block place) in
+    let next = with_record c block (live_content (mounted_array before) block place) in
     let kept = turns_kept before after next most is.0 done.0 gives.clean in
     rw done.2 (record { cleaned = (done.0.agrees, clean_kept before after next is.0 done.0 gives.clean); fewer = omega (arith, kept, gives.fewer) })
 step_forward before after c new Move is due done =
     let most = batch_most before.drive.geometry in
     let same = destination-is done.0.destination is.1.destination (sym done.0.second ∙ is.1.second) in
-    let placed : Places before after is.1.destination.zone (move_of (size_of before.tables) before.tables.next c.victim c.gathered) = rw (← same) done.0.places in
+    let placed : Places before after is.1.destination.zone (gathered_move (size_of before.tables) before.tables.next c.victim c.gathered) = rw (← same) done.0.places in
     let gives = move_gives before after c is.0 is.1 (move-due before most c due (positive-most before.drive.geometry is.0.geometry) is.1.gathers.few) placed in
     rw done.1 (record { cleaned = (placed.agrees, gives.clean); fewer = gives.fewer })
 step_forward before after c new Reset is due done =
@@ -89,7 +91,7 @@ step_forward before after c new Reset is due done =
     })
 
 -- what a step keeps that is done
-step-keeps : (before after : Mounted) (c : CleanView) (new : Option CleanView) (step : Step) → AgreesWithClean before (Some c) → AgreesWithClean after new → StepDone step before c after new → KeepsByCleaning before after
+step-keeps : (before after : MountedView) (c : CleanView) (new : Option CleanView) (step : Step) → AgreesWithClean before (Some c) → AgreesWithClean after new → StepDone step before c after new → KeepsByCleaning before after
 step-keeps before after c new (Gather block place) is cleaned done = record {
   mountable = cleans_mountable after new cleaned;
   array = done.0.array;
@@ -105,7 +107,7 @@ step-keeps before after c new (Gather block place) is cleaned done = record {
 step-keeps before after c new Move is cleaned done = let moved = move-trims before after c is.0 is.1 done.0 in record {
   mountable = cleans_mountable after new cleaned;
   array = done.0.array;
-  moves = only-more (drive_logs before.drive) (drive_logs after.drive) done.0.destination.zone (move_of (size_of before.tables) before.tables.next c.victim c.gathered) (omega (arith, filling-in_range before.drive before.tables done.0.destination.zone is.0 (second-filling before.tables.roles (Destination done.0.destination) done.0.second), zone-logs before.drive)) refl done.0.places.logs;
+  moves = only-more (drive_logs before.drive) (drive_logs after.drive) done.0.destination.zone (gathered_move (size_of before.tables) before.tables.next c.victim c.gathered) (omega (arith, filling-in_range before.drive before.tables done.0.destination.zone is.0 (second-filling before.tables.roles (Destination done.0.destination) done.0.second), zone-logs before.drive)) refl done.0.places.logs;
   size = done.0.places.size;
   trimmed = moved;
   given = done.0.places.given;
@@ -129,7 +131,7 @@ step-keeps before after c new Reset is cleaned done = record {
 
 -- ---- a step that is not done
 
-keeps-kept : (before after : Mounted) (c : CleanView) → AgreesWithClean before (Some c) → KeepsArray before after → AgreesWithClean after (Some c) × KeepsByCleaning before after
+keeps-kept : (before after : MountedView) (c : CleanView) → AgreesWithClean before (Some c) → KeepsArray before after → AgreesWithClean after (Some c) × KeepsByCleaning before after
 keeps-kept before after c is kept =
     let cleaned : AgreesWithClean after (Some c) = (kept.agrees, clean_kept before after c is.0 kept is.1) in (
       cleaned,
@@ -147,19 +149,13 @@ keeps-kept before after c is kept =
       },
     )
 
--- what a turn leaves, whatever it answers
-pub record TurnGives (before : Mounted) (old : Option CleanView) (result : Result (Unit {0}) CleanFault) (after : Mounted) (new : Option CleanView) : Type 0 where
-  pub goes_on : GoesOn result after new
-  pub keeps : KeepsByCleaning before after
-  pub cause : IfErr result (IsCleaningCause after.drive after.tables.next)
-
 -- a Move alone lacks a sequence
-spent-move : (before after : Mounted) (step : Step) → StepFails step faults.Spent before after → (after ≡ before) × (sequence_end before.drive.geometry ≤ before.tables.next)
+spent-move : (before after : MountedView) (step : Step) → StepFails step faults.Spent before after → (after ≡ before) × (sequence_end before.drive.geometry ≤ before.tables.next)
 spent-move before after (Gather block place) fails = absurd fails
 spent-move before after Move fails = fails
 spent-move before after Reset fails = absurd fails
 
-fails_give : (before after : Mounted) (c : CleanView) (new : Option CleanView) (step : Step) (fault : CleanFault) → AgreesWithClean before (Some c) → StepFails step fault before after → new ≡ Some c → TurnGives before (Some c) (Err fault) after new
+fails_give : (before after : MountedView) (c : CleanView) (new : Option CleanView) (step : Step) (fault : CleanFault) → AgreesWithClean before (Some c) → StepFails step fault before after → new ≡ Some c → CleaningLeaves before (Err fault) after new
 fails_give before after c new step faults.OutOfMemory is fails same = let kept = keeps-kept before after c is fails.0 in rw same (record { goes_on = kept.0; keeps = kept.1; cause = tt })
 fails_give before after c new step faults.Stopped is fails same =
     let but = close-keeps before after.tables fails.tables in
@@ -185,7 +181,7 @@ fails_give before after c new step faults.Spent is fails same = let spent = spen
   cause = spent.1;
 })
 
-step_gives : (before after : Mounted) (c : CleanView) (new : Option CleanView) (result : Result (Unit {0}) CleanFault) → AgreesWithClean before (Some c) → StepLeaves (next_step (batch_most before.drive.geometry) before.tables c) before c result after new → TurnGives before (Some c) result after new
+step_gives : (before after : MountedView) (c : CleanView) (new : Option CleanView) (result : Result (Unit {0}) CleanFault) → AgreesWithClean before (Some c) → StepLeaves (next_step (batch_most before.drive.geometry) before.tables c) before c result after new → CleaningLeaves before result after new
 step_gives before after c new (Ok done) is leaves =
     let forward = step_forward before after c new (next_step (batch_most before.drive.geometry) before.tables c) is refl leaves in
     record { goes_on = forward.cleaned; keeps = step-keeps before after c new (next_step (batch_most before.drive.geometry) before.tables c) is forward.cleaned leaves; cause = tt }
@@ -193,12 +189,12 @@ step_gives before after c new (Err fault) is leaves = fails_give before after c 
 
 -- ---- a turn that is not done adds none
 
-fails-turns : (before after : Mounted) (c : CleanView) (most : ℕ) (step : Step) (fault : CleanFault) → StepFails step fault before after → turns_left most after.tables (Some c) ≡ turns_left most before.tables (Some c)
+fails-turns : (before after : MountedView) (c : CleanView) (most : ℕ) (step : Step) (fault : CleanFault) → StepFails step fault before after → turns_left most after.tables (Some c) ≡ turns_left most before.tables (Some c)
 fails-turns before after c most step faults.OutOfMemory fails = close-turns before after.tables most (Some c) fails.1
 fails-turns before after c most step faults.Stopped fails = close-turns before after.tables most (Some c) fails.tables
 fails-turns before after c most step faults.Spent fails = rw (spent-move before after step fails).0 refl
 
-pub refused-turns : (before after : Mounted) (old new : Option CleanView) (most : ℕ) (result : Result (Unit {0}) CleanFault) → TurnLeaves before old result after new → OnErr result (turns_left most after.tables new ≡ turns_left most before.tables old)
+pub refused-turns : (before after : MountedView) (old new : Option CleanView) (most : ℕ) (result : Result (Unit {0}) CleanFault) → TurnLeaves before old result after new → OnErr result (turns_left most after.tables new ≡ turns_left most before.tables old)
 refused-turns before after old new most (Ok done) leaves = tt
 refused-turns before after None new most (Err fault) leaves = absurd leaves
 refused-turns before after (Some c) new most (Err fault) leaves = rw leaves.1 (fails-turns before after c most (next_step (batch_most before.drive.geometry) before.tables c) fault leaves.0)
@@ -211,7 +207,7 @@ start-leaves drive old new (Some c) is starts =
     let gives = start_gives drive old new starts.victim starts.destination is.0 starts.due starts.lowest starts.tables in
     (rw starts.clean_is gives.cleaned, rw starts.tables refl, rw starts.tables refl, rw starts.tables refl, rw starts.tables refl)
 
-pub turn_gives : (before after : Mounted) (old new : Option CleanView) (result : Result (Unit {0}) CleanFault) → AgreesWithClean before old → TurnLeaves before old result after new → TurnGives before old result after new
+pub turn_gives : (before after : MountedView) (old new : Option CleanView) (result : Result (Unit {0}) CleanFault) → AgreesWithClean before old → TurnLeaves before old result after new → CleaningLeaves before result after new
 turn_gives before after (Some c) new result is leaves = step_gives before after c new result is leaves
 turn_gives before after None new (Err fault) is leaves = absurd leaves
 turn_gives before after None new (Ok done) is leaves =
@@ -234,7 +230,7 @@ turn_gives before after None new (Ok done) is leaves =
       cause = tt;
     }
 
-pub turns_fewer : (before after : Mounted) (old new : Option CleanView) → AgreesWithClean before old → TurnLeaves before old (Ok tt) after new → TurnsFewer before after old new
+pub turns_fewer : (before after : MountedView) (old new : Option CleanView) → AgreesWithClean before old → TurnLeaves before old (Ok tt) after new → TurnsFewer before after old new
 turns_fewer before after (Some c) new is leaves = record {
   fewer = λ some. (step_forward before after c new (next_step (batch_most before.drive.geometry) before.tables c) is refl leaves).fewer;
   bound = λ none. absurd (let bad : true ≡ false = none in cc);
@@ -246,10 +242,10 @@ turns_fewer before after None new is leaves = record { fewer = λ some. absurd (
     by (Some c) starts = rw starts.clean_is (start_gives before.drive before.tables after.tables starts.victim starts.destination is.0 starts.due starts.lowest starts.tables).turns
 
 -- the same before any turn
-pub keeps-none : (disk : Mounted) (clean : Option CleanView) → AgreesWithClean disk clean → KeepsByCleaning disk disk
+pub keeps-none : (disk : MountedView) (clean : Option CleanView) → AgreesWithClean disk clean → KeepsByCleaning disk disk
 keeps-none disk clean is = record { mountable = cleans_mountable disk clean is; array = refl; moves = only-same (drive_logs disk.drive) (drive_logs disk.drive) refl; size = refl; trimmed = refl; given = refl; geometry = refl; refused = refl; next = refl; appended = omega arith }
 
-pub keeps-more : (a b c : Mounted) → KeepsByCleaning a b → KeepsByCleaning b c → KeepsByCleaning a c
+pub keeps-more : (a b c : MountedView) → KeepsByCleaning a b → KeepsByCleaning b c → KeepsByCleaning a c
 keeps-more a b c p q = record {
   mountable = q.mountable;
   array = q.array ∙ p.array;
@@ -263,6 +259,7 @@ keeps-more a b c p q = record {
   appended = omega (arith, p.appended, q.appended);
 }
 
-pub on-done : (before after : Mounted) (old new : Option CleanView) (result : Result (Unit {0}) CleanFault) → AgreesWithClean before old → TurnLeaves before old result after new → OnOk result (TurnsFewer before after old new)
-on-done before after old new (Ok done) is leaves = turns_fewer before after old new is leaves
+-- with what the zones being filled are then
+pub on-done : (before after : MountedView) (old new : Option CleanView) (result : Result (Unit {0}) CleanFault) → AgreesWithClean before old → TurnLeaves before old result after new → OnOk result (TurnDone before after old new)
+on-done before after old new (Ok done) is leaves = record { turns = turns_fewer before after old new is leaves; room = turn-room before after old new is leaves }
 on-done before after old new (Err fault) is leaves = tt

@@ -8,13 +8,13 @@ use Rattle.logical_map.specs.Live.{lies_in, live}
 use Rattle.zone_choice.specs.declared.roles.Filling.{Filling}
 use Rattle.zone_choice.specs.declared.roles.Second.{Second}
 use Rattle.zone_choice.specs.declared.roles.Second.TheVariants.{Destination, Next}
-use Rattle.zone_choice.specs.Agreement.{Mounted, drive_logs, mounted_array}
-use Rattle.zone_choice.specs.Reserve.{batch_most}
+use Rattle.zone_choice.specs.Agreement.{MountedView, mounted_array}
+use Rattle.drive_array.specs.ZoneLogs.{drive_logs, log_at}
+use Rattle.drive_array.specs.Reserve.{batch_most}
 use Rattle.zone_choice.specs.Roles.{empty_count}
-use Rattle.zone_choice.specs.Sizes.{larger, log_greatest}
-use Rattle.zone_choice.specs.Spare.{IsBefore, IsMoveFrom, IsSpare, first_sequence}
+use Rattle.drive_array.specs.Sizes.{larger, log_greatest}
+use Rattle.drive_array.specs.Spare.{IsBefore, IsMoveFrom, IsSpare, first_sequence}
 use Rattle.zone_choice.specs.Tables.{TablesView, size_of}
-use Rattle.zone_choice.specs.ZoneLogs.{log_at}
 use Rattle.zone_cleaner.specs.LiveRecords.{LiveRecord, records_in, without_all}
 use Rattle.zone_choice.specs.Roles.{is_sealed_at}
 
@@ -49,10 +49,14 @@ abbrev pub turns_left : ℕ → TablesView → Option CleanView → ℕ
 turns_left most tables None = 0
 turns_left most tables (Some clean) = untaken tables clean + moves_left most tables clean + 1
 
+-- how many are left of the clean of a disk
+abbrev pub turns_of : MountedView → Option CleanView → ℕ
+turns_of disk clean = turns_left (batch_most disk.drive.geometry) disk.tables clean
+
 -- ---- what holds between two turns
 
 -- The gathered records are the live records of the victim, of all blocks before the cursor: no more than one Move takes.
-pub record Gathers (disk : Mounted) (clean : CleanView) : Type 0 where
+pub record Gathers (disk : MountedView) (clean : CleanView) : Type 0 where
   pub within : clean.cursor ≤ size_of disk.tables
   pub few : length clean.gathered ≤ batch_most disk.drive.geometry
   pub gathered : clean.gathered ≡ records_in (mounted_array disk) disk.tables.map.zone_size clean.victim 0 (take clean.cursor disk.tables.map.places)
@@ -60,9 +64,11 @@ pub record Gathers (disk : Mounted) (clean : CleanView) : Type 0 where
 -- a zone's first batch is older than that of another, whose batches say no smaller size; a zone without a batch says nothing yet
 abbrev pub Follows : List Batch → List Batch → Type 0
 Follows old [] = Unit {0}
-Follows old (batch ∷ log) = IsBefore (first_sequence old) (first_sequence (batch ∷ log)) × (larger (log_greatest old) (log_greatest (batch ∷ log)) ≡ log_greatest (batch ∷ log))
+Follows old (batch ∷ log) =
+    IsBefore (first_sequence old) (first_sequence (batch ∷ log)) × (larger (log_greatest old) (log_greatest (batch ∷ log)) ≡ log_greatest (batch ∷ log))
 
--- All batches of the destination are Moves from the victim, and come after its batches. Without them the array is the same: so a mount can empty the destination at any moment of a clean.
+-- All batches of the destination are Moves from the victim, and come after its batches. Without them the array is the
+-- same: so a mount can empty the destination at any moment of a clean.
 pub record AreMoves (block_bytes n : ℕ) (logs : List (List Batch)) (victim destination : ℕ) : Type 0 where
   pub moves : AllByRecursion (IsMoveFrom victim) (log_at logs destination)
   pub follows : Follows (log_at logs victim) (log_at logs destination)
@@ -73,7 +79,7 @@ abbrev pub HasRoomFor : ℕ → ℕ → ℕ → ℕ → Type 0
 HasRoomFor capacity most written records = written + max (moves_due written) (records + div_ceil records most) + 2 ≤ capacity
 
 -- a clean runs: its victim is sealed, and the second zone is its destination
-pub record IsClean (disk : Mounted) (clean : CleanView) : Type 0 where
+pub record IsClean (disk : MountedView) (clean : CleanView) : Type 0 where
   pub destination : Filling
   pub second : disk.tables.roles.second ≡ Some (Destination destination)
   pub victim : is_sealed_at disk.tables.roles clean.victim ≡ true
@@ -88,7 +94,7 @@ HasNoDestination capacity (Some (Next filling)) = filling.written + 2 ≤ capaci
 HasNoDestination capacity (Some (Destination filling)) = ⊥
 
 -- a clean runs; or none does, a zone is kept empty, and there is no destination
-abbrev pub Cleans : Mounted → Option CleanView → Type 0
+abbrev pub Cleans : MountedView → Option CleanView → Type 0
 Cleans disk None = (1 ≤ empty_count disk.tables.roles) × HasNoDestination disk.drive.geometry.capacity disk.tables.roles.second
 Cleans disk (Some clean) = IsClean disk clean
 

@@ -1,12 +1,12 @@
 -- Gathered records, as they are kept: of which block each is, and where its data stands in the Move that takes them.
 use Rattle.std.specs.Prelude.{◌≡◌, ℕ, ◌+◌, ◌≤◌, not, List, [], drop, length, map, take, Option, None, Some, IfSome, is_some}
-use Rattle.std.specs.List.{AllByRecursion}
+use Rattle.std.specs.List.{AllByRecursion, concat}
 use Rattle.std.specs.Option.{option_map}
 use Rattle.batch_log.specs.declared.header.Entry.{Entry}
 use Rattle.batch_log.specs.declared.header.Kind.TheVariants.{Move}
 use Rattle.batch_log.specs.Header.{Heading}
 use Rattle.zone_choice.specs.Builder.{BuilderView}
-use Rattle.zone_cleaner.specs.LiveRecords.{LiveRecord}
+use Rattle.zone_cleaner.specs.LiveRecords.{LiveRecord, gathered_data}
 
 pub record GatheredView : Type 0 where
   pub records : List LiveRecord
@@ -14,12 +14,16 @@ pub record GatheredView : Type 0 where
   pub batch : BuilderView
 
 -- the block at a position of these bytes
-abbrev pub block_at : ℕ → List ℕ → ℕ → List ℕ
-block_at block_bytes bytes position = take block_bytes (drop position bytes)
+abbrev pub block_from : ℕ → List ℕ → ℕ → List ℕ
+block_from block_bytes bytes position = take block_bytes (drop position bytes)
 
 -- the records of these blocks: each with the block of data that stands at its position, or a trim
-abbrev pub shown : ℕ → List ℕ → List (ℕ × Option ℕ) → List LiveRecord
-shown block_bytes bytes blocks = map (λ b. record { block = b.0; content = option_map (block_at block_bytes bytes) b.1 }) blocks
+abbrev pub gathered_records : ℕ → List ℕ → List (ℕ × Option ℕ) → List LiveRecord
+gathered_records block_bytes bytes blocks = map (λ b. record { block = b.0; content = option_map (block_from block_bytes bytes) b.1 }) blocks
+
+-- their data, one after the other
+abbrev pub data_bytes : ℕ → List ℕ → List (ℕ × Option ℕ) → List ℕ
+data_bytes block_bytes bytes blocks = concat (gathered_data (gathered_records block_bytes bytes blocks))
 
 -- at each of these positions there is a whole block, after the header's
 abbrev pub AreWithin : ℕ → ℕ → List (ℕ × Option ℕ) → Type 0
@@ -44,3 +48,7 @@ move_heading size sequence source entries = record { kind = Move; sequence = seq
 abbrev pub bytes_in : Option (List ℕ) → List ℕ
 bytes_in None = []
 bytes_in (Some bytes) = bytes
+
+-- the block at a position, if there is one
+abbrev pub stored_bytes : ℕ → List ℕ → Option ℕ → List ℕ
+stored_bytes block_bytes bytes position = bytes_in (option_map (block_from block_bytes bytes) position)

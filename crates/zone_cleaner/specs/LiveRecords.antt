@@ -12,16 +12,20 @@ pub record LiveRecord : Type 0 where
   pub block : ℕ
   pub content : Option (List ℕ)
 
+-- the record of a trim
+abbrev pub trim_record : ℕ → LiveRecord
+trim_record block = record { block = block; content = None }
+
 -- what it says of a block that lies at a place: the data that the array has, or none for a trim
-abbrev pub content_of : List (List ℕ) → ℕ → Place → Option (List ℕ)
-content_of array block (places.At address) = Some (slice_index_or array block [])
-content_of array block place = None
+abbrev pub live_content : List (List ℕ) → ℕ → Place → Option (List ℕ)
+live_content array block (places.At address) = Some (slice_index_or array block [])
+live_content array block place = None
 
 -- the records of the blocks that lie in a zone, in ascending order, where the first of these places is that of the block `first`
 abbrev pub records_in : List (List ℕ) → ℕ → ℕ → ℕ → List Place → List LiveRecord
 records_in array zone_size zone first [] = []
 records_in array zone_size zone first (place ∷ all) =
-    if lies_in zone_size zone place then record { block = first; content = content_of array first place } ∷ records_in array zone_size zone (first + 1) all
+    if lies_in zone_size zone place then record { block = first; content = live_content array first place } ∷ records_in array zone_size zone (first + 1) all
     else records_in array zone_size zone (first + 1) all
 
 -- all records but that of one block
@@ -36,22 +40,23 @@ without_all (e ∷ es) rs = without_all es (without_block e.block rs)
 
 -- ---- the Move that repeats them
 
-abbrev pub entry_of : ℕ → Option (List ℕ) → Entry
-entry_of block None = record { block = block; trim = true }
-entry_of block (Some bytes) = record { block = block; trim = false }
+abbrev pub gathered_entry : ℕ → Option (List ℕ) → Entry
+gathered_entry block None = record { block = block; trim = true }
+gathered_entry block (Some bytes) = record { block = block; trim = false }
 
-abbrev pub entries_of : List LiveRecord → List Entry
-entries_of rs = map (λ r. entry_of r.block r.content) rs
+abbrev pub gathered_entries : List LiveRecord → List Entry
+gathered_entries rs = map (λ r. gathered_entry r.block r.content) rs
 
 -- the data blocks: one for each record that has data
 abbrev pub with_data : Option (List ℕ) → List (List ℕ) → List (List ℕ)
 with_data None blocks = blocks
 with_data (Some bytes) blocks = bytes ∷ blocks
 
-abbrev pub data_of : List LiveRecord → List (List ℕ)
-data_of [] = []
-data_of (r ∷ rs) = with_data r.content (data_of rs)
+abbrev pub gathered_data : List LiveRecord → List (List ℕ)
+gathered_data [] = []
+gathered_data (r ∷ rs) = with_data r.content (gathered_data rs)
 
 -- a Move of records from a zone, on a disk of this size
-abbrev pub move_of : ℕ → ℕ → ℕ → List LiveRecord → Batch
-move_of size sequence source rs = record { heading = record { kind = Move; sequence = sequence; source = source; size = Some size; entries = entries_of rs }; body = data_of rs }
+abbrev pub gathered_move : ℕ → ℕ → ℕ → List LiveRecord → Batch
+gathered_move size sequence source rs =
+    record { heading = record { kind = Move; sequence = sequence; source = source; size = Some size; entries = gathered_entries rs }; body = gathered_data rs }

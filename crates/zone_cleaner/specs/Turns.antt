@@ -1,7 +1,6 @@
 -- What each turn of a clean does.
 use Rattle.std.specs.List.{AllByRecursion}
 use Rattle.std.specs.Prelude.{◌≡◌, ◌⊎◌, ℕ, suc, ◌+◌, ◌<◌, ◌≤◌, nat_lt, if◌then◌else◌, true, List, [], ◌∷◌, ◌++◌, length, Option, Some, None, Result, Ok, Err}
-use Rattle.drive_port.specs.Drive.{DriveState}
 use Rattle.drive_port.specs.declared.device.Halt.{Halt}
 use Rattle.drive_port.specs.declared.device.Halt.TheVariants as halt
 use Rattle.batch_log.specs.declared.header.Kind.TheVariants as kinds
@@ -10,19 +9,20 @@ use Rattle.logical_map.specs.Live.{first_record}
 use Rattle.logical_map.specs.declared.place.Place.{Place}
 use Rattle.zone_choice.specs.declared.roles.Filling.{Filling}
 use Rattle.zone_choice.specs.declared.roles.Second.TheVariants.{Destination}
-use Rattle.zone_choice.specs.Agreement.{Agrees, Mounted, drive_logs, mounted_array}
+use Rattle.zone_choice.specs.Agreement.{Agrees, MountedView, mounted_array}
+use Rattle.drive_array.specs.ZoneLogs.{drive_logs, log_at}
 use Rattle.zone_choice.specs.Changes.{KeepsArray, Places, sequence_end, tables_closed}
-use Rattle.zone_choice.specs.Mountable.{IsMountable}
-use Rattle.zone_choice.specs.Records.{without}
+use Rattle.drive_array.specs.Mountable.{IsMountable}
+use Rattle.drive_array.specs.Records.{without}
+use Rattle.drive_array.specs.Reserve.{batch_most}
+use Rattle.zone_choice.specs.Roles.{clean_ended}
 use Rattle.zone_choice.specs.Tables.{TablesView, size_of}
-use Rattle.zone_choice.specs.ZoneLogs.{log_at}
 use Rattle.zone_cleaner.specs.declared.step.Step.{Step}
 use Rattle.zone_cleaner.specs.declared.step.Step.TheVariants.{Gather, Move, Reset}
 use Rattle.zone_cleaner.specs.declared.fault.CleanFault.{CleanFault}
 use Rattle.zone_cleaner.specs.declared.fault.CleanFault.TheVariants as faults
-use Rattle.zone_cleaner.specs.Clean.{CleanView, destination_written}
-use Rattle.zone_cleaner.specs.LiveRecords.{LiveRecord, content_of, move_of}
-use Rattle.zone_choice.specs.Roles.{clean_ended}
+use Rattle.zone_cleaner.specs.Clean.{CleanView, IsClean, destination_written}
+use Rattle.zone_cleaner.specs.LiveRecords.{LiveRecord, live_content, gathered_move}
 
 -- ---- which step is next
 
@@ -38,25 +38,37 @@ step_of (Some found) last = Gather found.0 found.1
 -- A Move takes as many records as fit; before it they are gathered, in ascending order of their blocks.
 abbrev pub next_step : ℕ → TablesView → CleanView → Step
 next_step most tables clean =
-    if nat_lt (length clean.gathered) most then step_of (first_record tables.map clean.victim clean.cursor) (last_step (destination_written tables.roles.second) clean.gathered) else Move
+    if nat_lt (length clean.gathered) most
+    then step_of (first_record tables.map clean.victim clean.cursor) (last_step (destination_written tables.roles.second) clean.gathered)
+    else Move
+
+abbrev pub step_due : MountedView → CleanView → Step
+step_due disk clean = next_step (batch_most disk.drive.geometry) disk.tables clean
+
+-- a clean runs, and this step of it is next
+pub record IsAtStep (step : Step) (disk : MountedView) (clean : CleanView) : Type 0 where
+  pub agrees : Agrees disk
+  pub clean_is : IsClean disk clean
+  pub due : step_due disk clean ≡ step
 
 -- ---- what a step that is done leaves
 
 abbrev pub with_record : CleanView → ℕ → Option (List ℕ) → CleanView
-with_record clean block content = record { victim = clean.victim; cursor = block + 1; gathered = clean.gathered ++ record { block = block; content = content } ∷ [] }
+with_record clean block content =
+    record { victim = clean.victim; cursor = block + 1; gathered = clean.gathered ++ record { block = block; content = content } ∷ [] }
 
 abbrev pub after_move : CleanView → CleanView
 after_move clean = record { victim = clean.victim; cursor = clean.cursor; gathered = [] }
 
 -- the gathered records were appended to the destination as one Move, which says what the array has
-pub record MovesRecords (before : Mounted) (clean : CleanView) (after : Mounted) : Type 0 where
+pub record MovesRecords (before : MountedView) (clean : CleanView) (after : MountedView) : Type 0 where
   pub destination : Filling
   pub second : before.tables.roles.second ≡ Some (Destination destination)
-  pub places : Places before after destination.zone (move_of (size_of before.tables) before.tables.next clean.victim clean.gathered)
+  pub places : Places before after destination.zone (gathered_move (size_of before.tables) before.tables.next clean.victim clean.gathered)
   pub array : mounted_array after ≡ mounted_array before
 
 -- the victim is empty, the destination is the next host zone, and the array is the same
-pub record EmptiesVictim (before after : Mounted) (victim : ℕ) : Type 0 where
+pub record EmptiesVictim (before after : MountedView) (victim : ℕ) : Type 0 where
   pub agrees : Agrees after
   pub logs : drive_logs after.drive ≡ without (drive_logs before.drive) victim
   pub array : mounted_array after ≡ mounted_array before
@@ -68,8 +80,9 @@ pub record EmptiesVictim (before after : Mounted) (victim : ℕ) : Type 0 where
   pub refused : after.drive.refused ≡ before.drive.refused
   pub appended : after.drive.appended ≡ before.drive.appended
 
-abbrev pub StepDone : Step → Mounted → CleanView → Mounted → Option CleanView → Type 0
-StepDone (Gather block place) before clean after new = KeepsArray before after × (after.tables ≡ before.tables) × (new ≡ Some (with_record clean block (content_of (mounted_array before) block place)))
+abbrev pub StepDone : Step → MountedView → CleanView → MountedView → Option CleanView → Type 0
+StepDone (Gather block place) before clean after new =
+    KeepsArray before after × (after.tables ≡ before.tables) × (new ≡ Some (with_record clean block (live_content (mounted_array before) block place)))
 StepDone Move before clean after new = MovesRecords before clean after × (new ≡ Some (after_move clean))
 StepDone Reset before clean after new = EmptiesVictim before after clean.victim × (new ≡ None)
 
@@ -85,11 +98,11 @@ OnlyMoves old new = (zone : ℕ) → (moves : List Batch) × AllByRecursion IsMo
 -- ---- a step that is not done
 
 -- the tables are the same but that, at an open limit of 1, they may say that the zone beside one was closed
-abbrev pub MayClose : Mounted → TablesView → Type 0
+abbrev pub MayClose : MountedView → TablesView → Type 0
 MayClose before after = (after ≡ before.tables) ⊎ ((before.drive.geometry.open < 2) × ((zone : ℕ) × (after ≡ tables_closed before.tables zone)))
 
 -- The drive stopped inside the step: it can be mounted, and its array is the same.
-pub record StopsClean (before after : Mounted) : Type 0 where
+pub record StopsClean (before after : MountedView) : Type 0 where
   pub stopped : after.drive.stopped ≡ true
   pub moves : OnlyMoves (drive_logs before.drive) (drive_logs after.drive)
   pub mountable : IsMountable after.drive after.tables.given
@@ -99,15 +112,16 @@ pub record StopsClean (before after : Mounted) : Type 0 where
   pub refused : after.drive.refused ≡ before.drive.refused
   pub appended : after.drive.appended ≡ before.drive.appended
 
--- What a step leaves that was not done, by its fault. Out of memory, the array is the same. A Move alone needs a sequence; where none is left for it, nothing was sent.
-abbrev pub StepFails : Step → CleanFault → Mounted → Mounted → Type 0
+-- What a step leaves that was not done, by its fault. Out of memory, the array is the same. A Move alone needs a
+-- sequence; where none is left for it, nothing was sent.
+abbrev pub StepFails : Step → CleanFault → MountedView → MountedView → Type 0
 StepFails step faults.OutOfMemory before after = KeepsArray before after × MayClose before after.tables
 StepFails step faults.Stopped before after = StopsClean before after
 StepFails Move faults.Spent before after = (after ≡ before) × (sequence_end before.drive.geometry ≤ before.tables.next)
 StepFails step faults.Spent before after = ⊥
 
 -- what a step leaves, by its answer: the clean goes on from here, or it has ended; where the step was not done, it is as it was
-abbrev pub StepLeaves : Step → Mounted → CleanView → Result (Unit {0}) CleanFault → Mounted → Option CleanView → Type 0
+abbrev pub StepLeaves : Step → MountedView → CleanView → Result (Unit {0}) CleanFault → MountedView → Option CleanView → Type 0
 StepLeaves step before clean (Ok done) after new = StepDone step before clean after new
 StepLeaves step before clean (Err fault) after new = StepFails step fault before after × (new ≡ Some clean)
 
@@ -115,9 +129,3 @@ StepLeaves step before clean (Err fault) after new = StepFails step fault before
 abbrev pub clean_fault : Halt → CleanFault
 clean_fault halt.Memory = faults.OutOfMemory
 clean_fault halt.Stopped = faults.Stopped
-
--- why a record is not read
-abbrev pub IsReadFault : DriveState → CleanFault → Type 0
-IsReadFault drive faults.OutOfMemory = Unit {0}
-IsReadFault drive faults.Stopped = drive.stopped ≡ true
-IsReadFault drive faults.Spent = ⊥

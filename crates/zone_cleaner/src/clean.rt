@@ -1,20 +1,18 @@
 ghost use Rattle.std.specs.Prelude.{◌≡◌, ◌≤◌, ◌<◌, ◌+◌, ◌^◌, List, length, IfErr, OnOk, Some};
 ghost use Rattle.std.specs.List.{AllByRecursion};
-ghost use Rattle.zone_choice.specs.Agreement.{Agrees, mounted};
-ghost use Rattle.zone_choice.specs.Reserve.{batch_most};
-ghost use Rattle.zone_cleaner.specs.Clean.{IsClean, forgotten, destination_written, started};
+ghost use Rattle.zone_states.specs.Geometry.{IsInRange};
+ghost use Rattle.zone_cleaner.specs.Clean.{forgotten, destination_written, started};
 ghost use Rattle.zone_cleaner.specs.LiveRecords.{LiveRecord};
-ghost use Rattle.zone_cleaner.specs.Turns.{EmptiesVictim, StepFails, StepLeaves, last_step, next_step};
+ghost use Rattle.zone_cleaner.specs.Turns.{EmptiesVictim, IsAtStep, StepFails, StepLeaves, last_step, step_due};
 
 use crate::fault::CleanFault;
-use crate::gathered::{Gathered, fault_of};
+use crate::gathered::{Gathered, MoveHeader, fault_of};
 use crate::step::Step;
 use batch_log::Entry;
 use drive_port::{Device, reset};
 use logical_map::Place;
-use std::alloc::Global;
 use std::marker::Model;
-use zone_choice::{Second, Tables, append_batch, halt_of};
+use zone_choice::{Mounted, Second, append_batch, batch_most, halt_of};
 
 /// A clean that runs: the live records of one zone, the victim, are moved to another, and then the victim is
 /// emptied.
@@ -64,18 +62,15 @@ impl Clean {
     /// Gathers the record of a block, which lies in the victim.
     pub(crate) fn gather<D: Device>(
         &mut self,
-        tables: &Tables,
-        device: &mut D,
+        disk: &mut Mounted<D>,
         block: u32,
         place: Place,
     ) -> Result<(), CleanFault>
-        requires agrees { Agrees (mounted (D.drive device.old) tables.now) }
-        requires clean { IsClean (mounted (D.drive device.old) tables.now) self.old }
-        requires due { next_step (batch_most (D.drive device.old).geometry) tables.now self.old ≡ Step.Gather block place }
-        ensures leaves { StepLeaves (Step.Gather block place) (mounted (D.drive device.old) tables.now) self.old result (mounted (D.drive device.new) tables.now) (Some self.new) }
-        ensures completed { (D.drive device.new).completed ≤ (D.drive device.old).completed + 1 }
+        requires { IsAtStep (Step.Gather block place) disk.old self.old }
+        ensures leaves { StepLeaves (Step.Gather block place) disk.old self.old result disk.new (Some self.new) }
+        ensures completed { disk.new.drive.completed ≤ disk.old.drive.completed + 1 }
     {
-        if let Err(fault) = self.gathered.gather(tables, device, block, place) {
+        if let Err(fault) = self.gathered.gather(disk, block, place) {
             return Err(fault);
         }
         self.cursor = block + 1;
@@ -83,31 +78,30 @@ impl Clean {
     }
 
     /// Appends the gathered records to the destination, as one Move. All is allocated before that its Append needs.
-    pub(crate) fn carry<D: Device>(
-        &mut self,
-        alloc: Global,
-        tables: &mut Tables,
-        device: &mut D,
-    ) -> Result<(), CleanFault>
-        requires agrees { Agrees (mounted (D.drive device.old) tables.old) }
-        requires clean { IsClean (mounted (D.drive device.old) tables.old) self.old }
-        requires due { next_step (batch_most (D.drive device.old).geometry) tables.old self.old ≡ Step.Move }
-        ensures leaves { StepLeaves Step.Move (mounted (D.drive device.old) tables.old) self.old result (mounted (D.drive device.new) tables.new) (Some self.new) }
-        ensures completed { (D.drive device.new).completed ≤ (D.drive device.old).completed + 2 }
+    pub(crate) fn carry<D: Device>(&mut self, disk: &mut Mounted<D>) -> Result<(), CleanFault>
+        requires { IsAtStep Step.Move disk.old self.old }
+        ensures leaves { StepLeaves Step.Move disk.old self.old result disk.new (Some self.new) }
+        ensures completed { disk.new.drive.completed ≤ disk.old.drive.completed + 2 }
     {
-        let Some(Second::Destination(destination)) = tables.second() else {
+        let Some(Second::Destination(destination)) = disk.tables.second() else {
             unreachable!();
         };
-        let geometry = device.geometry();
-        let sequence = tables.next();
+        let geometry = disk.geometry();
+        let sequence = disk.tables.next();
         if sequence >= (1 << 63) - geometry.capacity as u64 {
             return Err(CleanFault::Spent);
         }
-        self.gathered
-            .build(tables.blocks(), sequence, self.victim, geometry.block)?;
-        tables.reserve_moves(destination.zone, self.gathered.len() as u32)?;
+        let size = disk.tables.blocks();
+        self.gathered.build(MoveHeader {
+            size,
+            sequence,
+            source: self.victim,
+            block_bytes: geometry.block,
+        })?;
+        disk.tables
+            .reserve_moves(destination.zone, self.gathered.len() as u32)?;
         let batch = self.gathered.batch();
-        match append_batch(alloc, tables, device, destination.zone, batch) {
+        match append_batch(disk, destination.zone, batch) {
             Ok(()) => {
                 self.gathered.clear();
                 Ok(())
@@ -117,40 +111,34 @@ impl Clean {
     }
 
     /// Empties the victim, whose records are all moved.
-    pub(crate) fn empty_victim<D: Device>(
-        &self,
-        alloc: Global,
-        tables: &mut Tables,
-        device: &mut D,
-    ) -> Result<(), CleanFault>
-        requires agrees { Agrees (mounted (D.drive device.old) tables.old) }
-        requires clean { IsClean (mounted (D.drive device.old) tables.old) self.now }
-        requires due { next_step (batch_most (D.drive device.old).geometry) tables.old self.now ≡ Step.Reset }
-        ensures ok { OnOk result (EmptiesVictim (mounted (D.drive device.old) tables.old) (mounted (D.drive device.new) tables.new) self.now.victim) }
-        ensures err { IfErr result (λ fault. StepFails Step.Reset fault (mounted (D.drive device.old) tables.old) (mounted (D.drive device.new) tables.new)) }
-        ensures completed { (D.drive device.new).completed ≤ (D.drive device.old).completed + 1 }
+    pub(crate) fn empty_victim<D: Device>(&self, disk: &mut Mounted<D>) -> Result<(), CleanFault>
+        requires { IsAtStep Step.Reset disk.old self.now }
+        ensures ok { OnOk result (EmptiesVictim disk.old disk.new self.now.victim) }
+        ensures err { IfErr result (λ fault. StepFails Step.Reset fault disk.old disk.new) }
+        ensures completed { disk.new.drive.completed ≤ disk.old.drive.completed + 1 }
     {
-        let start = self.victim as u64 * device.geometry().size as u64;
-        if let Err(fault) = reset(alloc, device, start) {
+        let start = self.victim as u64 * disk.geometry().size as u64;
+        if let Err(fault) = reset(disk.alloc, &mut disk.device, start) {
             return Err(fault_of(halt_of(fault)));
         }
-        tables.end_clean(self.victim);
+        disk.tables.end_clean(self.victim);
         Ok(())
     }
 
     /// What the clean does next.
-    pub(crate) fn next_step(&self, tables: &mut Tables, most: u32) -> Step
-        requires { self.now.victim < tables.old.map.zones }
-        ensures step { result ≡ next_step most tables.old self.now }
-        ensures kept { tables.new ≡ tables.old }
+    pub(crate) fn next_step<D: Device>(&self, disk: &mut Mounted<D>) -> Step
+        requires range { IsInRange disk.old.drive.geometry }
+        requires victim { self.now.victim < disk.old.tables.map.zones }
+        ensures step { result ≡ step_due disk.old self.now }
+        ensures kept { disk.new ≡ disk.old }
     {
-        if self.gathered.len() >= most as usize {
+        if self.gathered.len() >= batch_most(&disk.geometry()) as usize {
             return Step::Move;
         }
-        if let Some((block, place)) = tables.records_of(self.victim, self.cursor) {
+        if let Some((block, place)) = disk.tables.records_of(self.victim, self.cursor) {
             return Step::Gather(block, place);
         }
-        last_step(tables.second(), self.gathered.len())
+        last_step(disk.tables.second(), self.gathered.len())
     }
 }
 

@@ -1,14 +1,11 @@
-ghost use Rattle.std.specs.Prelude.{◌≡◌, ◌≤◌, ◌<◌, ◌+◌, ◌*◌, ◌^◌, true, Err, IfErr, OnErr, OnOk, None, Some, is_some, length};
+ghost use Rattle.std.specs.Prelude.{◌≡◌, ◌≤◌, ◌<◌, ◌+◌, ◌*◌, ◌^◌, OnErr, OnOk, None, Some, is_some, length};
 ghost use Rattle.std.specs.List.{AllByRecursion};
 ghost use Rattle.std.specs.Option.{option_map};
-ghost use Rattle.zone_choice.specs.Agreement.{mounted};
-ghost use Rattle.zone_choice.specs.Builder.{IsBuilt, built};
-ghost use Rattle.zone_choice.specs.Changes.{CanPlace};
-ghost use Rattle.zone_choice.specs.Reserve.{batch_most};
-ghost use Rattle.zone_choice.specs.Roles.{empty_count, next_of};
-ghost use Rattle.zone_cleaner.specs.Clean.{forgotten, started, turns_left};
+ghost use Rattle.zone_choice.specs.Builder.{IsBuilt};
+ghost use Rattle.zone_choice.specs.Changes.{CanPlace, built_for};
+ghost use Rattle.zone_cleaner.specs.Clean.{forgotten, started, turns_of};
 ghost use Rattle.zone_cleaner.specs.Host.{HostLeaves};
-ghost use Rattle.zone_cleaner.specs.Start.{CleanLeaves, EndLeaves, FindsDue, GoesOn, AgreesWithClean, IsCleaningCause, KeepsByCleaning, LeavesNextZone, StartLeaves, TurnLeaves, TurnsFewer};
+ghost use Rattle.zone_cleaner.specs.Start.{AgreesWithClean, CleanDone, CleanLeaves, CleaningLeaves, EndLeaves, FindsDue, HasNextZone, KeepsTurns, LacksZones, TurnDone, TurnLeaves};
 ghost use Rattle.zone_states.specs.Geometry.{IsInRange};
 
 use crate::clean::Clean;
@@ -20,7 +17,7 @@ use drive_port::{Device, Geometry, Halt};
 use std::alloc::Global;
 use std::marker::Model;
 use std::mem::replace;
-use zone_choice::{BatchBuilder, Filling, Tables, append_batch, batch_most, fill};
+use zone_choice::{BatchBuilder, Filling, Mounted, Tables, append_batch, fill};
 
 /// Cleans the zones of a drive one after the other, in turns between the host's commands.
 #[derive(Drop)]
@@ -28,7 +25,6 @@ pub struct Cleaner {
     clean: Option<Clean>,
     /// The memory that the last clean used for its records: the next one uses it again.
     gathered: Gathered,
-    alloc: Global,
 }
 
 impl Model for Cleaner {
@@ -68,7 +64,6 @@ impl Cleaner {
         Cleaner {
             clean: None,
             gathered: Gathered::new(alloc),
-            alloc,
         }
     }
 
@@ -96,20 +91,19 @@ impl Cleaner {
     /// gathered records. A clean that runs goes on, with as many turns left as before, or fewer.
     pub fn append_batch<D: Device>(
         &mut self,
-        alloc: Global,
-        tables: &mut Tables,
-        device: &mut D,
+        disk: &mut Mounted<D>,
         host: Filling,
         batch: &BatchBuilder,
     ) -> Result<(), Halt>
-        requires cleaned { AgreesWithClean (mounted (D.drive device.old) tables.old) self.old }
-        requires host { tables.old.roles.host ≡ Some host }
-        requires built { IsBuilt (D.drive device.old).geometry.block batch.now }
-        requires can { CanPlace (mounted (D.drive device.old) tables.old) host.zone (built (D.drive device.old).geometry.block batch.now) }
-        ensures leaves { HostLeaves (mounted (D.drive device.old) tables.old) self.old host.zone (built (D.drive device.old).geometry.block batch.now) result (mounted (D.drive device.new) tables.new) self.new }
-        ensures completed { (D.drive device.new).completed ≤ (D.drive device.old).completed + 2 }
+        requires cleaned { AgreesWithClean disk.old self.old }
+        requires host { disk.old.tables.roles.host ≡ Some host }
+        requires built { IsBuilt disk.old.drive.geometry.block batch.now }
+        requires can { CanPlace disk.old host.zone (built_for disk.old batch.now) }
+        ensures leaves { HostLeaves disk.old self.old host.zone (built_for disk.old batch.now)
+            result disk.new self.new }
+        ensures completed { disk.new.drive.completed ≤ disk.old.drive.completed + 2 }
     {
-        match append_batch(alloc, tables, device, host.zone, batch) {
+        match append_batch(disk, host.zone, batch) {
             Ok(()) => {
                 self.forget(batch.entries());
                 Ok(())
@@ -120,25 +114,26 @@ impl Cleaner {
 
     /// Starts a clean, if one is due: of the sealed zone with the fewest live records, into the lowest empty
     /// zone. No command is sent.
-    pub fn start(&mut self, tables: &mut Tables, geometry: &Geometry)
+    pub fn start<D: Device>(&mut self, disk: &mut Mounted<D>)
         requires none { self.old ≡ None }
-        requires range { IsInRange geometry.now }
-        requires zones { length tables.old.roles.empty ≡ tables.old.map.zones }
-        ensures { StartLeaves geometry.now tables.old tables.new self.new }
+        requires range { IsInRange disk.old.drive.geometry }
+        requires zones { length disk.old.tables.roles.empty ≡ disk.old.tables.map.zones }
+        ensures { TurnLeaves disk.old None (Ok tt) disk.new self.new }
     {
-        let Some(victim) = due(tables, geometry) else {
+        let geometry = disk.geometry();
+        let Some(victim) = due(&disk.tables, &geometry) else {
             return;
         };
-        if tables.take_destination().is_some() {
-            self.begin(victim);
+        if disk.tables.take_destination().is_some() {
+            self.begin(disk.alloc, victim);
         }
     }
 
     /// Begins the clean of a victim, in the memory that the last clean used.
-    fn begin(&mut self, victim: u32)
+    fn begin(&mut self, alloc: Global, victim: u32)
         ensures { self.new ≡ Some (started victim) }
     {
-        let gathered = replace(&mut self.gathered, Gathered::new(self.alloc));
+        let gathered = replace(&mut self.gathered, Gathered::new(alloc));
         self.clean = Some(Clean::new(victim, gathered));
     }
 
@@ -152,21 +147,20 @@ impl Cleaner {
     }
 
     /// What a turn does.
-    fn step<D: Device>(&mut self, tables: &mut Tables, device: &mut D) -> Result<(), CleanFault>
-        requires cleaned { AgreesWithClean (mounted (D.drive device.old) tables.old) self.old }
-        ensures leaves { TurnLeaves (mounted (D.drive device.old) tables.old) self.old result (mounted (D.drive device.new) tables.new) self.new }
-        ensures completed { (D.drive device.new).completed ≤ (D.drive device.old).completed + 2 }
+    fn step<D: Device>(&mut self, disk: &mut Mounted<D>) -> Result<(), CleanFault>
+        requires cleaned { AgreesWithClean disk.old self.old }
+        ensures leaves { TurnLeaves disk.old self.old result disk.new self.new }
+        ensures completed { disk.new.drive.completed ≤ disk.old.drive.completed + 2 }
     {
-        let geometry = device.geometry();
         let Some(clean) = &mut self.clean else {
-            self.start(tables, &geometry);
+            self.start(disk);
             return Ok(());
         };
-        match clean.next_step(tables, batch_most(&geometry)) {
-            Step::Gather(block, place) => clean.gather(tables, device, block, place),
-            Step::Move => clean.carry(self.alloc, tables, device),
+        match clean.next_step(disk) {
+            Step::Gather(block, place) => clean.gather(disk, block, place),
+            Step::Move => clean.carry(disk),
             Step::Reset => {
-                clean.empty_victim(self.alloc, tables, device)?;
+                clean.empty_victim(disk)?;
                 self.end();
                 Ok(())
             }
@@ -177,69 +171,50 @@ impl Cleaner {
     ///
     /// After `OutOfMemory` and `Spent` the clean is as it was before the turn, and goes on at the next. At most two
     /// commands are completed.
-    pub fn turn<D: Device>(&mut self, tables: &mut Tables, device: &mut D) -> Result<(), CleanFault>
-        requires cleaned { AgreesWithClean (mounted (D.drive device.old) tables.old) self.old }
-        ensures leaves { TurnLeaves (mounted (D.drive device.old) tables.old) self.old result (mounted (D.drive device.new) tables.new) self.new }
-        ensures goes_on { GoesOn result (mounted (D.drive device.new) tables.new) self.new }
-        ensures cause { IfErr result (IsCleaningCause (D.drive device.new) tables.new.next) }
-        ensures keeps { KeepsByCleaning (mounted (D.drive device.old) tables.old) (mounted (D.drive device.new) tables.new) }
-        ensures turns { OnOk result (TurnsFewer (mounted (D.drive device.old) tables.old) (mounted (D.drive device.new) tables.new) self.old self.new) }
-        ensures refused { OnErr result (turns_left (batch_most (D.drive device.old).geometry) tables.new self.new ≡ turns_left (batch_most (D.drive device.old).geometry) tables.old self.old) }
-        ensures room { OnOk result (LeavesNextZone (mounted (D.drive device.old) tables.old) (mounted (D.drive device.new) tables.new) self.old self.new) }
-        ensures completed { (D.drive device.new).completed ≤ (D.drive device.old).completed + 2 }
+    pub fn turn<D: Device>(&mut self, disk: &mut Mounted<D>) -> Result<(), CleanFault>
+        requires cleaned { AgreesWithClean disk.old self.old }
+        ensures leaves { TurnLeaves disk.old self.old result disk.new self.new }
+        ensures cleaning { CleaningLeaves disk.old result disk.new self.new }
+        ensures done { OnOk result (TurnDone disk.old disk.new self.old self.new) }
+        ensures refused { OnErr result (KeepsTurns disk.old disk.new self.old self.new) }
+        ensures completed { disk.new.drive.completed ≤ disk.old.drive.completed + 2 }
     {
-        self.step(tables, device)
+        self.step(disk)
     }
 
-    /// Takes turns until the clean that runs has ended. Each completes two commands at most. Then the destination is the
-    /// next zone, and has two free blocks.
-    pub fn run_to_end<D: Device>(
-        &mut self,
-        tables: &mut Tables,
-        device: &mut D,
-    ) -> Result<(), CleanFault>
-        requires cleaned { AgreesWithClean (mounted (D.drive device.old) tables.old) self.old }
-        ensures leaves { EndLeaves (mounted (D.drive device.old) tables.old) self.old result (mounted (D.drive device.new) tables.new) self.new }
-        ensures ended { OnOk result (self.new ≡ None) }
-        ensures room { OnOk result (LeavesNextZone (mounted (D.drive device.old) tables.old) (mounted (D.drive device.new) tables.new) self.old None) }
-        ensures goes_on { GoesOn result (mounted (D.drive device.new) tables.new) self.new }
-        ensures cause { IfErr result (IsCleaningCause (D.drive device.new) tables.new.next) }
-        ensures keeps { KeepsByCleaning (mounted (D.drive device.old) tables.old) (mounted (D.drive device.new) tables.new) }
-        ensures completed { (D.drive device.new).completed ≤ (D.drive device.old).completed + 2 * turns_left (batch_most (D.drive device.old).geometry) tables.old self.old }
+    /// Takes turns until the clean that runs has ended. Each completes two commands at most. Then the destination is
+    /// the next zone, and has two free blocks.
+    pub fn run_to_end<D: Device>(&mut self, disk: &mut Mounted<D>) -> Result<(), CleanFault>
+        requires cleaned { AgreesWithClean disk.old self.old }
+        ensures leaves { EndLeaves disk.old self.old result disk.new self.new }
+        ensures cleaning { CleaningLeaves disk.old result disk.new self.new }
+        ensures done { OnOk result (CleanDone disk.old disk.new self.old self.new) }
+        ensures completed { disk.new.drive.completed ≤ disk.old.drive.completed + 2 * turns_of disk.old self.old }
     {
         while self.running() {
-            if let Err(fault) = self.turn(tables, device) {
+            if let Err(fault) = self.turn(disk) {
                 return Err(fault);
             }
         }
         Ok(())
     }
 
-    /// Cleans a zone at once, for a disk that has no host zone, no next zone, and at most one empty zone: the clean that
-    /// runs is run to its end or, where none runs, one is started and run. Then there is a next zone, with two free
-    /// blocks.
-    pub fn clean_zone<D: Device>(
-        &mut self,
-        tables: &mut Tables,
-        device: &mut D,
-    ) -> Result<(), CleanFault>
-        requires cleaned { AgreesWithClean (mounted (D.drive device.old) tables.old) self.old }
-        requires host { tables.old.roles.host ≡ None }
-        requires next { next_of tables.old.roles.second ≡ None }
-        requires few { empty_count tables.old.roles < 2 }
-        ensures leaves { CleanLeaves (mounted (D.drive device.old) tables.old) self.old result (mounted (D.drive device.new) tables.new) self.new }
-        ensures ended { OnOk result (self.new ≡ None) }
-        ensures room { OnOk result ((tables.new.roles.host ≡ None) × (is_some (next_of tables.new.roles.second) ≡ true)) }
-        ensures goes_on { GoesOn result (mounted (D.drive device.new) tables.new) self.new }
-        ensures cause { IfErr result (IsCleaningCause (D.drive device.new) tables.new.next) }
-        ensures keeps { KeepsByCleaning (mounted (D.drive device.old) tables.old) (mounted (D.drive device.new) tables.new) }
-        ensures completed { (D.drive device.new).completed + 2 ≤ (D.drive device.old).completed + 2 * (D.drive device.old).geometry.capacity }
+    /// Cleans a zone at once, for a disk that has no host zone, no next zone, and at most one empty zone: the clean
+    /// that runs is run to its end or, where none runs, one is started and run. Then there is a next zone, with two
+    /// free blocks.
+    pub fn clean_zone<D: Device>(&mut self, disk: &mut Mounted<D>) -> Result<(), CleanFault>
+        requires cleaned { AgreesWithClean disk.old self.old }
+        requires lacks { LacksZones disk.old.tables.roles }
+        ensures leaves { CleanLeaves disk.old self.old result disk.new self.new }
+        ensures cleaning { CleaningLeaves disk.old result disk.new self.new }
+        ensures done { OnOk result (HasNextZone disk.new self.new) }
+        ensures completed { disk.new.drive.completed + 2
+            ≤ disk.old.drive.completed + 2 * disk.old.drive.geometry.capacity }
     {
         if self.running() {
-            return self.run_to_end(tables, device);
+            return self.run_to_end(disk);
         }
-        let geometry = device.geometry();
-        self.start(tables, &geometry);
-        self.run_to_end(tables, device)
+        self.start(disk);
+        self.run_to_end(disk)
     }
 }

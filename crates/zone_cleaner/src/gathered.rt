@@ -1,15 +1,14 @@
 ghost use Rattle.std.specs.Prelude.{◌≡◌, ◌⊎◌, ◌≤◌, ◌<◌, ◌+◌, ◌++◌, ◌∷◌, ◌^◌, false, [], drop, length, None, Some, IfErr, IfSome, OnOk, OnErr, slice_index_or};
 ghost use Rattle.std.specs.List.{AllByRecursion, concat};
 ghost use Rattle.std.specs.Option.{option_map};
-ghost use Rattle.batch_log.specs.Header.{IsHeading, header_block};
-ghost use Rattle.drive_port.specs.Contents.{SameContents};
-ghost use Rattle.logical_map.specs.declared.place.Place.TheVariants as places;
-ghost use Rattle.zone_choice.specs.Agreement.{Agrees, mounted, spelled};
-ghost use Rattle.zone_choice.specs.Changes.{KeepsArray};
-ghost use Rattle.zone_choice.specs.Tables.{size_of};
-ghost use Rattle.zone_cleaner.specs.Gathered.{AreOfLength, AreWithin, block_at, bytes_in, entries_for, entry_for, move_heading, shown};
-ghost use Rattle.zone_cleaner.specs.LiveRecords.{content_of, data_of, move_of, without_all, without_block};
-ghost use Rattle.zone_cleaner.specs.Turns.{IsReadFault, clean_fault};
+ghost use Rattle.batch_log.specs.Header.{IsHeading};
+ghost use Rattle.zone_choice.specs.Agreement.{mounted_array};
+ghost use Rattle.zone_choice.specs.Builder.{naming};
+ghost use Rattle.zone_cleaner.specs.Gathered.{AreOfLength, AreWithin, stored_bytes, data_bytes, entries_for, entry_for};
+ghost use Rattle.zone_cleaner.specs.Moving.{HoldsMove, headed_bytes, heading_for, move_with};
+ghost use Rattle.zone_cleaner.specs.LiveRecords.{gathered_data, trim_record, without_all, without_block};
+ghost use Rattle.zone_cleaner.specs.Reading.{CanGather, IsGatherFault, IsStoredAt, OnlyReads, data_record, live_record};
+ghost use Rattle.zone_cleaner.specs.Turns.{clean_fault};
 
 use crate::fault::CleanFault;
 use batch_log::{Entry, Kind};
@@ -18,7 +17,7 @@ use indexmap::IndexMap;
 use logical_map::Place;
 use std::alloc::{AllocError, Global};
 use std::marker::Model;
-use zone_choice::{BatchBuilder, Tables, halt_of};
+use zone_choice::{BatchBuilder, Mounted, halt_of};
 
 /// The live records that the next Move takes, in the order in which they were gathered: of each block its
 /// data, or none for a trim. The data stands where the Move has it.
@@ -38,20 +37,31 @@ pub struct Gathered {
 
 impl Model for Gathered {
     ghost use Rattle.std.specs.Prelude.{◌≡◌, ◌≤◌, false, drop, length, if◌then◌else◌};
-    ghost use Rattle.std.specs.List.{concat};
-    ghost use Rattle.zone_cleaner.specs.Gathered.{AreWithin, GatheredView, shown};
-    ghost use Rattle.zone_cleaner.specs.LiveRecords.{data_of};
+    ghost use Rattle.zone_cleaner.specs.Gathered.{AreWithin, GatheredView, data_bytes, gathered_records};
 
     ghost Value = { GatheredView };
 
     ghost view = { λ g. record {
-      records = shown g.block_bytes g.batch.bytes g.records.entries;
+      records = gathered_records g.block_bytes g.batch.bytes g.records.entries;
       block_bytes = g.block_bytes;
       batch = if g.gaps then g.packed else g.batch;
     } };
 
-    ghost invariant = { λ g. (g.block_bytes ≤ length g.batch.bytes) × AreWithin g.block_bytes (length g.batch.bytes) g.records.entries
-        × (g.gaps ≡ false → concat (data_of (shown g.block_bytes g.batch.bytes g.records.entries)) ≡ drop g.block_bytes g.batch.bytes) };
+    ghost invariant = { λ g.
+        (g.block_bytes ≤ length g.batch.bytes)
+        × AreWithin g.block_bytes (length g.batch.bytes) g.records.entries
+        × (g.gaps ≡ false → data_bytes g.block_bytes g.batch.bytes g.records.entries ≡ drop g.block_bytes g.batch.bytes) };
+}
+
+/// What the header block of a Move says besides its entries, and how long it is.
+#[derive(Clone, Copy)]
+pub struct MoveHeader {
+    /// How many logical blocks the disk has.
+    pub size: u32,
+    pub sequence: u64,
+    /// The zone from which the records are moved.
+    pub source: u32,
+    pub block_bytes: u32,
 }
 
 /// What a halt of the drive is to a clean.
@@ -67,24 +77,19 @@ pub fn fault_of(halt: Halt) -> CleanFault
 /// Adds the data of a block, which lies at an address, to a batch.
 fn fetch<D: Device>(
     batch: &mut BatchBuilder,
-    tables: &Tables,
-    device: &mut D,
+    disk: &mut Mounted<D>,
     block: u32,
     address: u64,
 ) -> Result<(), CleanFault>
-    requires agrees { Agrees (mounted (D.drive device.old) tables.now) }
-    requires in_range { block < size_of tables.now }
-    requires place { Place.At address ≡ slice_index_or tables.now.map.places block places.None }
-    ensures kept { KeepsArray (mounted (D.drive device.old) tables.now) (mounted (D.drive device.new) tables.now) }
-    ensures same { SameContents (D.drive device.old) (D.drive device.new) }
+    requires { IsStoredAt disk.old block (Place.At address) }
+    ensures reads { OnlyReads disk.old disk.new }
     ensures heading { batch.new.heading ≡ batch.old.heading }
-    ensures ok { OnOk result (batch.new.bytes ≡ batch.old.bytes ++ slice_index_or (spelled (D.drive device.old) tables.now.given) block []) }
-    ensures length { OnOk result (length batch.new.bytes ≡ length batch.old.bytes + (D.drive device.old).geometry.block) }
+    ensures ok { OnOk result (batch.new.bytes ≡ batch.old.bytes ++ slice_index_or (mounted_array disk.old) block []) }
+    ensures length { OnOk result (length batch.new.bytes ≡ length batch.old.bytes + disk.old.drive.geometry.block) }
     ensures failed { OnErr result (batch.new.bytes ≡ batch.old.bytes) }
-    ensures err { IfErr result (IsReadFault (D.drive device.new)) }
-    ensures completed { (D.drive device.new).completed ≤ (D.drive device.old).completed + 1 }
+    ensures err { IfErr result (IsGatherFault disk.new.drive) }
 {
-    if let Err(fault) = batch.read(device, address) {
+    if let Err(fault) = batch.read(&mut disk.device, address) {
         return Err(fault_of(halt_of(fault)));
     }
     Ok(())
@@ -113,7 +118,7 @@ impl Gathered {
 
     /// Makes room for a header block of `block_bytes` bytes, the length of each block of data that is there.
     fn make_room(&mut self, block_bytes: u32) -> Result<(), AllocError>
-        requires whole { AreOfLength block_bytes (data_of self.old.records) }
+        requires whole { AreOfLength block_bytes (gathered_data self.old.records) }
         ensures records { self.new.records ≡ self.old.records }
         ensures room { OnOk result (self.new.block_bytes ≡ block_bytes) }
     {
@@ -128,7 +133,7 @@ impl Gathered {
     /// Adds the record of a block above those that are there: a trim.
     fn push_trim(&mut self, block: u32) -> Result<(), AllocError>
         requires above { AllByRecursion (λ r. r.block < block) self.old.records }
-        ensures ok { OnOk result (self.new.records ≡ self.old.records ++ record { block = block; content = None } ∷ []) }
+        ensures ok { OnOk result (self.new.records ≡ self.old.records ++ trim_record block ∷ []) }
         ensures err { OnErr result (self.new.records ≡ self.old.records) }
     {
         self.records.insert(block, None)?;
@@ -139,28 +144,21 @@ impl Gathered {
     /// drive may have completed a Read.
     fn read<D: Device>(
         &mut self,
-        tables: &Tables,
-        device: &mut D,
+        disk: &mut Mounted<D>,
         block: u32,
         address: u64,
     ) -> Result<(), CleanFault>
-        requires agrees { Agrees (mounted (D.drive device.old) tables.now) }
-        requires in_range { block < size_of tables.now }
-        requires place { Place.At address ≡ slice_index_or tables.now.map.places block places.None }
-        requires above { AllByRecursion (λ r. r.block < block) self.old.records }
-        requires whole { AreOfLength (D.drive device.old).geometry.block (data_of self.old.records) }
-        ensures kept { KeepsArray (mounted (D.drive device.old) tables.now) (mounted (D.drive device.new) tables.now) }
-        ensures same { SameContents (D.drive device.old) (D.drive device.new) }
-        ensures ok { OnOk result (self.new.records ≡ self.old.records ++ record { block = block; content = Some (slice_index_or (spelled (D.drive device.old) tables.now.given) block []) } ∷ []) }
+        requires { CanGather disk.old block (Place.At address) self.old.records }
+        ensures reads { OnlyReads disk.old disk.new }
+        ensures ok { OnOk result (self.new.records ≡ self.old.records ++ data_record disk.old block ∷ []) }
         ensures failed { OnErr result (self.new.records ≡ self.old.records) }
-        ensures err { IfErr result (IsReadFault (D.drive device.new)) }
-        ensures completed { (D.drive device.new).completed ≤ (D.drive device.old).completed + 1 }
+        ensures err { IfErr result (IsGatherFault disk.new.drive) }
     {
-        let block_bytes = device.geometry().block;
+        let block_bytes = disk.geometry().block;
         self.make_room(block_bytes)?;
         self.records.reserve(1)?;
         let position = self.batch.bytes().len();
-        fetch(&mut self.batch, tables, device, block, address)?;
+        fetch(&mut self.batch, disk, block, address)?;
         // There is room for it.
         let _ = self.records.insert(block, Some(position));
         Ok(())
@@ -169,25 +167,18 @@ impl Gathered {
     /// Gathers the record of a block above those that are there, which lies at a place.
     pub fn gather<D: Device>(
         &mut self,
-        tables: &Tables,
-        device: &mut D,
+        disk: &mut Mounted<D>,
         block: u32,
         place: Place,
     ) -> Result<(), CleanFault>
-        requires agrees { Agrees (mounted (D.drive device.old) tables.now) }
-        requires in_range { block < size_of tables.now }
-        requires place { place ≡ slice_index_or tables.now.map.places block places.None }
-        requires above { AllByRecursion (λ r. r.block < block) self.old.records }
-        requires whole { AreOfLength (D.drive device.old).geometry.block (data_of self.old.records) }
-        ensures kept { KeepsArray (mounted (D.drive device.old) tables.now) (mounted (D.drive device.new) tables.now) }
-        ensures same { SameContents (D.drive device.old) (D.drive device.new) }
-        ensures ok { OnOk result (self.new.records ≡ self.old.records ++ record { block = block; content = content_of (spelled (D.drive device.old) tables.now.given) block place } ∷ []) }
+        requires { CanGather disk.old block place self.old.records }
+        ensures reads { OnlyReads disk.old disk.new }
+        ensures ok { OnOk result (self.new.records ≡ self.old.records ++ live_record disk.old block place ∷ []) }
         ensures failed { OnErr result (self.new.records ≡ self.old.records) }
-        ensures err { IfErr result (IsReadFault (D.drive device.new)) }
-        ensures completed { (D.drive device.new).completed ≤ (D.drive device.old).completed + 1 }
+        ensures err { IfErr result (IsGatherFault disk.new.drive) }
     {
         if let Place::At(address) = place {
-            return self.read(tables, device, block, address);
+            return self.read(disk, block, address);
         }
         self.push_trim(block)?;
         Ok(())
@@ -222,47 +213,22 @@ impl Gathered {
         self.gaps = false;
     }
 
-    /// Builds the Move of the records, from a zone. All is allocated then that its Append needs of them.
-    pub fn build(
-        &mut self,
-        size: u32,
-        sequence: u64,
-        source: u32,
-        block_bytes: u32,
-    ) -> Result<(), AllocError>
-        requires block { (block_bytes ≡ 512) ⊎ (block_bytes ≡ 4096) }
-        requires heading { IsHeading block_bytes (move_of size sequence source self.old.records).heading }
+    /// Builds the Move of the records. All is allocated then that its Append needs of them.
+    pub fn build(&mut self, header: MoveHeader) -> Result<(), AllocError>
+        requires block { (header.block_bytes ≡ 512) ⊎ (header.block_bytes ≡ 4096) }
+        requires heading { IsHeading header.block_bytes (move_with header self.old.records).heading }
         requires few { AllByRecursion (λ r. r.block + 1 < 2 ^ 32) self.old.records }
-        requires whole { AreOfLength block_bytes (data_of self.old.records) }
+        requires whole { AreOfLength header.block_bytes (gathered_data self.old.records) }
         ensures records { self.new.records ≡ self.old.records }
-        ensures heading { OnOk result (self.new.batch.heading ≡ (move_of size sequence source self.old.records).heading) }
-        ensures bytes { OnOk result (self.new.batch.bytes ≡ header_block block_bytes self.new.batch.heading ++ concat (data_of self.old.records)) }
+        ensures built { OnOk result (HoldsMove self.new.batch header.block_bytes (move_with header self.old.records)) }
     {
-        self.make_room(block_bytes)?;
+        self.make_room(header.block_bytes)?;
         if self.gaps {
-            pack(
-                &self.records,
-                self.batch.bytes(),
-                block_bytes,
-                &mut self.packed,
-            )?;
-            return head_move(
-                &self.records,
-                &mut self.packed,
-                size,
-                sequence,
-                source,
-                block_bytes,
-            );
+            let bytes = self.batch.bytes();
+            pack(&self.records, bytes, header.block_bytes, &mut self.packed)?;
+            return head_move(&self.records, &mut self.packed, header);
         }
-        head_move(
-            &self.records,
-            &mut self.batch,
-            size,
-            sequence,
-            source,
-            block_bytes,
-        )
+        head_move(&self.records, &mut self.batch, header)
     }
 
     /// The Move that was built.
@@ -285,7 +251,7 @@ fn pack(
 ) -> Result<(), AllocError>
     requires { AreWithin block_bytes (length bytes.now) records.now.entries }
     ensures long { OnOk result (block_bytes ≤ length packed.new.bytes) }
-    ensures bytes { OnOk result (drop block_bytes packed.new.bytes ≡ concat (data_of (shown block_bytes bytes.now records.now.entries))) }
+    ensures bytes { OnOk result (drop block_bytes packed.new.bytes ≡ data_bytes block_bytes bytes.now records.now.entries) }
 {
     packed.make_room(block_bytes)?;
     copy_all(records, bytes, block_bytes as usize, packed)
@@ -299,7 +265,7 @@ fn copy_all(
     packed: &mut BatchBuilder,
 ) -> Result<(), AllocError>
     requires { AreWithin block_bytes (length bytes.now) records.now.entries }
-    ensures { OnOk result (packed.new.bytes ≡ packed.old.bytes ++ concat (data_of (shown block_bytes bytes.now records.now.entries))) }
+    ensures { OnOk result (packed.new.bytes ≡ packed.old.bytes ++ data_bytes block_bytes bytes.now records.now.entries) }
 {
     for position in records.values() {
         copy_block(bytes, block_bytes, *position, packed)?;
@@ -315,7 +281,7 @@ fn copy_block(
     packed: &mut BatchBuilder,
 ) -> Result<(), AllocError>
     requires { IfSome position (λ position. position + block_bytes ≤ length bytes.now) }
-    ensures { OnOk result (packed.new.bytes ≡ packed.old.bytes ++ bytes_in (option_map (block_at block_bytes bytes.now) position)) }
+    ensures { OnOk result (packed.new.bytes ≡ packed.old.bytes ++ stored_bytes block_bytes bytes.now position) }
 {
     match position {
         Some(position) => packed.copy(&bytes[position..][..block_bytes]),
@@ -327,23 +293,25 @@ fn copy_block(
 fn head_move(
     records: &IndexMap<u32, Option<usize>>,
     batch: &mut BatchBuilder,
-    size: u32,
-    sequence: u64,
-    source: u32,
-    block_bytes: u32,
+    header: MoveHeader,
 ) -> Result<(), AllocError>
-    requires block { (block_bytes ≡ 512) ⊎ (block_bytes ≡ 4096) }
-    requires room { block_bytes ≤ length batch.old.bytes }
-    requires heading { IsHeading block_bytes (move_heading size sequence source (entries_for records.now.entries)) }
+    requires block { (header.block_bytes ≡ 512) ⊎ (header.block_bytes ≡ 4096) }
+    requires room { header.block_bytes ≤ length batch.old.bytes }
+    requires heading { IsHeading header.block_bytes (heading_for header (entries_for records.now.entries)) }
     requires few { AllByRecursion (λ b. b.0 + 1 < 2 ^ 32) records.now.entries }
-    ensures heading { OnOk result (batch.new.heading ≡ move_heading size sequence source (entries_for records.now.entries)) }
-    ensures bytes { OnOk result (batch.new.bytes ≡ header_block block_bytes batch.new.heading ++ drop block_bytes batch.old.bytes) }
-    ensures kept { drop block_bytes batch.new.bytes ≡ drop block_bytes batch.old.bytes }
+    ensures heading { OnOk result (batch.new.heading ≡ heading_for header (entries_for records.now.entries)) }
+    ensures bytes { OnOk result (batch.new.bytes ≡ headed_bytes header.block_bytes batch.new.heading batch.old.bytes) }
+    ensures kept { drop header.block_bytes batch.new.bytes ≡ drop header.block_bytes batch.old.bytes }
     ensures length { length batch.new.bytes ≡ length batch.old.bytes }
 {
-    batch.start(Kind::Move, sequence, source, Some(size));
+    batch.start(
+        Kind::Move,
+        header.sequence,
+        header.source,
+        Some(header.size),
+    );
     name_all(records, batch)?;
-    batch.encode_before_data(block_bytes);
+    batch.encode_before_data(header.block_bytes);
     Ok(())
 }
 
@@ -353,7 +321,7 @@ fn name_all(
     batch: &mut BatchBuilder,
 ) -> Result<(), AllocError>
     requires { AllByRecursion (λ b. b.0 + 1 < 2 ^ 32) records.now.entries }
-    ensures heading { OnOk result (batch.new.heading ≡ record batch.old.heading { entries = batch.old.heading.entries ++ entries_for records.now.entries }) }
+    ensures heading { OnOk result (batch.new.heading ≡ naming batch.old.heading (entries_for records.now.entries)) }
     ensures bytes { batch.new.bytes ≡ batch.old.bytes }
 {
     for (block, position) in records.iter() {
@@ -369,7 +337,7 @@ fn name_record(
     position: Option<usize>,
 ) -> Result<(), AllocError>
     requires { block + 1 < 2 ^ 32 }
-    ensures heading { OnOk result (batch.new.heading ≡ record batch.old.heading { entries = batch.old.heading.entries ++ entry_for block position ∷ [] }) }
+    ensures heading { OnOk result (batch.new.heading ≡ naming batch.old.heading (entry_for block position ∷ [])) }
     ensures bytes { batch.new.bytes ≡ batch.old.bytes }
 {
     match position {

@@ -6,10 +6,10 @@
 //!
 //! ```text
 //! let mut cleaner = Cleaner::new(alloc);
-//! cleaner.turn(&mut tables, &mut drive)?;          // starts a clean, if one is due
-//! cleaner.turn(&mut tables, &mut drive)?;          // gathers a record, or appends a Move, or resets the victim
-//! cleaner.append_batch(alloc, &mut tables, &mut drive, host, &batch)?;    // a batch of the host, beside the clean
-//! cleaner.run_to_end(&mut tables, &mut drive)?;    // all turns that are left
+//! cleaner.turn(&mut disk)?;                           // starts a clean, if one is due
+//! cleaner.turn(&mut disk)?;                           // gathers a record, or appends a Move, or resets the victim
+//! cleaner.append_batch(&mut disk, host, &batch)?;     // a batch of the host, beside the clean
+//! cleaner.run_to_end(&mut disk)?;                     // all turns that are left
 //! ```
 //!
 //! What is promised, of any drive that obeys its rules: a turn does exactly the next step of the clean

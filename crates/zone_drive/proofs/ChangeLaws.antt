@@ -9,7 +9,7 @@ use Rattle.nvme_wire.specs.declared.zone_state.ZoneState.TheVariants.{Empty, Clo
 use Rattle.zone_states.specs.declared.geometry.Geometry.{Geometry}
 use Rattle.zone_states.specs.Checks.{first_failing}
 use Rattle.zone_states.specs.Geometry.{IsInRange}
-use Rattle.zone_states.specs.Stored.{IsWhole, StoredZone, stored_after, stored_write, zone_of}
+use Rattle.zone_states.specs.Stored.{AreWholeBlocks, StoredZone, stored_after, stored_write, zone_stored}
 use Rattle.zone_states.specs.Transition.{is_active, is_open, is_state, state_after}
 use Rattle.zone_states.specs.Writing.{append_bytes_checks}
 use Rattle.zone_states.specs.Zone.{IsLawfulZone, Zone, opened_by_write}
@@ -75,7 +75,7 @@ closes-first habit geometry zones index None in_range are passed = record { are 
 closes-first habit geometry zones index (Some low) in_range are (wants, makes, lowest) =
     let b = geometry.block in
     let shown = zones_of b zones in
-    let below : low < length zones = omega (arith, lowest.in_range, length-map zones (zone_of b)) in
+    let below : low < length zones = omega (arith, lowest.in_range, length-map zones (zone_stored b)) in
     let away = apart geometry shown index low wants lowest in
     let closed = stored_after Close (stored_at zones low) (state_after (stored_at zones low).state Close) in
     let none : StoredZone = record { state = Offline; bytes = [] } in
@@ -95,26 +95,26 @@ pub record Leaves (geometry : Geometry) (zones : List StoredZone) (shown : List 
   pub in_blocks : zones_of geometry.block zones ≡ shown
 
 leaves-changed : (geometry : Geometry) (zones : List StoredZone) (index : ℕ) (new : StoredZone) (closing : Option ℕ) → AreZones geometry zones → index < length zones
-    → ClosesFirst geometry zones index closing → IsWhole geometry.block new.bytes → IsLawfulZone geometry (zone_of geometry.block new) → Needs (stored_at zones index).state new.state
-    → Leaves geometry (closed_in (set zones index new) closing) (set (with_room (zones_of geometry.block zones) closing) index (zone_of geometry.block new))
+    → ClosesFirst geometry zones index closing → AreWholeBlocks geometry.block new.bytes → IsLawfulZone geometry (zone_stored geometry.block new) → Needs (stored_at zones index).state new.state
+    → Leaves geometry (closed_in (set zones index new) closing) (set (with_room (zones_of geometry.block zones) closing) index (zone_stored geometry.block new))
 leaves-changed geometry zones index new closing are lt closes whole lawful needs =
     let b = geometry.block in
     let middle = closed_in zones closing in
     let below : index < length middle = omega (arith, lt, are.count, closes.are.count) in
     let passed = rw (zone_at-is b zones index lt) at closes.passed in
-    let takes = takes-needs geometry (zones_of b middle) (zone_of b (stored_at zones index)) new.state closes.are.active closes.are.open_zones (rw closes.in_blocks passed) needs in
+    let takes = takes-needs geometry (zones_of b middle) (zone_stored b (stored_at zones index)) new.state closes.are.active closes.are.open_zones (rw closes.in_blocks passed) needs in
     record {
       are = rw (closes.first new) (are-set geometry middle index new closes.are below whole lawful (rw closes.same takes));
-      in_blocks = rw (closes.first new) (map-set (zone_of b) middle index new ∙ rw closes.in_blocks refl);
+      in_blocks = rw (closes.first new) (map-set (zone_stored b) middle index new ∙ rw closes.in_blocks refl);
     }
 
 -- the zone that is changed is not the one that is closed
 same_zone : (geometry : Geometry) (zones : List StoredZone) (index : ℕ) (closing : Option ℕ) → AreZones geometry zones → index < length zones → ClosesFirst geometry zones index closing
-    → zone_at (with_room (zones_of geometry.block zones) closing) index ≡ zone_of geometry.block (stored_at zones index)
+    → zone_at (with_room (zones_of geometry.block zones) closing) index ≡ zone_stored geometry.block (stored_at zones index)
 same_zone geometry zones index closing are lt closes =
     let b = geometry.block in
     let below : index < length (closed_in zones closing) = omega (arith, lt, are.count, closes.are.count) in
-    rw (← closes.in_blocks) (zone_at-is b (closed_in zones closing) index below ∙ ap (zone_of b) closes.same)
+    rw (← closes.in_blocks) (zone_at-is b (closed_in zones closing) index below ∙ ap (zone_stored b) closes.same)
 
 pub leaves-written : (habit : Habit) (geometry : Geometry) (zones : List StoredZone) (index : ℕ) (bytes : List ℕ) (closing : Option ℕ) → IsInRange geometry → AreZones geometry zones → index < geometry.zones
     → None ≡ first_failing (append_bytes_checks geometry (zone_at (zones_of geometry.block zones) index) bytes)
@@ -128,9 +128,9 @@ leaves-written habit geometry zones index bytes closing in_range are below check
     let here = zone_at-is b zones index lt in
     let closes = closes-first habit geometry zones index closing in_range are gives in
     let passed = rw here at checks in
-    let whole = whole-checked geometry (zone_of b zone) bytes passed in
+    let whole = whole-checked geometry (zone_stored b zone) bytes passed in
     let after = stored_write-after geometry zone bytes (whole-at geometry zones index are lt) whole in
-    let lawful : IsLawfulZone geometry (zone_of b (stored_write geometry zone bytes)) = rw after.zone (lawful-written geometry (zone_of b zone) bytes (rw here at (lawful-at geometry zones index are lt)) whole passed) in
+    let lawful : IsLawfulZone geometry (zone_stored b (stored_write geometry zone bytes)) = rw after.zone (lawful-written geometry (zone_stored b zone) bytes (rw here at (lawful-at geometry zones index are lt)) whole passed) in
     let needs = needs-write (eqb (length (zone.bytes ++ bytes) / b) geometry.capacity) zone.state in
     rw (same_zone geometry zones index closing are lt closes, ← after.zone)
     (leaves-changed geometry zones index (stored_write geometry zone bytes) closing are lt closes after.whole lawful needs)
@@ -146,7 +146,7 @@ leaves-opened habit geometry zones index closing in_range are below gives =
     let closes = closes-first habit geometry zones index closing in_range are gives in
     let after = zone_of-after b Open zone next in
     let was = rw (zone_at-is b zones index lt) at (lawful-at geometry zones index are lt) in
-    let lawful : IsLawfulZone geometry (zone_of b (stored_after Open zone next)) = rw after (lawful-after geometry (zone_of b zone) Open in_range was) in
+    let lawful : IsLawfulZone geometry (zone_stored b (stored_after Open zone next)) = rw after (lawful-after geometry (zone_stored b zone) Open in_range was) in
     rw (same_zone geometry zones index closing are lt closes, ← after)
     (leaves-changed geometry zones index (stored_after Open zone next) closing are lt closes (whole-after b Open zone next (whole-at geometry zones index are lt)) lawful (needs-open zone))
 

@@ -3,7 +3,7 @@ use Rattle.std.proofs.Common.{◌≡◌, ℕ, ◌+◌, ◌<◌, ◌≤◌, Bool,
 use Rattle.std.specs.List.{count_by}
 use Rattle.std.proofs.lemmas.List.Sums.{sum_by-cons, sum_by-set}
 use Rattle.nvme_wire.specs.declared.zone_state.ZoneState.{ZoneState}
-use Rattle.zone_states.specs.Stored.{StoredZone, zone_of}
+use Rattle.zone_states.specs.Stored.{StoredZone, zone_stored}
 use Rattle.zone_states.specs.Transition.{is_active, is_open}
 use Rattle.zone_states.specs.Zone.{Zone}
 use Rattle.drive_port.specs.Drive.{active_count, open_count}
@@ -31,7 +31,7 @@ pub count-stored : (p : ZoneState → Bool) (block : ℕ) (zones : List StoredZo
 count-stored p block [] = refl
 count-stored p block (zone ∷ zones) =
     count-cons (λ (z : StoredZone). p z.state) zone zones
-    ∙ omega (arith, count-stored p block zones, count-cons (λ (z : Zone). p z.state) (zone_of block zone) (zones_of block zones))
+    ∙ omega (arith, count-stored p block zones, count-cons (λ (z : Zone). p z.state) (zone_stored block zone) (zones_of block zones))
 
 -- no more zones are counted where none is counted that was not
 pub count-map : (p : ZoneState → Bool) (f : Zone → Zone) → ((zone : Zone) → one_if (p (f zone).state) ≤ one_if (p zone.state)) → (zones : List Zone) → state_count p (map f zones) ≤ state_count p zones

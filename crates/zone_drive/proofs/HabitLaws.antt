@@ -9,12 +9,12 @@ use Rattle.nvme_wire.specs.declared.zone_state.ZoneState.{ZoneState}
 use Rattle.nvme_wire.specs.declared.zone_state.ZoneState.TheVariants.{ImplicitlyOpened, Closed, Offline}
 use Rattle.nvme_wire.specs.declared.command.Action.TheVariants.{Close}
 use Rattle.zone_states.specs.declared.geometry.Geometry.{Geometry}
-use Rattle.zone_states.specs.Stored.{IsWhole, StoredZone, stored_after, zone_of}
+use Rattle.zone_states.specs.Stored.{AreWholeBlocks, StoredZone, stored_after, zone_stored}
 use Rattle.zone_states.specs.Transition.{is_active, is_open, is_state, state_after}
 use Rattle.zone_states.specs.Zone.{IsLawfulZone, Zone}
 use Rattle.drive_port.specs.Step.{one_if}
 use Rattle.zone_drive.specs.Groups.{is_implicit}
-use Rattle.zone_drive.specs.Habits.{close_implicit, closed}
+use Rattle.zone_drive.specs.Habits.{close_implicit, closed_zone}
 use Rattle.zone_drive.specs.Stored.{AreZones, zones_of}
 use Rattle.zone_drive.specs.Table.{closed_stored, sent_in, stored_at}
 use Rattle.zone_drive.proofs.CountLaws.{count-map, count-set}
@@ -60,7 +60,7 @@ closes-none zones e =
 -- ---- in blocks
 
 closed-stored : (block : ℕ) (zone : StoredZone) (implicit : Bool)
-    → zone_of block (cond implicit (record zone { state = Closed }) zone) ≡ cond implicit (closed (zone_of block zone)) (zone_of block zone)
+    → zone_stored block (cond implicit (record zone { state = Closed }) zone) ≡ cond implicit (closed_zone (zone_stored block zone)) (zone_stored block zone)
 closed-stored block zone true = refl
 closed-stored block zone false = refl
 
@@ -70,22 +70,22 @@ zones_of-closed block (zone ∷ zones) = rw (closed-stored block zone (is_implic
 
 -- ---- zones that a drive can have
 
-whole-closed : (block : ℕ) (zones : List StoredZone) → AllByRecursion (λ (zone : StoredZone). IsWhole block zone.bytes) zones → AllByRecursion (λ (zone : StoredZone). IsWhole block zone.bytes) (map closed_stored zones)
+whole-closed : (block : ℕ) (zones : List StoredZone) → AllByRecursion (λ (zone : StoredZone). AreWholeBlocks block zone.bytes) zones → AllByRecursion (λ (zone : StoredZone). AreWholeBlocks block zone.bytes) (map closed_stored zones)
 whole-closed block [] all = tt
 whole-closed block (zone ∷ zones) all = (either (is_implicit zone), whole-closed block zones all.1)
   where
-    either : (implicit : Bool) → IsWhole block (cond implicit (record zone { state = Closed }) zone).bytes
+    either : (implicit : Bool) → AreWholeBlocks block (cond implicit (record zone { state = Closed }) zone).bytes
     either true = all.0
     either false = all.0
 
 -- a zone that is closed where it is implicitly opened
 abbrev close_one : Zone → Zone
-close_one zone = cond (is_state ImplicitlyOpened zone.state) (closed zone) zone
+close_one zone = cond (is_state ImplicitlyOpened zone.state) (closed_zone zone) zone
 
 lawful-one : (geometry : Geometry) (zone : Zone) → IsLawfulZone geometry zone → IsLawfulZone geometry (close_one zone)
 lawful-one geometry zone lawful = either (is_state ImplicitlyOpened zone.state) refl
   where
-    either : (implicit : Bool) → is_state ImplicitlyOpened zone.state ≡ implicit → IsLawfulZone geometry (cond implicit (closed zone) zone)
+    either : (implicit : Bool) → is_state ImplicitlyOpened zone.state ≡ implicit → IsLawfulZone geometry (cond implicit (closed_zone zone) zone)
     either true e = record { written = rw (is_state-implicit zone.state e) at lawful.written; whole = lawful.whole }
     either false e = lawful
 

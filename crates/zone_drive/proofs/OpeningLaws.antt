@@ -14,7 +14,7 @@ use Rattle.drive_port.specs.Drive.{active_count, open_count}
 use Rattle.drive_port.specs.Step.{Outcome, one_if, resource_checks, unless_refused, zone_at}
 use Rattle.zone_drive.specs.declared.habit.Habit.{Habit}
 use Rattle.zone_drive.specs.Habits.{makes_room}
-use Rattle.zone_drive.specs.Choice.{IsLowest, RoomGives, close_lowest, wants_open_resource, with_room}
+use Rattle.zone_drive.specs.Choice.{IsLowestOpened, RoomGives, close_lowest, wants_open_resource, with_room}
 use Rattle.zone_drive.proofs.CountLaws.{active-set, open-set}
 use Rattle.zone_drive.proofs.RoomLaws.{apart, zone_at-closing}
 
@@ -82,7 +82,7 @@ and-false false b e = refl
 
 -- once the lowest implicitly opened zone is closed, there is an open resource
 pub closing-passes : (geometry : Geometry) (zones : List Zone) (zone : Zone) (low : ℕ) → open_count zones ≤ geometry.open
-    → Some TooManyOpenZones ≡ first_failing (resource_checks geometry zones zone) → IsLowest zones low → None ≡ first_failing (resource_checks geometry (close_lowest zones) zone)
+    → Some TooManyOpenZones ≡ first_failing (resource_checks geometry zones zone) → IsLowestOpened zones low → None ≡ first_failing (resource_checks geometry (close_lowest zones) zone)
 closing-passes geometry zones zone low most needs lowest =
     let after : Zone = record { state = Closed; blocks = (zone_at zones low).blocks } in
     let opened = ap (λ (s : ZoneState). one_if (is_open s)) lowest.opened in

@@ -9,7 +9,7 @@ use Rattle.nvme_wire.specs.declared.status.Status.TheVariants.{LbaOutOfRange, Su
 use Rattle.zone_states.specs.declared.geometry.Geometry.{Geometry}
 use Rattle.zone_states.specs.Checks.{first_failing}
 use Rattle.zone_states.specs.Geometry.{IsInRange}
-use Rattle.zone_states.specs.Stored.{StoredZone, zone_of}
+use Rattle.zone_states.specs.Stored.{StoredZone, zone_stored}
 use Rattle.zone_states.specs.Zone.{Zone}
 use Rattle.zone_report.specs.Report.{report}
 use Rattle.drive_port.specs.Step.{done, end_of, outcome, receive_checks, unless_refused}
@@ -23,11 +23,11 @@ use Rattle.zone_drive.proofs.WriteLaws.{lawful-at, may_hold-le, zone_at-stored}
 
 -- a zone has no more blocks than the size of a zone
 pub written-fits : (geometry : Geometry) (zones : List StoredZone) (index : ℕ) (zone : StoredZone) → IsInRange geometry → AreZones geometry zones → index < length (zones_of geometry.block zones)
-    → zone ≡ get_or zones index zone → length (zone_of geometry.block zone).blocks ≤ 2 ^ 20
+    → zone ≡ get_or zones index zone → length (zone_stored geometry.block zone).blocks ≤ 2 ^ 20
 written-fits geometry zones index zone in_range are below read =
-    let lt : index < length zones = omega (arith, below, length-map zones (zone_of geometry.block)) in
+    let lt : index < length zones = omega (arith, below, length-map zones (zone_stored geometry.block)) in
     let lawful = lawful-at geometry zones index are lt in
-    let here = ap (λ (z : Zone). length z.blocks) (zone_at-stored geometry.block zones index zone lt ∙ ap (zone_of geometry.block) (sym read)) in
+    let here = ap (λ (z : Zone). length z.blocks) (zone_at-stored geometry.block zones index zone lt ∙ ap (zone_stored geometry.block) (sym read)) in
     omega (arith, here, may_hold-le _ geometry.capacity _ lawful.written, in_range.capacity.1, in_range.size.1)
 
 -- ---- the command

@@ -11,7 +11,7 @@ use Rattle.nvme_wire.specs.declared.status.Status.{Status}
 use Rattle.zone_states.specs.declared.geometry.Geometry.{Geometry}
 use Rattle.zone_states.specs.Geometry.{IsInRange}
 use Rattle.zone_states.specs.Sending.{zone_after}
-use Rattle.zone_states.specs.Stored.{IsWhole, StoredZone, stored_after, zone_of}
+use Rattle.zone_states.specs.Stored.{AreWholeBlocks, StoredZone, stored_after, zone_stored}
 use Rattle.zone_states.specs.Transition.{is_active, is_open, state_after}
 use Rattle.zone_states.specs.Zone.{Zone, IsLawfulZone, MayHold}
 use Rattle.drive_port.specs.Drive.{active_count, open_count}
@@ -48,7 +48,7 @@ lawful-after geometry zone action in_range lawful = record {
   whole = all-after _ action zone (state_after zone.state action) lawful.whole;
 }
 
-pub whole-after : (block : ℕ) (action : Action) (zone : StoredZone) (next : Result ZoneState Status) → IsWhole block zone.bytes → IsWhole block (stored_after action zone next).bytes
+pub whole-after : (block : ℕ) (action : Action) (zone : StoredZone) (next : Result ZoneState Status) → AreWholeBlocks block zone.bytes → AreWholeBlocks block (stored_after action zone next).bytes
 whole-after block actions.Reset zone (Ok state) whole = rw (zero-div block) (omega arith)
 whole-after block actions.Close zone (Ok state) whole = whole
 whole-after block actions.Finish zone (Ok state) whole = whole
@@ -56,7 +56,7 @@ whole-after block actions.Open zone (Ok state) whole = whole
 whole-after block actions.Offline zone (Ok state) whole = whole
 whole-after block action zone (Err status) whole = whole
 
-pub zone_of-after : (block : ℕ) (action : Action) (zone : StoredZone) (next : Result ZoneState Status) → zone_of block (stored_after action zone next) ≡ zone_after action (zone_of block zone) next
+pub zone_of-after : (block : ℕ) (action : Action) (zone : StoredZone) (next : Result ZoneState Status) → zone_stored block (stored_after action zone next) ≡ zone_after action (zone_stored block zone) next
 zone_of-after block actions.Reset zone (Ok state) = rw (zero-div block) refl
 zone_of-after block actions.Close zone (Ok state) = refl
 zone_of-after block actions.Finish zone (Ok state) = refl
@@ -69,7 +69,7 @@ zone_of-after block action zone (Err status) = refl
 pub zones_of-sent_in : (block : ℕ) (zones : List StoredZone) (index : ℕ) (action : Action) → index < length zones → zones_of block (sent_in zones index action) ≡ sent_to (zones_of block zones) index action
 zones_of-sent_in block zones index action lt =
     let zone = stored_at zones index in
-    map-set (zone_of block) zones index (stored_after action zone (state_after zone.state action)) ∙ rw (zone_of-after block action zone (state_after zone.state action), zone_at-is block zones index lt) refl
+    map-set (zone_stored block) zones index (stored_after action zone (state_after zone.state action)) ∙ rw (zone_of-after block action zone (state_after zone.state action), zone_at-is block zones index lt) refl
 
 pub are-sent_in : (geometry : Geometry) (zones : List StoredZone) (index : ℕ) (action : Action) → IsInRange geometry → AreZones geometry zones → index < length zones
     → Takes geometry (zones_of geometry.block zones) (stored_at zones index).state (stored_after action (stored_at zones index) (state_after (stored_at zones index).state action)).state
@@ -80,7 +80,7 @@ are-sent_in geometry zones index action in_range are lt takes =
     let next = state_after zone.state action in
     let lawful = rw (zone_at-is b zones index lt) at (lawful-at geometry zones index are lt) in
     are-set geometry zones index (stored_after action zone next) are lt (whole-after b action zone next (whole-at geometry zones index are lt))
-    (rw (zone_of-after b action zone next) (lawful-after geometry (zone_of b zone) action in_range lawful)) takes
+    (rw (zone_of-after b action zone next) (lawful-after geometry (zone_stored b zone) action in_range lawful)) takes
 
 -- no action but an Open takes a resource
 takes-sent : (geometry : Geometry) (zones : List Zone) (action : Action) (zone : StoredZone) → action ≢ actions.Open → active_count zones ≤ geometry.active → open_count zones ≤ geometry.open
@@ -118,7 +118,7 @@ map-step f (x ∷ xs) (suc i) (suc next) d lt e = let rest = map-step f xs i nex
 
 -- a zone of all, in blocks
 sent-stored : (block : ℕ) (action : Action) (zone : StoredZone) (selected : Bool)
-    → zone_of block (cond selected (stored_after action zone (state_after zone.state action)) zone) ≡ cond selected (zone_after action (zone_of block zone) (state_after zone.state action)) (zone_of block zone)
+    → zone_stored block (cond selected (stored_after action zone (state_after zone.state action)) zone) ≡ cond selected (zone_after action (zone_stored block zone) (state_after zone.state action)) (zone_stored block zone)
 sent-stored block action zone true = zone_of-after block action zone (state_after zone.state action)
 sent-stored block action zone false = refl
 
@@ -134,11 +134,11 @@ lawful-sent geometry action (zone ∷ zones) in_range all = (either (is_selected
     either true = lawful-after geometry zone action in_range all.0
     either false = all.0
 
-whole-sent : (block : ℕ) (action : Action) (zones : List StoredZone) → AllByRecursion (λ (zone : StoredZone). IsWhole block zone.bytes) zones → AllByRecursion (λ (zone : StoredZone). IsWhole block zone.bytes) (map (sent_stored action) zones)
+whole-sent : (block : ℕ) (action : Action) (zones : List StoredZone) → AllByRecursion (λ (zone : StoredZone). AreWholeBlocks block zone.bytes) zones → AllByRecursion (λ (zone : StoredZone). AreWholeBlocks block zone.bytes) (map (sent_stored action) zones)
 whole-sent block action [] all = tt
 whole-sent block action (zone ∷ zones) all = (either (is_selected action zone.state), whole-sent block action zones all.1)
   where
-    either : (selected : Bool) → IsWhole block (cond selected (stored_after action zone (state_after zone.state action)) zone).bytes
+    either : (selected : Bool) → AreWholeBlocks block (cond selected (stored_after action zone (state_after zone.state action)) zone).bytes
     either true = whole-after block action zone (state_after zone.state action) all.0
     either false = all.0
 

@@ -9,7 +9,7 @@ use Rattle.zone_states.specs.Geometry.{IsInRange}
 use Rattle.nvme_wire.specs.declared.zone_state.ZoneState.{ZoneState}
 use Rattle.zone_states.specs.Transition.{is_active, is_open}
 use Rattle.zone_states.specs.Zone.{Zone, IsLawfulZone}
-use Rattle.zone_states.specs.Stored.{StoredZone, IsWhole, zone_of}
+use Rattle.zone_states.specs.Stored.{StoredZone, AreWholeBlocks, zone_stored}
 use Rattle.zone_drive.specs.Stored.{AreZones, zones_of}
 use Rattle.zone_drive.proofs.CountLaws.{count-cons, state_count}
 
@@ -21,7 +21,7 @@ empty_stored = record { state = Empty; bytes = [] }
 abbrev pub empty_zone : Zone
 empty_zone = record { state = Empty; blocks = [] }
 
-pub zone_of-empty : (block : ℕ) → zone_of block empty_stored ≡ empty_zone
+pub zone_of-empty : (block : ℕ) → zone_stored block empty_stored ≡ empty_zone
 zone_of-empty block = rw (zero-div block) refl
 
 pub zones_of-empty : (block n : ℕ) → zones_of block (replicate n empty_stored) ≡ replicate n empty_zone
@@ -32,7 +32,7 @@ all_lawful : (geometry : Geometry) (n : ℕ) → AllByRecursion (IsLawfulZone ge
 all_lawful geometry zero = tt
 all_lawful geometry (suc n) = (record { written = refl; whole = tt }, all_lawful geometry n)
 
-all_whole : (block n : ℕ) → AllByRecursion (λ (zone : StoredZone). IsWhole block zone.bytes) (replicate n empty_stored)
+all_whole : (block n : ℕ) → AllByRecursion (λ (zone : StoredZone). AreWholeBlocks block zone.bytes) (replicate n empty_stored)
 all_whole block zero = tt
 all_whole block (suc n) = (rw (zero-div block) (omega arith), all_whole block n)
 

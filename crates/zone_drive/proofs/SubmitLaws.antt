@@ -13,7 +13,7 @@ use Rattle.zone_drive.specs.declared.habit.Habit.{Habit}
 use Rattle.zone_drive.specs.declared.habit.Habit.TheVariants as habits
 use Rattle.zone_drive.specs.Choice.{Gives, chosen, close_lowest, wants_open_resource}
 use Rattle.zone_drive.specs.Counts.{counted}
-use Rattle.zone_drive.specs.Habits.{MemoryDrive, close_implicit, closed, makes_room, settled, with_zones}
+use Rattle.zone_drive.specs.Habits.{MemoryDrive, close_implicit, closed_zone, makes_room, settled, with_zones}
 
 -- ---- the choice is a closing
 
@@ -21,7 +21,7 @@ same_zones : (zones : List Zone) → IsClosing zones zones
 same_zones [] = tt
 same_zones (zone ∷ zones) = (record { blocks = refl; state = inl refl }, same_zones zones)
 
-closes-one : (zone : Zone) → is_state ImplicitlyOpened zone.state ≡ true → ClosesOne zone (closed zone)
+closes-one : (zone : Zone) → is_state ImplicitlyOpened zone.state ≡ true → ClosesOne zone (closed_zone zone)
 closes-one zone opened = record { blocks = refl; state = inr (implicit zone.state opened, refl) }
   where
     implicit : (state : ZoneState) → is_state ImplicitlyOpened state ≡ true → state ≡ ImplicitlyOpened
@@ -37,7 +37,7 @@ closes-lowest : (zones : List Zone) → IsClosing zones (close_lowest zones)
 closes-lowest [] = tt
 closes-lowest (zone ∷ zones) = either (is_state ImplicitlyOpened zone.state) refl (closes-lowest zones)
   where
-    either : (implicit : Bool) → is_state ImplicitlyOpened zone.state ≡ implicit → IsClosing zones (close_lowest zones) → IsClosing (zone ∷ zones) (cond implicit (closed zone ∷ zones) (zone ∷ close_lowest zones))
+    either : (implicit : Bool) → is_state ImplicitlyOpened zone.state ≡ implicit → IsClosing zones (close_lowest zones) → IsClosing (zone ∷ zones) (cond implicit (closed_zone zone ∷ zones) (zone ∷ close_lowest zones))
     either true e rest = (closes-one zone e, same_zones zones)
     either false e rest = (record { blocks = refl; state = inl refl }, rest)
 
@@ -49,7 +49,7 @@ closes-implicit : (zones : List Zone) → IsClosing zones (close_implicit zones)
 closes-implicit [] = tt
 closes-implicit (zone ∷ zones) = (either (is_state ImplicitlyOpened zone.state) refl, closes-implicit zones)
   where
-    either : (implicit : Bool) → is_state ImplicitlyOpened zone.state ≡ implicit → ClosesOne zone (cond implicit (closed zone) zone)
+    either : (implicit : Bool) → is_state ImplicitlyOpened zone.state ≡ implicit → ClosesOne zone (cond implicit (closed_zone zone) zone)
     either true e = closes-one zone e
     either false e = record { blocks = refl; state = inl refl }
 

@@ -10,7 +10,7 @@ use Rattle.zone_states.specs.Checks.{first_failing}
 use Rattle.zone_states.specs.Transition.{is_active, is_open}
 use Rattle.zone_states.specs.Zone.{Zone, IsLawfulZone, MayHold, cut_blocks, opened_by_write, written_zone}
 use Rattle.zone_states.specs.Writing.{append_bytes_checks}
-use Rattle.zone_states.specs.Stored.{StoredZone, IsWhole, zone_of}
+use Rattle.zone_states.specs.Stored.{StoredZone, AreWholeBlocks, zone_stored}
 use Rattle.drive_port.specs.Drive.{active_count, open_count}
 use Rattle.drive_port.specs.Step.{nowhere, one_if, zone_at}
 use Rattle.zone_drive.specs.Stored.{AreZones, zones_of}
@@ -31,21 +31,21 @@ all-at P (x ∷ xs) zero d all lt = all.0
 all-at P (x ∷ xs) (suc i) d all lt = all-at P xs i d all.1 (omega arith)
 
 -- a stored zone in blocks
-pub zone_at-stored : (block : ℕ) (zones : List StoredZone) (index : ℕ) (d : StoredZone) → index < length zones → zone_at (zones_of block zones) index ≡ zone_of block (get_or zones index d)
-zone_at-stored block zones index d lt = get_or-map (zone_of block) zones index d nowhere lt
+pub zone_at-stored : (block : ℕ) (zones : List StoredZone) (index : ℕ) (d : StoredZone) → index < length zones → zone_at (zones_of block zones) index ≡ zone_stored block (get_or zones index d)
+zone_at-stored block zones index d lt = get_or-map (zone_stored block) zones index d nowhere lt
 
 -- ---- one zone changed
 
 -- a zone in blocks is the stored one
-pub zone_at-is : (block : ℕ) (zones : List StoredZone) (index : ℕ) → index < length zones → zone_at (zones_of block zones) index ≡ zone_of block (stored_at zones index)
+pub zone_at-is : (block : ℕ) (zones : List StoredZone) (index : ℕ) → index < length zones → zone_at (zones_of block zones) index ≡ zone_stored block (stored_at zones index)
 zone_at-is block zones index lt = zone_at-stored block zones index (record { state = Offline; bytes = [] }) lt
 
 pub lawful-at : (geometry : Geometry) (zones : List StoredZone) (index : ℕ) → AreZones geometry zones → index < length zones → IsLawfulZone geometry (zone_at (zones_of geometry.block zones) index)
 lawful-at geometry zones index are lt =
-    all-at (IsLawfulZone geometry) (zones_of geometry.block zones) index nowhere are.lawful (omega (arith, lt, length-map zones (zone_of geometry.block)))
+    all-at (IsLawfulZone geometry) (zones_of geometry.block zones) index nowhere are.lawful (omega (arith, lt, length-map zones (zone_stored geometry.block)))
 
-pub whole-at : (geometry : Geometry) (zones : List StoredZone) (index : ℕ) → AreZones geometry zones → index < length zones → IsWhole geometry.block (stored_at zones index).bytes
-whole-at geometry zones index are lt = all-at (λ (zone : StoredZone). IsWhole geometry.block zone.bytes) zones index (record { state = Offline; bytes = [] }) are.whole lt
+pub whole-at : (geometry : Geometry) (zones : List StoredZone) (index : ℕ) → AreZones geometry zones → index < length zones → AreWholeBlocks geometry.block (stored_at zones index).bytes
+whole-at geometry zones index are lt = all-at (λ (zone : StoredZone). AreWholeBlocks geometry.block zone.bytes) zones index (record { state = Offline; bytes = [] }) are.whole lt
 
 -- a change of a state takes no resource that is not left
 pub record Takes (geometry : Geometry) (zones : List Zone) (old new : ZoneState) : Type 0 where
@@ -53,19 +53,19 @@ pub record Takes (geometry : Geometry) (zones : List Zone) (old new : ZoneState)
   pub open_zones : open_count zones + one_if (is_open new) ≤ geometry.open + one_if (is_open old)
 
 pub are-set : (geometry : Geometry) (zones : List StoredZone) (index : ℕ) (new : StoredZone) → AreZones geometry zones → index < length zones
-    → IsWhole geometry.block new.bytes → IsLawfulZone geometry (zone_of geometry.block new)
+    → AreWholeBlocks geometry.block new.bytes → IsLawfulZone geometry (zone_stored geometry.block new)
     → Takes geometry (zones_of geometry.block zones) (stored_at zones index).state new.state → AreZones geometry (set zones index new)
 are-set geometry zones index new are lt whole lawful takes =
     let b = geometry.block in
-    let same : zones_of b (set zones index new) ≡ set (zones_of b zones) index (zone_of b new) = map-set (zone_of b) zones index new in
-    let below : index < length (zones_of b zones) = omega (arith, lt, length-map zones (zone_of b)) in
+    let same : zones_of b (set zones index new) ≡ set (zones_of b zones) index (zone_stored b new) = map-set (zone_stored b) zones index new in
+    let below : index < length (zones_of b zones) = omega (arith, lt, length-map zones (zone_stored b)) in
     let state = ap (λ (z : Zone). z.state) (zone_at-is b zones index lt) in
     record {
       count = length-set zones index new ∙ are.count;
-      whole = all-set (λ (zone : StoredZone). IsWhole b zone.bytes) zones index new are.whole whole;
-      lawful = rw same (all-set (IsLawfulZone geometry) (zones_of b zones) index (zone_of b new) are.lawful lawful);
-      active = rw same (omega (arith, takes.active, rw state at (active-set (zones_of b zones) index (zone_of b new) below)));
-      open_zones = rw same (omega (arith, takes.open_zones, rw state at (open-set (zones_of b zones) index (zone_of b new) below)));
+      whole = all-set (λ (zone : StoredZone). AreWholeBlocks b zone.bytes) zones index new are.whole whole;
+      lawful = rw same (all-set (IsLawfulZone geometry) (zones_of b zones) index (zone_stored b new) are.lawful lawful);
+      active = rw same (omega (arith, takes.active, rw state at (active-set (zones_of b zones) index (zone_stored b new) below)));
+      open_zones = rw same (omega (arith, takes.open_zones, rw state at (open-set (zones_of b zones) index (zone_stored b new) below)));
     }
 
 -- ---- checks
@@ -102,7 +102,7 @@ may_hold-written false ReadOnly capacity n le ne = le
 may_hold-written false Full capacity n le ne = le
 may_hold-written false Offline capacity n le ne = le
 
-pub lawful-written : (geometry : Geometry) (zone : Zone) (bytes : List ℕ) → IsLawfulZone geometry zone → IsWhole geometry.block bytes
+pub lawful-written : (geometry : Geometry) (zone : Zone) (bytes : List ℕ) → IsLawfulZone geometry zone → AreWholeBlocks geometry.block bytes
     → None ≡ first_failing (append_bytes_checks geometry zone bytes)
     → IsLawfulZone geometry (written_zone geometry.capacity zone (cut_blocks geometry.block (length bytes / geometry.block) bytes))
 lawful-written geometry zone bytes lawful whole checks =
@@ -121,7 +121,7 @@ not-false true e = refl
 not-false false e = absurd (cc e)
 
 -- data that passes its checks is whole blocks
-pub whole-checked : (geometry : Geometry) (zone : Zone) (bytes : List ℕ) → None ≡ first_failing (append_bytes_checks geometry zone bytes) → IsWhole geometry.block bytes
+pub whole-checked : (geometry : Geometry) (zone : Zone) (bytes : List ℕ) → None ≡ first_failing (append_bytes_checks geometry zone bytes) → AreWholeBlocks geometry.block bytes
 whole-checked geometry zone bytes checks =
     let passed = all-passed (append_bytes_checks geometry zone bytes) checks in
     eqb-true _ _ (not-false _ passed.1.0)

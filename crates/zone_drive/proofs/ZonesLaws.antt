@@ -6,7 +6,7 @@ use Rattle.nvme_wire.specs.declared.zone_state.ZoneState.{ZoneState}
 use Rattle.nvme_wire.specs.declared.zone_state.ZoneState.TheVariants.{Empty, ImplicitlyOpened, ExplicitlyOpened, Closed, ReadOnly, Full, Offline}
 use Rattle.zone_states.specs.declared.geometry.Geometry.{Geometry}
 use Rattle.zone_states.specs.Geometry.{IsInRange}
-use Rattle.zone_states.specs.Stored.{IsWhole, StoredZone, zone_of}
+use Rattle.zone_states.specs.Stored.{AreWholeBlocks, StoredZone, zone_stored}
 use Rattle.zone_states.specs.Transition.{is_active, is_open}
 use Rattle.zone_states.specs.Zone.{IsLawfulZone, MayHold}
 use Rattle.zone_states.proofs.Cutting.{length-cut}
@@ -37,16 +37,16 @@ both true b e = (refl, e)
 both false b e = absurd (cc e)
 
 -- what the test of one zone says
-zone-true : (geometry : Geometry) (zone : StoredZone) → 1 ≤ geometry.block → is_lawful geometry zone ≡ true → IsWhole geometry.block zone.bytes × IsLawfulZone geometry (zone_of geometry.block zone)
+zone-true : (geometry : Geometry) (zone : StoredZone) → 1 ≤ geometry.block → is_lawful geometry zone ≡ true → AreWholeBlocks geometry.block zone.bytes × IsLawfulZone geometry (zone_stored geometry.block zone)
 zone-true geometry zone some e =
     let b = geometry.block in
     let n = length zone.bytes / b in
     let parts = both (eqb (length zone.bytes % b) 0) (may_hold zone.state geometry.capacity n) e in
     let rest = eqb-true (length zone.bytes % b) 0 parts.0 in
-    let whole : IsWhole b zone.bytes = omega (arith, rest, some) in
+    let whole : AreWholeBlocks b zone.bytes = omega (arith, rest, some) in
     (whole, record { written = rw (length-cut b n zone.bytes) (may_hold-true zone.state geometry.capacity n parts.1); whole = cut-whole b n zone.bytes whole })
 
-zone-false : (geometry : Geometry) (zone : StoredZone) → 1 ≤ geometry.block → is_lawful geometry zone ≡ false → IsWhole geometry.block zone.bytes → ¬ IsLawfulZone geometry (zone_of geometry.block zone)
+zone-false : (geometry : Geometry) (zone : StoredZone) → 1 ≤ geometry.block → is_lawful geometry zone ≡ false → AreWholeBlocks geometry.block zone.bytes → ¬ IsLawfulZone geometry (zone_stored geometry.block zone)
 zone-false geometry zone some e whole lawful =
     let b = geometry.block in
     let n = length zone.bytes / b in
@@ -56,7 +56,7 @@ zone-false geometry zone some e whole lawful =
 -- ---- all zones
 
 zones-true : (geometry : Geometry) (zones : List StoredZone) → 1 ≤ geometry.block → list_all (is_lawful geometry) zones ≡ true
-    → AllByRecursion (λ (zone : StoredZone). IsWhole geometry.block zone.bytes) zones × AllByRecursion (IsLawfulZone geometry) (zones_of geometry.block zones)
+    → AllByRecursion (λ (zone : StoredZone). AreWholeBlocks geometry.block zone.bytes) zones × AllByRecursion (IsLawfulZone geometry) (zones_of geometry.block zones)
 zones-true geometry [] some e = (tt, tt)
 zones-true geometry (zone ∷ zones) some e =
     let parts = both (is_lawful geometry zone) (list_all (is_lawful geometry) zones) e in
@@ -65,7 +65,7 @@ zones-true geometry (zone ∷ zones) some e =
     ((here.0, rest.0), (here.1, rest.1))
 
 zones-false : (geometry : Geometry) (zones : List StoredZone) → 1 ≤ geometry.block → list_all (is_lawful geometry) zones ≡ false
-    → AllByRecursion (λ (zone : StoredZone). IsWhole geometry.block zone.bytes) zones → ¬ AllByRecursion (IsLawfulZone geometry) (zones_of geometry.block zones)
+    → AllByRecursion (λ (zone : StoredZone). AreWholeBlocks geometry.block zone.bytes) zones → ¬ AllByRecursion (IsLawfulZone geometry) (zones_of geometry.block zones)
 zones-false geometry [] some e whole lawful = cc e
 zones-false geometry (zone ∷ zones) some e whole lawful = either (is_lawful geometry zone) refl e (λ rest. zones-false geometry zones some rest whole.1 lawful.1)
   where

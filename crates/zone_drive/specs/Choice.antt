@@ -13,19 +13,19 @@ use Rattle.zone_states.specs.Transition.{is_state}
 use Rattle.zone_states.specs.Zone.{Zone}
 use Rattle.zone_drive.specs.declared.habit.Habit.{Habit}
 use Rattle.zone_drive.specs.declared.reply.Reply.{Reply}
-use Rattle.zone_drive.specs.Habits.{MemoryDrive, closed, makes_room, settled, with_zones}
+use Rattle.zone_drive.specs.Habits.{MemoryDrive, closed_zone, makes_room, settled, with_zones}
 use Rattle.drive_port.specs.Step.{Outcome, outcome, resource_checks, zone_at}
 
 -- the zones with the lowest implicitly opened one closed, if there is one
 abbrev pub close_lowest : List Zone → List Zone
 close_lowest [] = []
-close_lowest (zone ∷ zones) = if is_state ImplicitlyOpened zone.state then closed zone ∷ zones else zone ∷ close_lowest zones
+close_lowest (zone ∷ zones) = if is_state ImplicitlyOpened zone.state then closed_zone zone ∷ zones else zone ∷ close_lowest zones
 
 -- the lowest implicitly opened zone has this number
-pub record IsLowest (zones : List Zone) (low : ℕ) : Type 0 where
+pub record IsLowestOpened (zones : List Zone) (low : ℕ) : Type 0 where
   pub in_range : low < length zones
   pub opened : (zone_at zones low).state ≡ ImplicitlyOpened
-  pub closes : close_lowest zones ≡ slice_set zones low (closed (zone_at zones low))
+  pub closes : close_lowest zones ≡ slice_set zones low (closed_zone (zone_at zones low))
 
 abbrev pub wants_open_resource : Status → Bool
 wants_open_resource TooManyOpenZones = true
@@ -54,7 +54,7 @@ pub record AnswersByChoice (old : MemoryDrive) (entry bytes completion returned 
 -- Room for a zone to be opened: there are resources for it, or there are once the zone with this number is closed, or a drive of this habit has none.
 abbrev pub RoomGives : Habit → Geometry → List Zone → Zone → Result (Option ℕ) Status → Type 0
 RoomGives habit geometry zones zone (Ok None) = None ≡ first_failing (resource_checks geometry zones zone)
-RoomGives habit geometry zones zone (Ok (Some low)) = (Some TooManyOpenZones ≡ first_failing (resource_checks geometry zones zone)) × (makes_room habit ≡ true) × IsLowest zones low
+RoomGives habit geometry zones zone (Ok (Some low)) = (Some TooManyOpenZones ≡ first_failing (resource_checks geometry zones zone)) × (makes_room habit ≡ true) × IsLowestOpened zones low
 RoomGives habit geometry zones zone (Err status) = (Some status ≡ first_failing (resource_checks geometry zones zone)) × ((wants_open_resource status && makes_room habit) ≡ true → close_lowest zones ≡ zones)
 
 -- the zones once there is room for that zone: the lowest implicitly opened one is closed where it has to be

@@ -20,8 +20,8 @@ abbrev pub with_zones : MemoryDrive → List Zone → MemoryDrive
 with_zones drive zones = record drive { state = record drive.state { zones = zones } }
 
 -- a zone after the controller closed it
-abbrev pub closed : Zone → Zone
-closed zone = record zone { state = Closed }
+abbrev pub closed_zone : Zone → Zone
+closed_zone zone = record zone { state = Closed }
 
 -- whether a drive of this habit closes a zone where a command needs an open resource and none is left
 abbrev pub makes_room : Habit → Bool
@@ -30,7 +30,7 @@ makes_room habit = true
 
 -- the zones with each implicitly opened one closed
 abbrev pub close_implicit : List Zone → List Zone
-close_implicit zones = map (λ zone. if is_state ImplicitlyOpened zone.state then closed zone else zone) zones
+close_implicit zones = map (λ zone. if is_state ImplicitlyOpened zone.state then closed_zone zone else zone) zones
 
 -- the zones once a drive of this habit has completed a command that left these
 abbrev pub settled : Habit → List Zone → List Zone

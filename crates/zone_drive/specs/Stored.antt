@@ -5,12 +5,12 @@ use Rattle.nvme_wire.specs.declared.zone_state.ZoneState.{ZoneState}
 use Rattle.nvme_wire.specs.declared.zone_state.ZoneState.TheVariants.{Empty, ImplicitlyOpened, ExplicitlyOpened, Closed}
 use Rattle.zone_states.specs.declared.geometry.Geometry.{Geometry}
 use Rattle.zone_states.specs.Zone.{Zone, IsLawfulZone}
-use Rattle.zone_states.specs.Stored.{StoredZone, IsWhole, zone_of}
+use Rattle.zone_states.specs.Stored.{StoredZone, AreWholeBlocks, zone_stored}
 use Rattle.drive_port.specs.Drive.{DriveState, active_count, open_count}
 
 -- the zones that are stored, in blocks of a size
 abbrev pub zones_of : ℕ → List StoredZone → List Zone
-zones_of block zones = map (zone_of block) zones
+zones_of block zones = map (zone_stored block) zones
 
 -- the first bytes, with zeros where there are fewer
 abbrev pub with_zeros : ℕ → List ℕ → List ℕ
@@ -27,7 +27,7 @@ fresh geometry = unused geometry (replicate geometry.zones (record { state = Emp
 -- Zones that a drive of this geometry can have: as many as it has, each with whole blocks, as many as its state allows, and no more of them active and open than may be.
 pub record AreZones (geometry : Geometry) (zones : List StoredZone) : Type 0 where
   pub count : length zones ≡ geometry.zones
-  pub whole : AllByRecursion (λ zone. IsWhole geometry.block zone.bytes) zones
+  pub whole : AllByRecursion (λ zone. AreWholeBlocks geometry.block zone.bytes) zones
   pub lawful : AllByRecursion (IsLawfulZone geometry) (zones_of geometry.block zones)
   pub active : active_count (zones_of geometry.block zones) ≤ geometry.active
   pub open_zones : open_count (zones_of geometry.block zones) ≤ geometry.open

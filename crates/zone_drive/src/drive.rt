@@ -1,7 +1,7 @@
 ghost use Rattle.std.specs.Prelude.{◌≡◌, ◌<◌, ◌≤◌, ◌↔◌, [], length, replicate, IfErr, IfOk, IfSome, IsSome, OnOk};
 ghost use Rattle.std.specs.List.{AllByRecursion, list_all};
 ghost use Rattle.zone_states.specs.Geometry.{IsInRange};
-ghost use Rattle.zone_states.specs.Stored.{IsWhole, zone_of};
+ghost use Rattle.zone_states.specs.Stored.{AreWholeBlocks, zone_stored};
 ghost use Rattle.drive_port.specs.Run.{restarted};
 ghost use Rattle.drive_port.specs.Step.{zone_at};
 ghost use Rattle.zone_drive.specs.Faults.{IsFault, IsFreshFault};
@@ -174,9 +174,9 @@ impl Drive {
 
     /// The zone with a number.
     pub fn zone(&self, index: usize) -> Option<&Zone>
-        ensures some { IfSome result (λ zone. zone_of self.now.state.geometry.block zone.now
+        ensures some { IfSome result (λ zone. zone_stored self.now.state.geometry.block zone.now
             ≡ zone_at self.now.state.zones index) }
-        ensures whole { IfSome result (λ zone. IsWhole self.now.state.geometry.block zone.now.bytes) }
+        ensures whole { IfSome result (λ zone. AreWholeBlocks self.now.state.geometry.block zone.now.bytes) }
         ensures in_range { IsSome result ↔ (index < length self.now.state.zones) }
     {
         self.zones.as_slice().get(index)
@@ -185,7 +185,7 @@ impl Drive {
     /// All zones, in ascending order.
     pub fn zones(&self) -> &[Zone]
         ensures zones { zones_of self.now.state.geometry.block result.now ≡ self.now.state.zones }
-        ensures whole { AllByRecursion (λ zone. IsWhole self.now.state.geometry.block zone.bytes) result.now }
+        ensures whole { AllByRecursion (λ zone. AreWholeBlocks self.now.state.geometry.block zone.bytes) result.now }
         ensures in_range { IsInRange self.now.state.geometry }
     {
         self.zones.as_slice()

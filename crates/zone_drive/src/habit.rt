@@ -1,5 +1,5 @@
 ghost use Rattle.std.specs.Prelude.{◌≡◌, true, IfNone, IfSome};
-ghost use Rattle.zone_drive.specs.Choice.{IsLowest, close_lowest};
+ghost use Rattle.zone_drive.specs.Choice.{IsLowestOpened, close_lowest};
 ghost use Rattle.zone_drive.specs.Habits.{makes_room, settled, with_zones};
 
 use crate::drive::Drive;
@@ -37,7 +37,7 @@ impl Drive {
     /// drive closes none.
     pub(crate) fn zone_to_close(&self) -> Option<usize>
         ensures makes { IfSome result (λ low. makes_room self.now.habit ≡ true) }
-        ensures lowest { IfSome result (λ low. IsLowest self.now.state.zones low) }
+        ensures lowest { IfSome result (λ low. IsLowestOpened self.now.state.zones low) }
         ensures none { makes_room self.now.habit ≡ true →
             IfNone result (close_lowest self.now.state.zones ≡ self.now.state.zones) }
     {

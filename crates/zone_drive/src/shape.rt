@@ -1,5 +1,5 @@
 ghost use Rattle.std.specs.Prelude.{◌≡◌, ◌/◌, ◌^◌, ◌<◌, ◌≤◌, length};
-ghost use Rattle.zone_states.specs.Stored.{IsWhole, zone_of};
+ghost use Rattle.zone_states.specs.Stored.{AreWholeBlocks, zone_stored};
 ghost use Rattle.drive_port.specs.Step.{end_of, zone_at};
 
 use crate::drive::Drive;
@@ -9,9 +9,9 @@ impl Drive {
     /// The zone with a number.
     pub(crate) fn zone_numbered(&self, number: u32) -> &Zone
         requires { number < self.now.state.geometry.zones }
-        ensures zone { zone_of self.now.state.geometry.block result.now
+        ensures zone { zone_stored self.now.state.geometry.block result.now
             ≡ zone_at self.now.state.zones number }
-        ensures whole { IsWhole self.now.state.geometry.block result.now.bytes }
+        ensures whole { AreWholeBlocks self.now.state.geometry.block result.now.bytes }
     {
         &self.zones.as_slice()[number as usize]
     }
@@ -19,9 +19,9 @@ impl Drive {
     /// The zone that holds an address of the drive.
     pub(crate) fn zone_holding(&self, address: u64) -> &Zone
         requires { address < end_of self.now.state.geometry }
-        ensures zone { zone_of self.now.state.geometry.block result.now
+        ensures zone { zone_stored self.now.state.geometry.block result.now
             ≡ zone_at self.now.state.zones (address / self.now.state.geometry.size) }
-        ensures whole { IsWhole self.now.state.geometry.block result.now.bytes }
+        ensures whole { AreWholeBlocks self.now.state.geometry.block result.now.bytes }
     {
         self.zone_numbered(self.geometry.zone_of(address))
     }

@@ -14,8 +14,8 @@ use Rattle.zone_report.specs.declared.fault.ReportFault.{ReportFault}
 use Rattle.zone_report.specs.declared.fault.ReportFault.TheVariants.{Field, Range, OutOfMemory}
 
 -- what a report says of a zone
-abbrev pub status_of : Zone → ZoneStatus
-status_of zone = record { state = zone.state; written = length zone.blocks }
+abbrev pub zone_status : Zone → ZoneStatus
+zone_status zone = record { state = zone.state; written = length zone.blocks }
 
 -- whether a zone in this state is named
 abbrev pub is_chosen : ReportingOptions → ZoneState → Bool
@@ -42,7 +42,7 @@ descriptor_of geometry number zone = record {
 abbrev pub matching : Geometry → ReportingOptions → ℕ → List Zone → List Descriptor
 matching geometry options number [] = []
 matching geometry options number (zone ∷ zones) =
-    if is_chosen options zone.state then descriptor_of geometry number (status_of zone) ∷ matching geometry options (number + 1) zones
+    if is_chosen options zone.state then descriptor_of geometry number (zone_status zone) ∷ matching geometry options (number + 1) zones
     else matching geometry options (number + 1) zones
 
 -- how many descriptors have room in a buffer after the head

@@ -1,6 +1,6 @@
 ghost use Rattle.std.specs.Prelude.{◌≡◌, ◌<◌, List, length, slice_index_or};
 ghost use Rattle.zone_states.specs.Zone.{Zone};
-ghost use Rattle.zone_report.specs.Report.{status_of};
+ghost use Rattle.zone_report.specs.Report.{zone_status};
 
 use crate::status::ZoneStatus;
 
@@ -12,5 +12,5 @@ pub trait ReportedZones {
     /// What a report says of the zone with this number.
     fn status(&self, number: u32) -> ZoneStatus
         requires { number < length (zones self.now) }
-        ensures { (none : Zone) → result ≡ status_of (slice_index_or (zones self.now) number none) };
+        ensures { (none : Zone) → result ≡ zone_status (slice_index_or (zones self.now) number none) };
 }

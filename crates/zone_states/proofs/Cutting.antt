@@ -5,7 +5,7 @@ use Rattle.std.proofs.lemmas.Nat.{div-mul-add}
 use Rattle.std.proofs.Math.Nat.{add-mul, div-zero}
 use Rattle.zone_states.specs.declared.geometry.Geometry.{Geometry}
 use Rattle.zone_states.specs.Zone.{cut_blocks}
-use Rattle.zone_states.specs.Stored.{IsWhole, StoredZone, WrittenAfter, stored_write}
+use Rattle.zone_states.specs.Stored.{AreWholeBlocks, StoredZone, WrittenAfter, stored_write}
 
 pub length-cut : (size n : ℕ) (xs : List ℕ) → length (cut_blocks size n xs) ≡ n
 length-cut size zero xs = refl
@@ -32,7 +32,7 @@ blocks_together (suc size) a b whole_a whole_b =
     rw total (div-mul-add (n + m) (suc size) 0 (omega arith))
 
 -- bytes that are written after a zone's own are blocks after its own
-pub stored_write-after : (geometry : Geometry) (zone : StoredZone) (bytes : List ℕ) → IsWhole geometry.block zone.bytes → IsWhole geometry.block bytes → WrittenAfter geometry zone bytes (stored_write geometry zone bytes)
+pub stored_write-after : (geometry : Geometry) (zone : StoredZone) (bytes : List ℕ) → AreWholeBlocks geometry.block zone.bytes → AreWholeBlocks geometry.block bytes → WrittenAfter geometry zone bytes (stored_write geometry zone bytes)
 stored_write-after geometry zone bytes whole_zone whole_bytes =
     let size = geometry.block in
     let n = length zone.bytes / size in
@@ -47,6 +47,6 @@ stored_write-after geometry zone bytes whole_zone whole_bytes =
       whole = rw count (sum ∙ omega (arith, whole_zone, whole_bytes, add-mul n m size));
     }
 
-pub written-after : (geometry : Geometry) (zone : StoredZone) (bytes : List ℕ) (new : StoredZone) → new ≡ stored_write geometry zone bytes → IsWhole geometry.block zone.bytes → IsWhole geometry.block bytes
+pub written-after : (geometry : Geometry) (zone : StoredZone) (bytes : List ℕ) (new : StoredZone) → new ≡ stored_write geometry zone bytes → AreWholeBlocks geometry.block zone.bytes → AreWholeBlocks geometry.block bytes
     → WrittenAfter geometry zone bytes new
 written-after geometry zone bytes new same whole_zone whole_bytes = rw same (stored_write-after geometry zone bytes whole_zone whole_bytes)

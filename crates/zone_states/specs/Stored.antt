@@ -15,12 +15,12 @@ pub record StoredZone : Type 0 where
   pub bytes : List ℕ
 
 -- bytes that are whole blocks of a size
-abbrev pub IsWhole : ℕ → List ℕ → Type 0
-IsWhole block bytes = length bytes ≡ length bytes / block * block
+abbrev pub AreWholeBlocks : ℕ → List ℕ → Type 0
+AreWholeBlocks block bytes = length bytes ≡ length bytes / block * block
 
 -- the zone that is stored, in blocks of a size
-abbrev pub zone_of : ℕ → StoredZone → Zone
-zone_of block zone = record { state = zone.state; blocks = cut_blocks block (length zone.bytes / block) zone.bytes }
+abbrev pub zone_stored : ℕ → StoredZone → Zone
+zone_stored block zone = record { state = zone.state; blocks = cut_blocks block (length zone.bytes / block) zone.bytes }
 
 -- a zone with these bytes written after its own: it is Full where its blocks reach the capacity
 abbrev pub stored_write : Geometry → StoredZone → List ℕ → StoredZone
@@ -30,8 +30,8 @@ stored_write geometry zone bytes =
 
 -- In blocks: those of these bytes are after those of the zone, and its bytes are whole blocks again.
 pub record WrittenAfter (geometry : Geometry) (old : StoredZone) (bytes : List ℕ) (new : StoredZone) : Type 0 where
-  pub zone : zone_of geometry.block new ≡ written_zone geometry.capacity (zone_of geometry.block old) (cut_blocks geometry.block (length bytes / geometry.block) bytes)
-  pub whole : IsWhole geometry.block new.bytes
+  pub zone : zone_stored geometry.block new ≡ written_zone geometry.capacity (zone_stored geometry.block old) (cut_blocks geometry.block (length bytes / geometry.block) bytes)
+  pub whole : AreWholeBlocks geometry.block new.bytes
 
 -- the bytes that an action leaves: a Reset takes them away
 abbrev pub bytes_after : Action → List ℕ → List ℕ

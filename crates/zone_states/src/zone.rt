@@ -1,7 +1,7 @@
 ghost use Rattle.std.specs.Prelude.{◌≡◌, ◌/◌, [], length, Ok, Err, Some, None, IfErr, OnOk, OnErr, IfSome, OnSome, is_some, if◌then◌else◌};
 ghost use Rattle.zone_states.specs.Checks.{first_failing};
 ghost use Rattle.zone_states.specs.Sending.{zone_after};
-ghost use Rattle.zone_states.specs.Stored.{IsWhole, WrittenAfter, apply_result, refusal_of, stored_after, stored_write, zone_of};
+ghost use Rattle.zone_states.specs.Stored.{AreWholeBlocks, WrittenAfter, apply_result, refusal_of, stored_after, stored_write, zone_stored};
 ghost use Rattle.zone_states.specs.Transition.{state_after};
 ghost use Rattle.zone_states.specs.Writing.{append_bytes_checks, data_checks, room_checks, state_checks, zone_append_checks, zone_write_checks, write_bytes_checks};
 ghost use Rattle.zone_states.specs.Zone.{opened_by_write};
@@ -59,7 +59,7 @@ fn blocks_in(geometry: &Geometry, bytes: usize) -> usize
 // How many blocks these bytes are, if they are whole blocks and no more than one transfer moves.
 fn block_count(geometry: &Geometry, bytes: &[u8]) -> Option<usize>
     ensures some { IfSome result (λ blocks. blocks ≡ length bytes.now / geometry.now.block) }
-    ensures whole { OnSome result (IsWhole geometry.now.block bytes.now) }
+    ensures whole { OnSome result (AreWholeBlocks geometry.now.block bytes.now) }
     ensures checks { (if is_some result then None else Some Status.InvalidField) ≡ first_failing
         (data_checks geometry.now (length bytes.now / geometry.now.block) bytes.now) }
 {
@@ -117,7 +117,7 @@ impl Zone {
 
     /// How many whole blocks are written.
     pub fn blocks(&self, geometry: &Geometry) -> usize
-        ensures value { result ≡ length (zone_of geometry.now.block self.now).blocks }
+        ensures value { result ≡ length (zone_stored geometry.now.block self.now).blocks }
         ensures by_bytes { result ≡ length self.now.bytes / geometry.now.block }
     {
         blocks_in(geometry, self.written.len())
@@ -125,7 +125,7 @@ impl Zone {
 
     // The status with which the state refuses every Write and Append.
     fn state_refusal(&self) -> Option<Status>
-        ensures { (block : _) → result ≡ first_failing (state_checks (zone_of block self.now)) }
+        ensures { (block : _) → result ≡ first_failing (state_checks (zone_stored block self.now)) }
     {
         match self.state {
             ZoneState::Full => Some(Status::ZoneIsFull),
@@ -138,7 +138,7 @@ impl Zone {
     // The status of a Write or an Append of that many blocks for which there is no room.
     fn room_refusal(&self, geometry: &Geometry, blocks: u64) -> Option<Status>
         ensures { result ≡ first_failing
-            (room_checks geometry.now (zone_of geometry.now.block self.now) blocks) }
+            (room_checks geometry.now (zone_stored geometry.now.block self.now) blocks) }
     {
         let written = self.blocks(geometry) as u64;
         if written.saturating_add(blocks) > u64::from(geometry.capacity) {
@@ -151,7 +151,7 @@ impl Zone {
     /// on active and open zones are not looked at.
     pub fn append_refusal(&self, geometry: &Geometry, blocks: u64) -> Option<Status>
         ensures { result ≡ first_failing
-            (zone_append_checks geometry.now (zone_of geometry.now.block self.now) blocks) }
+            (zone_append_checks geometry.now (zone_stored geometry.now.block self.now) blocks) }
     {
         if let Some(status) = self.state_refusal() {
             return Some(status);
@@ -163,7 +163,7 @@ impl Zone {
     /// offset in blocks on. The limits on active and open zones are not looked at.
     pub fn write_refusal(&self, geometry: &Geometry, offset: u64, blocks: u64) -> Option<Status>
         ensures { result ≡ first_failing
-            (zone_write_checks geometry.now (zone_of geometry.now.block self.now) offset blocks) }
+            (zone_write_checks geometry.now (zone_stored geometry.now.block self.now) offset blocks) }
     {
         if let Some(status) = self.state_refusal() {
             return Some(status);
@@ -178,7 +178,7 @@ impl Zone {
     /// checked here. The zone's bytes grow once.
     pub fn extend(&mut self, geometry: &Geometry, bytes: &[u8]) -> Result<(), AllocError>
         ensures ok { OnOk result (self.new ≡ stored_write geometry.now self.old bytes.now) }
-        ensures in_blocks { IsWhole geometry.now.block self.old.bytes → IsWhole geometry.now.block bytes.now
+        ensures in_blocks { AreWholeBlocks geometry.now.block self.old.bytes → AreWholeBlocks geometry.now.block bytes.now
             → OnOk result (WrittenAfter geometry.now self.old bytes.now self.new) }
         ensures kept { OnErr result (self.new ≡ self.old) }
     {
@@ -194,9 +194,9 @@ impl Zone {
     /// Appends these bytes: whole blocks, no more than one transfer moves. The zone's bytes grow once.
     pub fn append(&mut self, geometry: &Geometry, bytes: &[u8]) -> Result<(), ZoneFault>
         ensures checks { refusal_of result ≡ first_failing
-            (append_bytes_checks geometry.now (zone_of geometry.now.block self.old) bytes.now) }
+            (append_bytes_checks geometry.now (zone_stored geometry.now.block self.old) bytes.now) }
         ensures ok { OnOk result (self.new ≡ stored_write geometry.now self.old bytes.now) }
-        ensures in_blocks { IsWhole geometry.now.block self.old.bytes
+        ensures in_blocks { AreWholeBlocks geometry.now.block self.old.bytes
             → OnOk result (WrittenAfter geometry.now self.old bytes.now self.new) }
         ensures err { OnErr result (self.new ≡ self.old) }
     {
@@ -219,9 +219,9 @@ impl Zone {
         bytes: &[u8],
     ) -> Result<(), ZoneFault>
         ensures checks { refusal_of result ≡ first_failing
-            (write_bytes_checks geometry.now (zone_of geometry.now.block self.old) offset bytes.now) }
+            (write_bytes_checks geometry.now (zone_stored geometry.now.block self.old) offset bytes.now) }
         ensures ok { OnOk result (self.new ≡ stored_write geometry.now self.old bytes.now) }
-        ensures in_blocks { IsWhole geometry.now.block self.old.bytes
+        ensures in_blocks { AreWholeBlocks geometry.now.block self.old.bytes
             → OnOk result (WrittenAfter geometry.now self.old bytes.now self.new) }
         ensures err { OnErr result (self.new ≡ self.old) }
     {
@@ -240,8 +240,8 @@ impl Zone {
     pub fn apply(&mut self, action: Action) -> Result<(), ZoneFault>
         ensures checks { result ≡ apply_result (state_after self.old.state action) }
         ensures stored { self.new ≡ stored_after action self.old (state_after self.old.state action) }
-        ensures in_blocks { (block : _) → zone_of block self.new
-            ≡ zone_after action (zone_of block self.old) (state_after self.old.state action) }
+        ensures in_blocks { (block : _) → zone_stored block self.new
+            ≡ zone_after action (zone_stored block self.old) (state_after self.old.state action) }
     {
         match next_state(self.state, action) {
             Ok(state) => self.state = state,

@@ -10,7 +10,7 @@ use Rattle.batch_log.specs.Log.{Batch, data_count, one_unless, zero_block}
 use Rattle.logical_map.specs.Places.{IsReady, MapView}
 use Rattle.logical_map.specs.declared.place.Place.{Place}
 use Rattle.logical_map.specs.declared.place.Place.TheVariants as places
-use Rattle.zone_choice.specs.Records.{Record, entry_records, over, record_of, shown}
+use Rattle.drive_array.specs.Records.{Record, entry_records, over, record_of, shown}
 use Rattle.zone_choice.specs.Builder.{entries_from, entry_place, placed}
 use Rattle.zone_choice.specs.Changes.{told_over}
 use Rattle.zone_choice.specs.Tables.{AreReserved}

@@ -13,20 +13,21 @@ use Rattle.drive_port.specs.Drive.{DriveState}
 use Rattle.batch_log.specs.Log.{zero_block}
 use Rattle.logical_map.specs.declared.place.Place.{Place}
 use Rattle.logical_map.specs.declared.place.Place.TheVariants as places
-use Rattle.zone_choice.specs.Reserve.{batch_most, most_size}
-use Rattle.zone_choice.specs.Sizes.{extended}
-use Rattle.zone_choice.proofs.ReserveLaws.{div_ceil-add, div_ceil-none, div_ceil-positive, positive-most}
+use Rattle.drive_array.specs.Reserve.{batch_most, most_size}
+use Rattle.drive_array.specs.Sizes.{extended}
+use Rattle.drive_array.proofs.ReserveLaws.{div_ceil-add, div_ceil-none, div_ceil-positive, positive-most}
 use Rattle.zone_translator.specs.declared.fault.DiskFault.{DiskFault}
 use Rattle.zone_translator.specs.declared.fault.DiskFault.TheVariants.{OutOfRange, OutOfMemory, Stopped, Spent, Unmounted, Smaller, Reserve}
 use Rattle.zone_translator.specs.declared.status.DiskStatus.{DiskStatus}
 use Rattle.zone_translator.specs.declared.status.DiskStatus.TheVariants as statuses
 use Rattle.zone_translator.specs.Batches.{IsBatchCount}
-use Rattle.zone_translator.specs.Calls.{Reads, answer_before, is_known, status_of}
+use Rattle.zone_translator.specs.Calls.{Reads, answer_before, is_known, status_left}
 use Rattle.zone_cleaner.specs.Start.{trims}
+use Rattle.zone_translator.specs.Answers.{HasData}
 use Rattle.zone_translator.specs.Changes.{AreNamed, IsCause, Names}
 use Rattle.zone_translator.specs.Flat.{Call, FlatCall, IsAfterFront, IsFront, answer_while, blocks_from, grow, idle, known_answer, known_growth, known_range, may_refuse, read, replaced, report, status_after, with_nothing, write}
 use Rattle.zone_translator.specs.Read.{IsReadFault}
-use Rattle.zone_translator.specs.View.{DiskCause, DiskView, array_of, disk_size, flat_of, most_batches, next_sequence}
+use Rattle.zone_translator.specs.View.{DiskCause, DiskView, disk_array, disk_size, flat_of, most_batches, next_sequence, disk_places}
 use Rattle.zone_translator.proofs.FlatLaws.{replaced-append}
 
 -- ---- fronts of a write
@@ -74,11 +75,11 @@ known-goes disk first n some within =
 
 -- ---- the flat disk, part by part
 
-pub flat-is : (old new : DiskView) (array : List (List ℕ)) (size : ℕ) (status : DiskStatus) → array_of new ≡ array → disk_size new ≡ size → new.status ≡ status → new.drive.geometry ≡ old.drive.geometry
+pub flat-is : (old new : DiskView) (array : List (List ℕ)) (size : ℕ) (status : DiskStatus) → disk_array new ≡ array → disk_size new ≡ size → new.status ≡ status → new.drive.geometry ≡ old.drive.geometry
     → flat_of new ≡ record { array = array; size = size; status = status; block = old.drive.geometry.block; most = most_size old.drive.geometry }
 flat-is old new array size status array-is size-is status-is geometry-is = rw (array-is, size-is, status-is, geometry-is) refl
 
-pub status-refused : (fault : DiskFault) → status_of fault ≡ status_after (Err fault)
+pub status-refused : (fault : DiskFault) → status_left fault ≡ status_after (Err fault)
 status-refused OutOfRange = refl
 status-refused OutOfMemory = refl
 status-refused Stopped = refl
@@ -88,8 +89,8 @@ status-refused Reserve = refl
 status-refused Unmounted = refl
 
 -- what is left of a disk by a refusal
-pub flat-refused : (old new : DiskView) (fault : DiskFault) → disk_size new ≡ disk_size old → new.status ≡ status_of fault → new.drive.geometry ≡ old.drive.geometry → flat_of new ≡ record (flat_of old) { array = array_of new; status = status_after (Err fault) }
-flat-refused old new fault size status geometry = flat-is old new (array_of new) (disk_size old) (status_after (Err fault)) refl size (status ∙ status-refused fault) geometry
+pub flat-refused : (old new : DiskView) (fault : DiskFault) → disk_size new ≡ disk_size old → new.status ≡ status_left fault → new.drive.geometry ≡ old.drive.geometry → flat_of new ≡ record (flat_of old) { array = disk_array new; status = status_after (Err fault) }
+flat-refused old new fault size status geometry = flat-is old new (disk_array new) (disk_size old) (status_after (Err fault)) refl size (status ∙ status-refused fault) geometry
 
 -- ---- causes
 
@@ -118,6 +119,11 @@ pub goes-begun : (old : DiskView) (first n : ℕ) (done : Bool) → known_range 
 goes-begun old first n true known e = absurd (cc)
 goes-begun old first n false known e = known
 
+-- and one that is
+pub done-known : (old : DiskView) (first n : ℕ) (done : Bool) → known_range (flat_of old) first n ≡ answer_before (Ok done) → done ≡ true → known_range (flat_of old) first n ≡ Some (Ok tt)
+done-known old first n true known e = known
+done-known old first n false known e = absurd (cc)
+
 -- an answer that is known is given
 pub write-known : (old : DiskView) (first n : ℕ) (blocks : List (List ℕ)) (result : Result (Unit {0}) DiskFault) → length blocks ≡ n → known_range (flat_of old) first n ≡ Some result
     → FlatCall (flat_of old) (write first blocks) (with_nothing result) (flat_of old)
@@ -127,11 +133,11 @@ write-known old first n blocks result long known = rw (long, known) (refl, refl)
 pub write-unknown : (old new : DiskView) (first n : ℕ) (blocks : List (List ℕ)) → length blocks ≡ n → known_range (flat_of old) first n ≡ None → is_known (flat_of old) (write first blocks) ≡ true → new ≡ old
 write-unknown old new first n blocks long none known = let e : false ≡ true = rw (long, none) at known in absurd (cc)
 
-pub write-done : (old new : DiskView) (first n done : ℕ) (blocks : List (List ℕ)) → length blocks ≡ n → known_range (flat_of old) first n ≡ None → old.status ≡ statuses.Serving → n ≤ done → array_of new ≡ replaced (array_of old) first (take done blocks) → disk_size new ≡ disk_size old
+pub write-done : (old new : DiskView) (first n done : ℕ) (blocks : List (List ℕ)) → length blocks ≡ n → known_range (flat_of old) first n ≡ None → old.status ≡ statuses.Serving → n ≤ done → disk_array new ≡ replaced (disk_array old) first (take done blocks) → disk_size new ≡ disk_size old
     → new.status ≡ statuses.Serving → new.drive.geometry ≡ old.drive.geometry → FlatCall (flat_of old) (write first blocks) (with_nothing (Ok tt)) (flat_of new)
 write-done old new first n done blocks long known was most is size serves geometry =
-    let all : array_of new ≡ replaced (array_of old) first blocks = is ∙ ap (λ (xs : List (List ℕ)). replaced (array_of old) first xs) (take_all done blocks (omega (arith, long, most))) in
-    rw (long, known) (refl, flat-is old new (replaced (array_of old) first blocks) (disk_size old) old.status all size (serves ∙ sym was) geometry)
+    let all : disk_array new ≡ replaced (disk_array old) first blocks = is ∙ ap (λ (xs : List (List ℕ)). replaced (disk_array old) first xs) (take_all done blocks (omega (arith, long, most))) in
+    rw (long, known) (refl, flat-is old new (replaced (disk_array old) first blocks) (disk_size old) old.status all size (serves ∙ sym was) geometry)
 
 may-refuse : (disk : DiskView) (first : ℕ) (blocks : List (List ℕ)) (fault : DiskFault) → IsCause disk.drive (next_sequence disk) fault → may_refuse (write first blocks) fault ≡ true
 may-refuse disk first blocks OutOfRange cause = absurd cause
@@ -142,7 +148,7 @@ may-refuse disk first blocks Smaller cause = absurd cause
 may-refuse disk first blocks Reserve cause = absurd cause
 may-refuse disk first blocks Unmounted cause = absurd cause
 
-pub write-refused : (old new : DiskView) (first n : ℕ) (blocks : List (List ℕ)) (fault : DiskFault) → length blocks ≡ n → known_range (flat_of old) first n ≡ None → IsFront (array_of old) first blocks (array_of new) → disk_size new ≡ disk_size old → new.status ≡ status_of fault
+pub write-refused : (old new : DiskView) (first n : ℕ) (blocks : List (List ℕ)) (fault : DiskFault) → length blocks ≡ n → known_range (flat_of old) first n ≡ None → IsFront (disk_array old) first blocks (disk_array new) → disk_size new ≡ disk_size old → new.status ≡ status_left fault
     → new.drive.geometry ≡ old.drive.geometry → IsCause new.drive (next_sequence new) fault → FlatCall (flat_of old) (write first blocks) (with_nothing (Err fault)) (flat_of new)
 write-refused old new first n blocks fault long known front size status geometry cause =
     rw (long, known) (may-refuse new first blocks fault cause, refl, front, flat-refused old new fault size status geometry)
@@ -205,10 +211,10 @@ growth-known old blocks result known = rw known (refl, refl)
 pub growth-unknown : (old new : DiskView) (blocks : ℕ) → known_growth (flat_of old) blocks ≡ None → is_known (flat_of old) (grow blocks) ≡ true → new ≡ old
 growth-unknown old new blocks none known = let e : false ≡ true = rw none at known in absurd (cc)
 
-pub growth-done : (old new : DiskView) (blocks : ℕ) → known_growth (flat_of old) blocks ≡ None → array_of new ≡ extended (zero_block old.drive.geometry.block) blocks (array_of old) → disk_size new ≡ blocks → new.status ≡ old.status → new.drive.geometry ≡ old.drive.geometry
+pub growth-done : (old new : DiskView) (blocks : ℕ) → known_growth (flat_of old) blocks ≡ None → disk_array new ≡ extended (zero_block old.drive.geometry.block) blocks (disk_array old) → disk_size new ≡ blocks → new.status ≡ old.status → new.drive.geometry ≡ old.drive.geometry
     → FlatCall (flat_of old) (grow blocks) (with_nothing (Ok tt)) (flat_of new)
 growth-done old new blocks known array size status geometry =
-    rw known (refl, flat-is old new (extended (zero_block old.drive.geometry.block) blocks (array_of old)) blocks old.status array size status geometry)
+    rw known (refl, flat-is old new (extended (zero_block old.drive.geometry.block) blocks (disk_array old)) blocks old.status array size status geometry)
 
 growth-refuse : (disk : DiskView) (blocks : ℕ) (fault : DiskFault) → IsCause disk.drive (next_sequence disk) fault → may_refuse (grow blocks) fault ≡ true
 growth-refuse disk blocks OutOfRange cause = absurd cause
@@ -219,7 +225,7 @@ growth-refuse disk blocks Smaller cause = absurd cause
 growth-refuse disk blocks Reserve cause = absurd cause
 growth-refuse disk blocks Unmounted cause = absurd cause
 
-pub growth-refused : (old new : DiskView) (blocks : ℕ) (fault : DiskFault) → known_growth (flat_of old) blocks ≡ None → IsAfterFront (flat_of old) (grow blocks) fault (array_of new) → disk_size new ≡ disk_size old → new.status ≡ status_of fault
+pub growth-refused : (old new : DiskView) (blocks : ℕ) (fault : DiskFault) → known_growth (flat_of old) blocks ≡ None → IsAfterFront (flat_of old) (grow blocks) fault (disk_array new) → disk_size new ≡ disk_size old → new.status ≡ status_left fault
     → new.drive.geometry ≡ old.drive.geometry → IsCause new.drive (next_sequence new) fault → FlatCall (flat_of old) (grow blocks) (with_nothing (Err fault)) (flat_of new)
 growth-refused old new blocks fault known front size status geometry cause =
     rw known (growth-refuse new blocks fault cause, refl, front, flat-refused old new fault size status geometry)
@@ -235,16 +241,16 @@ read-refuse drive first n Smaller cause = absurd cause
 read-refuse drive first n Reserve cause = absurd cause
 read-refuse drive first n Unmounted cause = absurd cause
 
-pub read-done : (old new : DiskView) (first n : ℕ) (bytes : List ℕ) → known_range (flat_of old) first n ≡ None → old.status ≡ statuses.Serving → bytes ≡ concat (blocks_from (array_of old) first n) → array_of new ≡ array_of old → disk_size new ≡ disk_size old
+pub read-done : (old new : DiskView) (first n : ℕ) (bytes : List ℕ) → known_range (flat_of old) first n ≡ None → old.status ≡ statuses.Serving → bytes ≡ concat (blocks_from (disk_array old) first n) → disk_array new ≡ disk_array old → disk_size new ≡ disk_size old
     → new.status ≡ statuses.Serving → new.drive.geometry ≡ old.drive.geometry → Reads (flat_of old) first n (Ok tt) bytes (flat_of new)
 read-done old new first n bytes known was shown array size serves geometry = record {
-  shown = blocks_from (array_of old) first n;
-  flat = rw known (refl, flat-is old new (array_of old) (disk_size old) old.status array size (serves ∙ sym was) geometry);
+  shown = blocks_from (disk_array old) first n;
+  flat = rw known (refl, flat-is old new (disk_array old) (disk_size old) old.status array size (serves ∙ sym was) geometry);
   bytes_are = shown;
 }
 
-pub read-refused : (old new : DiskView) (first n : ℕ) (fault : DiskFault) (bytes : List ℕ) → known_range (flat_of old) first n ≡ None → bytes ≡ [] → array_of new ≡ array_of old → disk_size new ≡ disk_size old
-    → new.status ≡ status_of fault → new.drive.geometry ≡ old.drive.geometry → IsReadFault new.drive fault → Reads (flat_of old) first n (Err fault) bytes (flat_of new)
+pub read-refused : (old new : DiskView) (first n : ℕ) (fault : DiskFault) (bytes : List ℕ) → known_range (flat_of old) first n ≡ None → bytes ≡ [] → disk_array new ≡ disk_array old → disk_size new ≡ disk_size old
+    → new.status ≡ status_left fault → new.drive.geometry ≡ old.drive.geometry → IsReadFault new.drive fault → Reads (flat_of old) first n (Err fault) bytes (flat_of new)
 read-refused old new first n fault bytes known none array size status geometry cause = record {
   shown = [];
   flat = rw known (read-refuse new.drive first n fault cause, refl, array, flat-refused old new fault size status geometry);
@@ -257,6 +263,22 @@ read-known old first n result bytes known none = record { shown = []; flat = rw 
 
 pub read-unknown : (old new : DiskView) (first n : ℕ) → known_range (flat_of old) first n ≡ None → is_known (flat_of old) (read first n) ≡ true → new ≡ old
 read-unknown old new first n none known = let e : false ≡ true = rw none at known in absurd (cc)
+
+-- a disk that serves knows no stop beforehand
+pub none-stopped : (old : DiskView) (first n : ℕ) (result : Result (Unit {0}) DiskFault) → known_range (flat_of old) first n ≡ Some result → old.status ≡ statuses.Serving → result ≡ Err Stopped → HasData (disk_places old) first n
+none-stopped old first n result known serves stopped = absurd (by (n == 0) (nat_lt (disk_size old) (first + n)) refl refl)
+  where
+    by : (none past : Bool) → (n == 0) ≡ none → nat_lt (disk_size old) (first + n) ≡ past → ⊥
+    by true past e f = let is : Some (Ok tt) ≡ Some (Err Stopped) = rw (e, stopped) at known in cc
+    by false true e f = let is : Some (Err OutOfRange) ≡ Some (Err Stopped) = rw (e, f, stopped) at known in cc
+    by false false e f = let is : None ≡ Some (Err Stopped) = rw (e, f, serves, stopped) at known in cc
+
+-- a stop was seen at one of the blocks, which has data
+pub has-data : (old now : DiskView) (first n block done : ℕ) (fault : DiskFault) (result : Result (Unit {0}) DiskFault) → result ≡ Err fault → block ≡ first + done → done < n → disk_places now ≡ disk_places old → (fault ≡ Stopped → trims (get_or (disk_places now) block places.None) ≡ Some false)
+    → result ≡ Err Stopped → HasData (disk_places old) first n
+has-data old now first n block done fault result result-is block-is lt same stops stopped =
+    let is : fault ≡ Stopped = cc in
+    (block, omega (arith, block-is), omega (arith, block-is, lt), rw (← same) (stops is))
 
 -- ---- one block more is shown
 
@@ -276,10 +298,10 @@ shown-more array first count block shown more block-is lt is more-is =
 pub idle-stopped : (old : DiskView) → old.status ≡ statuses.Stopped → FlatCall (flat_of old) idle (with_nothing (Err Stopped)) (flat_of old)
 idle-stopped old stopped = let known : known_answer (flat_of old) idle ≡ Some (Err Stopped) = ap answer_while stopped in rw known (refl, refl)
 
-pub idle-done : (old new : DiskView) → old.status ≡ statuses.Serving → array_of new ≡ array_of old → disk_size new ≡ disk_size old → new.status ≡ old.status → new.drive.geometry ≡ old.drive.geometry → FlatCall (flat_of old) idle (with_nothing (Ok tt)) (flat_of new)
+pub idle-done : (old new : DiskView) → old.status ≡ statuses.Serving → disk_array new ≡ disk_array old → disk_size new ≡ disk_size old → new.status ≡ old.status → new.drive.geometry ≡ old.drive.geometry → FlatCall (flat_of old) idle (with_nothing (Ok tt)) (flat_of new)
 idle-done old new serves array size status geometry =
     let none : known_answer (flat_of old) idle ≡ None = ap answer_while serves in
-    rw none (refl, flat-is old new (array_of old) (disk_size old) old.status array size status geometry)
+    rw none (refl, flat-is old new (disk_array old) (disk_size old) old.status array size status geometry)
 
 idle-refuse : (disk : DiskView) (fault : DiskFault) → IsCause disk.drive (next_sequence disk) fault → may_refuse idle fault ≡ true
 idle-refuse disk OutOfRange cause = absurd cause
@@ -290,7 +312,7 @@ idle-refuse disk Smaller cause = absurd cause
 idle-refuse disk Reserve cause = absurd cause
 idle-refuse disk Unmounted cause = absurd cause
 
-pub idle-refused : (old new : DiskView) (fault : DiskFault) → old.status ≡ statuses.Serving → array_of new ≡ array_of old → disk_size new ≡ disk_size old → new.status ≡ status_of fault → new.drive.geometry ≡ old.drive.geometry → IsCause new.drive (next_sequence new) fault
+pub idle-refused : (old new : DiskView) (fault : DiskFault) → old.status ≡ statuses.Serving → disk_array new ≡ disk_array old → disk_size new ≡ disk_size old → new.status ≡ status_left fault → new.drive.geometry ≡ old.drive.geometry → IsCause new.drive (next_sequence new) fault
     → FlatCall (flat_of old) idle (with_nothing (Err fault)) (flat_of new)
 idle-refused old new fault serves array size status geometry cause =
     let none : known_answer (flat_of old) idle ≡ None = ap answer_while serves in
@@ -304,10 +326,10 @@ idle-unknown old new serves known = let e : false ≡ true = rw serves at known 
 pub report-stopped : (old : DiskView) (call : Call) → known_answer (flat_of old) call ≡ answer_while old.status → old.status ≡ statuses.Stopped → FlatCall (flat_of old) call (with_nothing (Err Stopped)) (flat_of old)
 report-stopped old call known stopped = rw (known, stopped) (refl, refl)
 
-pub report-done : (old new : DiskView) → old.status ≡ statuses.Serving → array_of new ≡ array_of old → disk_size new ≡ disk_size old → new.status ≡ old.status → new.drive.geometry ≡ old.drive.geometry → FlatCall (flat_of old) report (with_nothing (Ok tt)) (flat_of new)
+pub report-done : (old new : DiskView) → old.status ≡ statuses.Serving → disk_array new ≡ disk_array old → disk_size new ≡ disk_size old → new.status ≡ old.status → new.drive.geometry ≡ old.drive.geometry → FlatCall (flat_of old) report (with_nothing (Ok tt)) (flat_of new)
 report-done old new serves array size status geometry =
     let none : known_answer (flat_of old) report ≡ None = ap answer_while serves in
-    rw none (refl, flat-is old new (array_of old) (disk_size old) old.status array size status geometry)
+    rw none (refl, flat-is old new (disk_array old) (disk_size old) old.status array size status geometry)
 
 report-refuse : (drive : DriveState) (fault : DiskFault) → IsReadFault drive fault → may_refuse report fault ≡ true
 report-refuse drive OutOfRange cause = absurd cause
@@ -318,7 +340,7 @@ report-refuse drive Smaller cause = absurd cause
 report-refuse drive Reserve cause = absurd cause
 report-refuse drive Unmounted cause = absurd cause
 
-pub report-refused : (old new : DiskView) (fault : DiskFault) → old.status ≡ statuses.Serving → array_of new ≡ array_of old → disk_size new ≡ disk_size old → new.status ≡ status_of fault → new.drive.geometry ≡ old.drive.geometry → IsReadFault new.drive fault
+pub report-refused : (old new : DiskView) (fault : DiskFault) → old.status ≡ statuses.Serving → disk_array new ≡ disk_array old → disk_size new ≡ disk_size old → new.status ≡ status_left fault → new.drive.geometry ≡ old.drive.geometry → IsReadFault new.drive fault
     → FlatCall (flat_of old) report (with_nothing (Err fault)) (flat_of new)
 report-refused old new fault serves array size status geometry cause =
     let none : known_answer (flat_of old) report ≡ None = ap answer_while serves in

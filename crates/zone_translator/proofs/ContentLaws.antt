@@ -9,7 +9,7 @@ use Rattle.zone_choice.specs.Builder.{entries_from}
 use Rattle.zone_choice.specs.Changes.{told_over}
 use Rattle.zone_translator.specs.declared.write.Content.{Content}
 use Rattle.zone_translator.specs.declared.write.Content.TheVariants.{Byte, Bytes, Trim}
-use Rattle.zone_translator.specs.Batches.{IsAfter, IsWhole, IsWithin, blocks_of, bytes_of, is_trim}
+use Rattle.zone_translator.specs.Batches.{IsAfter, HasBlocks, HasBytes, blocks_of, bytes_of, is_trim}
 use Rattle.zone_translator.specs.Changes.{Names}
 use Rattle.zone_translator.specs.Flat.{replaced}
 use Rattle.zone_translator.proofs.BatchLaws.{data_count-entries, data_count-trims, host_batch, told-data, told-trims}
@@ -84,19 +84,19 @@ length-blocks block n (Bytes bytes) = length-cut block n bytes.now
 length-blocks block n Trim = length-replicate n (zero_block block)
 
 -- its bytes are there
-pub within-content : (block count left : ℕ) (content : Content) → count ≤ left → IsWhole block left content → IsWithin (count * block) content
+pub within-content : (block count left : ℕ) (content : Content) → count ≤ left → HasBlocks block left content → HasBytes (count * block) content
 within-content block count left (Byte byte) le whole = tt
 within-content block count left (Bytes bytes) le whole = omega (arith, fewer-blocks block count left le, whole)
 within-content block count left Trim le whole = tt
 
 -- as many as the entries of the batch have data of
-pub length-content : (block first count left : ℕ) (content : Content) → count ≤ left → IsWhole block left content → length (bytes_of (count * block) content) ≡ data_count (entries_from (is_trim content) first count) * block
+pub length-content : (block first count left : ℕ) (content : Content) → count ≤ left → HasBlocks block left content → length (bytes_of (count * block) content) ≡ data_count (entries_from (is_trim content) first count) * block
 length-content block first count left (Byte byte) le whole = rw data_count-entries (length-replicate (count * block) byte)
 length-content block first count left (Bytes bytes) le whole = rw data_count-entries (omega (arith, fewer-blocks block count left le, whole, length-take (count * block) bytes.now))
 length-content block first count left Trim le whole = rw data_count-trims (omega arith)
 
 -- and the batch tells the first of its blocks
-pub tells-content : (block size sequence first count left : ℕ) (content : Content) (xs : List (List ℕ)) → count ≤ left → IsWhole block left content → length xs ≡ size → first + count ≤ size
+pub tells-content : (block size sequence first count left : ℕ) (content : Content) (xs : List (List ℕ)) → count ≤ left → HasBlocks block left content → length xs ≡ size → first + count ≤ size
     → told_over block (host_batch size sequence (is_trim content) first count (cut_blocks block (data_count (entries_from (is_trim content) first count)) (bytes_of (count * block) content))) xs ≡ replaced xs first (take count (blocks_of block left content))
 tells-content block size sequence first count left (Byte byte) xs le whole same within =
     rw (data_count-entries, cut-replicate, take-less count left (replicate block byte) le) (told-data block size sequence first count (replicate count (replicate block byte)) xs (length-replicate count (replicate block byte)) same within)
@@ -107,7 +107,7 @@ tells-content block size sequence first count left Trim xs le whole same within 
 
 -- ---- what is left of it after some blocks
 
-pub rest-whole : (block n done : ℕ) (content rest : Content) → done ≤ n → IsWhole block n content → IsAfter (done * block) content rest → IsWhole block (n - done) rest
+pub rest-whole : (block n done : ℕ) (content rest : Content) → done ≤ n → HasBlocks block n content → IsAfter (done * block) content rest → HasBlocks block (n - done) rest
 rest-whole block n done (Byte byte) (Byte same) le whole is = tt
 rest-whole block n done (Bytes bytes) (Bytes rest) le whole is =
     let split : n ≡ done + (n - done) = omega (arith, le) in

@@ -6,10 +6,10 @@ use Rattle.zone_states.specs.declared.geometry.Geometry.{Geometry}
 use Rattle.batch_log.specs.Log.{Batch, batch_size, data_count, log_size}
 use Rattle.zone_choice.specs.declared.roles.Filling.{Filling}
 use Rattle.zone_choice.specs.Builder.{entries_from}
-use Rattle.zone_choice.specs.Records.{append_log}
-use Rattle.zone_choice.specs.Reserve.{batch_most}
-use Rattle.zone_choice.specs.ZoneLogs.{log_at}
-use Rattle.zone_choice.proofs.ContentLaws.{log_at-other, log_at-same}
+use Rattle.drive_array.specs.Records.{append_log}
+use Rattle.drive_array.specs.Reserve.{batch_most}
+use Rattle.drive_array.specs.ZoneLogs.{log_at}
+use Rattle.drive_array.proofs.AppendLaws.{log_at-other, log_at-same}
 use Rattle.zone_cleaner.specs.Turns.{IsMove, OnlyMoves}
 use Rattle.zone_translator.specs.Batches.{AreCut, IsCut, LogsAreCut, Stands, batch_count, names}
 use Rattle.zone_translator.proofs.BatchLaws.{data_count-entries, length-entries}

@@ -1,45 +1,54 @@
 -- A disk, by what its parts change.
-use Rattle.std.proofs.Common.{◌≡◌, ℕ, Bool, List, length, Option, Err, refl, sym, ap, subst, ◌≤◌, ◌∙◌, arith}
+use Rattle.std.proofs.Common.{◌≡◌, ℕ, Bool, true, false, List, length, Option, Some, None, is_some, ◌⊎◌, Result, Ok, Err, inl, inr, refl, sym, ap, subst, ◌≤◌, ◌∙◌, arith}
 use Rattle.std.specs.List.{AllByRecursion}
+use Rattle.std.specs.Prelude.{IfSome}
 use Rattle.zone_states.specs.declared.geometry.Geometry.{Geometry}
-use Rattle.drive_port.specs.Drive.{DriveState}
-use Rattle.zone_choice.specs.Agreement.{mounted, spelled}
+use Rattle.zone_choice.specs.Agreement.{MountedView, mounted_array}
+use Rattle.drive_array.specs.ZoneLogs.{drive_logs}
 use Rattle.zone_choice.specs.Changes.{KeepsArray}
-use Rattle.zone_choice.specs.Tables.{TablesView, size_of}
-use Rattle.zone_choice.proofs.AgreementLaws.{length-spelled, size-encoded}
-use Rattle.zone_choice.proofs.WholeLaws.{whole-spelled}
-use Rattle.zone_choice.specs.Mountable.{IsMountable}
-use Rattle.zone_choice.specs.Reserve.{FitsReserve, batch_most}
+use Rattle.zone_choice.specs.Roles.{empty_count}
+use Rattle.zone_choice.specs.Tables.{size_of}
+use Rattle.zone_choice.proofs.AgreementLaws.{size-encoded}
+use Rattle.drive_array.proofs.WholeLaws.{length-spelled, whole-spelled}
+use Rattle.drive_array.specs.Mountable.{IsMountable}
+use Rattle.drive_array.specs.Reserve.{FitsReserve, batch_most}
 use Rattle.zone_cleaner.specs.declared.fault.CleanFault.{CleanFault}
 use Rattle.zone_cleaner.specs.declared.fault.CleanFault.TheVariants as faults
 use Rattle.zone_cleaner.specs.Clean.{CleanView, turns_left}
-use Rattle.zone_cleaner.specs.Start.{GoesOn, IsCleaningCause, KeepsByCleaning}
+use Rattle.zone_cleaner.specs.Start.{AgreesWithClean, GoesOn, IsCleaningCause, KeepsByCleaning}
 use Rattle.zone_cleaner.proofs.NextLaws.{cleaning_kept}
 use Rattle.zone_translator.specs.declared.fault.DiskFault.{DiskFault}
 use Rattle.zone_translator.specs.declared.fault.DiskFault.TheVariants.{OutOfRange, OutOfMemory, Stopped, Spent, Unmounted, Smaller, Reserve}
 use Rattle.zone_translator.specs.declared.status.DiskStatus.{DiskStatus}
 use Rattle.zone_translator.specs.declared.status.DiskStatus.TheVariants as statuses
-use Rattle.zone_translator.specs.Calls.{Holds, status_of}
-use Rattle.zone_translator.specs.Changes.{AgreesWith, GrowLeaves, Keeps, Names, NoMoreTurns, StopKeeps, WriteLeaves, cleaning_fault}
+use Rattle.zone_translator.specs.Calls.{Holds, status_left}
+use Rattle.zone_translator.specs.Changes.{GrowLeaves, Keeps, Names, NoMoreTurns, StopKeeps, WriteLeaves, cleaning_fault}
+use Rattle.zone_translator.specs.declared.write.Rest.{Rest}
+use Rattle.zone_translator.specs.Answers.{KeepsClean}
+use Rattle.zone_translator.specs.Batches.{IsTaken, WritesRest, is_trim}
+use Rattle.zone_translator.specs.Cleaning.{AddsNewer, AreNewer, GoesOnOrEnds, KeepsCleaning, OnlyNewer, log_in_zone}
+use Rattle.zone_translator.specs.Parts.{KeepsByRead, ReadStops, WroteSome}
+use Rattle.zone_translator.proofs.CleaningLaws.{StaysClean, newer-log, turns-join}
+use Rattle.zone_translator.proofs.ContentLaws.{took-names}
 use Rattle.zone_translator.specs.Flat.{IsAfterFront, IsFront, grow}
-use Rattle.zone_translator.specs.Read.{IsReadFault}
+use Rattle.zone_translator.specs.Read.{IsBlockFault, IsReadFault}
 use Rattle.zone_translator.proofs.WriteLaws.{front-none}
 use Rattle.zone_translator.proofs.RoomLaws.{room-stops, serves-kept, serves_mountable}
-use Rattle.zone_translator.specs.View.{DiskView, KeepsDisk, array_of, disk_turns, flat_of, given_size, places_of}
+use Rattle.zone_translator.specs.View.{DiskView, KeepsDisk, disk_array, disk_turns, flat_of, given_size, next_sequence, disk_places}
 
 -- what a disk of these parts is seen as
-abbrev pub view_of : DriveState → TablesView → Option CleanView → DiskStatus → DiskView
-view_of drive tables clean status = record { drive = drive; tables = tables; clean = clean; status = status }
+abbrev pub view_of : MountedView → Option CleanView → DiskStatus → DiskView
+view_of disk clean status = record { drive = disk.drive; tables = disk.tables; clean = clean; status = status }
 
 -- while the disk serves, the array has its number of blocks; and on a drive that can be mounted each is a whole block
-pub length-array : (drive : DriveState) (tables : TablesView) (clean : Option CleanView) → AgreesWith drive tables clean → length (spelled drive tables.given) ≡ size_of tables
-length-array drive tables clean serves = length-spelled drive tables.given ∙ sym (size-encoded (mounted drive tables) serves.0)
+pub length-array : (disk : MountedView) (clean : Option CleanView) → AgreesWithClean disk clean → length (mounted_array disk) ≡ size_of disk.tables
+length-array disk clean serves = length-spelled disk.drive disk.tables.given ∙ sym (size-encoded disk serves.0)
 
-pub whole-array : (disk : DiskView) → IsMountable disk.drive (given_size disk) → AllByRecursion (λ block. length block ≡ disk.drive.geometry.block) (array_of disk)
+pub whole-array : (disk : DiskView) → IsMountable disk.drive (given_size disk) → AllByRecursion (λ block. length block ≡ disk.drive.geometry.block) (disk_array disk)
 whole-array disk mountable = whole-spelled disk.drive (given_size disk) mountable
 
 -- no refusal of these unmounts a disk
-pub refused-status : (fault : DiskFault) (was : DiskStatus) → status_of fault ≡ statuses.Unmounted → was ≡ statuses.Unmounted
+pub refused-status : (fault : DiskFault) (was : DiskStatus) → status_left fault ≡ statuses.Unmounted → was ≡ statuses.Unmounted
 refused-status OutOfRange was e = absurd (cc)
 refused-status OutOfMemory was e = absurd (cc)
 refused-status Stopped was e = absurd (cc)
@@ -49,8 +58,8 @@ refused-status Smaller was e = absurd (cc)
 refused-status Reserve was e = absurd (cc)
 
 -- what a part of a call keeps, a disk keeps
-pub keeps-disk : (old new : DriveState) (tables tables' : TablesView) (clean clean' : Option CleanView) (was is : DiskStatus) → (is ≡ statuses.Unmounted → was ≡ statuses.Unmounted) → Keeps (mounted old tables) (mounted new tables') → KeepsDisk (view_of old tables clean was) (view_of new tables' clean' is)
-keeps-disk old new tables tables' clean clean' was is unmounted keeps = record {
+pub keeps-disk : (a b : MountedView) (clean clean' : Option CleanView) (was is : DiskStatus) → (is ≡ statuses.Unmounted → was ≡ statuses.Unmounted) → Keeps a b → KeepsDisk (view_of a clean was) (view_of b clean' is)
+keeps-disk a b clean clean' was is unmounted keeps = record {
   given = keeps.given;
   geometry = keeps.geometry;
   mountable = keeps.mountable;
@@ -60,8 +69,8 @@ keeps-disk old new tables tables' clean clean' was is unmounted keeps = record {
   unmounted = unmounted;
 }
 
-pub cleaned-disk : (old new : DriveState) (tables tables' : TablesView) (clean clean' : Option CleanView) (was is : DiskStatus) → (is ≡ statuses.Unmounted → was ≡ statuses.Unmounted) → KeepsByCleaning (mounted old tables) (mounted new tables') → KeepsDisk (view_of old tables clean was) (view_of new tables' clean' is)
-cleaned-disk old new tables tables' clean clean' was is unmounted keeps = record {
+pub cleaned-disk : (a b : MountedView) (clean clean' : Option CleanView) (was is : DiskStatus) → (is ≡ statuses.Unmounted → was ≡ statuses.Unmounted) → KeepsByCleaning a b → KeepsDisk (view_of a clean was) (view_of b clean' is)
+cleaned-disk a b clean clean' was is unmounted keeps = record {
   given = keeps.given;
   geometry = keeps.geometry;
   mountable = keeps.mountable;
@@ -72,19 +81,23 @@ cleaned-disk old new tables tables' clean clean' was is unmounted keeps = record
 }
 
 -- what a disk keeps where only commands went that change nothing
-pub kept-disk : (old new : DriveState) (tables : TablesView) (clean : Option CleanView) (was is : DiskStatus) → (is ≡ statuses.Unmounted → was ≡ statuses.Unmounted) → AgreesWith old tables clean → KeepsArray (mounted old tables) (mounted new tables) → KeepsDisk (view_of old tables clean was) (view_of new tables clean is)
-kept-disk old new tables clean was is unmounted serves kept = cleaned-disk old new tables tables clean clean was is unmounted (cleaning_kept (mounted old tables) (mounted new tables) clean serves kept)
+pub kept-disk : (a b : MountedView) (clean : Option CleanView) (was is : DiskStatus) → (is ≡ statuses.Unmounted → was ≡ statuses.Unmounted) → AgreesWithClean a clean → KeepsArray a b → KeepsDisk (view_of a clean was) (view_of b clean is)
+kept-disk a b clean was is unmounted serves kept = cleaned-disk a b clean clean was is unmounted (cleaning_kept a b clean serves kept)
 
 -- and as many turns are left
-pub turns-same : (old new : DriveState) (tables : TablesView) (clean : Option CleanView) (was is : DiskStatus) → new.geometry ≡ old.geometry → disk_turns (view_of new tables clean is) ≡ disk_turns (view_of old tables clean was)
-turns-same old new tables clean was is same = ap (λ (g : Geometry). turns_left (batch_most g) tables clean) same
+pub turns-same : (a b : MountedView) (clean : Option CleanView) (was is : DiskStatus) → b.tables ≡ a.tables → b.drive.geometry ≡ a.drive.geometry → disk_turns (view_of b clean is) ≡ disk_turns (view_of a clean was)
+turns-same a b clean was is tables same = rw (tables, same) refl
 
-pub turns-on : (old new : DriveState) (tables tables' : TablesView) (clean clean' : Option CleanView) (was is : DiskStatus) → new.geometry ≡ old.geometry → NoMoreTurns (mounted old tables) clean (mounted new tables') clean' → disk_turns (view_of new tables' clean' is) ≤ disk_turns (view_of old tables clean was)
-turns-on old new tables tables' clean clean' was is same turns = subst (λ (g : Geometry). turns_left (batch_most g) tables' clean' ≤ turns_left (batch_most old.geometry) tables clean) (sym same) turns
+-- the drive has the same newest records
+pub places-same : (a b : MountedView) (clean : Option CleanView) (was is : DiskStatus) → KeepsArray a b → disk_places (view_of b clean is) ≡ disk_places (view_of a clean was)
+places-same a b clean was is kept = rw (kept.logs, kept.geometry, kept.given) refl
 
-pub turns-back : (old new : DriveState) (tables tables' : TablesView) (clean clean' : Option CleanView) (was is : DiskStatus) → new.geometry ≡ old.geometry → turns_left (batch_most old.geometry) tables' clean' ≡ turns_left (batch_most old.geometry) tables clean
-    → disk_turns (view_of new tables' clean' is) ≡ disk_turns (view_of old tables clean was)
-turns-back old new tables tables' clean clean' was is same turns = subst (λ (g : Geometry). turns_left (batch_most g) tables' clean' ≡ turns_left (batch_most old.geometry) tables clean) (sym same) turns
+pub turns-on : (a b : MountedView) (clean clean' : Option CleanView) (was is : DiskStatus) → b.drive.geometry ≡ a.drive.geometry → NoMoreTurns a clean b clean' → disk_turns (view_of b clean' is) ≤ disk_turns (view_of a clean was)
+turns-on a b clean clean' was is same turns = subst (λ (g : Geometry). turns_left (batch_most g) b.tables clean' ≤ turns_left (batch_most a.drive.geometry) a.tables clean) (sym same) turns
+
+pub turns-back : (a b : MountedView) (clean clean' : Option CleanView) (was is : DiskStatus) → b.drive.geometry ≡ a.drive.geometry → turns_left (batch_most a.drive.geometry) b.tables clean' ≡ turns_left (batch_most a.drive.geometry) a.tables clean
+    → disk_turns (view_of b clean' is) ≡ disk_turns (view_of a clean was)
+turns-back a b clean clean' was is same turns = subst (λ (g : Geometry). turns_left (batch_most g) b.tables clean' ≡ turns_left (batch_most a.drive.geometry) a.tables clean) (sym same) turns
 
 pub kept-join : (a b c : DiskView) → KeepsDisk a b → KeepsDisk b c → KeepsDisk a c
 kept-join a b c p q = record {
@@ -103,13 +116,13 @@ kept-refl a mountable = record { given = refl; geometry = refl; mountable = moun
 -- ---- the parts of a disk
 
 -- the reserve allows the number that the mount was given, as before
-pub reserve-kept : (old new : DriveState) (tables tables' : TablesView) → new.geometry ≡ old.geometry → tables'.given ≡ tables.given → FitsReserve old.geometry tables.given → FitsReserve new.geometry tables'.given
-reserve-kept old new tables tables' same given fits = rw (same, given) fits
+pub reserve-kept : (a b : MountedView) → b.drive.geometry ≡ a.drive.geometry → b.tables.given ≡ a.tables.given → FitsReserve a.drive.geometry a.tables.given → FitsReserve b.drive.geometry b.tables.given
+reserve-kept a b same given fits = rw (same, given) fits
 
 -- a disk that serves, by the agreement of its tables and its drive
-pub holds-serving : (drive : DriveState) (tables : TablesView) (clean : Option CleanView) → FitsReserve drive.geometry tables.given → AgreesWith drive tables clean → Holds drive tables clean statuses.Serving
-holds-serving drive tables clean fits serves = record {
-  mountable = serves_mountable drive tables clean serves;
+pub holds-serving : (disk : MountedView) (clean : Option CleanView) → FitsReserve disk.drive.geometry disk.tables.given → AgreesWithClean disk clean → Holds disk clean statuses.Serving
+holds-serving disk clean fits serves = record {
+  mountable = serves_mountable disk clean serves;
   geometry = serves.0.geometry;
   reserve = fits;
   short = serves.0.reserve.1;
@@ -118,114 +131,199 @@ holds-serving drive tables clean fits serves = record {
 }
 
 -- one whose drive stopped
-pub holds-stopped : (old new : DriveState) (tables tables' : TablesView) (clean clean' : Option CleanView) → FitsReserve old.geometry tables.given → AgreesWith old tables clean → StopKeeps (mounted old tables) (mounted new tables') → Holds new tables' clean' statuses.Stopped
-holds-stopped old new tables tables' clean clean' fits serves stops = record {
+pub holds-stopped : (a b : MountedView) (clean clean' : Option CleanView) → FitsReserve a.drive.geometry a.tables.given → AgreesWithClean a clean → StopKeeps a b → Holds b clean' statuses.Stopped
+holds-stopped a b clean clean' fits serves stops = record {
   mountable = stops.keeps.mountable;
   geometry = rw stops.keeps.geometry serves.0.geometry;
-  reserve = reserve-kept old new tables tables' stops.keeps.geometry stops.keeps.given fits;
+  reserve = reserve-kept a b stops.keeps.geometry stops.keeps.given fits;
   short = omega (arith, stops.size, serves.0.reserve.1);
   agrees = tt;
   stopped = λ e. stops.stopped;
 }
 
 -- one that was read, and goes on or has stopped
-pub holds-kept : (old new : DriveState) (tables : TablesView) (clean : Option CleanView) → FitsReserve old.geometry tables.given → AgreesWith old tables clean → KeepsArray (mounted old tables) (mounted new tables) → Holds new tables clean statuses.Serving
-holds-kept old new tables clean fits serves kept = holds-serving new tables clean (reserve-kept old new tables tables kept.geometry refl fits) (serves-kept old new tables tables clean serves kept)
+pub holds-kept : (a b : MountedView) (clean : Option CleanView) → FitsReserve a.drive.geometry a.tables.given → AgreesWithClean a clean → KeepsArray a b → Holds b clean statuses.Serving
+holds-kept a b clean fits serves kept = holds-serving b clean (reserve-kept a b kept.geometry kept.given fits) (serves-kept a b clean serves kept)
 
-pub holds-read : (old new : DriveState) (tables : TablesView) (clean : Option CleanView) (fault : DiskFault) → FitsReserve old.geometry tables.given → AgreesWith old tables clean → KeepsArray (mounted old tables) (mounted new tables) → IsReadFault new fault → Holds new tables clean (status_of fault)
-holds-read old new tables clean OutOfRange fits serves kept cause = absurd cause
-holds-read old new tables clean OutOfMemory fits serves kept cause = holds-kept old new tables clean fits serves kept
-holds-read old new tables clean Stopped fits serves kept cause =
-    let now = serves-kept old new tables tables clean serves kept in
+pub holds-read : (a b : MountedView) (clean : Option CleanView) (fault : DiskFault) → FitsReserve a.drive.geometry a.tables.given → AgreesWithClean a clean → KeepsArray a b → IsReadFault b.drive fault → Holds b clean (status_left fault)
+holds-read a b clean OutOfRange fits serves kept cause = absurd cause
+holds-read a b clean OutOfMemory fits serves kept cause = holds-kept a b clean fits serves kept
+holds-read a b clean Stopped fits serves kept cause =
+    let now = serves-kept a b clean serves kept in
     record {
-      mountable = serves_mountable new tables clean now;
+      mountable = serves_mountable b clean now;
       geometry = now.0.geometry;
-      reserve = reserve-kept old new tables tables kept.geometry refl fits;
+      reserve = reserve-kept a b kept.geometry kept.given fits;
       short = now.0.reserve.1;
       agrees = tt;
       stopped = λ e. cause;
     }
-holds-read old new tables clean Spent fits serves kept cause = absurd cause
-holds-read old new tables clean Smaller fits serves kept cause = absurd cause
-holds-read old new tables clean Reserve fits serves kept cause = absurd cause
-holds-read old new tables clean Unmounted fits serves kept cause = absurd cause
+holds-read a b clean Spent fits serves kept cause = absurd cause
+holds-read a b clean Smaller fits serves kept cause = absurd cause
+holds-read a b clean Reserve fits serves kept cause = absurd cause
+holds-read a b clean Unmounted fits serves kept cause = absurd cause
 
 -- ---- a part of a call that was refused
 
 -- the parts of the disk, and what it keeps
-pub record Refused (old new : DriveState) (tables tables' : TablesView) (clean clean' : Option CleanView) (fault : DiskFault) (was : DiskStatus) : Type 0 where
-  pub holds : Holds new tables' clean' (status_of fault)
-  pub kept : KeepsDisk (view_of old tables clean was) (view_of new tables' clean' (status_of fault))
-  pub size : size_of tables' ≡ size_of tables
+pub record Refused (a b : MountedView) (clean clean' : Option CleanView) (fault : DiskFault) (was : DiskStatus) : Type 0 where
+  pub holds : Holds b clean' (status_left fault)
+  pub kept : KeepsDisk (view_of a clean was) (view_of b clean' (status_left fault))
+  pub size : size_of b.tables ≡ size_of a.tables
 
-refused-serving : (old new : DriveState) (tables tables' : TablesView) (clean clean' : Option CleanView) (fault : DiskFault) (was : DiskStatus) → FitsReserve old.geometry tables.given → status_of fault ≡ statuses.Serving → KeepsByCleaning (mounted old tables) (mounted new tables') × AgreesWith new tables' clean' → Refused old new tables tables' clean clean' fault was
-refused-serving old new tables tables' clean clean' fault was fits is kept = record {
-  holds = rw is (holds-serving new tables' clean' (reserve-kept old new tables tables' kept.0.geometry kept.0.given fits) kept.1);
-  kept = cleaned-disk old new tables tables' clean clean' was (status_of fault) (refused-status fault was) kept.0;
+refused-serving : (a b : MountedView) (clean clean' : Option CleanView) (fault : DiskFault) (was : DiskStatus) → FitsReserve a.drive.geometry a.tables.given → status_left fault ≡ statuses.Serving → KeepsByCleaning a b × AgreesWithClean b clean' → Refused a b clean clean' fault was
+refused-serving a b clean clean' fault was fits is kept = record {
+  holds = rw is (holds-serving b clean' (reserve-kept a b kept.0.geometry kept.0.given fits) kept.1);
+  kept = cleaned-disk a b clean clean' was (status_left fault) (refused-status fault was) kept.0;
   size = kept.0.size;
 }
 
-refused-stopped : (old new : DriveState) (tables tables' : TablesView) (clean clean' : Option CleanView) (was : DiskStatus) → FitsReserve old.geometry tables.given → AgreesWith old tables clean → StopKeeps (mounted old tables) (mounted new tables') → Refused old new tables tables' clean clean' Stopped was
-refused-stopped old new tables tables' clean clean' was fits serves stops = record {
-  holds = holds-stopped old new tables tables' clean clean' fits serves stops;
-  kept = keeps-disk old new tables tables' clean clean' was statuses.Stopped (refused-status Stopped was) stops.keeps;
+refused-stopped : (a b : MountedView) (clean clean' : Option CleanView) (was : DiskStatus) → FitsReserve a.drive.geometry a.tables.given → AgreesWithClean a clean → StopKeeps a b → Refused a b clean clean' Stopped was
+refused-stopped a b clean clean' was fits serves stops = record {
+  holds = holds-stopped a b clean clean' fits serves stops;
+  kept = keeps-disk a b clean clean' was statuses.Stopped (refused-status Stopped was) stops.keeps;
   size = stops.size;
 }
 
 -- a turn that was not done
-pub refused-turn : (old new : DriveState) (tables tables' : TablesView) (clean clean' : Option CleanView) (cause : CleanFault) (was : DiskStatus) → FitsReserve old.geometry tables.given → AgreesWith old tables clean → KeepsByCleaning (mounted old tables) (mounted new tables') → GoesOn (Err cause) (mounted new tables') clean' → IsCleaningCause new tables'.next cause
-    → Refused old new tables tables' clean clean' (cleaning_fault cause) was
-refused-turn old new tables tables' clean clean' faults.OutOfMemory was fits serves kept on cause = refused-serving old new tables tables' clean clean' OutOfMemory was fits refl (kept, on)
-refused-turn old new tables tables' clean clean' faults.Stopped was fits serves kept on cause = refused-stopped old new tables tables' clean clean' was fits serves (room-stops (mounted old tables) (mounted new tables') kept cause)
-refused-turn old new tables tables' clean clean' faults.Spent was fits serves kept on cause = refused-serving old new tables tables' clean clean' Spent was fits refl (kept, on)
+pub refused-turn : (a b : MountedView) (clean clean' : Option CleanView) (cause : CleanFault) (was : DiskStatus) → FitsReserve a.drive.geometry a.tables.given → AgreesWithClean a clean → KeepsByCleaning a b → GoesOn (Err cause) b clean' → IsCleaningCause b.drive b.tables.next cause
+    → Refused a b clean clean' (cleaning_fault cause) was
+refused-turn a b clean clean' faults.OutOfMemory was fits serves kept on cause = refused-serving a b clean clean' OutOfMemory was fits refl (kept, on)
+refused-turn a b clean clean' faults.Stopped was fits serves kept on cause = refused-stopped a b clean clean' was fits serves (room-stops a b kept cause)
+refused-turn a b clean clean' faults.Spent was fits serves kept on cause = refused-serving a b clean clean' Spent was fits refl (kept, on)
 
 -- with the front of a write that was made
-pub record RefusedWrite (old new : DriveState) (tables tables' : TablesView) (clean clean' : Option CleanView) (first : ℕ) (blocks : List (List ℕ)) (fault : DiskFault) (was : DiskStatus) : Type 0 where
-  pub refused : Refused old new tables tables' clean clean' fault was
-  pub front : IsFront (spelled old tables.given) first blocks (spelled new tables'.given)
+pub record RefusedWrite (a b : MountedView) (clean clean' : Option CleanView) (first : ℕ) (blocks : List (List ℕ)) (fault : DiskFault) (was : DiskStatus) : Type 0 where
+  pub refused : Refused a b clean clean' fault was
+  pub front : IsFront (mounted_array a) first blocks (mounted_array b)
 
-pub refused-write : (old new : DriveState) (tables tables' : TablesView) (clean clean' : Option CleanView) (trim : Bool) (first : ℕ) (blocks : List (List ℕ)) (fault : DiskFault) (was : DiskStatus) → FitsReserve old.geometry tables.given → AgreesWith old tables clean
-    → WriteLeaves trim (mounted old tables) (mounted new tables') clean' first blocks (Err fault) → RefusedWrite old new tables tables' clean clean' first blocks fault was
-refused-write old new tables tables' clean clean' trim first blocks fault was fits serves leaves = by fault leaves
+pub refused-write : (a b : MountedView) (clean clean' : Option CleanView) (trim : Bool) (first : ℕ) (blocks : List (List ℕ)) (fault : DiskFault) (was : DiskStatus) → FitsReserve a.drive.geometry a.tables.given → AgreesWithClean a clean
+    → WriteLeaves trim a b clean' first blocks (Err fault) → RefusedWrite a b clean clean' first blocks fault was
+refused-write a b clean clean' trim first blocks fault was fits serves leaves = by fault leaves
   where
-    same : (fault : DiskFault) → status_of fault ≡ statuses.Serving → KeepsByCleaning (mounted old tables) (mounted new tables') × AgreesWith new tables' clean' → RefusedWrite old new tables tables' clean clean' first blocks fault was
-    same fault is kept = record { refused = refused-serving old new tables tables' clean clean' fault was fits is kept; front = front-none (spelled old tables.given) (spelled new tables'.given) first blocks kept.0.array }
+    same : (fault : DiskFault) → status_left fault ≡ statuses.Serving → KeepsByCleaning a b × AgreesWithClean b clean' → RefusedWrite a b clean clean' first blocks fault was
+    same fault is kept = record { refused = refused-serving a b clean clean' fault was fits is kept; front = front-none (mounted_array a) (mounted_array b) first blocks kept.0.array }
 
-    by : (fault : DiskFault) → WriteLeaves trim (mounted old tables) (mounted new tables') clean' first blocks (Err fault) → RefusedWrite old new tables tables' clean clean' first blocks fault was
+    by : (fault : DiskFault) → WriteLeaves trim a b clean' first blocks (Err fault) → RefusedWrite a b clean clean' first blocks fault was
     by OutOfRange leaves = same OutOfRange refl leaves
     by OutOfMemory leaves = same OutOfMemory refl leaves
-    by Stopped leaves = record { refused = refused-stopped old new tables tables' clean clean' was fits serves leaves.0; front = leaves.1 }
+    by Stopped leaves = record { refused = refused-stopped a b clean clean' was fits serves leaves.0; front = leaves.1 }
     by Spent leaves = same Spent refl leaves
     by Smaller leaves = same Smaller refl leaves
     by Reserve leaves = same Reserve refl leaves
     by Unmounted leaves = same Unmounted refl leaves
 
 -- with the array of a growth, which is the old one but where the drive stopped
-pub record RefusedGrowth (old new : DriveState) (tables tables' : TablesView) (clean clean' : Option CleanView) (size : ℕ) (fault : DiskFault) (was : DiskStatus) : Type 0 where
-  pub refused : Refused old new tables tables' clean clean' fault was
-  pub front : IsAfterFront (flat_of (view_of old tables clean was)) (grow size) fault (spelled new tables'.given)
+pub record RefusedGrowth (a b : MountedView) (clean clean' : Option CleanView) (size : ℕ) (fault : DiskFault) (was : DiskStatus) : Type 0 where
+  pub refused : Refused a b clean clean' fault was
+  pub front : IsAfterFront (flat_of (view_of a clean was)) (grow size) fault (mounted_array b)
 
-pub refused-growth : (old new : DriveState) (tables tables' : TablesView) (clean clean' : Option CleanView) (size : ℕ) (fault : DiskFault) (was : DiskStatus) → FitsReserve old.geometry tables.given → AgreesWith old tables clean
-    → GrowLeaves (mounted old tables) (mounted new tables') clean' size (Err fault) → RefusedGrowth old new tables tables' clean clean' size fault was
-refused-growth old new tables tables' clean clean' size OutOfRange was fits serves leaves = record { refused = refused-serving old new tables tables' clean clean' OutOfRange was fits refl leaves; front = leaves.0.array }
-refused-growth old new tables tables' clean clean' size OutOfMemory was fits serves leaves = record { refused = refused-serving old new tables tables' clean clean' OutOfMemory was fits refl leaves; front = leaves.0.array }
-refused-growth old new tables tables' clean clean' size Stopped was fits serves leaves = record { refused = refused-stopped old new tables tables' clean clean' was fits serves leaves.0; front = leaves.1 }
-refused-growth old new tables tables' clean clean' size Spent was fits serves leaves = record { refused = refused-serving old new tables tables' clean clean' Spent was fits refl leaves; front = leaves.0.array }
-refused-growth old new tables tables' clean clean' size Smaller was fits serves leaves = record { refused = refused-serving old new tables tables' clean clean' Smaller was fits refl leaves; front = leaves.0.array }
-refused-growth old new tables tables' clean clean' size Reserve was fits serves leaves = record { refused = refused-serving old new tables tables' clean clean' Reserve was fits refl leaves; front = leaves.0.array }
-refused-growth old new tables tables' clean clean' size Unmounted was fits serves leaves = record { refused = refused-serving old new tables tables' clean clean' Unmounted was fits refl leaves; front = leaves.0.array }
+pub refused-growth : (a b : MountedView) (clean clean' : Option CleanView) (size : ℕ) (fault : DiskFault) (was : DiskStatus) → FitsReserve a.drive.geometry a.tables.given → AgreesWithClean a clean
+    → GrowLeaves a b clean' size (Err fault) → RefusedGrowth a b clean clean' size fault was
+refused-growth a b clean clean' size OutOfRange was fits serves leaves = record { refused = refused-serving a b clean clean' OutOfRange was fits refl leaves; front = leaves.0.array }
+refused-growth a b clean clean' size OutOfMemory was fits serves leaves = record { refused = refused-serving a b clean clean' OutOfMemory was fits refl leaves; front = leaves.0.array }
+refused-growth a b clean clean' size Stopped was fits serves leaves = record { refused = refused-stopped a b clean clean' was fits serves leaves.0; front = leaves.1 }
+refused-growth a b clean clean' size Spent was fits serves leaves = record { refused = refused-serving a b clean clean' Spent was fits refl leaves; front = leaves.0.array }
+refused-growth a b clean clean' size Smaller was fits serves leaves = record { refused = refused-serving a b clean clean' Smaller was fits refl leaves; front = leaves.0.array }
+refused-growth a b clean clean' size Reserve was fits serves leaves = record { refused = refused-serving a b clean clean' Reserve was fits refl leaves; front = leaves.0.array }
+refused-growth a b clean clean' size Unmounted was fits serves leaves = record { refused = refused-serving a b clean clean' Unmounted was fits refl leaves; front = leaves.0.array }
 
 -- while it serves, its tables agree with its drive
-pub holds-agrees : (drive : DriveState) (tables : TablesView) (clean : Option CleanView) (status : DiskStatus) → status ≡ statuses.Serving → Holds drive tables clean status → AgreesWith drive tables clean
-holds-agrees drive tables clean statuses.Serving e holds = holds.agrees
-holds-agrees drive tables clean statuses.Stopped e holds = absurd (cc)
-holds-agrees drive tables clean statuses.Unmounted e holds = absurd (cc)
+pub holds-agrees : (disk : MountedView) (clean : Option CleanView) (status : DiskStatus) → status ≡ statuses.Serving → Holds disk clean status → AgreesWithClean disk clean
+holds-agrees disk clean statuses.Serving e holds = holds.agrees
+holds-agrees disk clean statuses.Stopped e holds = absurd (cc)
+holds-agrees disk clean statuses.Unmounted e holds = absurd (cc)
+
+-- and a zone is kept empty for the next clean
+pub none-spare : (disk : MountedView) (clean : Option CleanView) → is_some clean ≡ false → AgreesWithClean disk clean → 1 ≤ empty_count disk.tables.roles
+none-spare disk None none serves = serves.1.0
+none-spare disk (Some c) none serves = absurd (cc)
 
 -- ---- the tables name the places that the drive has
 
-pub places-on : (drive : DriveState) (tables : TablesView) (clean : Option CleanView) (status : DiskStatus) → AgreesWith drive tables clean → tables.map.places ≡ places_of (view_of drive tables clean status)
-places-on drive tables clean status serves = serves.0.places
+pub places-on : (disk : MountedView) (clean : Option CleanView) (status : DiskStatus) → AgreesWithClean disk clean → disk.tables.map.places ≡ disk_places (view_of disk clean status)
+places-on disk clean status serves = serves.0.places
 
-pub names-on : (old new : DriveState) (tables tables' : TablesView) (clean clean' : Option CleanView) (trim : Bool) (first count : ℕ) (was is : DiskStatus) → AgreesWith old tables clean → AgreesWith new tables' clean' → Names trim tables.map.places first count tables'.map.places
-    → Names trim (places_of (view_of old tables clean was)) first count (places_of (view_of new tables' clean' is))
-names-on old new tables tables' clean clean' trim first count was is serves after names = rw (places-on old tables clean was serves, places-on new tables' clean' is after) at names
+pub names-on : (a b : MountedView) (clean clean' : Option CleanView) (trim : Bool) (first count : ℕ) (was is : DiskStatus) → AgreesWithClean a clean → AgreesWithClean b clean' → Names trim a.tables.map.places first count b.tables.map.places
+    → Names trim (disk_places (view_of a clean was)) first count (disk_places (view_of b clean' is))
+names-on a b clean clean' trim first count was is serves after names = rw (places-on a clean was serves, places-on b clean' is after) at names
+
+-- ---- one batch of a write
+
+pub wrote-some : (a b : MountedView) (clean clean' : Option CleanView) (was is : DiskStatus) (rest : Rest) (count : ℕ) → is ≡ statuses.Serving → AgreesWithClean a clean → IsTaken a.drive.geometry rest count → WritesRest a rest (Ok count) b clean'
+    → WroteSome (view_of a clean was) rest (view_of b clean' is) count
+wrote-some a b clean clean' was is rest count serving serves taken leaves = record {
+  taken = taken;
+  array = leaves.array;
+  names = names-on a b clean clean' (is_trim rest.content) rest.first count was is serves leaves.serves
+      (took-names (is_trim rest.content) a.tables.map.places b.tables.map.places rest.first count rest.left a.drive.geometry.block rest.content taken.1 leaves.names);
+  says = leaves.says;
+  early = leaves.early;
+  serving = serving;
+}
+
+-- ---- the clean that ran
+
+-- once a write is done
+pub done-clean : (a b : MountedView) (x y : Option CleanView) (was is : DiskStatus) → StaysClean a x b y → KeepsClean (view_of a x was) (view_of b y is)
+done-clean a b None y was is stays = tt
+done-clean a b (Some u) y was is stays = inl (turns-on a b (Some u) y was is stays.geometry stays.turns)
+
+-- where nothing was done
+pub same-clean : (disk : DiskView) → KeepsClean disk disk
+same-clean disk = by disk.clean
+  where
+    by : (x : Option CleanView) → IfSome x (λ clean. (disk_turns disk ≤ disk_turns disk) ⊎ AreNewer (next_sequence disk) (log_in_zone disk.drive clean.victim))
+    by None = tt
+    by (Some u) = inl (omega arith)
+
+-- where a batch was refused, after some were written
+newer-unless : (b c : MountedView) (fault : DiskFault) → status_left fault ≡ statuses.Serving → AddsNewer {V = ℕ} b (Err fault) c → OnlyNewer b.tables.next (drive_logs b.drive) (drive_logs c.drive)
+newer-unless b c OutOfRange serves newer = newer
+newer-unless b c OutOfMemory serves newer = newer
+newer-unless b c Stopped serves newer = absurd (cc)
+newer-unless b c Spent serves newer = newer
+newer-unless b c Smaller serves newer = newer
+newer-unless b c Reserve serves newer = newer
+newer-unless b c Unmounted serves newer = newer
+
+goes-turns : (b c : MountedView) (v : CleanView) (z : Option CleanView) → GoesOnOrEnds b (Some v) c z → NoMoreTurns b (Some v) c z
+goes-turns b c v None goes = omega arith
+goes-turns b c v (Some w) goes = goes.1
+
+pub refused-clean : (a b c : MountedView) (x y z : Option CleanView) (was is : DiskStatus) (fault : DiskFault) → c.drive.geometry ≡ a.drive.geometry → StaysClean a x b y → KeepsCleaning {V = ℕ} b y (Err fault) c z → status_left fault ≡ statuses.Serving
+    → KeepsClean (view_of a x was) (view_of c z is)
+refused-clean a b c None y z was is fault same stays keeps serves = tt
+refused-clean a b c (Some u) None z was is fault same stays keeps serves =
+    inr (newer-log a.tables.next b.tables.next (drive_logs b.drive) (drive_logs c.drive) u.victim stays.next stays.goes (newer-unless b c fault serves keeps.newer))
+refused-clean a b c (Some u) (Some v) z was is fault same stays keeps serves =
+    inl (turns-on a c (Some u) z was is same (turns-join a b c (Some u) (Some v) z stays.geometry stays.turns (goes-turns b c v z keeps.clean)))
+
+-- one batch leaves no more turns of a clean that ran
+pub batch-turns : {V : Type 0} (a b : MountedView) (x y : Option CleanView) (was is : DiskStatus) (result : Result V DiskFault) → b.drive.geometry ≡ a.drive.geometry → KeepsCleaning a x result b y → is_some x ≡ true → disk_turns (view_of b y is) ≤ disk_turns (view_of a x was)
+batch-turns a b None y was is result same keeps runs = absurd (cc)
+batch-turns a b (Some u) y was is result same keeps runs = turns-on a b (Some u) y was is same (goes-turns a b u y keeps.clean)
+
+-- ---- reads
+
+pub read-keeps : (a b : MountedView) (clean : Option CleanView) (was is : DiskStatus) → (is ≡ statuses.Unmounted → was ≡ statuses.Unmounted) → AgreesWithClean a clean → b.tables ≡ a.tables → KeepsArray a b → KeepsByRead (view_of a clean was) (view_of b clean is)
+read-keeps a b clean was is unmounted serves tables kept = record {
+  kept = kept-disk a b clean was is unmounted serves kept;
+  array = kept.array;
+  size = ap size_of tables;
+  places = places-same a b clean was is kept;
+  turns = turns-same a b clean was is tables kept.geometry;
+}
+
+pub read-stops : (a b : MountedView) (clean : Option CleanView) (was is : DiskStatus) (block : ℕ) (fault : DiskFault) → is ≡ status_left fault → AgreesWithClean a clean → b.tables ≡ a.tables → IsBlockFault b block fault → ReadStops (view_of a clean was) block (view_of b clean is) fault
+read-stops a b clean was is block fault status serves tables why = record {
+  status = status;
+  cause = why.cause;
+  stops = λ stopped. rw (← places-on a clean was serves, ← tables) (why.stops stopped);
+}
+
+pub read-none : (disk : DiskView) → IsMountable disk.drive (given_size disk) → KeepsByRead disk disk
+read-none disk mountable = record { kept = kept-refl disk mountable; array = refl; size = refl; places = refl; turns = refl }
+
+pub read-join : (a b c : DiskView) → KeepsByRead a b → KeepsByRead b c → KeepsByRead a c
+read-join a b c p q = record { kept = kept-join a b c p.kept q.kept; array = q.array ∙ p.array; size = q.size ∙ p.size; places = q.places ∙ p.places; turns = q.turns ∙ p.turns }

@@ -7,11 +7,12 @@ use Rattle.drive_port.specs.declared.device.Halt.TheVariants as halt
 use Rattle.batch_log.specs.Header.{Heading, header_block}
 use Rattle.batch_log.specs.Log.{Batch, data_count, zero_block}
 use Rattle.zone_choice.specs.declared.roles.Filling.{Filling}
-use Rattle.zone_choice.specs.Agreement.{Agrees, Mounted, mounted, mounted_array, spelled}
+use Rattle.zone_choice.specs.Agreement.{Agrees, MountedView, mounted, mounted_array}
+use Rattle.drive_array.specs.ZoneLogs.{spelled}
 use Rattle.zone_choice.specs.Builder.{BuilderView, IsBuilt, built, entries_from}
 use Rattle.zone_choice.specs.Changes.{CanPlace, told_over}
-use Rattle.zone_choice.specs.Reserve.{FitsReserve}
-use Rattle.zone_choice.specs.Sizes.{extended, size_or}
+use Rattle.drive_array.specs.Reserve.{FitsReserve}
+use Rattle.drive_array.specs.Sizes.{extended, size_or}
 use Rattle.zone_choice.specs.Tables.{TablesView, size_of}
 use Rattle.zone_choice.proofs.AloneLaws.{stops-tables}
 use Rattle.zone_choice.proofs.ChangeLaws.{large-block}
@@ -26,14 +27,14 @@ use Rattle.zone_translator.proofs.RoomLaws.{room-stops}
 use Rattle.zone_translator.proofs.WriteLaws.{append_stops, appended-size, built-batch, can_place, keeps-placed, memory-left}
 
 -- its batch, without an entry, is built and can be appended
-pub record IsGrowthBatch (disk : Mounted) (host : Filling) (size : ℕ) (builder : BuilderView) : Type 0 where
+pub record IsGrowthBatch (disk : MountedView) (host : Filling) (size : ℕ) (builder : BuilderView) : Type 0 where
   pub built_is : IsBuilt disk.drive.geometry.block builder
   pub can : CanPlace disk host.zone (built disk.drive.geometry.block builder)
   pub size_is : builder.heading.size ≡ Some size
   pub grows : size_of disk.tables ≤ size
   pub tells : told_over disk.drive.geometry.block (built disk.drive.geometry.block builder) (mounted_array disk) ≡ extended (zero_block disk.drive.geometry.block) size (mounted_array disk)
 
-pub growth-batch : (old : DriveState) (tables : TablesView) (host : Filling) (size : ℕ) (builder : BuilderView) → Agrees (mounted old tables) → IsRoom old tables host → size_of tables ≤ size → FitsReserve old.geometry size
+pub growth-batch : (old : DriveState) (tables : TablesView) (host : Filling) (size : ℕ) (builder : BuilderView) → Agrees (mounted old tables) → IsRoom (mounted old tables) host → size_of tables ≤ size → FitsReserve old.geometry size
     → builder.heading ≡ host_heading size tables.next true 0 0 → builder.bytes ≡ header_block old.geometry.block (host_heading size tables.next true 0 0) → IsGrowthBatch (mounted old tables) host size builder
 growth-batch old tables host size builder agrees room grows reserve heading bytes =
     let g = old.geometry in
@@ -50,15 +51,15 @@ growth-batch old tables host size builder agrees room grows reserve heading byte
     }
 
 -- after a zone was found for it
-pub grow-next : (a b : Mounted) (host : Filling) (size : ℕ) (builder : BuilderView) (g : Geometry) → g ≡ b.drive.geometry → KeepsByCleaning a b → Agrees b → IsRoom b.drive b.tables host → size_of a.tables ≤ size → FitsReserve a.drive.geometry size
+pub grow-next : (a b : MountedView) (host : Filling) (size : ℕ) (builder : BuilderView) (g : Geometry) → g ≡ b.drive.geometry → KeepsByCleaning a b → Agrees b → IsRoom b host → size_of a.tables ≤ size → FitsReserve a.drive.geometry size
     → builder.heading ≡ host_heading size b.tables.next true 0 0 → builder.bytes ≡ header_block g.block (host_heading size b.tables.next true 0 0) → IsGrowthBatch b host size builder
 grow-next a b host size builder g g-is kept agrees room grows reserve heading bytes =
     growth-batch b.drive b.tables host size builder agrees room (omega (arith, kept.size, grows)) (subst (λ (x : Geometry). FitsReserve x size) (sym kept.geometry) reserve) heading (rw g-is at bytes)
 
-grown-array : (a b : Mounted) (size : ℕ) → KeepsByCleaning a b → extended (zero_block b.drive.geometry.block) size (mounted_array b) ≡ extended (zero_block a.drive.geometry.block) size (mounted_array a)
+grown-array : (a b : MountedView) (size : ℕ) → KeepsByCleaning a b → extended (zero_block b.drive.geometry.block) size (mounted_array b) ≡ extended (zero_block a.drive.geometry.block) size (mounted_array a)
 grown-array a b size kept = ap (λ (g : Geometry). extended (zero_block g.block) size (mounted_array b)) kept.geometry ∙ ap (extended (zero_block a.drive.geometry.block) size) kept.array
 
-pub growth-writes : (a b c : Mounted) (old new : Option CleanView) (host : Filling) (size : ℕ) (builder : BuilderView) → KeepsByCleaning a b → AgreesWithClean b old → IsGrowthBatch b host size builder
+pub growth-writes : (a b c : MountedView) (old new : Option CleanView) (host : Filling) (size : ℕ) (builder : BuilderView) → KeepsByCleaning a b → AgreesWithClean b old → IsGrowthBatch b host size builder
     → HostLeaves b old host.zone (built b.drive.geometry.block builder) (Ok tt) c new → Grows a c new size
 growth-writes a b c old new host size builder kept is next leaves =
     let placed = leaves.0 in
@@ -71,9 +72,10 @@ growth-writes a b c old new host size builder kept is next leaves =
       array = placed.array ∙ next.tells ∙ grown-array a b size kept;
       says = appended-size b.drive c.drive b.tables c.tables host.zone size batch is.0 next.can next.size_is next.grows placed;
       appended = omega (arith, kept.appended, placed.appended);
+      early = rw (← kept.geometry) (omega (arith, placed.next, next.can.next));
     }
 
-pub growth-halts : (a b c : Mounted) (old new : Option CleanView) (host : Filling) (size : ℕ) (builder : BuilderView) (fault : Halt) → KeepsByCleaning a b → AgreesWithClean b old → IsGrowthBatch b host size builder
+pub growth-halts : (a b c : MountedView) (old new : Option CleanView) (host : Filling) (size : ℕ) (builder : BuilderView) (fault : Halt) → KeepsByCleaning a b → AgreesWithClean b old → IsGrowthBatch b host size builder
     → HostLeaves b old host.zone (built b.drive.geometry.block builder) (Err fault) c new → GrowLeaves a c new size (Err (disk_fault fault)) × IsCause c.drive c.tables.next (disk_fault fault)
 growth-halts a b c old new host size builder halt.Memory kept is next leaves = (memory-left a b c old new host.zone (built b.drive.geometry.block builder) kept is leaves, tt)
 growth-halts a b c old new host size builder halt.Stopped kept is next leaves =
@@ -85,7 +87,7 @@ growth-halts a b c old new host size builder halt.Stopped kept is next leaves =
     ] in
     ((append_stops a b c host.zone batch kept stops leaves.2, rw (stops-tables b c host.zone batch stops).given left), stops.stopped)
 
-growth-without : (a b : Mounted) (clean : Option CleanView) (size : ℕ) (fault : DiskFault) → RoomLeaves {V = Filling} a b clean (Err fault) → IsCause b.drive b.tables.next fault → GrowLeaves a b clean size (Err fault)
+growth-without : (a b : MountedView) (clean : Option CleanView) (size : ℕ) (fault : DiskFault) → RoomLeaves {V = Filling} a b clean (Err fault) → IsCause b.drive b.tables.next fault → GrowLeaves a b clean size (Err fault)
 growth-without a b clean size OutOfRange leaves cause = leaves
 growth-without a b clean size OutOfMemory leaves cause = leaves
 growth-without a b clean size Stopped leaves cause = (room-stops a b leaves cause, inl leaves.array)
@@ -94,8 +96,8 @@ growth-without a b clean size Smaller leaves cause = leaves
 growth-without a b clean size Reserve leaves cause = leaves
 growth-without a b clean size Unmounted leaves cause = leaves
 
-pub growth-no_room : (a b : Mounted) (clean : Option CleanView) (size : ℕ) (fault : DiskFault) (result : Result (Unit {0}) DiskFault) → result ≡ Err fault → RoomLeaves {V = Filling} a b clean (Err fault) → IsCause b.drive b.tables.next fault → GrowLeaves a b clean size result
+pub growth-no_room : (a b : MountedView) (clean : Option CleanView) (size : ℕ) (fault : DiskFault) (result : Result (Unit {0}) DiskFault) → result ≡ Err fault → RoomLeaves {V = Filling} a b clean (Err fault) → IsCause b.drive b.tables.next fault → GrowLeaves a b clean size result
 growth-no_room a b clean size fault result is leaves cause = rw is (growth-without a b clean size fault leaves cause)
 
-pub growth-no_memory : (a b : Mounted) (clean : Option CleanView) (size : ℕ) (result : Result (Unit {0}) DiskFault) → result ≡ Err OutOfMemory → KeepsByCleaning a b × AgreesWithClean b clean → GrowLeaves a b clean size result
+pub growth-no_memory : (a b : MountedView) (clean : Option CleanView) (size : ℕ) (result : Result (Unit {0}) DiskFault) → result ≡ Err OutOfMemory → KeepsByCleaning a b × AgreesWithClean b clean → GrowLeaves a b clean size result
 growth-no_memory a b clean size result is kept = rw is kept

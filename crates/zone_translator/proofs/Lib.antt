@@ -1,3 +1,4 @@
+pub mod CleaningLaws
 pub mod RoomLaws
 pub mod FlatLaws
 pub mod BatchLaws

@@ -6,26 +6,29 @@ use Rattle.drive_port.specs.Drive.{DriveState}
 use Rattle.zone_choice.specs.declared.roles.Filling.{Filling}
 use Rattle.zone_choice.specs.declared.roles.Second.{Second}
 use Rattle.zone_choice.specs.declared.roles.Second.TheVariants.{Next, Destination}
-use Rattle.zone_choice.specs.Agreement.{spelled}
-use Rattle.zone_choice.specs.Mountable.{is_partly_written}
-use Rattle.zone_choice.specs.Reserve.{FitsReserve}
+use Rattle.zone_choice.specs.Agreement.{MountedView, mounted}
+use Rattle.drive_array.specs.ZoneLogs.{spelled}
+use Rattle.drive_array.specs.Mountable.{is_partly_written}
+use Rattle.drive_array.specs.Reserve.{FitsReserve}
 use Rattle.zone_choice.specs.Roles.{RolesView, fillings}
 use Rattle.zone_choice.specs.Tables.{TablesView}
 use Rattle.zone_cleaner.specs.Clean.{CleanView, HasNoDestination}
-use Rattle.remount.specs.declared.fault.MountFault.{MountFault}
-use Rattle.remount.specs.declared.fault.MountFault.TheVariants.{Halted, OutOfMemory}
-use Rattle.remount.specs.Known.{KeepsMountable}
+use Rattle.drive_survey.specs.declared.fault.MountFault.{MountFault}
+use Rattle.drive_survey.specs.declared.fault.MountFault.TheVariants.{Halted, OutOfMemory}
+use Rattle.remount.specs.Kept.{KeepsMountable}
 use Rattle.remount.specs.Mount.{AreInOrder, IsToMount, MountFails, Mounts}
-use Rattle.remount.specs.Scan.{FailsBy}
+use Rattle.drive_survey.specs.Scan.{FailsBy}
 use Rattle.remount.proofs.RefusalLaws.{only-halts}
 use Rattle.zone_translator.specs.declared.status.DiskStatus.{DiskStatus}
 use Rattle.zone_translator.specs.declared.status.DiskStatus.TheVariants.{Serving, Unmounted}
 use Rattle.zone_translator.specs.Calls.{Holds}
-use Rattle.zone_translator.specs.Changes.{AgreesWith}
+use Rattle.zone_cleaner.specs.Start.{AgreesWithClean}
 use Rattle.zone_translator.specs.Flat.{FlatRemount}
+use Rattle.zone_translator.specs.Answers.{IsMounted, Remounts}
 use Rattle.zone_translator.specs.Mount.{MountsDisk}
-use Rattle.zone_translator.specs.View.{DiskView, array_of, disk_size, flat_of, given_size}
+use Rattle.zone_translator.specs.View.{DiskView, disk_array, disk_size, flat_of, given_size, mounted_of}
 use Rattle.zone_translator.proofs.CallLaws.{flat-is}
+use Rattle.zone_translator.proofs.RoomLaws.{serves_mountable}
 use Rattle.zone_translator.proofs.DiskLaws.{length-array, view_of}
 
 -- the lower of the two zones is the host zone, so the other is the next one
@@ -39,7 +42,7 @@ no-destination capacity zones roles written order = by roles.host roles.second r
     by (Some host) (Some (Destination filling)) e f = absurd (rw (e, f) at order)
     by (Some host) (Some (Next filling)) e f = let both = rw (e, f) at written in rw f both.1.0.1
 
-pub mounted-serves : (old new : DriveState) (n : ℕ) (tables : TablesView) → Mounts old new n tables → AgreesWith new tables None
+pub mounted-serves : (old new : DriveState) (n : ℕ) (tables : TablesView) → Mounts old new n tables → AgreesWithClean (mounted new tables) None
 mounted-serves old new n tables mounts =
     let roles = mounts.roles in
     (mounts.agrees, (roles.empty, no-destination new.geometry.capacity (contents new.zones) tables.roles roles.written roles.order))
@@ -47,12 +50,12 @@ mounted-serves old new n tables mounts =
 pub mounted-fits : (old new : DriveState) (n : ℕ) (tables : TablesView) → new.geometry ≡ old.geometry → Mounts old new n tables → FitsReserve new.geometry tables.given
 mounted-fits old new n tables same mounts = rw (same, mounts.given) mounts.can.reserve
 
-pub mounts-disk : (old new : DriveState) (n : ℕ) (tables : TablesView) → Mounts old new n tables → MountsDisk old n (view_of new tables None Serving)
+pub mounts-disk : (old new : DriveState) (n : ℕ) (tables : TablesView) → Mounts old new n tables → MountsDisk old n (view_of (mounted new tables) None Serving)
 mounts-disk old new n tables mounts =
     record {
       can = mounts.can;
       array = rw mounts.given mounts.array;
-      size = sym (length-array new tables None (mounted-serves old new n tables mounts));
+      size = sym (length-array (mounted new tables) None (mounted-serves old new n tables mounts));
       leaves = mounts.leaves;
       given = mounts.given;
       next = mounts.next;
@@ -61,32 +64,70 @@ mounts-disk old new n tables mounts =
       status = refl;
     }
 
+pub is-mounted : (old new : DriveState) (n : ℕ) (tables : TablesView) → KeepsMountable n old new → Mounts old new n tables → IsMounted old n (view_of (mounted new tables) None Serving)
+is-mounted old new n tables kept mounts =
+    let serves = mounted-serves old new n tables mounts in
+    record {
+      mounts = mounts-disk old new n tables mounts;
+      range = serves.0.geometry;
+      fits = serves.0.reserve;
+      kept = kept;
+      mountable = serves_mountable (mounted new tables) None serves;
+    }
+
 -- ---- mounting again
 
 -- the drive of a disk can be mounted
-pub holds-mount : (drive : DriveState) (tables : TablesView) (clean : Option CleanView) (status : DiskStatus) → Holds drive tables clean status → IsToMount drive tables.given
+pub holds-mount : (drive : DriveState) (tables : TablesView) (clean : Option CleanView) (status : DiskStatus) → Holds (mounted drive tables) clean status → IsToMount drive tables.given
 holds-mount drive tables clean status holds = record { geometry = holds.geometry; reserve = holds.reserve; mountable = holds.mountable }
 
-pub remounted : (old : DiskView) (new : DriveState) (n : ℕ) (tables : TablesView) → n ≡ given_size old → Mounts old.drive new n tables → MountsDisk old.drive (given_size old) (view_of new tables None Serving)
+pub remounted : (old : DiskView) (new : DriveState) (n : ℕ) (tables : TablesView) → n ≡ given_size old → Mounts old.drive new n tables → MountsDisk old.drive (given_size old) (view_of (mounted new tables) None Serving)
 remounted old new n tables is mounts = mounts-disk old.drive new (given_size old) tables (rw is at mounts)
 
 pub remounted-flat : (old : DiskView) (new : DriveState) (n : ℕ) (tables : TablesView) (clean : Option CleanView) → n ≡ given_size old → new.geometry ≡ old.drive.geometry → Mounts old.drive new n tables
-    → FlatRemount (flat_of old) (Ok tt) (flat_of (view_of new tables clean Serving))
+    → FlatRemount (flat_of old) (Ok tt) (flat_of (view_of (mounted new tables) clean Serving))
 remounted-flat old new n tables clean is same mounts =
     let disk = remounted old new n tables is mounts in
-    flat-is old (view_of new tables clean Serving) (array_of old) (length (array_of old)) Serving disk.array (disk.size ∙ ap length disk.array) refl same
+    flat-is old (view_of (mounted new tables) clean Serving) (disk_array old) (length (disk_array old)) Serving disk.array (disk.size ∙ ap length disk.array) refl same
 
 -- one that was refused
-pub remount-halts : (drive new : DriveState) (tables : TablesView) (clean : Option CleanView) (status : DiskStatus) (n : ℕ) (fault : MountFault) → n ≡ tables.given → Holds drive tables clean status → FailsBy (MountFails drive n) new fault → FailsBy (λ _. ⊥) new fault
+pub remount-halts : (drive new : DriveState) (tables : TablesView) (clean : Option CleanView) (status : DiskStatus) (n : ℕ) (fault : MountFault) → n ≡ tables.given → Holds (mounted drive tables) clean status → FailsBy (MountFails drive n) new fault → FailsBy (λ _. ⊥) new fault
 remount-halts drive new tables clean status n fault is holds fails = only-halts drive new n fault (rw is (holds-mount drive tables clean status holds)) fails
 
-pub refused-flat : (old : DiskView) (new : DriveState) (n : ℕ) (clean : Option CleanView) (fault : MountFault) → n ≡ given_size old → Holds old.drive old.tables old.clean old.status → KeepsMountable n old.drive new → FailsBy (MountFails old.drive n) new fault
-    → FlatRemount (flat_of old) (Err fault) (flat_of (view_of new old.tables clean Unmounted))
+pub refused-flat : (old : DiskView) (new : DriveState) (n : ℕ) (clean : Option CleanView) (fault : MountFault) → n ≡ given_size old → Holds (mounted_of old) old.clean old.status → KeepsMountable n old.drive new → FailsBy (MountFails old.drive n) new fault
+    → FlatRemount (flat_of old) (Err fault) (flat_of (view_of (mounted new old.tables) clean Unmounted))
 refused-flat old new n clean fault is holds kept fails =
-    let array : spelled new (given_size old) ≡ array_of old = (rw is at kept).array holds.mountable in
-    (stops (remount-halts old.drive new old.tables old.clean old.status n fault is holds fails), flat-is old (view_of new old.tables clean Unmounted) (array_of old) (disk_size old) Unmounted array refl refl kept.geometry)
+    let array : spelled new (given_size old) ≡ disk_array old = (rw is at kept).array holds.mountable in
+    (stops (remount-halts old.drive new old.tables old.clean old.status n fault is holds fails), flat-is old (view_of (mounted new old.tables) clean Unmounted) (disk_array old) (disk_size old) Unmounted array refl refl kept.geometry)
   where
     stops : FailsBy (λ _. ⊥) new fault → (fault ≡ OutOfMemory) ⊎ (fault ≡ Halted)
     stops (inl memory) = inl memory
     stops (inr (inl halted)) = inr halted.0
     stops (inr (inr none)) = absurd none
+
+-- ---- what a remount leaves
+
+pub remounts : (old : DiskView) (new : MountedView) (clean : Option CleanView) → clean ≡ None → KeepsMountable (given_size old) old.drive new.drive → Mounts old.drive new.drive (given_size old) new.tables → Remounts old (Ok tt) (view_of new clean Serving)
+remounts old new clean none kept mounts =
+    let serves = mounted-serves old.drive new.drive (given_size old) new.tables mounts in
+    record {
+      flat = remounted-flat old new.drive (given_size old) new.tables clean refl kept.geometry mounts;
+      mounts = rw none (remounted old new.drive (given_size old) new.tables refl mounts);
+      cause = tt;
+      kept = kept;
+      given = mounts.given;
+      mountable = serves_mountable new None serves;
+      clean = none;
+    }
+
+pub remount-refused : (old : DiskView) (new : MountedView) (clean : Option CleanView) (fault : MountFault) → clean ≡ None → new.tables ≡ old.tables → Holds (mounted_of old) old.clean old.status → KeepsMountable (given_size old) old.drive new.drive
+    → FailsBy (MountFails old.drive (given_size old)) new.drive fault → Remounts old (Err fault) (view_of new clean Unmounted)
+remount-refused old new clean fault none tables holds kept fails = record {
+  flat = rw tables (refused-flat old new.drive (given_size old) clean fault refl holds kept fails);
+  mounts = tt;
+  cause = remount-halts old.drive new.drive old.tables old.clean old.status (given_size old) fault refl holds fails;
+  kept = kept;
+  given = ap (λ (t : TablesView). t.given) tables;
+  mountable = rw tables (kept.mountable holds.mountable);
+  clean = none;
+}

@@ -1,5 +1,6 @@
 -- One block is read.
-use Rattle.std.proofs.Common.{◌≡◌, ℕ, ◌<◌, List, [], get_or, replicate, Err, refl, sym, ◌∙◌, append-nil}
+use Rattle.std.proofs.Common.{◌≡◌, ℕ, ◌<◌, List, [], false, get_or, replicate, Some, Err, refl, sym, ap, ◌∙◌, append-nil}
+use Rattle.zone_cleaner.specs.Start.{trims}
 use Rattle.drive_port.specs.Calls.{CanRead, IsNotRefused, Obeys, ReadGives}
 use Rattle.drive_port.specs.Contents.{Counts, SameContents, block_at, bytes_at, contents}
 use Rattle.drive_port.specs.Drive.{DriveState, IsClosing, IsLawful}
@@ -8,8 +9,9 @@ use Rattle.drive_port.specs.declared.calls.PortFault.TheVariants as port
 use Rattle.batch_log.specs.Log.{zero_block}
 use Rattle.logical_map.specs.declared.place.Place.{Place}
 use Rattle.logical_map.specs.declared.place.Place.TheVariants as places
-use Rattle.zone_choice.specs.Agreement.{Agrees, mounted, spelled}
-use Rattle.zone_choice.specs.Changes.{IsHalt, KeepsArray, halt_of}
+use Rattle.zone_choice.specs.Agreement.{Agrees, mounted}
+use Rattle.drive_array.specs.ZoneLogs.{spelled}
+use Rattle.zone_choice.specs.Changes.{IsHalt, KeepsArray, fault_halt}
 use Rattle.zone_choice.specs.Tables.{TablesView, size_of}
 use Rattle.zone_choice.proofs.ChangeLaws.{keeps-contents, keeps-halt, keeps-same}
 use Rattle.zone_choice.proofs.OpenLaws.{closing-opens}
@@ -33,7 +35,7 @@ one-block drive address shown e = e ∙ append-nil (block_at drive.geometry (con
 pub record ReadHalts (old new : DriveState) (tables : TablesView) (fault : PortFault) : Type 0 where
   pub halt : IsHalt fault
   pub kept : KeepsArray (mounted old tables) (mounted new tables)
-  pub cause : IsReadFault new (disk_fault (halt_of fault))
+  pub cause : IsReadFault new (disk_fault (fault_halt fault))
 
 pub place_halts : (old new : DriveState) (tables : TablesView) (block address : ℕ) (returned : List ℕ) (fault : PortFault) → Agrees (mounted old tables) → block < size_of tables → places.At address ≡ get_or tables.map.places block places.None
     → ReadGives {V = Unit {0}} old address 1 (Err fault) returned new → SameContents old new → IsClosing old.zones new.zones → Obeys {V = Unit {0}} old (Err fault) new → (CanRead old address 1 → IsNotRefused {V = Unit {0}} (Err fault)) → ReadHalts old new tables fault
@@ -57,3 +59,7 @@ place_shown drive tables block address shown agrees lt at e = one-block drive ad
 pub zeros_shown : (drive : DriveState) (tables : TablesView) (block : ℕ) (p : Place) → Agrees (mounted drive tables) → block < size_of tables → p ≡ get_or tables.map.places block places.None → ((address : ℕ) → p ≡ places.At address → ⊥)
     → replicate drive.geometry.block 0 ≡ get_or (spelled drive tables.given) block []
 zeros_shown drive tables block p agrees lt at other = sym (no-place drive (spelled drive tables.given) block p (holds drive tables block p agrees lt at) other)
+
+-- a block with a place for its data has data
+pub at-data : (tables : TablesView) (block address : ℕ) → places.At address ≡ get_or tables.map.places block places.None → trims (get_or tables.map.places block places.None) ≡ Some false
+at-data tables block address at = ap trims (sym at)

@@ -1,20 +1,19 @@
 -- The host zone is sealed and taken, and the array stays.
 use Rattle.std.proofs.Common.{◌≡◌, ◌⊎◌, ℕ, ◌*◌, ◌/◌, ◌<◌, ◌≤◌, Bool, true, false, ◌||◌, map, ◌++◌, Option, Some, None, is_some, Result, Ok, Err, refl, sym, ap, subst, ◌∙◌, inl, inr, arith}
 use Rattle.std.specs.List.{list_any}
-use Rattle.std.specs.Prelude.{OnOk}
 use Rattle.std.proofs.lemmas.Bool.{eq-eqb}
-use Rattle.zone_states.specs.declared.geometry.Geometry.{Geometry}
 use Rattle.drive_port.specs.Calls.{CanFinish, Finished, FinishedContents, FinishGives, FinishKeeps, FinishLeaves, IsNotRefused, Obeys}
 use Rattle.drive_port.specs.Contents.{Finishes, SameContents, contents, full, content_at}
 use Rattle.drive_port.specs.Drive.{DriveState, IsLawful}
 use Rattle.drive_port.specs.declared.calls.PortFault.{PortFault}
 use Rattle.drive_port.specs.declared.calls.PortFault.TheVariants as port
 use Rattle.zone_choice.specs.declared.roles.Filling.{Filling}
-use Rattle.zone_choice.specs.Agreement.{Agrees, HoldsFilling, Mounted, drive_logs, mounted, spelled}
-use Rattle.zone_choice.specs.Changes.{IsHalt, KeepsArray, halt_of}
-use Rattle.zone_choice.specs.Mountable.{IsMountable}
+use Rattle.zone_choice.specs.Agreement.{Agrees, HoldsFilling, MountedView, mounted}
+use Rattle.drive_array.specs.ZoneLogs.{drive_logs, spelled}
+use Rattle.zone_choice.specs.Changes.{IsHalt, KeepsArray, fault_halt}
+use Rattle.drive_array.specs.Mountable.{IsMountable}
 use Rattle.zone_choice.specs.declared.roles.Second.TheVariants.{Destination}
-use Rattle.zone_choice.specs.Roles.{IsLowestEmpty, RolesView, empty_count, is_at, is_filling_at, listed, next_of, promoted, sealed, taken}
+use Rattle.zone_choice.specs.Roles.{IsLowestEmpty, RolesView, empty_count, is_at, is_filling_at, filling_list, next_of, promoted, sealed, taken}
 use Rattle.zone_choice.specs.Tables.{TablesView, size_of}
 use Rattle.zone_choice.proofs.AgreementLaws.{agrees_finish, agrees_seal, agrees_take, spare-taken, tables_with}
 use Rattle.zone_choice.proofs.ChangeLaws.{keeps-halt, keeps-same}
@@ -24,32 +23,32 @@ use Rattle.zone_choice.proofs.OpenLaws.{OpensNone, finish-opens}
 use Rattle.zone_choice.proofs.RolesLaws.{roles_with, second_list}
 use Rattle.zone_cleaner.specs.declared.fault.CleanFault.{CleanFault}
 use Rattle.zone_cleaner.specs.declared.fault.CleanFault.TheVariants as faults
-use Rattle.zone_cleaner.specs.Clean.{CleanView, turns_left}
+use Rattle.zone_cleaner.specs.Clean.{CleanView}
 use Rattle.zone_cleaner.specs.Start.{GoesOn, AgreesWithClean, IsCleaningCause, KeepsByCleaning, trims}
-use Rattle.zone_choice.specs.Reserve.{batch_most}
-use Rattle.zone_cleaner.proofs.BesideLaws.{kept_turns}
 use Rattle.zone_cleaner.proofs.NextLaws.{cleaned_kept, cleaning_kept, promote_gives}
 use Rattle.zone_cleaner.proofs.TurnLaws.{cleans_mountable, keeps-more}
+use Rattle.zone_translator.proofs.CleaningLaws.{StaysClean, array-stays, goes-same, newer-same, stays-cleaning}
+use Rattle.zone_translator.specs.Cleaning.{KeepsCleaning}
 use Rattle.zone_translator.specs.declared.fault.DiskFault.{DiskFault}
 use Rattle.zone_translator.specs.declared.fault.DiskFault.TheVariants.{OutOfRange, OutOfMemory, Stopped, Spent, Unmounted, Smaller, Reserve}
-use Rattle.zone_translator.specs.Changes.{AgreesWith, HasRoom, IsCause, NoMoreTurns, RetireLeaves, RoomLeaves, StopKeeps, TakesHost, cleaning_fault, disk_fault}
+use Rattle.zone_translator.specs.Changes.{IsCause, IsHost, NoMoreTurns, RetireLeaves, RoomLeaves, StopKeeps, TakesHost, cleaning_fault, disk_fault}
 
 -- ---- a disk that serves
 
-pub serves-kept : (old new : DriveState) (tables tables' : TablesView) (clean : Option CleanView) → AgreesWith old tables clean → KeepsArray (mounted old tables) (mounted new tables') → AgreesWith new tables' clean
-serves-kept old new tables tables' clean serves kept = cleaned_kept (mounted old tables) (mounted new tables') clean serves kept
+pub serves-kept : (a b : MountedView) (clean : Option CleanView) → AgreesWithClean a clean → KeepsArray a b → AgreesWithClean b clean
+serves-kept a b clean serves kept = cleaned_kept a b clean serves kept
 
 -- its drive can be mounted
-pub serves_mountable : (drive : DriveState) (tables : TablesView) (clean : Option CleanView) → AgreesWith drive tables clean → IsMountable drive tables.given
-serves_mountable drive tables clean serves = cleans_mountable (mounted drive tables) clean serves
+pub serves_mountable : (disk : MountedView) (clean : Option CleanView) → AgreesWithClean disk clean → IsMountable disk.drive disk.tables.given
+serves_mountable disk clean serves = cleans_mountable disk clean serves
 
 -- ---- parts of a call that write nothing for the host
 
 -- the array is kept, and the disk serves
-pub keeps-serving : (a b : Mounted) (clean : Option CleanView) → AgreesWithClean a clean → KeepsArray a b → KeepsByCleaning a b × AgreesWithClean b clean
+pub keeps-serving : (a b : MountedView) (clean : Option CleanView) → AgreesWithClean a clean → KeepsArray a b → KeepsByCleaning a b × AgreesWithClean b clean
 keeps-serving a b clean is kept = (cleaning_kept a b clean is kept, cleaned_kept a b clean is kept)
 
-pub room-join : {V : Type 0} (a b c : Mounted) (clean : Option CleanView) (result : Result V DiskFault) → KeepsByCleaning a b → RoomLeaves b c clean result → RoomLeaves a c clean result
+pub room-join : {V : Type 0} (a b c : MountedView) (clean : Option CleanView) (result : Result V DiskFault) → KeepsByCleaning a b → RoomLeaves b c clean result → RoomLeaves a c clean result
 room-join a b c clean (Ok done) kept leaves = (keeps-more a b c kept leaves.0, leaves.1)
 room-join a b c clean (Err OutOfRange) kept leaves = (keeps-more a b c kept leaves.0, leaves.1)
 room-join a b c clean (Err OutOfMemory) kept leaves = (keeps-more a b c kept leaves.0, leaves.1)
@@ -60,7 +59,7 @@ room-join a b c clean (Err Reserve) kept leaves = (keeps-more a b c kept leaves.
 room-join a b c clean (Err Unmounted) kept leaves = (keeps-more a b c kept leaves.0, leaves.1)
 
 -- a refusal tells nothing of the value that was asked for
-pub room-err : (V W : Type 0) (a b : Mounted) (clean : Option CleanView) (fault : DiskFault) → RoomLeaves {V = V} a b clean (Err fault) → RoomLeaves {V = W} a b clean (Err fault)
+pub room-err : (V W : Type 0) (a b : MountedView) (clean : Option CleanView) (fault : DiskFault) → RoomLeaves {V = V} a b clean (Err fault) → RoomLeaves {V = W} a b clean (Err fault)
 room-err V W a b clean OutOfRange leaves = leaves
 room-err V W a b clean OutOfMemory leaves = leaves
 room-err V W a b clean Stopped leaves = leaves
@@ -70,7 +69,7 @@ room-err V W a b clean Reserve leaves = leaves
 room-err V W a b clean Unmounted leaves = leaves
 
 -- whatever the answer
-pub room-keeps : (V : Type 0) (a b : Mounted) (clean : Option CleanView) (fault : DiskFault) → RoomLeaves {V = V} a b clean (Err fault) → KeepsByCleaning a b
+pub room-keeps : (V : Type 0) (a b : MountedView) (clean : Option CleanView) (fault : DiskFault) → RoomLeaves {V = V} a b clean (Err fault) → KeepsByCleaning a b
 room-keeps V a b clean OutOfRange leaves = leaves.0
 room-keeps V a b clean OutOfMemory leaves = leaves.0
 room-keeps V a b clean Stopped leaves = leaves
@@ -80,7 +79,7 @@ room-keeps V a b clean Reserve leaves = leaves.0
 room-keeps V a b clean Unmounted leaves = leaves.0
 
 -- the drive stopped, while some tables agreed with it
-retire-stops : (a b : Mounted) (clean : Option CleanView) → AgreesWithClean a clean → RetireLeaves a b (Err Stopped) → KeepsByCleaning a b
+retire-stops : (a b : MountedView) (clean : Option CleanView) → AgreesWithClean a clean → RetireLeaves a b (Err Stopped) → KeepsByCleaning a b
 retire-stops a b clean is leaves =
     let kept = leaves.1.1 in
     let done = cleaning_kept a (mounted b.drive leaves.1.0) clean is kept in
@@ -99,7 +98,7 @@ retire-stops a b clean is leaves =
     }
 
 -- the host zone was sealed, or the drive stopped
-pub retire_room : (V : Type 0) (a b : Mounted) (clean : Option CleanView) (fault : DiskFault) → AgreesWithClean a clean → RetireLeaves a b (Err fault) → RoomLeaves {V = V} a b clean (Err fault)
+pub retire_room : (V : Type 0) (a b : MountedView) (clean : Option CleanView) (fault : DiskFault) → AgreesWithClean a clean → RetireLeaves a b (Err fault) → RoomLeaves {V = V} a b clean (Err fault)
 retire_room V a b clean OutOfRange is leaves = keeps-serving a b clean is leaves
 retire_room V a b clean OutOfMemory is leaves = keeps-serving a b clean is leaves
 retire_room V a b clean Stopped is leaves = retire-stops a b clean is leaves
@@ -108,8 +107,20 @@ retire_room V a b clean Smaller is leaves = keeps-serving a b clean is leaves
 retire_room V a b clean Reserve is leaves = keeps-serving a b clean is leaves
 retire_room V a b clean Unmounted is leaves = keeps-serving a b clean is leaves
 
+-- and the clean goes on
+pub retire_clean : (V : Type 0) (a b : MountedView) (clean : Option CleanView) (fault : DiskFault) → AgreesWithClean a clean → RetireLeaves a b (Err fault) → KeepsCleaning {V = V} a clean (Err fault) b clean
+retire_clean V a b clean OutOfRange is leaves = stays-cleaning {V = V} a b clean clean (Err OutOfRange) (array-stays a b clean is leaves)
+retire_clean V a b clean OutOfMemory is leaves = stays-cleaning {V = V} a b clean clean (Err OutOfMemory) (array-stays a b clean is leaves)
+retire_clean V a b clean Stopped is leaves =
+    let turns : NoMoreTurns a clean b clean = rw leaves.0 (omega arith) in
+    record { clean = goes-same a b clean clean refl turns; turns = tt; newer = tt }
+retire_clean V a b clean Spent is leaves = stays-cleaning {V = V} a b clean clean (Err Spent) (array-stays a b clean is leaves)
+retire_clean V a b clean Smaller is leaves = stays-cleaning {V = V} a b clean clean (Err Smaller) (array-stays a b clean is leaves)
+retire_clean V a b clean Reserve is leaves = stays-cleaning {V = V} a b clean clean (Err Reserve) (array-stays a b clean is leaves)
+retire_clean V a b clean Unmounted is leaves = stays-cleaning {V = V} a b clean clean (Err Unmounted) (array-stays a b clean is leaves)
+
 -- the drive stopped, and the array is kept
-pub room-stops : (a b : Mounted) → KeepsByCleaning a b → b.drive.stopped ≡ true → StopKeeps a b
+pub room-stops : (a b : MountedView) → KeepsByCleaning a b → b.drive.stopped ≡ true → StopKeeps a b
 room-stops a b kept stopped = record {
   stopped = stopped;
   keeps = record { mountable = kept.mountable; given = kept.given; geometry = kept.geometry; refused = kept.refused; next = kept.next; appended = kept.appended };
@@ -117,7 +128,7 @@ room-stops a b kept stopped = record {
 }
 
 -- a clean was not done to its end
-pub clean_room : (V : Type 0) (a b : Mounted) (clean : Option CleanView) (cause : CleanFault) → KeepsByCleaning a b → GoesOn (Err cause) b clean → RoomLeaves {V = V} a b clean (Err (cleaning_fault cause))
+pub clean_room : (V : Type 0) (a b : MountedView) (clean : Option CleanView) (cause : CleanFault) → KeepsByCleaning a b → GoesOn (Err cause) b clean → RoomLeaves {V = V} a b clean (Err (cleaning_fault cause))
 clean_room V a b clean faults.OutOfMemory keeps on = (keeps, on)
 clean_room V a b clean faults.Stopped keeps on = keeps
 clean_room V a b clean faults.Spent keeps on = (keeps, on)
@@ -131,7 +142,7 @@ clean_cause drive next faults.Spent is = is
 
 pub filling-host : (roles : RolesView) (host : Filling) → roles.host ≡ Some host → is_filling_at roles host.zone ≡ true
 filling-host roles host is =
-    ap (λ (h : Option Filling). list_any (is_at host.zone) (listed h ++ second_list roles.second)) is ∙ ap (λ (b : Bool). b || list_any (is_at host.zone) (second_list roles.second)) (eq-eqb host.zone host.zone refl)
+    ap (λ (h : Option Filling). list_any (is_at host.zone) (filling_list h ++ second_list roles.second)) is ∙ ap (λ (b : Bool). b || list_any (is_at host.zone) (second_list roles.second)) (eq-eqb host.zone host.zone refl)
 
 -- tables with a known host zone
 pub with-host : (drive : DriveState) (tables : TablesView) (host : Option Filling) → tables.roles.host ≡ host → Agrees (mounted drive tables) → Agrees (mounted drive (tables_with tables.map (roles_with tables.roles.empty host tables.roles.second) tables.next tables.given))
@@ -196,8 +207,8 @@ keeps-finish old new tables after host start agrees is start-is some room finish
 -- a Finish of the host zone that did not succeed
 pub record FinishHalts (old new : DriveState) (tables : TablesView) (fault : PortFault) : Type 0 where
   pub halt : IsHalt fault
-  pub leaves : RetireLeaves (mounted old tables) (mounted new tables) (Err (disk_fault (halt_of fault)))
-  pub cause : IsCause new tables.next (disk_fault (halt_of fault))
+  pub leaves : RetireLeaves (mounted old tables) (mounted new tables) (Err (disk_fault (fault_halt fault)))
+  pub cause : IsCause new tables.next (disk_fault (fault_halt fault))
 
 pub finish_halts : (old new : DriveState) (tables : TablesView) (host : Filling) (start : ℕ) (fault : PortFault) → Agrees (mounted old tables) → tables.roles.host ≡ Some host → start ≡ host.zone * old.geometry.size → 1 ≤ host.written → host.written < old.geometry.capacity
     → FinishGives {V = Unit {0}} old start (Err fault) new → FinishKeeps {V = Unit {0}} old start (Err fault) new → FinishLeaves {V = Unit {0}} old start (Err fault) new → Obeys {V = Unit {0}} old (Err fault) new → (CanFinish old start → IsNotRefused {V = Unit {0}} (Err fault)) → FinishHalts old new tables fault
@@ -251,48 +262,39 @@ keeps-take drive tables new zone agrees is lowest two new-is =
 -- ---- a host zone is found
 
 -- a zone with room became the host zone, and the array is kept
-pub record TakeGives (drive : DriveState) (old new : TablesView) (clean : Option CleanView) (host : Filling) : Type 0 where
-  pub leaves : RoomLeaves {V = Filling} (mounted drive old) (mounted drive new) clean (Ok host)
-  pub host_is : new.roles.host ≡ Some host
-  pub free : HasRoom drive host
-  pub turns : NoMoreTurns (mounted drive old) clean (mounted drive new) clean
+pub record TakeGives (before after : MountedView) (clean : Option CleanView) (host : Filling) : Type 0 where
+  pub leaves : RoomLeaves {V = Filling} before after clean (Ok host)
+  pub host_is : IsHost after host
+  pub stays : StaysClean before clean after clean
 
 -- a next zone is known only where no clean runs
-take-next : (drive : DriveState) (old new : TablesView) (clean : Option CleanView) (host : Filling) → AgreesWithClean (mounted drive old) clean → old.roles.host ≡ None → next_of old.roles.second ≡ Some host → new ≡ record old { roles = promoted old.roles } → TakeGives drive old new clean host
+take-next : (drive : DriveState) (old new : TablesView) (clean : Option CleanView) (host : Filling) → AgreesWithClean (mounted drive old) clean → old.roles.host ≡ None → next_of old.roles.second ≡ Some host → new ≡ record old { roles = promoted old.roles } → TakeGives (mounted drive old) (mounted drive new) clean host
 take-next drive old new None host is none next new-is =
     let gives = promote_gives drive old new host is none next new-is in
-    record { leaves = (gives.keeps, gives.cleaned); host_is = gives.host; free = gives.room; turns = omega arith }
+    record {
+      leaves = (gives.keeps, gives.cleaned);
+      host_is = record { host_is = gives.host; free = gives.room };
+      stays = record { next = rw new-is (omega arith); geometry = refl; goes = tt; turns = omega arith; newer = newer-same old.next (drive_logs drive) (drive_logs drive) refl };
+    }
 take-next drive old new (Some c) host is none next new-is = let bad : next_of (Some (Destination is.1.destination)) ≡ Some host = rw is.1.second at next in absurd (cc)
 
-pub take_gives : (drive : DriveState) (old new : TablesView) (clean : Option CleanView) (host : Filling) → AgreesWithClean (mounted drive old) clean → old.roles.host ≡ None → TakesHost old host new → TakeGives drive old new clean host
-take_gives drive old new clean host is none (inl next) = take-next drive old new clean host is none next.0 next.1
-take_gives drive old new clean host is none (inr (no_next, two, lowest, host-is, new-is)) = record {
-  leaves = keeps-serving (mounted drive old) (mounted drive new) clean is (keeps-take drive old new host.zone is.0 none lowest two new-is);
-  host_is = rw new-is (ap (λ (f : Filling). Some f) (sym host-is));
-  free = omega (arith, ap (λ (f : Filling). f.written) host-is, is.0.geometry.capacity, is.0.geometry.size);
-  turns = rw new-is (same clean);
-}
-  where
-    same : (clean : Option CleanView) → NoMoreTurns (mounted drive old) clean (mounted drive (record old { roles = taken old.roles host.zone })) clean
-    same None = omega arith
-    same (Some c) = omega arith
+take-here : (drive : DriveState) (old new : TablesView) (clean : Option CleanView) (host : Filling) → AgreesWithClean (mounted drive old) clean → old.roles.host ≡ None → TakesHost old host new → TakeGives (mounted drive old) (mounted drive new) clean host
+take-here drive old new clean host is none (inl next) = take-next drive old new clean host is none next.0 next.1
+take-here drive old new clean host is none (inr (no_next, two, lowest, host-is, new-is)) =
+    let kept = keeps-take drive old new host.zone is.0 none lowest two new-is in
+    record {
+      leaves = keeps-serving (mounted drive old) (mounted drive new) clean is kept;
+      host_is = record {
+        host_is = rw new-is (ap (λ (f : Filling). Some f) (sym host-is));
+        free = omega (arith, ap (λ (f : Filling). f.written) host-is, is.0.geometry.capacity, is.0.geometry.size);
+      };
+      stays = array-stays (mounted drive old) (mounted drive new) clean is kept;
+    }
 
--- turns, part by part
-pub turns-join : (a b c : Mounted) (x y z : Option CleanView) → b.drive.geometry ≡ a.drive.geometry → NoMoreTurns a x b y → NoMoreTurns b y c z → NoMoreTurns a x c z
-turns-join a b c x y z same p q =
-    let there : turns_left (batch_most a.drive.geometry) c.tables z ≤ turns_left (batch_most a.drive.geometry) b.tables y = subst (λ (g : Geometry). turns_left (batch_most g) c.tables z ≤ turns_left (batch_most g) b.tables y) same q in
-    omega (arith, p, there)
-
-pub turns-kept : (a b : Mounted) (clean : Option CleanView) → AgreesWithClean a clean → KeepsArray a b → NoMoreTurns a clean b clean
-turns-kept a b clean is kept = kept_turns a b clean (batch_most a.drive.geometry) is kept
-
-pub ok-turns : {P Q : Type 0} {V : Type 0} (result : Result V DiskFault) → (P → Q) → OnOk result P → OnOk result Q
-ok-turns (Ok done) f is = f is
-ok-turns (Err fault) f is = tt
-
--- once a clean has ended none are left
-pub turns-ended : (a b : Mounted) (x y : Option CleanView) → y ≡ None → NoMoreTurns a x b y
-turns-ended a b x y ended = rw ended (omega arith)
+pub take_gives : (a b : MountedView) (clean : Option CleanView) (host : Filling) → AgreesWithClean a clean → a.tables.roles.host ≡ None → b.drive ≡ a.drive → TakesHost a.tables host b.tables → TakeGives a b clean host
+take_gives a b clean host is none drive takes =
+    let here : TakeGives a (mounted a.drive b.tables) clean host = take-here a.drive a.tables b.tables clean host is none takes in
+    subst (λ (d : DriveState). TakeGives a (mounted d b.tables) clean host) (sym drive) here
 
 -- where a zone is next, one is found
 pub must-take : (old : TablesView) → is_some (next_of old.roles.second) ≡ true → next_of old.roles.second ≡ None → ⊥

@@ -8,20 +8,20 @@ use Rattle.zone_states.specs.Zone.{Zone}
 use Rattle.zone_report.specs.Report.{matching}
 use Rattle.zone_states.specs.Geometry.{IsInRange}
 use Rattle.drive_port.specs.Drive.{DriveState, IsClosing}
-use Rattle.zone_choice.specs.Agreement.{mounted}
-use Rattle.zone_choice.specs.Tables.{TablesView, size_of}
-use Rattle.zone_choice.specs.Mountable.{IsMountable}
-use Rattle.zone_choice.specs.Reserve.{FitsReserve}
+use Rattle.zone_choice.specs.Agreement.{MountedView}
+use Rattle.zone_choice.specs.Tables.{size_of}
+use Rattle.drive_array.specs.Mountable.{IsMountable}
+use Rattle.drive_array.specs.Reserve.{FitsReserve}
 use Rattle.zone_translator.specs.declared.fault.DiskFault.{DiskFault}
 use Rattle.zone_translator.specs.declared.fault.DiskFault.TheVariants as faults
 use Rattle.zone_translator.specs.declared.status.DiskStatus.{DiskStatus}
 use Rattle.zone_translator.specs.declared.status.DiskStatus.TheVariants.{Serving, Stopped, Unmounted}
 use Rattle.zone_cleaner.specs.declared.fault.CleanFault.{CleanFault}
 use Rattle.zone_cleaner.specs.Clean.{CleanView}
-use Rattle.zone_cleaner.specs.Start.{TurnLeaves}
-use Rattle.zone_translator.specs.Changes.{AgreesWith, cleaning_fault}
+use Rattle.zone_cleaner.specs.Start.{AgreesWithClean, TurnLeaves}
+use Rattle.zone_translator.specs.Changes.{cleaning_fault}
 use Rattle.zone_translator.specs.Flat.{Call, FlatCall, FlatDisk, known_answer, read}
-use Rattle.zone_translator.specs.View.{DiskView}
+use Rattle.zone_translator.specs.View.{DiskView, disk_size, given_size, mounted_of}
 
 -- a fact that is kept while a disk serves
 abbrev pub WhileServing : DiskStatus → Type 0 → Type 0
@@ -29,19 +29,27 @@ WhileServing Serving Fact = Fact
 WhileServing Stopped Fact = Unit {0}
 WhileServing Unmounted Fact = Unit {0}
 
--- The drive of a disk can be mounted: its geometry is in range, and its reserve allows the number that the mount was given. While the disk serves, the tables agree with the drive; and it has answered `Stopped` only where the drive has stopped.
-pub record Holds (drive : DriveState) (tables : TablesView) (clean : Option CleanView) (status : DiskStatus) : Type 0 where
-  pub mountable : IsMountable drive tables.given
-  pub geometry : IsInRange drive.geometry
-  pub reserve : FitsReserve drive.geometry tables.given
-  pub short : size_of tables ≤ 2 ^ 31
-  pub agrees : WhileServing status (AgreesWith drive tables clean)
-  pub stopped : status ≡ Stopped → drive.stopped ≡ true
+-- The drive of a disk can be mounted: its geometry is in range, and its reserve allows the number that the mount was
+-- given. While the disk serves, the tables agree with the drive, and a clean runs, or none does and a zone is kept
+-- empty. It has answered `Stopped` only after the drive has stopped.
+pub record Holds (disk : MountedView) (clean : Option CleanView) (status : DiskStatus) : Type 0 where
+  pub mountable : IsMountable disk.drive disk.tables.given
+  pub geometry : IsInRange disk.drive.geometry
+  pub reserve : FitsReserve disk.drive.geometry disk.tables.given
+  pub short : size_of disk.tables ≤ 2 ^ 31
+  pub agrees : WhileServing status (AgreesWithClean disk clean)
+  pub stopped : status ≡ Stopped → disk.drive.stopped ≡ true
+
+-- what of it a test of a call beforehand tells
+pub record IsSound (disk : DiskView) : Type 0 where
+  pub mountable : IsMountable disk.drive (given_size disk)
+  pub range : IsInRange disk.drive.geometry
+  pub short : disk_size disk ≤ 2 ^ 31
 
 -- what a refusal on its way leaves a disk in
-abbrev pub status_of : DiskFault → DiskStatus
-status_of faults.Stopped = Stopped
-status_of fault = Serving
+abbrev pub status_left : DiskFault → DiskStatus
+status_left faults.Stopped = Stopped
+status_left fault = Serving
 
 -- the answer that a test made beforehand stands for: that the call is done, that it goes on, or a refusal
 abbrev pub answer_before : Result Bool DiskFault → Option (Result (Unit {0}) DiskFault)
@@ -82,5 +90,6 @@ pub record ReportsAll (old : DriveState) (bytes : List ℕ) (new : DriveState) :
 
 -- A turn of a disk that serves, by its answer: the next step of the clean that runs or, where none runs, the start of one that is due.
 abbrev pub IsTurn : DiskView → Result (Unit {0}) DiskFault → DiskView → Type 0
-IsTurn old (Ok done) new = TurnLeaves (mounted old.drive old.tables) old.clean (Ok tt) (mounted new.drive new.tables) new.clean
-IsTurn old (Err fault) new = (cause : CleanFault) × (fault ≡ cleaning_fault cause) × TurnLeaves (mounted old.drive old.tables) old.clean (Err cause) (mounted new.drive new.tables) new.clean
+IsTurn old (Ok done) new = TurnLeaves (mounted_of old) old.clean (Ok tt) (mounted_of new) new.clean
+IsTurn old (Err fault) new =
+    (cause : CleanFault) × (fault ≡ cleaning_fault cause) × TurnLeaves (mounted_of old) old.clean (Err cause) (mounted_of new) new.clean

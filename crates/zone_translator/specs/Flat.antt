@@ -1,9 +1,9 @@
 -- The flat disk: an array of blocks, and what a conventional disk that can grow answers to a call.
 use Rattle.std.specs.Prelude.{◌≡◌, ◌⊎◌, ℕ, zero, suc, ◌+◌, ◌≤◌, ◌==◌, nat_lt, if◌then◌else◌, Bool, true, false, List, [], ◌∷◌, length, replicate, take, drop, MatchOption, Option, Some, None, Result, Ok, Err}
 use Rattle.batch_log.specs.Log.{zero_block}
-use Rattle.zone_choice.specs.Sizes.{extended}
-use Rattle.remount.specs.declared.fault.MountFault.{MountFault}
-use Rattle.remount.specs.declared.fault.MountFault.TheVariants as mount
+use Rattle.drive_array.specs.Sizes.{extended}
+use Rattle.drive_survey.specs.declared.fault.MountFault.{MountFault}
+use Rattle.drive_survey.specs.declared.fault.MountFault.TheVariants as mount
 use Rattle.zone_translator.specs.declared.fault.DiskFault.{DiskFault}
 use Rattle.zone_translator.specs.declared.fault.DiskFault.TheVariants.{OutOfRange, OutOfMemory, Stopped, Spent, Unmounted, Smaller, Reserve}
 use Rattle.zone_translator.specs.declared.status.DiskStatus.{DiskStatus}
@@ -30,7 +30,9 @@ pub record IsFront (old : List (List ℕ)) (first : ℕ) (blocks : List (List �
 
 -- ---- the disk
 
--- An array, and whether the disk serves it, has answered `Stopped`, or has refused a remount. The size is the number of blocks that may be named: it is that of the array while the disk serves. `block` is how many bytes a block has, `most` the greatest size that the drive's reserve allows.
+-- An array, and whether the disk serves it, has answered `Stopped`, or has refused a remount. The size is the number
+-- of blocks that may be named: it is that of the array while the disk serves. `block` is how many bytes a block has,
+-- `most` the greatest size that the drive's reserve allows.
 pub record FlatDisk : Type 0 where
   pub array : List (List ℕ)
   pub size : ℕ
@@ -40,7 +42,8 @@ pub record FlatDisk : Type 0 where
 
 -- ---- calls
 
--- what a host asks of a disk: to show n blocks from a given one on, to write these blocks from a given one on, to have that many blocks, to clean for one turn, or to report the drive's zones
+-- what a host asks of a disk: to show n blocks from a given one on, to write these blocks from a given one on, to have
+-- that many blocks, to clean for one turn, or to report the drive's zones
 pub data Call : Type 0 where
   read : ℕ → ℕ → Call
   write : ℕ → List (List ℕ) → Call
@@ -62,12 +65,13 @@ shown_by disk (read first n) = blocks_from disk.array first n
 shown_by disk call = []
 
 -- the disk after a call that is done: a write replaces its blocks, blocks that are new are zeros, and nothing else changes
-abbrev pub after : FlatDisk → Call → FlatDisk
-after disk (write first blocks) = record disk { array = replaced disk.array first blocks }
-after disk (grow size) = record disk { array = extended (zero_block disk.block) size disk.array; size = size }
-after disk call = disk
+abbrev pub disk_after : FlatDisk → Call → FlatDisk
+disk_after disk (write first blocks) = record disk { array = replaced disk.array first blocks }
+disk_after disk (grow size) = record disk { array = extended (zero_block disk.block) size disk.array; size = size }
+disk_after disk call = disk
 
--- The array after a call that was refused on its way: a front of a write, and the same array after any other call. Where the drive stopped inside a growth, the array may have grown.
+-- The array after a call that was refused on its way: a front of a write, and the same array after any other call.
+-- Where the drive stopped inside a growth, the array may have grown.
 abbrev pub IsAfterFront : FlatDisk → Call → DiskFault → List (List ℕ) → Type 0
 IsAfterFront disk (write first blocks) fault new = IsFront disk.array first blocks new
 IsAfterFront disk (grow size) Stopped new = (new ≡ disk.array) ⊎ (new ≡ extended (zero_block disk.block) size disk.array)
@@ -99,7 +103,8 @@ answer_while statuses.Serving = None
 answer_while statuses.Stopped = Some (Err Stopped)
 answer_while statuses.Unmounted = Some (Err Unmounted)
 
--- Of a call that names n blocks, the answer that is known before anything is done, in this order: a call of no block is done, one past the end is out of range, and a disk that does not serve says so.
+-- Of a call that names n blocks, the answer that is known before anything is done, in this order: a call of no block
+-- is done, one past the end is out of range, and a disk that does not serve says so.
 abbrev pub known_range : FlatDisk → ℕ → ℕ → Option (Result (Unit {0}) DiskFault)
 known_range disk first n =
     if n == 0 then Some (Ok tt)
@@ -127,9 +132,10 @@ status_after result = statuses.Serving
 
 -- A call that was begun on a disk that serves: done, it shows its blocks, and the disk is that after it; refused, it shows nothing, and a front of it is done.
 abbrev pub Begun : FlatDisk → Call → Result (Unit {0}) DiskFault → List (List ℕ) → FlatDisk → Type 0
-Begun old call (Ok done) shown new = (shown ≡ shown_by old call) × (new ≡ after old call)
+Begun old call (Ok done) shown new = (shown ≡ shown_by old call) × (new ≡ disk_after old call)
 Begun old call (Err fault) shown new =
-    (may_refuse call fault ≡ true) × (shown ≡ []) × IsAfterFront old call fault new.array × (new ≡ record old { array = new.array; status = status_after (Err fault) })
+    (may_refuse call fault ≡ true) × (shown ≡ []) × IsAfterFront old call fault new.array
+    × (new ≡ record old { array = new.array; status = status_after (Err fault) })
 
 -- What a disk answers to a call, and what it is afterwards.
 abbrev pub FlatCall : FlatDisk → Call → Answer → FlatDisk → Type 0
@@ -140,7 +146,9 @@ FlatCall old call answer new =
 
 -- ---- mounting again
 
--- A remount, whatever the disk answered before. Done, the disk serves, by the size of its array: where a growth was stopped, that may be the greater one. Refused, by an allocation that failed or a drive that has stopped, it is unmounted. The array stays.
+-- A remount, whatever the disk answered before. Done, the disk serves, by the size of its array: where a growth was
+-- stopped, that may be the greater one. Refused, by an allocation that failed or a drive that has stopped, it is
+-- unmounted. The array stays.
 abbrev pub FlatRemount : FlatDisk → Result (Unit {0}) MountFault → FlatDisk → Type 0
 FlatRemount old (Ok done) new = new ≡ record old { size = length old.array; status = statuses.Serving }
 FlatRemount old (Err fault) new = ((fault ≡ mount.OutOfMemory) ⊎ (fault ≡ mount.Halted)) × (new ≡ record old { status = statuses.Unmounted })

@@ -6,3 +6,6 @@ pub mod Calls
 pub mod Read
 pub mod Mount
 pub mod Laws
+pub mod Cleaning
+pub mod Parts
+pub mod Answers

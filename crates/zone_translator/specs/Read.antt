@@ -1,5 +1,8 @@
 -- Why a read is refused.
-use Rattle.std.specs.Prelude.{◌≡◌, true}
+use Rattle.std.specs.Prelude.{◌≡◌, ℕ, Some, false, slice_index_or, true}
+use Rattle.logical_map.specs.declared.place.Place.TheVariants as places
+use Rattle.zone_choice.specs.Agreement.{MountedView}
+use Rattle.zone_cleaner.specs.Start.{trims}
 use Rattle.drive_port.specs.Drive.{DriveState}
 use Rattle.zone_translator.specs.declared.fault.DiskFault.{DiskFault}
 use Rattle.zone_translator.specs.declared.fault.DiskFault.TheVariants.{OutOfMemory, Stopped}
@@ -8,3 +11,8 @@ abbrev pub IsReadFault : DriveState → DiskFault → Type 0
 IsReadFault drive OutOfMemory = Unit {0}
 IsReadFault drive Stopped = drive.stopped ≡ true
 IsReadFault drive fault = ⊥
+
+-- of a block that has no data the drive is not asked, so no stop is seen there
+pub record IsBlockFault (disk : MountedView) (block : ℕ) (fault : DiskFault) : Type 0 where
+  pub cause : IsReadFault disk.drive fault
+  pub stops : fault ≡ Stopped → trims (slice_index_or disk.tables.map.places block places.None) ≡ Some false

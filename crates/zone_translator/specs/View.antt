@@ -1,14 +1,16 @@
 -- What a disk is seen as, and what its calls keep.
-use Rattle.std.specs.Prelude.{◌≡◌, ℕ, ◌+◌, ◌≤◌, Bool, true, false, List, Option}
+use Rattle.std.specs.Prelude.{◌≡◌, ℕ, ◌+◌, ◌<◌, ◌≤◌, Bool, true, false, List, Option, count_by}
 use Rattle.std.specs.Int.{div_ceil}
 use Rattle.drive_port.specs.Drive.{DriveState}
 use Rattle.batch_log.specs.Log.{Batch}
 use Rattle.zone_choice.specs.Tables.{TablesView, size_of}
+use Rattle.logical_map.specs.Live.{lies_in}
 use Rattle.logical_map.specs.declared.place.Place.{Place}
-use Rattle.zone_choice.specs.Agreement.{drive_logs, spelled}
-use Rattle.zone_choice.specs.Sizes.{greatest, map_of}
-use Rattle.zone_choice.specs.Mountable.{IsMountable}
-use Rattle.zone_choice.specs.Reserve.{batch_most, most_size}
+use Rattle.zone_choice.specs.Agreement.{MountedView, mounted}
+use Rattle.drive_array.specs.ZoneLogs.{drive_logs, spelled}
+use Rattle.drive_array.specs.Sizes.{greatest, map_of}
+use Rattle.drive_array.specs.Mountable.{IsMountable}
+use Rattle.drive_array.specs.Reserve.{batch_most, most_size}
 use Rattle.zone_cleaner.specs.Clean.{CleanView, turns_left}
 use Rattle.zone_translator.specs.declared.fault.DiskFault.{DiskFault}
 use Rattle.zone_translator.specs.declared.fault.DiskFault.TheVariants.{OutOfRange, Unmounted, Smaller, Reserve}
@@ -24,6 +26,10 @@ pub record DiskView : Type 0 where
   pub clean : Option CleanView
   pub status : DiskStatus
 
+-- the drive with its tables
+abbrev pub mounted_of : DiskView → MountedView
+mounted_of disk = mounted disk.drive disk.tables
+
 -- how many logical blocks there are
 abbrev pub disk_size : DiskView → ℕ
 disk_size disk = size_of disk.tables
@@ -37,12 +43,16 @@ abbrev pub given_size : DiskView → ℕ
 given_size disk = disk.tables.given
 
 -- the flat array that the disk keeps: the one that its drive encodes
-abbrev pub array_of : DiskView → List (List ℕ)
-array_of disk = spelled disk.drive (given_size disk)
+abbrev pub disk_array : DiskView → List (List ℕ)
+disk_array disk = spelled disk.drive (given_size disk)
 
 -- where the newest record of each block lies on the drive, by its logs
-abbrev pub places_of : DiskView → List Place
-places_of disk = map_of disk.drive.geometry.size (given_size disk) (drive_logs disk.drive)
+abbrev pub disk_places : DiskView → List Place
+disk_places disk = map_of disk.drive.geometry.size (given_size disk) (drive_logs disk.drive)
+
+-- as many blocks have their newest record in a zone that the drive has
+abbrev pub HasLive : DiskView → ℕ → ℕ → Type 0
+HasLive disk zone count = zone < disk.drive.geometry.zones → count ≡ count_by (lies_in disk.drive.geometry.size zone) (disk_places disk)
 
 -- the logs of all zones of the drive
 abbrev pub logs_of : DiskView → List (List Batch)
@@ -54,14 +64,15 @@ size_on disk = greatest (drive_logs disk.drive)
 
 abbrev pub flat_of : DiskView → FlatDisk
 flat_of disk = record {
-  array = array_of disk;
+  array = disk_array disk;
   size = disk_size disk;
   status = disk.status;
   block = disk.drive.geometry.block;
   most = most_size disk.drive.geometry;
 }
 
--- What every call of a disk but a remount keeps, whatever it answers: a drive that can be mounted again. No command is refused, the next sequence rises by one with each batch that is appended, and the disk is not unmounted.
+-- What every call of a disk but a remount keeps, whatever it answers: a drive that can be mounted again. No command is
+-- refused, the next sequence rises by one with each batch that is appended, and the disk is not unmounted.
 pub record KeepsDisk (old new : DiskView) : Type 0 where
   pub given : given_size new ≡ given_size old
   pub geometry : new.drive.geometry ≡ old.drive.geometry
@@ -91,5 +102,5 @@ most_batches true disk n = div_ceil n (batch_most disk.drive.geometry)
 most_batches false disk n = n
 
 -- the drive completes no more than that many commands
-abbrev pub Completes : DiskView → ℕ → DiskView → Type 0
-Completes old count new = new.drive.completed ≤ old.drive.completed + count
+abbrev pub CompletesAtMost : DiskView → ℕ → DiskView → Type 0
+CompletesAtMost old count new = new.drive.completed ≤ old.drive.completed + count

@@ -1,47 +1,42 @@
-ghost use Rattle.std.specs.Prelude.{◌≡◌, ℕ, List, ◌-◌, ◌+◌, ◌<◌, ◌≤◌, ◌++◌, ◌^◌, ◌*◌, [], IfErr, IfOk, OnOk, OnErr, None, Some, count_by, is_some, false, true, length, replicate, slice_index_or, take};
-ghost use Rattle.drive_port.specs.Calls.{block_count, data_blocks};
-ghost use Rattle.logical_map.specs.Live.{lies_in};
+ghost use Rattle.std.specs.Prelude.{◌≡◌, ◌+◌, ◌<◌, ◌≤◌, ◌++◌, [], IfErr, IfOk, None, OnErr, OnOk, false, is_some, length, slice_index_or, true};
 ghost use Rattle.logical_map.specs.declared.place.Place.TheVariants as places;
-ghost use Rattle.zone_choice.specs.Agreement.{mounted};
-ghost use Rattle.zone_choice.specs.Mountable.{IsMountable};
-ghost use Rattle.zone_choice.specs.Reserve.{FitsReserve};
-ghost use Rattle.zone_states.specs.Geometry.{IsInRange};
-ghost use Rattle.zone_states.specs.Zone.{cut_blocks};
-ghost use Rattle.zone_cleaner.specs.Start.{TurnsFewer};
-ghost use Rattle.zone_translator.specs.Calls.{IsTurn, Reads, ReportsAll, answer_before, done_of, refusal_before, is_known, status_of};
-ghost use Rattle.zone_translator.specs.Batches.{LogsAreCut, IsBatchCount, IsWhole, blocks_of, is_trim};
-ghost use Rattle.zone_translator.specs.Changes.{AreNamed, IsCause, Names, batch_commands};
-ghost use Rattle.zone_translator.specs.Flat.{FlatCall, FlatRemount, IsFront, answer_while, fill, grow, idle, known_growth, known_range, read, replaced, report, trim, with_nothing, write};
+ghost use Rattle.remount.specs.Kept.{KeepsMountable};
+ghost use Rattle.remount.specs.Mount.{MountFails, Mounts};
+ghost use Rattle.drive_survey.specs.Scan.{FailsBy};
+ghost use Rattle.drive_array.specs.Reserve.{FitsReserve};
+ghost use Rattle.zone_choice.specs.Roles.{empty_count};
+ghost use Rattle.zone_choice.specs.Tables.{size_of};
+ghost use Rattle.zone_translator.specs.Answers.{Answers, AnswersRead, AreBlocksOf, IsMounted, KeepsClean, Remounts, SaysSize, Stores, TakesTurn, count_of_blocks, write_bytes, write_commands, write_content};
+ghost use Rattle.zone_translator.specs.Batches.{CanWrite, HasBlocks, KeepsCut, is_trim};
+ghost use Rattle.zone_translator.specs.Calls.{IsSound, ReportsAll, answer_before, done_of, refusal_before, status_left};
+ghost use Rattle.zone_translator.specs.Changes.{batch_commands};
+ghost use Rattle.zone_translator.specs.Cleaning.{KeepsCleaning};
+ghost use Rattle.zone_translator.specs.Flat.{answer_while, fill, grow, idle, known_growth, known_range, report, trim};
+ghost use Rattle.zone_translator.specs.Mount.{GivesBack};
+ghost use Rattle.zone_translator.specs.Parts.{KeepsByRead, ReadStops, RefusedSome, WroteSome};
+ghost use Rattle.zone_translator.specs.View.{CompletesAtMost, DiskCause, KeepsDisk, disk_array, HasLive, disk_size, disk_turns, flat_of, mounted_of, disk_places};
 ghost use Rattle.zone_translator.specs.declared.status.DiskStatus.TheVariants.{Serving};
-ghost use Rattle.batch_log.specs.Log.{Batch};
-ghost use Rattle.remount.specs.Known.{KeepsMountable};
-ghost use Rattle.remount.specs.Scan.{FailsBy};
-ghost use Rattle.zone_translator.specs.Mount.{GivesBack, MountsDisk};
-ghost use Rattle.zone_translator.specs.Read.{IsReadFault};
-ghost use Rattle.zone_translator.specs.View.{Completes, DiskCause, DiskView, KeepsDisk, array_of, disk_size, flat_of, disk_turns, given_size, logs_of, most_batches, next_sequence, places_of, size_on};
 
 use crate::fault::DiskFault;
 use crate::read::read_block;
 use crate::report::report_all;
 use crate::status::DiskStatus;
-use crate::write::{Content, grow_batch, next_batch};
+use crate::write::{Content, Rest, grow_batch, next_batch};
 use drive_port::Device;
 use logical_map::Place;
 use remount::{MountFault, mount};
 use std::alloc::Global;
 use std::marker::Model;
-use zone_choice::{BatchBuilder, Tables, most_blocks};
+use zone_choice::{BatchBuilder, Mounted, most_blocks};
 use zone_cleaner::Cleaner;
 
 /// An array of logical blocks above a zoned drive. A disk owns its drive, and gives it back.
 #[derive(Drop)]
 pub struct Disk<D: Device + Drop> {
-    device: D,
-    tables: Tables,
+    mounted: Mounted<D>,
     cleaner: Cleaner,
     status: DiskStatus,
     batch: BatchBuilder,
-    alloc: Global,
 }
 
 impl<D: Device + Drop> Model for Disk<D> {
@@ -50,14 +45,44 @@ impl<D: Device + Drop> Model for Disk<D> {
 
     ghost Value = { DiskView };
 
-    ghost view = { λ d. record { drive = D.drive d.device; tables = d.tables; clean = d.cleaner; status = d.status } };
+    ghost view = { λ d. record { drive = d.mounted.drive; tables = d.mounted.tables; clean = d.cleaner; status = d.status } };
 
-    ghost invariant = { λ d. Holds (D.drive d.device) d.tables d.cleaner d.status };
+    ghost invariant = { λ d. Holds d.mounted d.cleaner d.status };
+}
+
+/// How many logical blocks a mounted disk has.
+fn mounted_blocks<D: Device>(disk: &Mounted<D>) -> u64
+    ensures { result ≡ size_of disk.now.tables }
+{
+    disk.tables.blocks() as u64
+}
+
+/// A cleaner of which no clean runs.
+fn new_cleaner<D: Device>(disk: &Mounted<D>) -> Cleaner
+    ensures { result ≡ None }
+{
+    Cleaner::new(disk.alloc)
+}
+
+/// Finds the tables again on the drive. After a refusal they are the old ones.
+fn mount_again<D: Device>(disk: &mut Mounted<D>) -> Result<(), MountFault>
+    ensures ok { OnOk result (Mounts disk.old.drive disk.new.drive disk.old.tables.given disk.new.tables) }
+    ensures err { IfErr result (FailsBy (MountFails disk.old.drive disk.old.tables.given) disk.new.drive) }
+    ensures tables { OnErr result (disk.new.tables ≡ disk.old.tables) }
+    ensures kept { KeepsMountable disk.old.tables.given disk.old.drive disk.new.drive }
+{
+    match mount(disk.alloc, &mut disk.device, disk.tables.given() as u64) {
+        Ok(tables) => {
+            disk.tables = tables;
+            Ok(())
+        }
+        Err(fault) => Err(fault),
+    }
 }
 
 /// What a refusal leaves a disk in.
 fn status_of(fault: DiskFault) -> DiskStatus
-    ensures { result ≡ status_of fault }
+    ensures { result ≡ status_left fault }
 {
     match fault {
         DiskFault::Stopped => DiskStatus::Stopped,
@@ -71,20 +96,15 @@ impl<D: Device + Drop> Disk<D> {
     ///
     /// With the fault the drive is given back, and can be mounted if it could before.
     pub fn mount(alloc: Global, mut device: D, blocks: u64) -> Result<Disk<D>, (MountFault, D)>
-        ensures disk { IfOk result (MountsDisk (D.drive device) blocks) }
-        ensures fits { IfOk result (λ disk. IsInRange disk.drive.geometry × FitsReserve disk.drive.geometry (disk_size disk)) }
-        ensures kept { IfOk result (λ disk. KeepsMountable blocks (D.drive device) disk.drive) }
-        ensures mountable { IfOk result (λ disk. IsMountable disk.drive (given_size disk)) }
+        ensures disk { IfOk result (IsMounted (D.drive device) blocks) }
         ensures err { IfErr result (λ refusal. GivesBack (D.drive device) blocks refusal.0 (D.drive refusal.1)) }
     {
         match mount(alloc, &mut device, blocks) {
             Ok(tables) => Ok(Disk {
-                device,
-                tables,
+                mounted: Mounted::new(alloc, device, tables),
                 cleaner: Cleaner::new(alloc),
                 status: DiskStatus::Serving,
                 batch: BatchBuilder::new(alloc),
-                alloc,
             }),
             Err(fault) => Err((fault, device)),
         }
@@ -94,22 +114,22 @@ impl<D: Device + Drop> Disk<D> {
     pub fn device(&self) -> &D
         ensures { D.drive result.now ≡ self.now.drive }
     {
-        &self.device
+        &self.mounted.device
     }
 
     /// The drive, as it stands.
     pub fn into_device(self) -> D
         ensures { D.drive result ≡ self.drive }
     {
-        self.device
+        self.mounted.device
     }
 
     /// How many logical blocks there are.
     pub fn blocks(&self) -> u64
         ensures size { result ≡ disk_size self.now }
-        ensures array { self.now.status ≡ Serving → length (array_of self.now) ≡ disk_size self.now }
+        ensures array { self.now.status ≡ Serving → length (disk_array self.now) ≡ disk_size self.now }
     {
-        self.tables.blocks() as u64
+        mounted_blocks(&self.mounted)
     }
 
     /// How many bytes a block has, 512 or 4,096.
@@ -117,26 +137,26 @@ impl<D: Device + Drop> Disk<D> {
         ensures size { result ≡ self.now.drive.geometry.block }
         ensures some { 0 < result }
     {
-        self.device.geometry().block as usize
+        self.mounted.geometry().block as usize
     }
 
     /// Where the newest record of a block lies on the drive. A block that no record names has no place, and
     /// neither has one past the end. After `Stopped` it is the place that was known before.
     pub fn place_of(&self, block: u64) -> Place
-        ensures { self.now.status ≡ Serving → result ≡ slice_index_or (places_of self.now) block places.None }
+        ensures { self.now.status ≡ Serving → result ≡ slice_index_or (disk_places self.now) block places.None }
     {
-        if block >= self.tables.blocks() as u64 {
+        if block >= mounted_blocks(&self.mounted) {
             return Place::None;
         }
-        self.tables.place_of(block as u32)
+        self.mounted.tables.place_of(block as u32)
     }
 
     /// How many blocks have their newest record in a zone: its live records; 0 for a zone that the drive has not.
     /// After `Stopped` it is the number that was known before.
     pub fn live(&self, zone: u32) -> u32
-        ensures { self.now.status ≡ Serving → zone < self.now.drive.geometry.zones → result ≡ count_by (lies_in self.now.drive.geometry.size zone) (places_of self.now) }
+        ensures { self.now.status ≡ Serving → HasLive self.now zone result }
     {
-        self.tables.live(zone)
+        self.mounted.tables.live(zone)
     }
 
     /// Whether the disk serves calls, has answered `Stopped`, or has refused a remount.
@@ -146,38 +166,20 @@ impl<D: Device + Drop> Disk<D> {
         self.status
     }
 
-    /// One batch of a write. After a refusal none of the `left` blocks is written; after a stop a front of them may
-    /// be.
-    fn write_some(&mut self, first: u32, left: u32, content: Content) -> Result<u32, DiskFault>
-        requires some { 1 ≤ left }
-        requires in_range { first + left ≤ disk_size self.old }
-        requires whole { IsWhole self.old.drive.geometry.block left content }
+    /// One batch of a write. After a refusal none of the blocks that are left is written; after a stop a front of them
+    /// may be.
+    fn write_some(&mut self, rest: Rest) -> Result<u32, DiskFault>
         requires serving { self.old.status ≡ Serving }
+        requires can { CanWrite (mounted_of self.old) rest }
+        ensures wrote { IfOk result (WroteSome self.old rest.entry self.new) }
+        ensures err { IfErr result (RefusedSome self.old rest.entry self.new) }
         ensures kept { KeepsDisk self.old self.new }
         ensures size { disk_size self.new ≡ disk_size self.old }
-        ensures count { IfOk result (λ count. (1 ≤ count) × (count ≤ left) × IsBatchCount self.old.drive.geometry (is_trim content.entry) left count) }
-        ensures ok { IfOk result (λ count. array_of self.new ≡ replaced (array_of self.old) first (take count (blocks_of self.old.drive.geometry.block left content.entry))) }
-        ensures names { IfOk result (λ count. Names (is_trim content.entry) (places_of self.old) first count (places_of self.new)) }
-        ensures says { OnOk result (size_on self.new ≡ Some (disk_size self.new)) }
-        ensures serving { OnOk result (self.new.status ≡ Serving) }
-        ensures status { IfErr result (λ fault. self.new.status ≡ status_of fault) }
-        ensures err { OnErr result (IsFront (array_of self.old) first (blocks_of self.old.drive.geometry.block left content.entry) (array_of self.new)) }
-        ensures cause { IfErr result (λ fault. IsCause self.new.drive (next_sequence self.new) fault) }
-        ensures cut { (before : List (List Batch)) → LogsAreCut self.old.drive.geometry before (first + left - 1) (logs_of self.old) → LogsAreCut self.old.drive.geometry before (first + left - 1) (logs_of self.new) }
-        ensures turns { OnOk result (disk_turns self.new ≤ disk_turns self.old) }
-        ensures completed { Completes self.old (batch_commands self.old.drive.geometry) self.new }
+        ensures cut { KeepsCut self.old.drive rest.entry self.new.drive }
+        ensures clean { KeepsCleaning (mounted_of self.old) self.old.clean result (mounted_of self.new) self.new.clean }
+        ensures completed { CompletesAtMost self.old (batch_commands self.old.drive.geometry) self.new }
     {
-        let written = next_batch(
-            self.alloc,
-            &mut self.tables,
-            &mut self.device,
-            &mut self.cleaner,
-            &mut self.batch,
-            first,
-            left,
-            content,
-        );
-        match written {
+        match next_batch(&mut self.mounted, &mut self.cleaner, &mut self.batch, rest) {
             Ok(count) => Ok(count),
             Err(fault) => {
                 self.status = status_of(fault);
@@ -188,25 +190,26 @@ impl<D: Device + Drop> Disk<D> {
 
     /// Writes n blocks from `first` on, batch by batch.
     fn write_all(&mut self, first: u64, blocks: u64, content: Content) -> Result<(), DiskFault>
-        requires whole { IsWhole self.old.drive.geometry.block blocks content }
-        ensures flat { FlatCall (flat_of self.old) (write first (blocks_of self.old.drive.geometry.block blocks content.entry)) (with_nothing result) (flat_of self.new) }
-        ensures untouched { is_known (flat_of self.old) (write first (blocks_of self.old.drive.geometry.block blocks content.entry)) ≡ true → self.new ≡ self.old }
-        ensures named { OnOk result (AreNamed (is_trim content.entry) (places_of self.new) first blocks) }
-        ensures says { OnOk result (1 ≤ blocks → size_on self.new ≡ Some (disk_size self.new)) }
-        ensures kept { KeepsDisk self.old self.new }
-        ensures cause { IfErr result (DiskCause self.new) }
-        ensures cut { LogsAreCut self.old.drive.geometry (logs_of self.old) (first + blocks - 1) (logs_of self.new) }
+        requires whole { HasBlocks self.old.drive.geometry.block blocks content }
+        ensures answers { Answers self.old (write_content self.old first blocks content.entry) result self.new }
+        ensures stores { Stores (is_trim content.entry) self.old first blocks result self.new }
         ensures turns { OnOk result (disk_turns self.new ≤ disk_turns self.old) }
-        ensures completed { Completes self.old (most_batches (is_trim content.entry) self.old blocks * batch_commands self.old.drive.geometry) self.new }
+        ensures clean { self.new.status ≡ Serving → KeepsClean self.old self.new }
+        ensures completed { CompletesAtMost self.old (write_commands (is_trim content.entry) self.old blocks) self.new }
     {
         if self.is_done(first, blocks)? {
             return Ok(());
         }
-        let block = self.device.geometry().block as usize;
+        let block = self.mounted.geometry().block as usize;
         let mut done = 0;
         while done < blocks as u32 {
-            let rest = content.after(done as usize * block);
-            match self.write_some(first as u32 + done, blocks as u32 - done, rest) {
+            let unwritten = content.after(done as usize * block);
+            let rest = Rest {
+                first: first as u32 + done,
+                left: blocks as u32 - done,
+                content: unwritten,
+            };
+            match self.write_some(rest) {
                 Ok(count) => done += count,
                 Err(fault) => return Err(fault),
             }
@@ -218,17 +221,13 @@ impl<D: Device + Drop> Disk<D> {
     fn read_one(&mut self, block: u32, into: &mut Vec<u8>) -> Result<(), DiskFault>
         requires in_range { block < disk_size self.old }
         requires serving { self.old.status ≡ Serving }
-        ensures kept { KeepsDisk self.old self.new }
-        ensures array { array_of self.new ≡ array_of self.old }
-        ensures size { disk_size self.new ≡ disk_size self.old }
-        ensures ok { OnOk result (into.new.items ≡ into.old.items ++ slice_index_or (array_of self.old) block []) }
-        ensures turns { disk_turns self.new ≡ disk_turns self.old }
-        ensures completed { Completes self.old 1 self.new }
+        ensures keeps { KeepsByRead self.old self.new }
+        ensures ok { OnOk result (into.new.items ≡ into.old.items ++ slice_index_or (disk_array self.old) block []) }
         ensures serving { OnOk result (self.new.status ≡ Serving) }
-        ensures status { IfErr result (λ fault. self.new.status ≡ status_of fault) }
-        ensures err { IfErr result (IsReadFault self.new.drive) }
+        ensures err { IfErr result (ReadStops self.old block self.new) }
+        ensures completed { CompletesAtMost self.old 1 self.new }
     {
-        match read_block(&self.tables, &mut self.device, block, into) {
+        match read_block(&mut self.mounted, block, into) {
             Ok(()) => Ok(()),
             Err(fault) => {
                 self.status = status_of(fault);
@@ -242,7 +241,7 @@ impl<D: Device + Drop> Disk<D> {
         ensures known { answer_while self.now.status ≡ refusal_before result }
         ensures serving { OnOk result (self.now.status ≡ Serving) }
         ensures cause { IfErr result (DiskCause self.now) }
-        ensures mountable { IsMountable self.now.drive (given_size self.now) }
+        ensures sound { IsSound self.now }
     {
         match self.status {
             DiskStatus::Serving => Ok(()),
@@ -255,15 +254,14 @@ impl<D: Device + Drop> Disk<D> {
     /// end is refused, and so is each while the disk does not serve.
     fn is_done(&self, first: u64, blocks: u64) -> Result<bool, DiskFault>
         ensures known { known_range (flat_of self.now) first blocks ≡ answer_before result }
-        ensures in_range { IfOk result (λ done. done ≡ false → (1 ≤ blocks) × (first + blocks ≤ disk_size self.now) × (self.now.status ≡ Serving)) }
-        ensures cause { IfErr result (DiskCause self.now) }
-        ensures mountable { IsMountable self.now.drive (given_size self.now) }
-        ensures short { disk_size self.now ≤ 2 ^ 31 }
+        ensures in_range { IfOk result (λ done. done ≡ false → (1 ≤ blocks) × (first + blocks ≤ disk_size self.now)) }
+        ensures serving { IfOk result (λ done. done ≡ false → self.now.status ≡ Serving) }
+        ensures long { IfOk result (λ done. done ≡ false → length (disk_array self.now) ≡ disk_size self.now) }
         ensures none { IfOk result (λ done. done ≡ true → blocks ≡ 0) }
-        ensures long { IfOk result (λ done. done ≡ false → length (array_of self.now) ≡ disk_size self.now) }
-        ensures range { IsInRange self.now.drive.geometry }
+        ensures cause { IfErr result (DiskCause self.now) }
+        ensures sound { IsSound self.now }
     {
-        let size = self.tables.blocks() as u64;
+        let size = mounted_blocks(&self.mounted);
         if blocks == 0 {
             return Ok(true);
         }
@@ -277,17 +275,13 @@ impl<D: Device + Drop> Disk<D> {
     /// Writes `blocks` blocks of one byte from `first` on.
     ///
     /// After a refusal on its way a front of them is written. After `OutOfMemory` or `Spent` the
-    /// disk goes on; after `Stopped` it needs a mount of the restarted drive, or a remount, by which the front is found.
+    /// disk goes on; after `Stopped` it needs a mount of the restarted drive, or a remount, which finds the front.
     pub fn fill(&mut self, first: u64, blocks: u64, byte: u8) -> Result<(), DiskFault>
-        ensures flat { FlatCall (flat_of self.old) (fill self.old.drive.geometry.block first blocks byte) (with_nothing result) (flat_of self.new) }
-        ensures stored { OnOk result (AreNamed false (places_of self.new) first blocks) }
-        ensures says { OnOk result (1 ≤ blocks → size_on self.new ≡ Some (disk_size self.new)) }
-        ensures untouched { is_known (flat_of self.old) (fill self.old.drive.geometry.block first blocks byte) ≡ true → self.new ≡ self.old }
-        ensures kept { KeepsDisk self.old self.new }
-        ensures cause { IfErr result (DiskCause self.new) }
-        ensures cut { LogsAreCut self.old.drive.geometry (logs_of self.old) (first + blocks - 1) (logs_of self.new) }
+        ensures answers { Answers self.old (fill self.old.drive.geometry.block first blocks byte) result self.new }
+        ensures stores { Stores false self.old first blocks result self.new }
         ensures turns { OnOk result (disk_turns self.new ≤ disk_turns self.old) }
-        ensures completed { Completes self.old (blocks * batch_commands self.old.drive.geometry) self.new }
+        ensures clean { self.new.status ≡ Serving → KeepsClean self.old self.new }
+        ensures completed { CompletesAtMost self.old (write_commands false self.old blocks) self.new }
     {
         self.write_all(first, blocks, Content::Byte(byte))
     }
@@ -296,18 +290,14 @@ impl<D: Device + Drop> Disk<D> {
     ///
     /// After a refusal on its way a front of the blocks is written, as after one of a `fill`.
     pub fn write(&mut self, first: u64, bytes: &[u8]) -> Result<(), DiskFault>
-        requires whole { length bytes.now ≡ block_count self.old.drive.geometry bytes.now * self.old.drive.geometry.block }
-        ensures flat { FlatCall (flat_of self.old) (write first (data_blocks self.old.drive.geometry bytes.now)) (with_nothing result) (flat_of self.new) }
-        ensures stored { OnOk result (AreNamed false (places_of self.new) first (block_count self.old.drive.geometry bytes.now)) }
-        ensures says { OnOk result (1 ≤ block_count self.old.drive.geometry bytes.now → size_on self.new ≡ Some (disk_size self.new)) }
-        ensures untouched { is_known (flat_of self.old) (write first (data_blocks self.old.drive.geometry bytes.now)) ≡ true → self.new ≡ self.old }
-        ensures kept { KeepsDisk self.old self.new }
-        ensures cause { IfErr result (DiskCause self.new) }
-        ensures cut { LogsAreCut self.old.drive.geometry (logs_of self.old) (first + block_count self.old.drive.geometry bytes.now - 1) (logs_of self.new) }
+        requires whole { AreBlocksOf self.old bytes.now }
+        ensures answers { Answers self.old (write_bytes self.old first bytes.now) result self.new }
+        ensures stores { Stores false self.old first (count_of_blocks self.old bytes.now) result self.new }
         ensures turns { OnOk result (disk_turns self.new ≤ disk_turns self.old) }
-        ensures completed { Completes self.old (block_count self.old.drive.geometry bytes.now * batch_commands self.old.drive.geometry) self.new }
+        ensures clean { self.new.status ≡ Serving → KeepsClean self.old self.new }
+        ensures completed { CompletesAtMost self.old (write_commands false self.old (count_of_blocks self.old bytes.now)) self.new }
     {
-        let block = self.device.geometry().block as usize;
+        let block = self.mounted.geometry().block as usize;
         self.write_all(first, (bytes.len() / block) as u64, Content::Bytes(bytes))
     }
 
@@ -316,15 +306,11 @@ impl<D: Device + Drop> Disk<D> {
     ///
     /// After a refusal on its way a front of the blocks is trimmed, as after one of a `fill`.
     pub fn trim(&mut self, first: u64, blocks: u64) -> Result<(), DiskFault>
-        ensures flat { FlatCall (flat_of self.old) (trim self.old.drive.geometry.block first blocks) (with_nothing result) (flat_of self.new) }
-        ensures untouched { is_known (flat_of self.old) (trim self.old.drive.geometry.block first blocks) ≡ true → self.new ≡ self.old }
-        ensures trimmed { OnOk result (AreNamed true (places_of self.new) first blocks) }
-        ensures says { OnOk result (1 ≤ blocks → size_on self.new ≡ Some (disk_size self.new)) }
-        ensures kept { KeepsDisk self.old self.new }
-        ensures cause { IfErr result (DiskCause self.new) }
-        ensures cut { LogsAreCut self.old.drive.geometry (logs_of self.old) (first + blocks - 1) (logs_of self.new) }
+        ensures answers { Answers self.old (trim self.old.drive.geometry.block first blocks) result self.new }
+        ensures stores { Stores true self.old first blocks result self.new }
         ensures turns { OnOk result (disk_turns self.new ≤ disk_turns self.old) }
-        ensures completed { Completes self.old (most_batches true self.old blocks * batch_commands self.old.drive.geometry) self.new }
+        ensures clean { self.new.status ≡ Serving → KeepsClean self.old self.new }
+        ensures completed { CompletesAtMost self.old (write_commands true self.old blocks) self.new }
     {
         self.write_all(first, blocks, Content::Trim)
     }
@@ -332,14 +318,15 @@ impl<D: Device + Drop> Disk<D> {
     /// Whether a growth to `blocks` blocks is refused before it begins.
     fn check_growth(&self, blocks: u64) -> Result<(), DiskFault>
         ensures known { known_growth (flat_of self.now) blocks ≡ refusal_before result }
-        ensures grows { OnOk result ((disk_size self.now ≤ blocks) × FitsReserve self.now.drive.geometry blocks × (self.now.status ≡ Serving)) }
+        ensures grows { OnOk result ((disk_size self.now ≤ blocks) × FitsReserve self.now.drive.geometry blocks) }
+        ensures serving { OnOk result (self.now.status ≡ Serving) }
         ensures cause { IfErr result (DiskCause self.now) }
-        ensures mountable { IsMountable self.now.drive (given_size self.now) }
+        ensures sound { IsSound self.now }
     {
-        if blocks < self.tables.blocks() as u64 {
+        if blocks < mounted_blocks(&self.mounted) {
             return Err(DiskFault::Smaller);
         }
-        if blocks > most_blocks(&self.device.geometry()) {
+        if blocks > most_blocks(&self.mounted.geometry()) {
             return Err(DiskFault::Reserve);
         }
         self.check_serving()
@@ -350,25 +337,20 @@ impl<D: Device + Drop> Disk<D> {
     ///
     /// After a refusal the disk has its old size. After `Stopped` the drive has the old size or the new one.
     pub fn grow(&mut self, blocks: u64) -> Result<(), DiskFault>
-        ensures flat { FlatCall (flat_of self.old) (grow blocks) (with_nothing result) (flat_of self.new) }
-        ensures says { OnOk result (size_on self.new ≡ Some blocks) }
-        ensures written { OnOk result (self.old.drive.appended < self.new.drive.appended) }
-        ensures untouched { is_known (flat_of self.old) (grow blocks) ≡ true → self.new ≡ self.old }
-        ensures kept { KeepsDisk self.old self.new }
-        ensures cause { IfErr result (DiskCause self.new) }
+        ensures answers { Answers self.old (grow blocks) result self.new }
+        ensures says { OnOk result (SaysSize self.old blocks self.new) }
         ensures turns { OnOk result (disk_turns self.new ≤ disk_turns self.old) }
-        ensures completed { Completes self.old (batch_commands self.old.drive.geometry) self.new }
+        ensures clean { is_some self.old.clean ≡ true → disk_turns self.new ≤ disk_turns self.old }
+        ensures completed { CompletesAtMost self.old (batch_commands self.old.drive.geometry) self.new }
     {
         self.check_growth(blocks)?;
-        let grown = grow_batch(
-            self.alloc,
-            &mut self.tables,
-            &mut self.device,
+        let blocks = blocks as u32;
+        match grow_batch(
+            &mut self.mounted,
             &mut self.cleaner,
             &mut self.batch,
-            blocks as u32,
-        );
-        match grown {
+            blocks,
+        ) {
             Ok(()) => Ok(()),
             Err(fault) => {
                 self.status = status_of(fault);
@@ -382,17 +364,12 @@ impl<D: Device + Drop> Disk<D> {
     ///
     /// After `OutOfMemory` and `Spent` the clean is as it was, and goes on at the next turn.
     pub fn idle(&mut self) -> Result<(), DiskFault>
-        ensures flat { FlatCall (flat_of self.old) idle (with_nothing result) (flat_of self.new) }
-        ensures untouched { is_known (flat_of self.old) idle ≡ true → self.new ≡ self.old }
-        ensures turn { self.old.status ≡ Serving → IsTurn self.old result self.new }
-        ensures turns { self.old.status ≡ Serving → OnOk result (TurnsFewer (mounted self.old.drive self.old.tables) (mounted self.new.drive self.new.tables) self.old.clean self.new.clean) }
-        ensures refused { OnErr result (disk_turns self.new ≡ disk_turns self.old) }
-        ensures kept { KeepsDisk self.old self.new }
-        ensures cause { IfErr result (DiskCause self.new) }
-        ensures completed { Completes self.old 2 self.new }
+        ensures answers { Answers self.old idle result self.new }
+        ensures turn { TakesTurn self.old result self.new }
+        ensures completed { CompletesAtMost self.old 2 self.new }
     {
         self.check_serving()?;
-        match self.cleaner.turn(&mut self.tables, &mut self.device) {
+        match self.cleaner.turn(&mut self.mounted) {
             Ok(()) => Ok(()),
             Err(cause) => {
                 let fault = DiskFault::from(cause);
@@ -402,9 +379,10 @@ impl<D: Device + Drop> Disk<D> {
         }
     }
 
-    /// Whether a clean runs, of which turns are left.
+    /// Whether a clean runs, of which turns are left. While none runs, a zone is kept empty for the next one.
     pub fn is_cleaning(&self) -> bool
-        ensures { result ≡ is_some self.now.clean }
+        ensures runs { result ≡ is_some self.now.clean }
+        ensures spare { self.now.status ≡ Serving → result ≡ false → 1 ≤ empty_count self.now.tables.roles }
     {
         self.cleaner.running()
     }
@@ -415,18 +393,11 @@ impl<D: Device + Drop> Disk<D> {
     /// A refusal is `Halted` or `OutOfMemory`. It leaves the array on the drive, and the disk answers `Unmounted` to
     /// every call that needs the drive, until a remount is done.
     pub fn remount(&mut self) -> Result<(), MountFault>
-        ensures flat { FlatRemount (flat_of self.old) result (flat_of self.new) }
-        ensures disk { OnOk result (MountsDisk self.old.drive (given_size self.old) self.new) }
-        ensures cause { IfErr result (FailsBy (λ _. ⊥) self.new.drive) }
-        ensures kept { KeepsMountable (given_size self.old) self.old.drive self.new.drive }
-        ensures given { given_size self.new ≡ given_size self.old }
-        ensures mountable { IsMountable self.new.drive (given_size self.new) }
-        ensures clean { self.new.clean ≡ None }
+        ensures { Remounts self.old result self.new }
     {
-        self.cleaner = Cleaner::new(self.alloc);
-        match mount(self.alloc, &mut self.device, self.tables.given() as u64) {
-            Ok(tables) => {
-                self.tables = tables;
+        self.cleaner = new_cleaner(&self.mounted);
+        match mount_again(&mut self.mounted) {
+            Ok(()) => {
                 self.status = DiskStatus::Serving;
                 Ok(())
             }
@@ -440,16 +411,13 @@ impl<D: Device + Drop> Disk<D> {
     /// A report of all zones of the drive, as Zone Management Receive gives it (Zoned Namespace Command
     /// Set 1.1, section 3.4.2): a head of 64 bytes and a descriptor of 64 bytes for each zone.
     pub fn report(&mut self) -> Result<Vec<u8>, DiskFault>
-        ensures flat { FlatCall (flat_of self.old) report (with_nothing (done_of result)) (flat_of self.new) }
-        ensures untouched { is_known (flat_of self.old) report ≡ true → self.new ≡ self.old }
+        ensures answers { Answers self.old report (done_of result) self.new }
         ensures zones { IfOk result (λ bytes. ReportsAll self.old.drive bytes.items self.new.drive) }
-        ensures kept { KeepsDisk self.old self.new }
-        ensures cause { IfErr result (DiskCause self.new) }
         ensures turns { disk_turns self.new ≡ disk_turns self.old }
-        ensures completed { Completes self.old 1 self.new }
+        ensures completed { CompletesAtMost self.old 1 self.new }
     {
         self.check_serving()?;
-        match report_all(self.alloc, &self.tables, &mut self.device) {
+        match report_all(&mut self.mounted) {
             Ok(bytes) => Ok(bytes),
             Err(fault) => {
                 self.status = status_of(fault);
@@ -460,12 +428,9 @@ impl<D: Device + Drop> Disk<D> {
 
     /// Shows `blocks` blocks from `first` on. `into` is empty after a refusal.
     pub fn read(&mut self, first: u64, blocks: u64, into: &mut Vec<u8>) -> Result<(), DiskFault>
-        ensures flat { Reads (flat_of self.old) first blocks result into.new.items (flat_of self.new) }
-        ensures untouched { is_known (flat_of self.old) (read first blocks) ≡ true → self.new ≡ self.old }
-        ensures kept { KeepsDisk self.old self.new }
-        ensures cause { IfErr result (DiskCause self.new) }
+        ensures answers { AnswersRead self.old first blocks result into.new.items self.new }
         ensures turns { disk_turns self.new ≡ disk_turns self.old }
-        ensures completed { Completes self.old blocks self.new }
+        ensures completed { CompletesAtMost self.old blocks self.new }
     {
         into.clear();
         if self.is_done(first, blocks)? {

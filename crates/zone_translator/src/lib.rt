@@ -18,7 +18,7 @@
 //! ```
 //!
 //! What is promised, whatever the drive does that obeys its rules: each call answers as a flat array of
-//! blocks would (`FlatCall` and `FlatRemount` in specs/Flat); the drive can be mounted again and its newest records hold
+//! blocks would (`FlatCall` and `FlatRemount` in specs/Flat); the drive can be mounted again, its newest records hold
 //! that array, at the exit of every call; no command that the disk sends is refused by the drive
 //! (`KeepsDisk` in specs/View). A refused write has written a front of its blocks, and nothing else.
 #![tactic(auto)]

@@ -1,12 +1,12 @@
 ghost use Rattle.std.specs.Prelude.{◌≡◌, ◌+◌, ◌*◌, ◌≤◌, ◌<◌, IfOk, IfErr, IfSome, IfNone, OnOk, None, Some};
-ghost use Rattle.zone_choice.specs.Agreement.{Agrees, mounted};
-ghost use Rattle.zone_choice.specs.Roles.{empty_count, next_of};
-ghost use Rattle.zone_translator.specs.Changes.{AgreesWith, HasRoom, IsCause, NoMoreTurns, RetireLeaves, RoomLeaves, TakesHost, disk_fault};
+ghost use Rattle.zone_choice.specs.Agreement.{Agrees};
+ghost use Rattle.zone_cleaner.specs.Start.{AgreesWithClean, LacksZones};
+ghost use Rattle.zone_translator.specs.Changes.{IsCause, IsHost, RetireLeaves, RoomLeaves, TakesHost, disk_fault};
+ghost use Rattle.zone_translator.specs.Cleaning.{KeepsCleaning};
 
 use crate::fault::DiskFault;
 use drive_port::{Device, Halt, finish};
-use std::alloc::Global;
-use zone_choice::{Filling, Tables, halt_of};
+use zone_choice::{Filling, Mounted, halt_of};
 use zone_cleaner::Cleaner;
 
 /// What a halt of the drive is to a disk.
@@ -19,44 +19,47 @@ pub(crate) fn fault_of(halt: Halt) -> DiskFault
     }
 }
 
-/// Seals the host zone, which has fewer than two free blocks: with one it is sent Finish.
-fn retire<D: Device>(
-    alloc: Global,
-    tables: &mut Tables,
-    device: &mut D,
-    host: Filling,
-) -> Result<(), DiskFault>
-    requires agrees { Agrees (mounted (D.drive device.old) tables.old) }
-    requires host { tables.old.roles.host ≡ Some host }
-    requires few { (D.drive device.old).geometry.capacity < host.written + 2 }
-    ensures leaves { RetireLeaves (mounted (D.drive device.old) tables.old) (mounted (D.drive device.new) tables.new) result }
-    ensures ok { OnOk result (tables.new.roles.host ≡ None) }
-    ensures completed { (D.drive device.new).completed ≤ (D.drive device.old).completed + 1 }
-    ensures err { IfErr result (λ fault. IsCause (D.drive device.new) tables.new.next fault) }
+/// The zone that the host's batches go to, if there is one.
+fn host_of<D: Device>(disk: &Mounted<D>) -> Option<Filling>
+    ensures { result ≡ disk.now.tables.roles.host }
 {
-    let geometry = device.geometry();
+    disk.tables.host()
+}
+
+/// Seals the host zone, which has fewer than two free blocks: with one it is sent Finish.
+fn retire<D: Device>(disk: &mut Mounted<D>, host: Filling) -> Result<(), DiskFault>
+    requires agrees { Agrees disk.old }
+    requires host { disk.old.tables.roles.host ≡ Some host }
+    requires few { disk.old.drive.geometry.capacity < host.written + 2 }
+    ensures leaves { RetireLeaves disk.old disk.new result }
+    ensures ok { OnOk result (disk.new.tables.roles.host ≡ None) }
+    ensures completed { disk.new.drive.completed ≤ disk.old.drive.completed + 1 }
+    ensures err { IfErr result (IsCause disk.new.drive disk.new.tables.next) }
+{
+    let geometry = disk.geometry();
     if host.written == geometry.capacity {
-        tables.seal();
+        disk.tables.seal();
         return Ok(());
     }
     let start = host.zone as u64 * geometry.size as u64;
-    if let Err(fault) = finish(alloc, device, start) {
+    if let Err(fault) = finish(disk.alloc, &mut disk.device, start) {
         return Err(fault_of(halt_of(fault)));
     }
-    tables.seal();
+    disk.tables.seal();
     Ok(())
 }
 
-/// Makes the next zone the host zone or, where there is none, the lowest empty zone, if it is not the last.
-fn take(tables: &mut Tables) -> Option<Filling>
-    requires { tables.old.roles.host ≡ None }
-    ensures some { IfSome result (λ host. TakesHost tables.old host tables.new) }
-    ensures none { IfNone result ((next_of tables.old.roles.second ≡ None) × (empty_count tables.old.roles < 2) × (tables.new ≡ tables.old)) }
+/// Makes the next zone the host zone or, if there is no next zone, the lowest empty one, unless it is the last.
+fn take<D: Device>(disk: &mut Mounted<D>) -> Option<Filling>
+    requires { disk.old.tables.roles.host ≡ None }
+    ensures some { IfSome result (λ host. TakesHost disk.old.tables host disk.new.tables) }
+    ensures none { IfNone result (LacksZones disk.old.tables.roles × (disk.new ≡ disk.old)) }
+    ensures drive { disk.new.drive ≡ disk.old.drive }
 {
-    if let Some(host) = tables.promote() {
+    if let Some(host) = disk.tables.promote() {
         return Some(host);
     }
-    let zone = tables.take_empty()?;
+    let zone = disk.tables.take_empty()?;
     Some(Filling {
         zone,
         written: 0,
@@ -64,27 +67,23 @@ fn take(tables: &mut Tables) -> Option<Filling>
     })
 }
 
-/// A host zone, where there is none: the next zone, or an empty one, or the zone that a clean leaves.
-fn find_host<D: Device>(
-    tables: &mut Tables,
-    device: &mut D,
-    cleaner: &mut Cleaner,
-) -> Result<Filling, DiskFault>
-    requires agrees { AgreesWith (D.drive device.old) tables.old cleaner.old }
-    requires host { tables.old.roles.host ≡ None }
-    ensures leaves { RoomLeaves (mounted (D.drive device.old) tables.old) (mounted (D.drive device.new) tables.new) cleaner.new result }
-    ensures ok { IfOk result (λ host. (tables.new.roles.host ≡ Some host) × HasRoom (D.drive device.new) host) }
-    ensures err { IfErr result (λ fault. IsCause (D.drive device.new) tables.new.next fault) }
-    ensures turns { OnOk result (NoMoreTurns (mounted (D.drive device.old) tables.old) cleaner.old (mounted (D.drive device.new) tables.new) cleaner.new) }
-    ensures completed { (D.drive device.new).completed + 2 ≤ (D.drive device.old).completed + 2 * (D.drive device.old).geometry.capacity }
+/// A host zone for a disk that has none: the next zone, or an empty one, or the zone that a clean leaves.
+fn find_host<D: Device>(disk: &mut Mounted<D>, cleaner: &mut Cleaner) -> Result<Filling, DiskFault>
+    requires agrees { AgreesWithClean disk.old cleaner.old }
+    requires host { disk.old.tables.roles.host ≡ None }
+    ensures leaves { RoomLeaves disk.old disk.new cleaner.new result }
+    ensures ok { IfOk result (IsHost disk.new) }
+    ensures err { IfErr result (IsCause disk.new.drive disk.new.tables.next) }
+    ensures clean { KeepsCleaning disk.old cleaner.old result disk.new cleaner.new }
+    ensures completed { disk.new.drive.completed + 2 ≤ disk.old.drive.completed + 2 * disk.old.drive.geometry.capacity }
 {
-    if let Some(host) = take(tables) {
+    if let Some(host) = take(disk) {
         return Ok(host);
     }
-    if let Err(fault) = cleaner.clean_zone(tables, device) {
+    if let Err(fault) = cleaner.clean_zone(disk) {
         return Err(DiskFault::from(fault));
     }
-    match take(tables) {
+    match take(disk) {
         Some(host) => Ok(host),
         None => unreachable!(),
     }
@@ -92,26 +91,24 @@ fn find_host<D: Device>(
 
 /// A host zone with two free blocks at least: the one that there is, or else another, which may take a clean.
 pub(crate) fn make_room<D: Device>(
-    alloc: Global,
-    tables: &mut Tables,
-    device: &mut D,
+    disk: &mut Mounted<D>,
     cleaner: &mut Cleaner,
 ) -> Result<Filling, DiskFault>
-    requires agrees { AgreesWith (D.drive device.old) tables.old cleaner.old }
-    ensures leaves { RoomLeaves (mounted (D.drive device.old) tables.old) (mounted (D.drive device.new) tables.new) cleaner.new result }
-    ensures ok { IfOk result (λ host. (tables.new.roles.host ≡ Some host) × HasRoom (D.drive device.new) host) }
-    ensures err { IfErr result (λ fault. IsCause (D.drive device.new) tables.new.next fault) }
-    ensures turns { OnOk result (NoMoreTurns (mounted (D.drive device.old) tables.old) cleaner.old (mounted (D.drive device.new) tables.new) cleaner.new) }
-    ensures completed { (D.drive device.new).completed + 1 ≤ (D.drive device.old).completed + 2 * (D.drive device.old).geometry.capacity }
+    requires agrees { AgreesWithClean disk.old cleaner.old }
+    ensures leaves { RoomLeaves disk.old disk.new cleaner.new result }
+    ensures ok { IfOk result (IsHost disk.new) }
+    ensures err { IfErr result (IsCause disk.new.drive disk.new.tables.next) }
+    ensures clean { KeepsCleaning disk.old cleaner.old result disk.new cleaner.new }
+    ensures completed { disk.new.drive.completed + 1 ≤ disk.old.drive.completed + 2 * disk.old.drive.geometry.capacity }
 {
-    let Some(host) = tables.host() else {
-        return find_host(tables, device, cleaner);
+    let Some(host) = host_of(disk) else {
+        return find_host(disk, cleaner);
     };
-    if host.written + 2 <= device.geometry().capacity {
+    if host.written + 2 <= disk.geometry().capacity {
         return Ok(host);
     }
-    if let Err(fault) = retire(alloc, tables, device, host) {
+    if let Err(fault) = retire(disk, host) {
         return Err(fault);
     }
-    find_host(tables, device, cleaner)
+    find_host(disk, cleaner)
 }

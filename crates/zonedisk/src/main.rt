@@ -11,8 +11,8 @@
 //! ```
 //!
 //! The lines are `read`, `fill`, `write`, `trim`, `idle`, `grow` and `remount`, as `docs/formats.md` describes them.
-//! [`job_of`] reads the words of the command line, [`run_job`] does what they ask for, and [`run_on_file`] does it on
-//! the drive of a file. What the replies are is promised by the runs below, [`run_trace`], [`answer_trace`] and
+//! [`job_of`] reads the words of the command line, [`run_job`] does what they ask for, and [`do_job`] does it on the
+//! drive of a file, which it locks, and saves the drive. What the replies are is promised by the runs below, [`run_trace`], [`answer_trace`] and
 //! [`run_raw`]; what a job holds, and which words ask for none, by [`job_of`]; which drive is saved, and what is shown
 //! of it, by [`run_job`]; and the image of a drive by `drive_images`. `--statistics`, the file and the exit status 0
 //! are tested. [`explain`] says on standard error what a fault is.
@@ -22,15 +22,16 @@ use clap::error::ErrorKind;
 pub use command_line::job_of;
 use disk_files::LineReader;
 pub use disk_jobs::{
-    Habit, Job, ProgramFault, Stop, explain, run_job, run_on_file, write_program_fault,
+    Done, FileFault, Habit, Job, ProgramFault, Stop, SystemError, do_job, explain, run_job,
+    write_program_fault,
 };
 pub use disk_runs::{RunFault, answer_trace, run_raw, run_trace, write_fault};
 use std::alloc::Global;
 use std::env::Env;
-use std::io;
-use std::io::{BufWriter, Read, Write};
+use std::io::{BufWriter, Write};
 use std::process::ExitCode;
 use std::rt::Files;
+use std::{fs, io};
 
 /// The exit status where the words were refused.
 const REFUSED: u8 = 2;
@@ -42,34 +43,36 @@ fn words<R: Env + Alloc<A = Global>>(rt: &R) -> io::Result<Vec<String>> {
 
 const OUT_OF_MEMORY: ProgramFault = ProgramFault::Run(RunFault::Memory);
 
-/// Sends on its way what was written.
-fn flush<W: Write>(output: &mut W) -> Result<(), ProgramFault> {
-    output.flush().or(Err(ProgramFault::Run(RunFault::Output)))
-}
-
 /// Writes the line of a fault, and gives the exit status of one, also where the line can't be written.
 fn fail<W: Write>(alloc: Global, fault: ProgramFault, output: &mut W) -> ExitCode {
     let _ = write_program_fault(alloc, fault, output);
-    let _ = flush(output);
+    let _ = output.flush();
     ExitCode::FAILURE
 }
 
-/// Does a job, and sends on its way what it wrote.
-fn do_job<F: Files, R: Read + Drop, W: Write>(
-    files: &F,
-    alloc: Global,
-    job: &Job,
-    input: &mut LineReader<R>,
-    output: &mut W,
-) -> Result<(), ProgramFault> {
-    match job.image() {
-        Some(path) => run_on_file(files, alloc, job, path, input, output)?,
-        None => run_job(alloc, job, &mut io::empty(), input, output).1?,
+/// Says on standard error why a job or a save failed, a line for each.
+fn tell<R: Eprint>(rt: &R, alloc: Global, job: &Job, done: Done, line: &[u8]) {
+    for ended in [done.job, done.saved] {
+        if let Err(fault) = ended
+            && let Ok(text) = explain(alloc, job, fault, line)
+        {
+            let _ = eprintln!(rt; "zonedisk: {text}");
+        }
     }
-    flush(output)
+}
+
+/// Opens the root folder three times. Where a standard stream is closed, the next file that is opened takes its place:
+/// so it is this folder, which cannot be read as a file nor written, and no image.
+fn fill_streams<F: Files>(files: &F) -> [io::Result<F::File>; 3] {
+    [
+        fs::open(files, "/"),
+        fs::open(files, "/"),
+        fs::open(files, "/"),
+    ]
 }
 
 fn main(rt: HostRuntime) -> io::Result<ExitCode> {
+    let _streams = fill_streams(&rt);
     let alloc = rt.alloc();
     let Ok(mut output) = BufWriter::new(alloc, io::writer(&rt)) else {
         return Ok(fail(alloc, OUT_OF_MEMORY, &mut io::writer(&rt)));
@@ -95,12 +98,11 @@ fn main(rt: HostRuntime) -> io::Result<ExitCode> {
         }
     };
     let mut input = LineReader::new(alloc, rt.reader());
-    let Err(fault) = do_job(&rt, alloc, &job, &mut input, &mut output) else {
+    let done = do_job(&rt, alloc, &job, &mut input, &mut output);
+    let Some(fault) = done.fault() else {
         return Ok(ExitCode::SUCCESS);
     };
     let code = fail(alloc, fault, &mut output);
-    if let Ok(text) = explain(alloc, &job, fault, input.line()) {
-        let _ = eprintln!(rt; "zonedisk: {text}");
-    }
+    tell(&rt, alloc, &job, done, input.line());
     Ok(code)
 }

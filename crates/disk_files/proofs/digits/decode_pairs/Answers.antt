@@ -2,7 +2,7 @@ use Rattle.std.proofs.Common.{◌≡◌, ◌+◌, ◌-◌, ◌*◌, ◌≤◌, S
 use Rattle.std.specs.Simd.Lanes.{chunk}
 use Rattle.std.proofs.lemmas.List.{length-drop, take_all}
 use Rattle.std.proofs.lemmas.Simd.{length-put_chunk}
-use Rattle.disk_files.specs.Words.{bytes_of, value_or_none}
+use Rattle.disk_files.specs.Words.{hex_bytes, value_or_none}
 use Rattle.disk_files.proofs.DigitLaws.{all_below-capped, capped-below, decoded-more, decoded-none, decoded-rest, part-none, put_end}
 use Rattle.disk_files.proofs.digits.decode_pairs.Goals as goal
 
@@ -36,7 +36,7 @@ returns-clause-decoded c = λ yes.
     let out = c.decode_few.new.bytes in
     let inside : 2 * at.done ≤ length digits = omega (arith, c.requires, at.invariant.0, at.invariant.1) in
     let short : length (drop (2 * at.done) digits) ≤ length digits - 2 * at.done = omega (arith, length-drop (2 * at.done) digits) in
-    let rest : bytes_of (drop (2 * at.done) digits) ≡ Some out = rw (take_all _ (drop (2 * at.done) digits) short) at (c.decode_few.ensures.decoded yes) in
+    let rest : hex_bytes (drop (2 * at.done) digits) ≡ Some out = rw (take_all _ (drop (2 * at.done) digits) short) at (c.decode_few.ensures.decoded yes) in
     rw (put_end at.bytes out at.done) (decoded-rest digits at.bytes at.done inside out at.invariant.2 rest)
 
 pub returns-clause-none : goal.returns-clause-none
@@ -45,5 +45,5 @@ returns-clause-none c = λ no.
     let digits = c.args.digits.now in
     let inside : 2 * at.done ≤ length digits = omega (arith, c.requires, at.invariant.0, at.invariant.1) in
     let short : length (drop (2 * at.done) digits) ≤ length digits - 2 * at.done = omega (arith, length-drop (2 * at.done) digits) in
-    let rest : bytes_of (drop (2 * at.done) digits) ≡ None = rw (take_all _ (drop (2 * at.done) digits) short) at (c.decode_few.ensures.none no) in
+    let rest : hex_bytes (drop (2 * at.done) digits) ≡ None = rw (take_all _ (drop (2 * at.done) digits) short) at (c.decode_few.ensures.none no) in
     decoded-none digits at.bytes at.done inside at.invariant.2 rest

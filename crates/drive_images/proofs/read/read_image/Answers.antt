@@ -1,39 +1,22 @@
-use Rattle.std.proofs.Common.{rules}
-use Rattle.drive_images.specs.Reading.{FailsInZones, IsImageFault}
-use Rattle.drive_images.proofs.ImageLaws.{bad_head, fails_after_head, image_read}
-use Rattle.drive_images.proofs.TellingLaws.{after_any, after_front, if_fault}
-use Rattle.drive_images.proofs.ZonesLaws.{fails_end}
+use Rattle.drive_images.specs.Reading.{IsFrontFault, IsImageFault}
+use Rattle.drive_images.proofs.ImageLaws.{front_fault, image_followed, image_read}
+use Rattle.drive_images.proofs.TellingLaws.{if_fault, some_so}
 use Rattle.drive_images.proofs.read.read_image.Goals as goal
 
-pub returns-in_err-geometry-clause-err : goal.returns-in_err-geometry-clause-err
-returns-in_err-geometry-clause-err g c =
-    let fault = c.in_err-geometry.field-0.0 in
-    if_fault c.from_residual-in_err-geometry.result fault _ c.from_residual-in_err-geometry.ensures.1
-    (after_any _ _ c.fill.new.buffer (λ bytes. IsImageFault bytes fault) c.in_ok-fill.ensures.ok
-    (λ rest. bad_head c.fill.new.buffer (search rules) rest fault c.in_err-geometry.ensures.err))
-
-pub returns-in_err-zones-clause-err : goal.returns-in_err-zones-clause-err
-returns-in_err-zones-clause-err g c =
-    let head = c.fill.new.buffer in
-    let geometry = c.in_ok-geometry.geometry in
-    let fault = c.in_err-zones.field-0.0 in
-    if_fault c.from_residual-in_err-zones.result fault _ c.from_residual-in_err-zones.ensures.1
-    (after_front _ _ head (λ rest. FailsInZones geometry rest fault) (λ bytes. IsImageFault bytes fault) c.in_ok-fill.ensures.ok
-    (λ rest fails. fails_after_head geometry head rest fault c.in_ok-geometry.ensures.in_range c.in_ok-geometry.ensures.ok fails) c.in_err-zones.ensures.err)
+pub returns-in_err-saved-clause-err : goal.returns-in_err-saved-clause-err
+returns-in_err-saved-clause-err g c =
+    let fault = c.in_err-saved.field-0.0 in
+    if_fault c.from_residual.result fault _ c.from_residual.ensures.1
+    (some_so _ (λ bytes. IsFrontFault bytes fault) (λ bytes. IsImageFault bytes fault) (λ bytes. front_fault bytes fault) c.in_err-saved.ensures.err)
 
 pub returns-in_err-expect_end-clause-err : goal.returns-in_err-expect_end-clause-err
 returns-in_err-expect_end-clause-err g c =
-    let head = c.fill.new.buffer in
-    let geometry = c.in_ok-geometry.geometry in
-    let zones = c.in_ok-zones.zones.items in
+    let saved = c.in_ok-saved.saved in
     let fault = c.in_err-expect_end.field-0.0 in
     if_fault c.from_residual-in_err-expect_end.result fault _ c.from_residual-in_err-expect_end.ensures.1
-    (after_front _ _ head (λ rest. FailsInZones geometry rest fault) (λ bytes. IsImageFault bytes fault) c.in_ok-fill.ensures.ok
-    (λ rest fails. fails_after_head geometry head rest fault c.in_ok-geometry.ensures.in_range c.in_ok-geometry.ensures.ok fails)
-    (fails_end geometry zones _ _ c.in_ok-zones.ensures.ok fault c.in_ok-zones.ensures.count c.in_err-expect_end.ensures.err))
+    (image_followed saved.geometry saved.zones.items _ _ c.in_ok-saved.ensures.ok fault c.in_err-expect_end.ensures.err)
 
 pub returns-clause-ok : goal.returns-clause-ok
 returns-clause-ok g c =
-    let geometry = c.in_ok-geometry.geometry in
-    rw c.in-Ok.ensures.ok
-    (image_read geometry c.in_ok-zones.zones.items _ _ _ c.fill.new.buffer c.in_ok-geometry.ensures.in_range c.in_ok-geometry.ensures.ok c.in_ok-fill.ensures.ok c.in_ok-zones.ensures.ok c.in_ok-zones.ensures.count c.in_ok-expect_end.ensures.ok)
+    let saved = c.in_ok-saved.saved in
+    rw c.in-Ok.ensures.ok (image_read saved.geometry saved.zones.items _ _ c.in_ok-saved.ensures.ok c.in_ok-expect_end.ensures.ok)

@@ -1,7 +1,7 @@
 use Rattle.std.proofs.Common.{◌≤◌, length, sym, subst, ap, arith}
 use Rattle.std.proofs.lemmas.List.{length-map, take_all}
 use Rattle.zone_drive.proofs.WriteLaws.{all-at}
-use Rattle.zone_states.specs.Stored.{zone_of}
+use Rattle.zone_states.specs.Stored.{zone_stored}
 use Rattle.zone_states.specs.Zone.{IsLawfulZone, Zone}
 use Rattle.std.specs.Io.KnownBytes.{Appends}
 use Rattle.disk_files.specs.Output.{AppendsFront}
@@ -17,7 +17,7 @@ pub write_zone-requires-clause-lawful : goal.write_zone-requires-clause-lawful
 write_zone-requires-clause-lawful g c =
     let drive = c.args.drive.now.state in
     let i = c.loop-zone.zone-index in
-    let zone = zone_of drive.geometry.block c.zone-item.result in
+    let zone = zone_stored drive.geometry.block c.zone-item.result in
     let here = zone_here drive.geometry.block c.zones-zone-items.result.now drive.zones i c.zone-item.result c.zones-zone-items.ensures.zones c.zone-item.is (omega arith) in
     let more = stored-less drive.geometry.block c.zones-zone-items.result.now drive.zones i c.zones-zone-items.ensures.zones (omega arith) in
     rw c.geometry-geometry.ensures.value (subst (IsLawfulZone drive.geometry) (sym here) (all-at (IsLawfulZone drive.geometry) drive.zones i zone c.geometry-geometry.ensures.lawful.zones more))
@@ -26,7 +26,7 @@ pub returns-in_err-write_zone-clause-err : goal.returns-in_err-write_zone-clause
 returns-in_err-write_zone-clause-err g c =
     let drive = c.args.drive.now.state in
     let i = c.loop-zone.zone-index in
-    let zone = zone_of drive.geometry.block c.zone-item.result in
+    let zone = zone_stored drive.geometry.block c.zone-item.result in
     let here = zone_here drive.geometry.block c.zones-zone-items.result.now drive.zones i c.zone-item.result c.zones-zone-items.ensures.zones c.zone-item.is (omega arith) in
     let more = stored-less drive.geometry.block c.zones-zone-items.result.now drive.zones i c.zones-zone-items.ensures.zones (omega arith) in
     let old = g.W.Write.contents c.args.writer.now in
@@ -39,7 +39,7 @@ pub loop-zone-preserved : goal.loop-zone-preserved
 loop-zone-preserved g c =
     let drive = c.args.drive.now.state in
     let i = c.loop-zone.zone-index in
-    let zone = zone_of drive.geometry.block c.zone-item.result in
+    let zone = zone_stored drive.geometry.block c.zone-item.result in
     let here = zone_here drive.geometry.block c.zones-zone-items.result.now drive.zones i c.zone-item.result c.zones-zone-items.ensures.zones c.zone-item.is (omega arith) in
     let more = stored-less drive.geometry.block c.zones-zone-items.result.now drive.zones i c.zones-zone-items.ensures.zones (omega arith) in
     let old = g.W.Write.contents c.args.writer.now in
@@ -51,5 +51,5 @@ pub returns-clause-ok : goal.returns-clause-ok
 returns-clause-ok g c =
     let drive = c.args.drive.now.state in
     let count = ap length c.zones-zone-items.ensures.zones in
-    let done : length drive.zones ≤ c.loop-zone.zone-index = omega (arith, length-map c.zones-zone-items.result.now (zone_of drive.geometry.block)) in
+    let done : length drive.zones ≤ c.loop-zone.zone-index = omega (arith, length-map c.zones-zone-items.result.now (zone_stored drive.geometry.block)) in
     rw (take_all c.loop-zone.zone-index drive.zones done) at c.loop-zone.invariant

@@ -1,74 +1,97 @@
-use Rattle.zone_choice.specs.Agreement.{drive_logs}
-use Rattle.remount.specs.Resets.{ResetsAll}
+use Rattle.std.proofs.Common.{List, ℕ, sym, subst}
+use Rattle.std.specs.Prelude.{OnOk}
+use Rattle.drive_array.specs.ZoneLogs.{drive_logs}
+use Rattle.remount.specs.Resets.{MayReset, ResetsAll}
 use Rattle.remount.proofs.KeepLaws.{keeps-mountable-both}
 use Rattle.remount.proofs.EmptyLaws.{CanEmpty, if-ok, knows-cleared, logs-cleared, may-clear, tails-emptied, vacant-emptied, vacant-may, written-stay}
+use Rattle.remount.proofs.StepLaws.{emptied-cleared, keeps-given}
 use Rattle.remount.proofs.empty.empty_zones.Goals as goal
 
 pub reset_zones-requires-clause-may : goal.reset_zones-requires-clause-may
-reset_zones-requires-clause-may g c = vacant-may _ c.args.blocks (drive_logs (g.D.Device.drive c.args.device.now)) c.args.vacant.now c.requires.vacant.vacant
+reset_zones-requires-clause-may g c =
+    let old = g.D.Device.drive c.args.device.now in
+    subst (λ (zs : List ℕ). MayReset old.geometry.block c.args.survey.now.given (drive_logs old) zs) (sym c.deref.ensures.value)
+    (vacant-may _ c.args.survey.now.given (drive_logs old) c.args.plan.now.vacant.items c.requires.planned.vacant.vacant)
 
 pub reset_zones-requires-2-clause-may : goal.reset_zones-requires-2-clause-may
 reset_zones-requires-2-clause-may g c =
     let old = g.D.Device.drive c.args.device.now in
-    let can : CanEmpty old c.args.blocks c.args.survey.now c.args.vacant.now c.args.half_clean.now = record { known = c.requires.known; to_empty = c.requires.vacant; clearing = c.requires.clearing } in
-    may-clear old (g.D.Device.drive c.reset_zones.new.device) c.args.survey.now c.reset_zones.new.survey c.args.blocks c.args.vacant.now c.args.half_clean.now can c.in_ok-reset_zones.ensures.ok
+    let middle = g.D.Device.drive c.reset_zones.new.device in
+    let before = c.args.survey.now in
+    let survey = c.reset_zones.new.survey in
+    let n = before.given in
+    let plan = c.args.plan.now in
+    let vacant = plan.vacant.items in
+    let half_clean = plan.half_clean.items in
+    let can : CanEmpty old n before vacant half_clean = record { known = c.requires.planned.known; to_empty = c.requires.planned.vacant; clearing = c.requires.planned.clearing } in
+    let one : ResetsAll old middle before survey vacant = subst (λ (zs : List ℕ). ResetsAll old middle before survey zs) c.deref.ensures.value c.in_ok-reset_zones.ensures.ok in
+    subst (λ (zs : List ℕ). MayReset middle.geometry.block survey.given (drive_logs middle) zs) (sym c.deref-2.ensures.value)
+    (subst (λ (k : ℕ). MayReset middle.geometry.block k (drive_logs middle) half_clean) (sym one.given) (may-clear old middle before survey n vacant half_clean can one))
 
-pub returns-clause-known : goal.returns-clause-known
-returns-clause-known g c =
+pub returns-clause-kept : goal.returns-clause-kept
+returns-clause-kept g c =
     let old = g.D.Device.drive c.args.device.now in
     let middle = g.D.Device.drive c.reset_zones.new.device in
     let new = g.D.Device.drive c.reset_zones-2.new.device in
     let before = c.args.survey.now in
     let survey = c.reset_zones.new.survey in
     let after = c.reset_zones-2.new.survey in
-    let n = c.args.blocks in
-    let vacant = c.args.vacant.now in
-    let half_clean = c.args.half_clean.now in
-    let can : CanEmpty old n before vacant half_clean = record { known = c.requires.known; to_empty = c.requires.vacant; clearing = c.requires.clearing } in
-    let one : ResetsAll old middle before survey vacant = c.in_ok-reset_zones.ensures.ok in
-    let kept = keeps-mountable-both n old middle new c.reset_zones.ensures.kept c.reset_zones-2.ensures.kept in
-    if-ok c.reset_zones-2.result (λ two. knows-cleared old middle new before survey after n vacant half_clean can one two (kept.mountable c.requires.mountable)) c.reset_zones-2.ensures.ok
+    let n = before.given in
+    let plan = c.args.plan.now in
+    let vacant = plan.vacant.items in
+    let half_clean = plan.half_clean.items in
+    let can : CanEmpty old n before vacant half_clean = record { known = c.requires.planned.known; to_empty = c.requires.planned.vacant; clearing = c.requires.planned.clearing } in
+    let one : ResetsAll old middle before survey vacant = subst (λ (zs : List ℕ). ResetsAll old middle before survey zs) c.deref.ensures.value c.in_ok-reset_zones.ensures.ok in
+    keeps-mountable-both n old middle (g.D.Device.drive c.reset_zones-2.new.device) c.reset_zones.ensures.kept (keeps-given survey.given n middle (g.D.Device.drive c.reset_zones-2.new.device) one.given c.reset_zones-2.ensures.kept)
 
-pub returns-clause-logs : goal.returns-clause-logs
-returns-clause-logs g c =
+pub returns-clause-cleared : goal.returns-clause-cleared
+returns-clause-cleared g c =
     let old = g.D.Device.drive c.args.device.now in
     let middle = g.D.Device.drive c.reset_zones.new.device in
     let new = g.D.Device.drive c.reset_zones-2.new.device in
     let before = c.args.survey.now in
     let survey = c.reset_zones.new.survey in
     let after = c.reset_zones-2.new.survey in
-    let n = c.args.blocks in
-    let vacant = c.args.vacant.now in
-    let half_clean = c.args.half_clean.now in
-    let can : CanEmpty old n before vacant half_clean = record { known = c.requires.known; to_empty = c.requires.vacant; clearing = c.requires.clearing } in
-    let one : ResetsAll old middle before survey vacant = c.in_ok-reset_zones.ensures.ok in
-    if-ok c.reset_zones-2.result (λ two. logs-cleared old middle new before survey after n vacant half_clean can one two) c.reset_zones-2.ensures.ok
+    let n = before.given in
+    let plan = c.args.plan.now in
+    let vacant = plan.vacant.items in
+    let half_clean = plan.half_clean.items in
+    let can : CanEmpty old n before vacant half_clean = record { known = c.requires.planned.known; to_empty = c.requires.planned.vacant; clearing = c.requires.planned.clearing } in
+    let one : ResetsAll old middle before survey vacant = subst (λ (zs : List ℕ). ResetsAll old middle before survey zs) c.deref.ensures.value c.in_ok-reset_zones.ensures.ok in
+    let kept = keeps-mountable-both n old middle new c.reset_zones.ensures.kept (keeps-given survey.given n middle new one.given c.reset_zones-2.ensures.kept) in
+    let two : OnOk c.reset_zones-2.result (ResetsAll middle new survey after half_clean) =
+    subst (λ (zs : List ℕ). OnOk c.reset_zones-2.result (ResetsAll middle new survey after zs)) c.deref-2.ensures.value c.reset_zones-2.ensures.ok in
+    if-ok c.reset_zones-2.result
+    (λ done. emptied-cleared old new n before after plan c.requires.planned (record {
+      known = knows-cleared old middle new before survey after n vacant half_clean can one done (kept.mountable c.requires.planned.mountable);
+      logs = logs-cleared old middle new before survey after n vacant half_clean can one done;
+      vacant = vacant-emptied old middle new before survey after n vacant half_clean can one done;
+      tails = tails-emptied old middle new before survey after vacant half_clean one done;
+      kept = kept;
+    }))
+    two
 
-pub returns-clause-vacant : goal.returns-clause-vacant
-returns-clause-vacant g c =
+pub returns-clause-left : goal.returns-clause-left
+returns-clause-left g c =
     let old = g.D.Device.drive c.args.device.now in
     let middle = g.D.Device.drive c.reset_zones.new.device in
     let new = g.D.Device.drive c.reset_zones-2.new.device in
     let before = c.args.survey.now in
     let survey = c.reset_zones.new.survey in
     let after = c.reset_zones-2.new.survey in
-    let n = c.args.blocks in
-    let vacant = c.args.vacant.now in
-    let half_clean = c.args.half_clean.now in
-    let can : CanEmpty old n before vacant half_clean = record { known = c.requires.known; to_empty = c.requires.vacant; clearing = c.requires.clearing } in
-    let one : ResetsAll old middle before survey vacant = c.in_ok-reset_zones.ensures.ok in
-    if-ok c.reset_zones-2.result (λ two. vacant-emptied old middle new before survey after n vacant half_clean can one two) c.reset_zones-2.ensures.ok
-
-pub returns-clause-tails : goal.returns-clause-tails
-returns-clause-tails g c =
-    let old = g.D.Device.drive c.args.device.now in
-    let middle = g.D.Device.drive c.reset_zones.new.device in
-    let new = g.D.Device.drive c.reset_zones-2.new.device in
-    if-ok c.reset_zones-2.result (λ two. tails-emptied old middle new c.args.survey.now c.reset_zones.new.survey c.reset_zones-2.new.survey c.args.vacant.now c.args.half_clean.now c.in_ok-reset_zones.ensures.ok two) c.reset_zones-2.ensures.ok
-
-pub returns-clause-others : goal.returns-clause-others
-returns-clause-others g c =
-    let old = g.D.Device.drive c.args.device.now in
-    let middle = g.D.Device.drive c.reset_zones.new.device in
-    let new = g.D.Device.drive c.reset_zones-2.new.device in
-    if-ok c.reset_zones-2.result (λ two. written-stay old middle new c.args.survey.now c.reset_zones.new.survey c.reset_zones-2.new.survey c.args.vacant.now c.args.half_clean.now c.in_ok-reset_zones.ensures.ok two) c.reset_zones-2.ensures.ok
+    let n = before.given in
+    let plan = c.args.plan.now in
+    let vacant = plan.vacant.items in
+    let half_clean = plan.half_clean.items in
+    let can : CanEmpty old n before vacant half_clean = record { known = c.requires.planned.known; to_empty = c.requires.planned.vacant; clearing = c.requires.planned.clearing } in
+    let one : ResetsAll old middle before survey vacant = subst (λ (zs : List ℕ). ResetsAll old middle before survey zs) c.deref.ensures.value c.in_ok-reset_zones.ensures.ok in
+    let kept = keeps-mountable-both n old middle new c.reset_zones.ensures.kept (keeps-given survey.given n middle new one.given c.reset_zones-2.ensures.kept) in
+    let two : OnOk c.reset_zones-2.result (ResetsAll middle new survey after half_clean) =
+    subst (λ (zs : List ℕ). OnOk c.reset_zones-2.result (ResetsAll middle new survey after zs)) c.deref-2.ensures.value c.reset_zones-2.ensures.ok in
+    if-ok c.reset_zones-2.result
+    (λ done. record {
+      logs = logs-cleared old middle new before survey after n vacant half_clean can one done;
+      others = written-stay old middle new before survey after vacant half_clean one done;
+      tails = tails-emptied old middle new before survey after vacant half_clean one done;
+    })
+    two

@@ -3,47 +3,47 @@ use Rattle.std.specs.Prelude.{slice_get}
 use Rattle.nvme_wire.specs.declared.zone_state.ZoneState.TheVariants as states
 use Rattle.zone_states.specs.declared.geometry.Geometry.{Geometry}
 use Rattle.drive_port.specs.Contents.{contents}
-use Rattle.zone_choice.specs.Agreement.{drive_logs}
-use Rattle.zone_choice.specs.ZoneLogs.{zone_tails}
-use Rattle.remount.specs.declared.reported.ReportedZone.{ReportedZone}
+use Rattle.drive_array.specs.ZoneLogs.{drive_logs, zone_tails}
+use Rattle.drive_survey.specs.declared.reported.ReportedZone.{ReportedZone}
 use Rattle.remount.specs.Mount.{IsOnlyTorn}
-use Rattle.remount.specs.Moving.{move_count, moves_before, source_of}
+use Rattle.remount.specs.Moving.{IsMovePlan, move_count, moves_before, source_of}
 use Rattle.remount.proofs.BeginLaws.{has-empty, heads-some, is-finished, is-prepared, is-started, repaired-vacant, repaired-whole, survey-count}
 use Rattle.remount.proofs.CallLaws.{mountable-both, shut-both, shut-known, shut-logs, shut-mountable, zones-shut}
 use Rattle.remount.proofs.TornRepairLaws.{repaired-since, torn-repaired}
+use Rattle.remount.proofs.StepLaws.{cleared-own, plan-given}
 use Rattle.remount.proofs.repair.repair_zone.Goals as goal
 
 pub unreachable-requires : goal.unreachable-requires
 unreachable-requires g c =
-    let n = c.args.blocks in
+    let n = c.args.survey.now.given in
     let old = g.D.Device.drive c.args.device.now in
     let one = g.D.Device.drive c.finish_beside.new.device in
     let survey = c.finish_beside.new.survey in
     let repair = c.args.repair.now in
     let f = c.in_ok-finish_beside.ensures in
-    let finished = is-finished n old one survey repair.zone c.requires.mountable c.requires.cleared c.requires.plan.torn c.finish_beside.ensures.kept f.logs f.tails f.known f.vacant f.settled in
+    let finished = is-finished n old one survey repair.zone c.requires.cleared.mountable c.requires.cleared.none c.requires.plan.torn c.finish_beside.ensures.kept f.left.logs f.left.tails f.cleared.known f.cleared.empty f.left.settled in
     has-empty n one survey finished.mountable finished.none_left finished.known finished.vacant (subst (λ (zs : List ReportedZone). (zone : ℕ) (r : ReportedZone) → slice_get zs zone ≡ Some r → r.state ≢ states.Empty) c.deref.ensures.value c.in_default.ensures.none)
 
 pub plan_moves-requires-clause-cleared : goal.plan_moves-requires-clause-cleared
-plan_moves-requires-clause-cleared g c =
-    let n = c.args.blocks in
+plan_moves-requires-clause-cleared g c = cleared-own (g.D.Device.drive c.finish_beside.new.device) c.args.survey.now.given c.finish_beside.new.survey c.in_ok-finish_beside.ensures.cleared
+
+pub plan_moves-requires-clause-plan : goal.plan_moves-requires-clause-plan
+plan_moves-requires-clause-plan g c =
+    let n = c.args.survey.now.given in
     let old = g.D.Device.drive c.args.device.now in
     let one = g.D.Device.drive c.finish_beside.new.device in
-    let survey = c.finish_beside.new.survey in
-    let repair = c.args.repair.now in
     let f = c.in_ok-finish_beside.ensures in
-    let finished = is-finished n old one survey repair.zone c.requires.mountable c.requires.cleared c.requires.plan.torn c.finish_beside.ensures.kept f.logs f.tails f.known f.vacant f.settled in
-    finished.none_left
+    plan-given old one n c.finish_beside.new.survey.given c.args.repair.now f.cleared.known.given_is c.finish_beside.ensures.kept.geometry f.left.logs f.left.tails c.requires.plan
 
 pub returns-in_err-plan-clause-kept : goal.returns-in_err-plan-clause-kept
 returns-in_err-plan-clause-kept g c =
-    let n = c.args.blocks in
+    let n = c.args.survey.now.given in
     let old = g.D.Device.drive c.args.device.now in
     let one = g.D.Device.drive c.finish_beside.new.device in
     let survey = c.finish_beside.new.survey in
     let repair = c.args.repair.now in
     let f = c.in_ok-finish_beside.ensures in
-    let finished = is-finished n old one survey repair.zone c.requires.mountable c.requires.cleared c.requires.plan.torn c.finish_beside.ensures.kept f.logs f.tails f.known f.vacant f.settled in
+    let finished = is-finished n old one survey repair.zone c.requires.cleared.mountable c.requires.cleared.none c.requires.plan.torn c.finish_beside.ensures.kept f.left.logs f.left.tails f.cleared.known f.cleared.empty f.left.settled in
     let into = c.in-Some.into in
     let prepared = is-prepared n one survey repair.zone into c.deref.result.now finished c.deref.ensures.value c.in-Some.ensures.some.0 c.in-Some.ensures.some.1 in
     let middle = g.D.Device.drive c.plan_moves.new.device in
@@ -51,13 +51,13 @@ returns-in_err-plan-clause-kept g c =
 
 pub close_alone-requires : goal.close_alone-requires
 close_alone-requires g c =
-    let n = c.args.blocks in
+    let n = c.args.survey.now.given in
     let old = g.D.Device.drive c.args.device.now in
     let one = g.D.Device.drive c.finish_beside.new.device in
     let survey = c.finish_beside.new.survey in
     let repair = c.args.repair.now in
     let f = c.in_ok-finish_beside.ensures in
-    let finished = is-finished n old one survey repair.zone c.requires.mountable c.requires.cleared c.requires.plan.torn c.finish_beside.ensures.kept f.logs f.tails f.known f.vacant f.settled in
+    let finished = is-finished n old one survey repair.zone c.requires.cleared.mountable c.requires.cleared.none c.requires.plan.torn c.finish_beside.ensures.kept f.left.logs f.left.tails f.cleared.known f.cleared.empty f.left.settled in
     let into = c.in-Some.into in
     let prepared = is-prepared n one survey repair.zone into c.deref.result.now finished c.deref.ensures.value c.in-Some.ensures.some.0 c.in-Some.ensures.some.1 in
     let middle = g.D.Device.drive c.plan_moves.new.device in
@@ -65,13 +65,13 @@ close_alone-requires g c =
 
 pub returns-in_err-close_alone-clause-kept : goal.returns-in_err-close_alone-clause-kept
 returns-in_err-close_alone-clause-kept g c =
-    let n = c.args.blocks in
+    let n = c.args.survey.now.given in
     let old = g.D.Device.drive c.args.device.now in
     let one = g.D.Device.drive c.finish_beside.new.device in
     let survey = c.finish_beside.new.survey in
     let repair = c.args.repair.now in
     let f = c.in_ok-finish_beside.ensures in
-    let finished = is-finished n old one survey repair.zone c.requires.mountable c.requires.cleared c.requires.plan.torn c.finish_beside.ensures.kept f.logs f.tails f.known f.vacant f.settled in
+    let finished = is-finished n old one survey repair.zone c.requires.cleared.mountable c.requires.cleared.none c.requires.plan.torn c.finish_beside.ensures.kept f.left.logs f.left.tails f.cleared.known f.cleared.empty f.left.settled in
     let into = c.in-Some.into in
     let prepared = is-prepared n one survey repair.zone into c.deref.result.now finished c.deref.ensures.value c.in-Some.ensures.some.0 c.in-Some.ensures.some.1 in
     let middle = g.D.Device.drive c.plan_moves.new.device in
@@ -80,53 +80,53 @@ returns-in_err-close_alone-clause-kept g c =
 
 pub make_moves-requires : goal.make_moves-requires
 make_moves-requires g c =
-    let n = c.args.blocks in
+    let n = c.args.survey.now.given in
     let old = g.D.Device.drive c.args.device.now in
     let one = g.D.Device.drive c.finish_beside.new.device in
     let survey = c.finish_beside.new.survey in
     let repair = c.args.repair.now in
     let f = c.in_ok-finish_beside.ensures in
-    let finished = is-finished n old one survey repair.zone c.requires.mountable c.requires.cleared c.requires.plan.torn c.finish_beside.ensures.kept f.logs f.tails f.known f.vacant f.settled in
+    let finished = is-finished n old one survey repair.zone c.requires.cleared.mountable c.requires.cleared.none c.requires.plan.torn c.finish_beside.ensures.kept f.left.logs f.left.tails f.cleared.known f.cleared.empty f.left.settled in
     let into = c.in-Some.into in
     let prepared = is-prepared n one survey repair.zone into c.deref.result.now finished c.deref.ensures.value c.in-Some.ensures.some.0 c.in-Some.ensures.some.1 in
     let middle = g.D.Device.drive c.plan_moves.new.device in
     let plan = c.in_ok-plan.plan in
     let start = g.D.Device.drive c.close_alone.new.device in
-    let started = is-started n one middle start survey repair into plan prepared c.plan_moves.ensures.kept c.in_ok-plan.ensures.ok c.close_alone.ensures.kept c.in_ok-close_alone.ensures.shut in
+    let started = is-started n one middle start survey repair into plan prepared c.plan_moves.ensures.kept (subst (λ (k : ℕ). IsMovePlan one k survey repair into plan) c.in_ok-finish_beside.ensures.cleared.known.given_is c.in_ok-plan.ensures.ok) c.close_alone.ensures.kept c.in_ok-close_alone.ensures.shut in
     record { at = (n, started.at) }
 
 pub returns-in_err-heads-clause-kept : goal.returns-in_err-heads-clause-kept
 returns-in_err-heads-clause-kept g c =
-    let n = c.args.blocks in
+    let n = c.args.survey.now.given in
     let old = g.D.Device.drive c.args.device.now in
     let one = g.D.Device.drive c.finish_beside.new.device in
     let survey = c.finish_beside.new.survey in
     let repair = c.args.repair.now in
     let f = c.in_ok-finish_beside.ensures in
-    let finished = is-finished n old one survey repair.zone c.requires.mountable c.requires.cleared c.requires.plan.torn c.finish_beside.ensures.kept f.logs f.tails f.known f.vacant f.settled in
+    let finished = is-finished n old one survey repair.zone c.requires.cleared.mountable c.requires.cleared.none c.requires.plan.torn c.finish_beside.ensures.kept f.left.logs f.left.tails f.cleared.known f.cleared.empty f.left.settled in
     let into = c.in-Some.into in
     let prepared = is-prepared n one survey repair.zone into c.deref.result.now finished c.deref.ensures.value c.in-Some.ensures.some.0 c.in-Some.ensures.some.1 in
     let middle = g.D.Device.drive c.plan_moves.new.device in
     let plan = c.in_ok-plan.plan in
     let start = g.D.Device.drive c.close_alone.new.device in
-    let started = is-started n one middle start survey repair into plan prepared c.plan_moves.ensures.kept c.in_ok-plan.ensures.ok c.close_alone.ensures.kept c.in_ok-close_alone.ensures.shut in
+    let started = is-started n one middle start survey repair into plan prepared c.plan_moves.ensures.kept (subst (λ (k : ℕ). IsMovePlan one k survey repair into plan) c.in_ok-finish_beside.ensures.cleared.known.given_is c.in_ok-plan.ensures.ok) c.close_alone.ensures.kept c.in_ok-close_alone.ensures.shut in
     mountable-both n old one _ c.finish_beside.ensures.kept (mountable-both n one start _ started.kept (c.make_moves.ensures.kept n started.at))
 
 pub empty_torn-requires : goal.empty_torn-requires
 empty_torn-requires g c =
-    let n = c.args.blocks in
+    let n = c.args.survey.now.given in
     let old = g.D.Device.drive c.args.device.now in
     let one = g.D.Device.drive c.finish_beside.new.device in
     let survey = c.finish_beside.new.survey in
     let repair = c.args.repair.now in
     let f = c.in_ok-finish_beside.ensures in
-    let finished = is-finished n old one survey repair.zone c.requires.mountable c.requires.cleared c.requires.plan.torn c.finish_beside.ensures.kept f.logs f.tails f.known f.vacant f.settled in
+    let finished = is-finished n old one survey repair.zone c.requires.cleared.mountable c.requires.cleared.none c.requires.plan.torn c.finish_beside.ensures.kept f.left.logs f.left.tails f.cleared.known f.cleared.empty f.left.settled in
     let into = c.in-Some.into in
     let prepared = is-prepared n one survey repair.zone into c.deref.result.now finished c.deref.ensures.value c.in-Some.ensures.some.0 c.in-Some.ensures.some.1 in
     let middle = g.D.Device.drive c.plan_moves.new.device in
     let plan = c.in_ok-plan.plan in
     let start = g.D.Device.drive c.close_alone.new.device in
-    let started = is-started n one middle start survey repair into plan prepared c.plan_moves.ensures.kept c.in_ok-plan.ensures.ok c.close_alone.ensures.kept c.in_ok-close_alone.ensures.shut in
+    let started = is-started n one middle start survey repair into plan prepared c.plan_moves.ensures.kept (subst (λ (k : ℕ). IsMovePlan one k survey repair into plan) c.in_ok-finish_beside.ensures.cleared.known.given_is c.in_ok-plan.ensures.ok) c.close_alone.ensures.kept c.in_ok-close_alone.ensures.shut in
     let moved = g.D.Device.drive c.make_moves.new.device in
     let heads = c.in_ok-heads.heads in
     let at = c.in_ok-heads.ensures.ok n started.at in
@@ -134,19 +134,19 @@ empty_torn-requires g c =
 
 pub returns-in_err-empty_torn-clause-kept : goal.returns-in_err-empty_torn-clause-kept
 returns-in_err-empty_torn-clause-kept g c =
-    let n = c.args.blocks in
+    let n = c.args.survey.now.given in
     let old = g.D.Device.drive c.args.device.now in
     let one = g.D.Device.drive c.finish_beside.new.device in
     let survey = c.finish_beside.new.survey in
     let repair = c.args.repair.now in
     let f = c.in_ok-finish_beside.ensures in
-    let finished = is-finished n old one survey repair.zone c.requires.mountable c.requires.cleared c.requires.plan.torn c.finish_beside.ensures.kept f.logs f.tails f.known f.vacant f.settled in
+    let finished = is-finished n old one survey repair.zone c.requires.cleared.mountable c.requires.cleared.none c.requires.plan.torn c.finish_beside.ensures.kept f.left.logs f.left.tails f.cleared.known f.cleared.empty f.left.settled in
     let into = c.in-Some.into in
     let prepared = is-prepared n one survey repair.zone into c.deref.result.now finished c.deref.ensures.value c.in-Some.ensures.some.0 c.in-Some.ensures.some.1 in
     let middle = g.D.Device.drive c.plan_moves.new.device in
     let plan = c.in_ok-plan.plan in
     let start = g.D.Device.drive c.close_alone.new.device in
-    let started = is-started n one middle start survey repair into plan prepared c.plan_moves.ensures.kept c.in_ok-plan.ensures.ok c.close_alone.ensures.kept c.in_ok-close_alone.ensures.shut in
+    let started = is-started n one middle start survey repair into plan prepared c.plan_moves.ensures.kept (subst (λ (k : ℕ). IsMovePlan one k survey repair into plan) c.in_ok-finish_beside.ensures.cleared.known.given_is c.in_ok-plan.ensures.ok) c.close_alone.ensures.kept c.in_ok-close_alone.ensures.shut in
     let moved = g.D.Device.drive c.make_moves.new.device in
     let heads = c.in_ok-heads.heads in
     let at = c.in_ok-heads.ensures.ok n started.at in
@@ -154,142 +154,80 @@ returns-in_err-empty_torn-clause-kept g c =
 
 pub note_repair-requires-clause-count : goal.note_repair-requires-clause-count
 note_repair-requires-clause-count g c =
-    let n = c.args.blocks in
+    let n = c.args.survey.now.given in
     let old = g.D.Device.drive c.args.device.now in
     let one = g.D.Device.drive c.finish_beside.new.device in
     let survey = c.finish_beside.new.survey in
     let repair = c.args.repair.now in
     let f = c.in_ok-finish_beside.ensures in
-    let finished = is-finished n old one survey repair.zone c.requires.mountable c.requires.cleared c.requires.plan.torn c.finish_beside.ensures.kept f.logs f.tails f.known f.vacant f.settled in
+    let finished = is-finished n old one survey repair.zone c.requires.cleared.mountable c.requires.cleared.none c.requires.plan.torn c.finish_beside.ensures.kept f.left.logs f.left.tails f.cleared.known f.cleared.empty f.left.settled in
     survey-count n one survey finished.known
 
 pub note_repair-requires-clause-some : goal.note_repair-requires-clause-some
 note_repair-requires-clause-some g c =
-    let n = c.args.blocks in
+    let n = c.args.survey.now.given in
     let old = g.D.Device.drive c.args.device.now in
     let one = g.D.Device.drive c.finish_beside.new.device in
     let survey = c.finish_beside.new.survey in
     let repair = c.args.repair.now in
     let f = c.in_ok-finish_beside.ensures in
-    let finished = is-finished n old one survey repair.zone c.requires.mountable c.requires.cleared c.requires.plan.torn c.finish_beside.ensures.kept f.logs f.tails f.known f.vacant f.settled in
+    let finished = is-finished n old one survey repair.zone c.requires.cleared.mountable c.requires.cleared.none c.requires.plan.torn c.finish_beside.ensures.kept f.left.logs f.left.tails f.cleared.known f.cleared.empty f.left.settled in
     let into = c.in-Some.into in
     let prepared = is-prepared n one survey repair.zone into c.deref.result.now finished c.deref.ensures.value c.in-Some.ensures.some.0 c.in-Some.ensures.some.1 in
     let middle = g.D.Device.drive c.plan_moves.new.device in
     let plan = c.in_ok-plan.plan in
     let start = g.D.Device.drive c.close_alone.new.device in
-    let started = is-started n one middle start survey repair into plan prepared c.plan_moves.ensures.kept c.in_ok-plan.ensures.ok c.close_alone.ensures.kept c.in_ok-close_alone.ensures.shut in
+    let started = is-started n one middle start survey repair into plan prepared c.plan_moves.ensures.kept (subst (λ (k : ℕ). IsMovePlan one k survey repair into plan) c.in_ok-finish_beside.ensures.cleared.known.given_is c.in_ok-plan.ensures.ok) c.close_alone.ensures.kept c.in_ok-close_alone.ensures.shut in
     let moved = g.D.Device.drive c.make_moves.new.device in
     let heads = c.in_ok-heads.heads in
     let at = c.in_ok-heads.ensures.ok n started.at in
     heads-some n start moved repair.tables plan heads at
 
-pub returns-clause-known : goal.returns-clause-known
-returns-clause-known g c =
-    let n = c.args.blocks in
+pub returns-clause-untorn : goal.returns-clause-untorn
+returns-clause-untorn g c =
+    let n = c.args.survey.now.given in
     let old = g.D.Device.drive c.args.device.now in
     let one = g.D.Device.drive c.finish_beside.new.device in
     let survey = c.finish_beside.new.survey in
     let repair = c.args.repair.now in
     let f = c.in_ok-finish_beside.ensures in
-    let finished = is-finished n old one survey repair.zone c.requires.mountable c.requires.cleared c.requires.plan.torn c.finish_beside.ensures.kept f.logs f.tails f.known f.vacant f.settled in
+    let finished = is-finished n old one survey repair.zone c.requires.cleared.mountable c.requires.cleared.none c.requires.plan.torn c.finish_beside.ensures.kept f.left.logs f.left.tails f.cleared.known f.cleared.empty f.left.settled in
     let into = c.in-Some.into in
     let prepared = is-prepared n one survey repair.zone into c.deref.result.now finished c.deref.ensures.value c.in-Some.ensures.some.0 c.in-Some.ensures.some.1 in
     let middle = g.D.Device.drive c.plan_moves.new.device in
     let plan = c.in_ok-plan.plan in
     let start = g.D.Device.drive c.close_alone.new.device in
-    let started = is-started n one middle start survey repair into plan prepared c.plan_moves.ensures.kept c.in_ok-plan.ensures.ok c.close_alone.ensures.kept c.in_ok-close_alone.ensures.shut in
+    let started = is-started n one middle start survey repair into plan prepared c.plan_moves.ensures.kept (subst (λ (k : ℕ). IsMovePlan one k survey repair into plan) c.in_ok-finish_beside.ensures.cleared.known.given_is c.in_ok-plan.ensures.ok) c.close_alone.ensures.kept c.in_ok-close_alone.ensures.shut in
     let moved = g.D.Device.drive c.make_moves.new.device in
     let heads = c.in_ok-heads.heads in
     let at = c.in_ok-heads.ensures.ok n started.at in
     let new = g.D.Device.drive c.empty_torn.new.device in
     let made = moves_before (source_of start repair.tables plan.torn) plan (move_count plan) in
     let e = c.in_ok-empty_torn.ensures.ok n start repair.tables heads at in
-    c.note_repair.ensures.known n start new made (ap (λ (x : Geometry). x.capacity) (sym e.geometry) ∙ ap (λ (x : Geometry). x.capacity) (sym c.geometry.ensures.value)) at.heads_are started.prepared.known e
-
-pub returns-clause-vacant : goal.returns-clause-vacant
-returns-clause-vacant g c =
-    let n = c.args.blocks in
-    let old = g.D.Device.drive c.args.device.now in
-    let one = g.D.Device.drive c.finish_beside.new.device in
-    let survey = c.finish_beside.new.survey in
-    let repair = c.args.repair.now in
-    let f = c.in_ok-finish_beside.ensures in
-    let finished = is-finished n old one survey repair.zone c.requires.mountable c.requires.cleared c.requires.plan.torn c.finish_beside.ensures.kept f.logs f.tails f.known f.vacant f.settled in
-    let into = c.in-Some.into in
-    let prepared = is-prepared n one survey repair.zone into c.deref.result.now finished c.deref.ensures.value c.in-Some.ensures.some.0 c.in-Some.ensures.some.1 in
-    let middle = g.D.Device.drive c.plan_moves.new.device in
-    let plan = c.in_ok-plan.plan in
-    let start = g.D.Device.drive c.close_alone.new.device in
-    let started = is-started n one middle start survey repair into plan prepared c.plan_moves.ensures.kept c.in_ok-plan.ensures.ok c.close_alone.ensures.kept c.in_ok-close_alone.ensures.shut in
-    let moved = g.D.Device.drive c.make_moves.new.device in
-    let heads = c.in_ok-heads.heads in
-    let at = c.in_ok-heads.ensures.ok n started.at in
-    let new = g.D.Device.drive c.empty_torn.new.device in
-    let made = moves_before (source_of start repair.tables plan.torn) plan (move_count plan) in
-    let e = c.in_ok-empty_torn.ensures.ok n start repair.tables heads at in
-    c.note_repair.ensures.vacant n start new made started.prepared.known started.prepared.vacant e
-
-pub returns-clause-spare : goal.returns-clause-spare
-returns-clause-spare g c =
-    let n = c.args.blocks in
-    let old = g.D.Device.drive c.args.device.now in
-    let one = g.D.Device.drive c.finish_beside.new.device in
-    let survey = c.finish_beside.new.survey in
-    let repair = c.args.repair.now in
-    let f = c.in_ok-finish_beside.ensures in
-    let finished = is-finished n old one survey repair.zone c.requires.mountable c.requires.cleared c.requires.plan.torn c.finish_beside.ensures.kept f.logs f.tails f.known f.vacant f.settled in
-    let into = c.in-Some.into in
-    let prepared = is-prepared n one survey repair.zone into c.deref.result.now finished c.deref.ensures.value c.in-Some.ensures.some.0 c.in-Some.ensures.some.1 in
-    let middle = g.D.Device.drive c.plan_moves.new.device in
-    let plan = c.in_ok-plan.plan in
-    let start = g.D.Device.drive c.close_alone.new.device in
-    let started = is-started n one middle start survey repair into plan prepared c.plan_moves.ensures.kept c.in_ok-plan.ensures.ok c.close_alone.ensures.kept c.in_ok-close_alone.ensures.shut in
-    let moved = g.D.Device.drive c.make_moves.new.device in
-    let heads = c.in_ok-heads.heads in
-    let at = c.in_ok-heads.ensures.ok n started.at in
-    let new = g.D.Device.drive c.empty_torn.new.device in
-    let made = moves_before (source_of start repair.tables plan.torn) plan (move_count plan) in
-    let e = c.in_ok-empty_torn.ensures.ok n start repair.tables heads at in
-    repaired-vacant n start new plan made e at.known.in_range
-
-pub returns-clause-whole : goal.returns-clause-whole
-returns-clause-whole g c =
-    let n = c.args.blocks in
-    let old = g.D.Device.drive c.args.device.now in
-    let one = g.D.Device.drive c.finish_beside.new.device in
-    let survey = c.finish_beside.new.survey in
-    let repair = c.args.repair.now in
-    let f = c.in_ok-finish_beside.ensures in
-    let finished = is-finished n old one survey repair.zone c.requires.mountable c.requires.cleared c.requires.plan.torn c.finish_beside.ensures.kept f.logs f.tails f.known f.vacant f.settled in
-    let into = c.in-Some.into in
-    let prepared = is-prepared n one survey repair.zone into c.deref.result.now finished c.deref.ensures.value c.in-Some.ensures.some.0 c.in-Some.ensures.some.1 in
-    let middle = g.D.Device.drive c.plan_moves.new.device in
-    let plan = c.in_ok-plan.plan in
-    let start = g.D.Device.drive c.close_alone.new.device in
-    let started = is-started n one middle start survey repair into plan prepared c.plan_moves.ensures.kept c.in_ok-plan.ensures.ok c.close_alone.ensures.kept c.in_ok-close_alone.ensures.shut in
-    let moved = g.D.Device.drive c.make_moves.new.device in
-    let heads = c.in_ok-heads.heads in
-    let at = c.in_ok-heads.ensures.ok n started.at in
-    let new = g.D.Device.drive c.empty_torn.new.device in
-    let made = moves_before (source_of start repair.tables plan.torn) plan (move_count plan) in
-    let e = c.in_ok-empty_torn.ensures.ok n start repair.tables heads at in
-    repaired-whole n start new survey plan made e started.prepared.known started.prepared.vacant (subst (λ (t : ℕ). IsOnlyTorn (drive_logs start) (zone_tails (contents start.zones)) t) (sym started.torn) started.prepared.only)
+    let kept = mountable-both n old one _ c.finish_beside.ensures.kept (mountable-both n one start _ started.kept (c.empty_torn.ensures.kept n start repair.tables heads at)) in
+    record {
+      known = c.note_repair.ensures.known n start new made (ap (λ (x : Geometry). x.capacity) (sym e.geometry) ∙ ap (λ (x : Geometry). x.capacity) (sym c.geometry.ensures.value)) at.heads_are started.prepared.known e;
+      mountable = kept.mountable c.requires.cleared.mountable;
+      empty = c.note_repair.ensures.vacant n start new made started.prepared.known started.prepared.vacant e;
+      whole = repaired-whole n start new survey plan made e started.prepared.known started.prepared.vacant (subst (λ (t : ℕ). IsOnlyTorn (drive_logs start) (zone_tails (contents start.zones)) t) (sym started.torn) started.prepared.only);
+      spare = repaired-vacant n start new plan made e at.known.in_range;
+    }
 
 pub returns-clause-repaired : goal.returns-clause-repaired
 returns-clause-repaired g c =
-    let n = c.args.blocks in
+    let n = c.args.survey.now.given in
     let old = g.D.Device.drive c.args.device.now in
     let one = g.D.Device.drive c.finish_beside.new.device in
     let survey = c.finish_beside.new.survey in
     let repair = c.args.repair.now in
     let f = c.in_ok-finish_beside.ensures in
-    let finished = is-finished n old one survey repair.zone c.requires.mountable c.requires.cleared c.requires.plan.torn c.finish_beside.ensures.kept f.logs f.tails f.known f.vacant f.settled in
+    let finished = is-finished n old one survey repair.zone c.requires.cleared.mountable c.requires.cleared.none c.requires.plan.torn c.finish_beside.ensures.kept f.left.logs f.left.tails f.cleared.known f.cleared.empty f.left.settled in
     let into = c.in-Some.into in
     let prepared = is-prepared n one survey repair.zone into c.deref.result.now finished c.deref.ensures.value c.in-Some.ensures.some.0 c.in-Some.ensures.some.1 in
     let middle = g.D.Device.drive c.plan_moves.new.device in
     let plan = c.in_ok-plan.plan in
     let start = g.D.Device.drive c.close_alone.new.device in
-    let started = is-started n one middle start survey repair into plan prepared c.plan_moves.ensures.kept c.in_ok-plan.ensures.ok c.close_alone.ensures.kept c.in_ok-close_alone.ensures.shut in
+    let started = is-started n one middle start survey repair into plan prepared c.plan_moves.ensures.kept (subst (λ (k : ℕ). IsMovePlan one k survey repair into plan) c.in_ok-finish_beside.ensures.cleared.known.given_is c.in_ok-plan.ensures.ok) c.close_alone.ensures.kept c.in_ok-close_alone.ensures.shut in
     let moved = g.D.Device.drive c.make_moves.new.device in
     let heads = c.in_ok-heads.heads in
     let at = c.in_ok-heads.ensures.ok n started.at in
@@ -298,23 +236,23 @@ returns-clause-repaired g c =
     let e = c.in_ok-empty_torn.ensures.ok n start repair.tables heads at in
     let k = shut-both one middle start (zones-shut one middle c.plan_moves.ensures.kept) c.close_alone.ensures.kept in
     let done = torn-repaired n start new survey (source_of start repair.tables plan.torn) plan repair.zone into started.prepared started.torn (c.in_ok-plan.ensures.ok.into_is) (subst (λ (zs : List ReportedZone). (other : ℕ) (r : ReportedZone) → other < into → slice_get zs other ≡ Some r → r.state ≢ states.Empty) c.deref.ensures.value c.in-Some.ensures.lowest) at.can e in
-    repaired-since n repair.zone start.geometry old.geometry (drive_logs start) (drive_logs old) (drive_logs new) (k.geometry ∙ c.finish_beside.ensures.kept.geometry) (shut-logs one start k ∙ f.logs) done
+    repaired-since n repair.zone start.geometry old.geometry (drive_logs start) (drive_logs old) (drive_logs new) (k.geometry ∙ c.finish_beside.ensures.kept.geometry) (shut-logs one start k ∙ f.left.logs) done
 
 pub returns-clause-kept : goal.returns-clause-kept
 returns-clause-kept g c =
-    let n = c.args.blocks in
+    let n = c.args.survey.now.given in
     let old = g.D.Device.drive c.args.device.now in
     let one = g.D.Device.drive c.finish_beside.new.device in
     let survey = c.finish_beside.new.survey in
     let repair = c.args.repair.now in
     let f = c.in_ok-finish_beside.ensures in
-    let finished = is-finished n old one survey repair.zone c.requires.mountable c.requires.cleared c.requires.plan.torn c.finish_beside.ensures.kept f.logs f.tails f.known f.vacant f.settled in
+    let finished = is-finished n old one survey repair.zone c.requires.cleared.mountable c.requires.cleared.none c.requires.plan.torn c.finish_beside.ensures.kept f.left.logs f.left.tails f.cleared.known f.cleared.empty f.left.settled in
     let into = c.in-Some.into in
     let prepared = is-prepared n one survey repair.zone into c.deref.result.now finished c.deref.ensures.value c.in-Some.ensures.some.0 c.in-Some.ensures.some.1 in
     let middle = g.D.Device.drive c.plan_moves.new.device in
     let plan = c.in_ok-plan.plan in
     let start = g.D.Device.drive c.close_alone.new.device in
-    let started = is-started n one middle start survey repair into plan prepared c.plan_moves.ensures.kept c.in_ok-plan.ensures.ok c.close_alone.ensures.kept c.in_ok-close_alone.ensures.shut in
+    let started = is-started n one middle start survey repair into plan prepared c.plan_moves.ensures.kept (subst (λ (k : ℕ). IsMovePlan one k survey repair into plan) c.in_ok-finish_beside.ensures.cleared.known.given_is c.in_ok-plan.ensures.ok) c.close_alone.ensures.kept c.in_ok-close_alone.ensures.shut in
     let moved = g.D.Device.drive c.make_moves.new.device in
     let heads = c.in_ok-heads.heads in
     let at = c.in_ok-heads.ensures.ok n started.at in

@@ -1,7 +1,7 @@
 use Rattle.std.proofs.Common.{◌≡◌, ◌+◌, ◌∙◌, ℕ, drop, [], ap, arith}
 use Rattle.std.specs.Option.{option_map}
 use Rattle.std.proofs.lemmas.List.{drop_all, drop_more}
-use Rattle.yardsticks.specs.Batches.{blocks_of}
+use Rattle.yardsticks.specs.Batches.{held_blocks}
 use Rattle.yardsticks.specs.Zones.{saying_of}
 use Rattle.yardsticks.proofs.HeardLaws.{entry-step, heard-entries}
 use Rattle.yardsticks.proofs.array.heard_in_batch.Goals as goal
@@ -20,4 +20,4 @@ pub returns : goal.returns
 returns c = λ header.
     let entries = c.args.batch.now.header.entries.items in
     let done : drop c.loop-entry.entry-index entries ≡ [] = drop_all c.loop-entry.entry-index entries (omega arith) in
-    (rw done at c.loop-entry.invariant.found) ∙ heard-entries c.args.block (option_map saying_of c.args.found) c.args.batch.now.header.sequence (blocks_of c.args.batch.now.body.items) c.args.zone header 0 entries
+    (rw done at c.loop-entry.invariant.found) ∙ heard-entries c.args.block (option_map saying_of c.args.found) c.args.batch.now.header.sequence (held_blocks c.args.batch.now.body.items) c.args.zone header 0 entries

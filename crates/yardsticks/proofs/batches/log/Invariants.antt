@@ -1,12 +1,12 @@
 use Rattle.std.proofs.Common.{◌≡◌, length, map, vec_len}
 use Rattle.std.specs.List.{AllByRecursion}
 use Rattle.batch_log.specs.Log.{BeginsWith}
-use Rattle.yardsticks.specs.Batches.{blocks_of, batch_of}
+use Rattle.yardsticks.specs.Batches.{held_blocks, batch_of}
 use Rattle.yardsticks.proofs.batches.log.Given as goal
 
 abbrev pub invariant-loop-batches : goal.invariant-loop-batches
 invariant-loop-batches l = record {
-  so_far : BeginsWith l.block_bytes (blocks_of l.blocks) (map batch_of l.batches.items) (blocks_of l.rest);
+  so_far : BeginsWith l.block_bytes (held_blocks l.blocks) (map batch_of l.batches.items) (held_blocks l.rest);
   sizes : AllByRecursion (λ block. vec_len block ≡ l.block_bytes) l.rest;
 }
 

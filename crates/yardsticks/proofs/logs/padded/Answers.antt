@@ -1,6 +1,6 @@
 use Rattle.std.proofs.Common.{◌≡◌, ◌-◌, ◌++◌, ◌≤◌, ◌∙◌, ℕ, ap, arith, rules, length, replicate}
 use Rattle.batch_log.specs.Log.{zero_block}
-use Rattle.yardsticks.specs.Batches.{blocks_of}
+use Rattle.yardsticks.specs.Batches.{held_blocks}
 use Rattle.yardsticks.proofs.ImageLaws.{padded-step}
 use Rattle.yardsticks.proofs.logs.padded.Goals as goal
 
@@ -17,4 +17,4 @@ loop-number-preserved c =
 pub returns : goal.returns
 returns c =
     let all : c.loop-number._number - length c.args.blocks.items ≡ c.args.geometry.now.capacity - length c.args.blocks.items = omega (arith, c.loop-number.invariant.range, c.loop-number-test.false) in
-    c.loop-number.invariant.blocks ∙ ap (λ (n : ℕ). blocks_of c.args.blocks.items ++ replicate n (zero_block c.args.geometry.now.block)) all
+    c.loop-number.invariant.blocks ∙ ap (λ (n : ℕ). held_blocks c.args.blocks.items ++ replicate n (zero_block c.args.geometry.now.block)) all

@@ -3,8 +3,8 @@ use Rattle.std.specs.List.{count_by}
 use Rattle.std.proofs.lemmas.Bool.{false≢true}
 use Rattle.std.proofs.lemmas.Result.{IfOk-weaker}
 use Rattle.drive_port.specs.Contents.{Content, is_usable}
-use Rattle.zone_choice.specs.Mountable.{is_partly_written}
-use Rattle.yardsticks.specs.Zones.{image_contents, logs_of}
+use Rattle.drive_array.specs.Mountable.{is_partly_written}
+use Rattle.yardsticks.specs.Zones.{image_contents, held_logs}
 use Rattle.yardsticks.proofs.MountableLaws.{all-images, disk-logs, images-all, mountable-is, repair-left}
 use Rattle.yardsticks.proofs.mountable.is_mountable.Goals as goal
 
@@ -16,13 +16,13 @@ pub returns-then-not-branch : goal.returns-then-not-branch
 returns-then-not-branch c =
     let are = rw c.in-Some.is at c.in_ok-drive.ensures.some in
     let tests = rw (c.deref.ensures.value, c.if-not-branch.true) at c.in_ok-are_of_disk.ensures in
-    (λ e. absurd (false≢true e), λ all. tests.1 (disk-logs c.args.geometry.now (image_contents c.args.zones.now) c.args.n (logs_of c.in-Some.drive.logs.items) c.in-Some.drive.tails.items are all))
+    (λ e. absurd (false≢true e), λ all. tests.1 (disk-logs c.args.geometry.now (image_contents c.args.zones.now) c.args.n (held_logs c.in-Some.drive.logs.items) c.in-Some.drive.tails.items are all))
 
 pub returns : goal.returns
 returns c =
     let zones = image_contents c.args.zones.now in
-    let logs = logs_of c.in-Some.drive.logs.items in
-    let left = logs_of c.clear.new.logs.items in
+    let logs = held_logs c.in-Some.drive.logs.items in
+    let left = held_logs c.clear.new.logs.items in
     let tails = c.in-Some.drive.tails.items in
     let are = rw c.in-Some.is at c.in_ok-drive.ensures.some in
     let usable = images-all (λ (zone : Content). is_usable zone.usage ≡ true) c.args.zones.now (c.if-not-are_usable.ensures.0 refl) in

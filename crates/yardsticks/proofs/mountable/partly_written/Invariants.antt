@@ -1,6 +1,6 @@
 use Rattle.std.proofs.Common.{◌≡◌, ◌≤◌, ◌+◌, drop}
 use Rattle.std.specs.List.{count_by}
-use Rattle.zone_choice.specs.Mountable.{is_partly_written}
+use Rattle.drive_array.specs.Mountable.{is_partly_written}
 use Rattle.yardsticks.specs.Zones.{image_contents}
 use Rattle.yardsticks.proofs.mountable.partly_written.Given as goal
 

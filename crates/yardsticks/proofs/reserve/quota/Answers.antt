@@ -1,6 +1,6 @@
 use Rattle.std.proofs.Common.{◌<◌, arith}
-use Rattle.zone_choice.specs.Reserve.{batch_most}
-use Rattle.zone_choice.proofs.ReserveLaws.{fill-quota}
+use Rattle.drive_array.specs.Reserve.{batch_most}
+use Rattle.drive_array.proofs.ReserveLaws.{fill-quota}
 use Rattle.yardsticks.proofs.reserve.quota.Goals as goal
 
 pub returns : goal.returns

@@ -1,6 +1,6 @@
 use Rattle.std.proofs.Common.{◌≡◌, ◌+◌, ◌∙◌, ◌∷◌, drop, [], ap, sym}
 use Rattle.std.proofs.lemmas.List.{drop_all, drop_more}
-use Rattle.zone_choice.proofs.SizeLaws.{larger-none}
+use Rattle.drive_array.proofs.SizeLaws.{larger-none}
 use Rattle.yardsticks.proofs.GreatestLaws.{log_greatest-step}
 use Rattle.yardsticks.proofs.sizes.log_greatest.Goals as goal
 

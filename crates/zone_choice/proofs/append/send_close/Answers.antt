@@ -1,25 +1,36 @@
-use Rattle.std.proofs.Common.{refl, sym, inl, inr}
+use Rattle.std.proofs.Common.{refl, sym, subst, inl, inr, Err}
+use Rattle.zone_choice.specs.Agreement.{MountedView}
+use Rattle.zone_choice.specs.Changes.{CloseBesideLeaves, fault_halt}
 use Rattle.zone_choice.proofs.CloseLaws.{close_halts, other_closed, other_full}
 use Rattle.zone_choice.proofs.append.send_close.Goals as goal
 
 pub returns-in_default-clause-leaves : goal.returns-in_default-clause-leaves
-returns-in_default-clause-leaves g c = inl (sym c.in_default.ensures, refl)
+returns-in_default-clause-leaves g c = rw (← c.disk.view_is) (inl (sym c.in_default.ensures, refl))
 
 pub returns-then-other-geometry-clause-leaves : goal.returns-then-other-geometry-clause-leaves
 returns-then-other-geometry-clause-leaves g c =
-    inr (c.in-Some.other, sym c.in-Some.ensures, other_full _ c.args.tables.now c.args.zone c.in-Some.other c.requires.agrees c.requires.filling (sym c.in-Some.ensures) (rw c.geometry-geometry.ensures.value at c.if-other-geometry.true))
+    let agrees = rw (← c.disk.view_is) at c.requires.agrees in
+    let filling = rw (← c.disk.view_is) at c.requires.filling in
+    let beside = sym c.in-Some.ensures in
+    rw (← c.disk.view_is) (inr (c.in-Some.other, beside, other_full _ c.disk.inside.tables c.args.zone c.in-Some.other agrees filling beside (rw (c.geometry-geometry.ensures, ← c.disk.view_is) at c.if-other-geometry.true)))
 
 pub halt_of-requires : goal.halt_of-requires
 halt_of-requires g c =
-    (close_halts _ _ c.args.tables.now c.args.zone _ c.in-Some.other c.in-Err.fault c.requires.agrees (sym c.in-Some.ensures) (rw c.geometry-geometry.ensures.value at c.if-other-geometry.false) (rw c.geometry-geometry.ensures.value refl)
-    c.in-Err.ensures.gives c.close.ensures.kept c.in-Err.ensures.leaves c.in-Err.ensures.obeys c.in-Err.ensures.taken).halt
+    let agrees = rw (← c.disk.view_is) at c.requires.agrees in
+    let e = c.in-Err.ensures in
+    (close_halts _ _ c.disk.inside.tables c.args.zone _ c.in-Some.other c.in-Err.fault agrees (sym c.in-Some.ensures) (rw (c.geometry-geometry.ensures, ← c.disk.view_is) at c.if-other-geometry.false) (rw (c.geometry-geometry.ensures, ← c.disk.view_is) refl) e.gives c.close.ensures.kept e.leaves e.obeys e.taken).halt
 
-pub returns-in-Ok-clause-leaves : goal.returns-in-Ok-clause-leaves
-returns-in-Ok-clause-leaves g c =
-    inr (c.in-Some.other, sym c.in-Some.ensures, other_closed _ _ c.args.tables.now c.args.zone _ c.in-Some.other c.requires.agrees c.requires.filling (sym c.in-Some.ensures) (rw c.geometry-geometry.ensures.value refl) c.close.ensures.kept c.in-Ok.ensures.leaves c.close.ensures.obeys.lawful c.in-Ok.ensures.closed.counts)
+pub returns-clause-leaves : goal.returns-clause-leaves
+returns-clause-leaves g c =
+    let agrees = rw (← c.disk.view_is) at c.requires.agrees in
+    let filling = rw (← c.disk.view_is) at c.requires.filling in
+    let beside = sym c.in-Some.ensures in
+    rw (← c.disk.view_is)
+    (inr (c.in-Some.other, beside, other_closed _ _ c.disk.inside.tables c.args.zone _ c.in-Some.other agrees filling beside (rw (c.geometry-geometry.ensures, ← c.disk.view_is) refl) c.close.ensures.kept c.in_default-close.ensures.leaves c.close.ensures.obeys.lawful c.in_default-close.ensures.closed.counts))
 
 pub returns-in-Err-clause-leaves : goal.returns-in-Err-clause-leaves
 returns-in-Err-clause-leaves g c =
-    rw c.halt_of.ensures
-    (close_halts _ _ c.args.tables.now c.args.zone _ c.in-Some.other c.in-Err.fault c.requires.agrees (sym c.in-Some.ensures) (rw c.geometry-geometry.ensures.value at c.if-other-geometry.false) (rw c.geometry-geometry.ensures.value refl)
-    c.in-Err.ensures.gives c.close.ensures.kept c.in-Err.ensures.leaves c.in-Err.ensures.obeys c.in-Err.ensures.taken).leaves
+    let agrees = rw (← c.disk.view_is) at c.requires.agrees in
+    let e = c.in-Err.ensures in
+    let halts = close_halts _ _ c.disk.inside.tables c.args.zone _ c.in-Some.other c.in-Err.fault agrees (sym c.in-Some.ensures) (rw (c.geometry-geometry.ensures, ← c.disk.view_is) at c.if-other-geometry.false) (rw (c.geometry-geometry.ensures, ← c.disk.view_is) refl) e.gives c.close.ensures.kept e.leaves e.obeys e.taken in
+    rw c.halt_of.ensures (subst (λ (m : MountedView). CloseBesideLeaves m.drive m.tables c.args.zone (g.D.Device.drive c.close.new.device) (Err (fault_halt c.in-Err.fault))) c.disk.view_is halts.leaves)

@@ -3,23 +3,27 @@ use Rattle.zone_states.specs.declared.geometry.Geometry.{Geometry}
 use Rattle.zone_translator.proofs.ReportLaws.{report_halts, report_kept, reports-all}
 use Rattle.zone_translator.proofs.report.report_all.Goals as goal
 
-pub returns-in-Ok-clause-kept : goal.returns-in-Ok-clause-kept
-returns-in-Ok-clause-kept g c = report_kept (g.D.Device.drive c.args.device.now) _ c.args.tables.now _ _ c.requires.agrees c.report.ensures.kept c.report.ensures.closing (rw c.in-Ok.is at c.report.ensures.obeys) c.in-Ok.ensures.shown
+pub returns-clause-kept : goal.returns-clause-kept
+returns-clause-kept g c =
+    rw (← c.disk.view_is) (report_kept (g.D.Device.drive c.disk.inside.device) _ c.disk.inside.tables _ _ (rw (← c.disk.view_is) at c.requires.agrees) c.report.ensures.kept c.report.ensures.closing c.in_default.ensures.obeys c.in_default.ensures.shown)
 
-pub returns-in-Ok-clause-zones : goal.returns-in-Ok-clause-zones
-returns-in-Ok-clause-zones g c =
-    let zones : c.geometry-zones.result.zones ≡ (g.D.Device.drive c.args.device.now).geometry.zones = ap (λ (x : Geometry). x.zones) c.geometry-zones.ensures.value in
-    reports-all (g.D.Device.drive c.args.device.now) _ _ _ c.requires.agrees.geometry c.requires.agrees.lawful.count (omega (arith, zones)) c.in-Ok.ensures.shown
+pub returns-clause-zones : goal.returns-clause-zones
+returns-clause-zones g c =
+    let agrees = rw (← c.disk.view_is) at c.requires.agrees in
+    let geometry = rw (← c.disk.view_is) at c.geometry-zones.ensures in
+    let zones : c.geometry-zones.result.zones ≡ (g.D.Device.drive c.disk.inside.device).geometry.zones = ap (λ (x : Geometry). x.zones) geometry in
+    rw (← c.disk.view_is) (reports-all (g.D.Device.drive c.disk.inside.device) _ _ _ agrees.geometry agrees.lawful.count (omega (arith, zones)) c.in_default.ensures.shown)
 
 pub halt_of-requires : goal.halt_of-requires
 halt_of-requires g c =
-    (report_halts (g.D.Device.drive c.args.device.now) _ c.args.tables.now _ _ c.in-Err.fault c.requires.agrees c.in-Err.ensures.gives c.report.ensures.kept c.report.ensures.closing c.in-Err.ensures.obeys c.in-Err.ensures.taken).halt
+    (report_halts (g.D.Device.drive c.disk.inside.device) _ c.disk.inside.tables _ _ c.in-Err.fault (rw (← c.disk.view_is) at c.requires.agrees) c.in-Err.ensures.gives c.report.ensures.kept c.report.ensures.closing c.in-Err.ensures.obeys c.in-Err.ensures.taken).halt
 
 pub returns-in-Err-clause-kept : goal.returns-in-Err-clause-kept
 returns-in-Err-clause-kept g c =
-    (report_halts (g.D.Device.drive c.args.device.now) _ c.args.tables.now _ _ c.in-Err.fault c.requires.agrees c.in-Err.ensures.gives c.report.ensures.kept c.report.ensures.closing c.in-Err.ensures.obeys c.in-Err.ensures.taken).kept
+    rw (← c.disk.view_is)
+    (report_halts (g.D.Device.drive c.disk.inside.device) _ c.disk.inside.tables _ _ c.in-Err.fault (rw (← c.disk.view_is) at c.requires.agrees) c.in-Err.ensures.gives c.report.ensures.kept c.report.ensures.closing c.in-Err.ensures.obeys c.in-Err.ensures.taken).kept
 
 pub returns-in-Err-clause-err : goal.returns-in-Err-clause-err
 returns-in-Err-clause-err g c =
     rw (c.fault_of.ensures, c.halt_of.ensures)
-    (report_halts (g.D.Device.drive c.args.device.now) _ c.args.tables.now _ _ c.in-Err.fault c.requires.agrees c.in-Err.ensures.gives c.report.ensures.kept c.report.ensures.closing c.in-Err.ensures.obeys c.in-Err.ensures.taken).cause
+    (report_halts (g.D.Device.drive c.disk.inside.device) _ c.disk.inside.tables _ _ c.in-Err.fault (rw (← c.disk.view_is) at c.requires.agrees) c.in-Err.ensures.gives c.report.ensures.kept c.report.ensures.closing c.in-Err.ensures.obeys c.in-Err.ensures.taken).cause

@@ -1,39 +1,52 @@
-use Rattle.std.proofs.Common.{◌+◌, ◌-◌, rules, refl, inr}
-use Rattle.zone_choice.specs.Agreement.{drive_logs, mounted}
+use Rattle.std.proofs.Common.{Err, Ok, inr, refl, rules}
 use Rattle.zone_choice.specs.declared.roles.Filling.{Filling}
-use Rattle.zone_translator.proofs.CutLaws.{cut-only}
-use Rattle.zone_translator.proofs.RoomLaws.{room-keeps, turns-join, turns-kept}
-use Rattle.zone_choice.proofs.ChangeLaws.{keeps-room}
-use Rattle.zone_translator.proofs.WriteLaws.{batch-counted, cut-appended, halted-logs, kept-room, lost-blocks, same-room, took-blocks, write_no_memory, write_no_room}
+use Rattle.zone_translator.proofs.CleaningLaws.{append-stays, stays-cleaning, stays-join}
+use Rattle.zone_translator.proofs.RoomLaws.{room-keeps}
+use Rattle.zone_translator.proofs.WriteLaws.{batch-counted, cut-appended, cut-found, found-stays, halted-logs, kept-room, rest-kept, same-room, write_halts, write_no_memory, write_no_room, writes}
 use Rattle.zone_translator.proofs.write.next_batch.Goals as goal
+
+-- ---- no zone was found
 
 pub returns-in_err-host-clause-leaves : goal.returns-in_err-host-clause-leaves
 returns-in_err-host-clause-leaves g c =
-    let before = mounted (g.D.Device.drive c.args.device.now) c.args.tables.now in
-    let found = mounted (g.D.Device.drive c.find_room.new.device) c.find_room.new.tables in
-    write_no_room _ before found c.find_room.new.cleaner c.args.first _ c.in_err-host.field-0.0 c.from_residual.result (search rules) c.in_err-host.ensures.leaves c.in_err-host.ensures.cause
+    write_no_room c.args.disk.now c.find_room.new.disk c.find_room.new.cleaner c.args.rest c.in_err-host.field-0.0 c.from_residual.result (search rules) c.in_err-host.ensures.leaves c.in_err-host.ensures.cause
+
+pub returns-in_err-host-clause-cut : goal.returns-in_err-host-clause-cut
+returns-in_err-host-clause-cut g c =
+    cut-found c.args.disk.now c.find_room.new.disk c.find_room.new.disk.drive c.args.rest (room-keeps Filling c.args.disk.now c.find_room.new.disk c.find_room.new.cleaner c.in_err-host.field-0.0 c.in_err-host.ensures.leaves) refl
+
+-- ---- or no memory
 
 pub build_batch-requires-clause-agrees : goal.build_batch-requires-clause-agrees
 build_batch-requires-clause-agrees g c = c.in_ok-host.ensures.leaves.1.0
 
+pub build_batch-requires-clause-can : goal.build_batch-requires-clause-can
+build_batch-requires-clause-can g c = let keeps = c.in_ok-host.ensures.leaves.0 in rest-kept c.args.disk.now c.find_room.new.disk c.args.rest keeps.geometry keeps.size c.requires.can
+
 pub returns-in_err-count-clause-leaves : goal.returns-in_err-count-clause-leaves
 returns-in_err-count-clause-leaves g c =
-    let before = mounted (g.D.Device.drive c.args.device.now) c.args.tables.now in
-    let found = mounted (g.D.Device.drive c.find_room.new.device) c.find_room.new.tables in
-    let room = kept-room before found c.build_batch.new.tables c.find_room.new.cleaner c.in_ok-host.ensures.leaves.0 c.in_ok-host.ensures.leaves.1 c.build_batch.ensures.kept in
-    let ready = mounted (g.D.Device.drive c.find_room.new.device) c.build_batch.new.tables in
-    write_no_memory _ before ready c.find_room.new.cleaner c.args.first _ c.from_residual-in_err-count.result (search rules) room
+    let found = c.in_ok-host.ensures.leaves in
+    write_no_memory c.args.disk.now c.build_batch.new.disk c.find_room.new.cleaner c.args.rest c.from_residual-in_err-count.result (search rules)
+    (kept-room c.args.disk.now c.find_room.new.disk c.build_batch.new.disk c.find_room.new.cleaner found.0 found.1 c.build_batch.ensures.drive c.build_batch.ensures.kept)
+
+pub returns-in_err-count-clause-cut : goal.returns-in_err-count-clause-cut
+returns-in_err-count-clause-cut g c = rw c.build_batch.ensures.drive (cut-found c.args.disk.now c.find_room.new.disk c.find_room.new.disk.drive c.args.rest c.in_ok-host.ensures.leaves.0 refl)
+
+pub returns-in_err-count-clause-clean : goal.returns-in_err-count-clause-clean
+returns-in_err-count-clause-clean g c =
+    let found = c.in_ok-host.ensures in
+    let ready = found-stays c.args.disk.now c.find_room.new.disk c.build_batch.new.disk c.args.cleaner.now c.find_room.new.cleaner c.in_ok-host.host found.leaves found.clean c.build_batch.ensures.drive c.build_batch.ensures.kept in
+    stays-cleaning c.args.disk.now c.build_batch.new.disk c.args.cleaner.now c.find_room.new.cleaner c.from_residual-in_err-count.result ready
+
+-- ---- the Append
 
 pub append_batch-requires-clause-cleaned : goal.append_batch-requires-clause-cleaned
 append_batch-requires-clause-cleaned g c =
-    let before = mounted (g.D.Device.drive c.args.device.now) c.args.tables.now in
-    let found = mounted (g.D.Device.drive c.find_room.new.device) c.find_room.new.tables in
-    let room = kept-room before found c.build_batch.new.tables c.find_room.new.cleaner c.in_ok-host.ensures.leaves.0 c.in_ok-host.ensures.leaves.1 c.build_batch.ensures.kept in
-    let ready = mounted (g.D.Device.drive c.find_room.new.device) c.build_batch.new.tables in
-    room.1
+    let found = c.in_ok-host.ensures.leaves in
+    (kept-room c.args.disk.now c.find_room.new.disk c.build_batch.new.disk c.find_room.new.cleaner found.0 found.1 c.build_batch.ensures.drive c.build_batch.ensures.kept).1
 
 pub append_batch-requires-clause-host : goal.append_batch-requires-clause-host
-append_batch-requires-clause-host g c = (same-room (g.D.Device.drive c.find_room.new.device) c.find_room.new.tables c.build_batch.new.tables c.in_ok-host.host c.build_batch.ensures.kept c.in_ok-host.ensures.ok).host_is
+append_batch-requires-clause-host g c = (same-room c.find_room.new.disk c.build_batch.new.disk c.in_ok-host.host c.build_batch.ensures.drive c.build_batch.ensures.kept c.in_ok-host.ensures.ok).host_is
 
 pub append_batch-requires-clause-built : goal.append_batch-requires-clause-built
 append_batch-requires-clause-built g c = c.in_ok-count.ensures.ok.built_is
@@ -43,77 +56,56 @@ append_batch-requires-clause-can g c = c.in_ok-count.ensures.ok.can
 
 pub returns-in-Ok-clause-leaves : goal.returns-in-Ok-clause-leaves
 returns-in-Ok-clause-leaves g c =
-    let before = mounted (g.D.Device.drive c.args.device.now) c.args.tables.now in
-    let found = mounted (g.D.Device.drive c.find_room.new.device) c.find_room.new.tables in
-    let room = kept-room before found c.build_batch.new.tables c.find_room.new.cleaner c.in_ok-host.ensures.leaves.0 c.in_ok-host.ensures.leaves.1 c.build_batch.ensures.kept in
-    let ready = mounted (g.D.Device.drive c.find_room.new.device) c.build_batch.new.tables in
-    let after = mounted (g.D.Device.drive c.append_batch.new.device) c.append_batch.new.tables in
-    took-blocks before ready after c.find_room.new.cleaner c.append_batch.new.self c.in_ok-host.host c.args.first c.args.left c.in_ok-count.count c.args.content c.build_batch.new.batch room.0 room.1 c.requires.in_range c.in_ok-count.ensures.ok c.in-Ok.ensures.leaves
+    let found = c.in_ok-host.ensures.leaves in
+    let ready = kept-room c.args.disk.now c.find_room.new.disk c.build_batch.new.disk c.find_room.new.cleaner found.0 found.1 c.build_batch.ensures.drive c.build_batch.ensures.kept in
+    writes c.args.disk.now c.build_batch.new.disk c.append_batch.new.disk c.find_room.new.cleaner c.append_batch.new.self c.in_ok-host.host c.args.rest c.in_ok-count.count c.build_batch.new.batch ready.0 ready.1 c.requires.can c.in_ok-count.ensures.ok c.in-Ok.ensures.leaves
 
 pub returns-in-Ok-clause-count : goal.returns-in-Ok-clause-count
 returns-in-Ok-clause-count g c =
-    batch-counted _ _ c.in_ok-host.host c.args.left _ c.in_ok-count.count c.in_ok-host.ensures.leaves.0.geometry c.in_ok-host.ensures.leaves.1.0.geometry c.in_ok-host.ensures.ok.free c.requires.some c.in_ok-count.ensures.count
+    let found = c.in_ok-host.ensures in
+    batch-counted c.args.disk.now.drive.geometry c.find_room.new.disk.drive.geometry c.in_ok-host.host c.args.rest.left _ c.in_ok-count.count found.leaves.0.geometry found.leaves.1.0.geometry found.ok.free c.requires.can.some c.in_ok-count.ensures.count
+
+pub returns-in-Ok-clause-cut : goal.returns-in-Ok-clause-cut
+returns-in-Ok-clause-cut g c =
+    let found = c.in_ok-host.ensures.leaves in
+    let ready = kept-room c.args.disk.now c.find_room.new.disk c.build_batch.new.disk c.find_room.new.cleaner found.0 found.1 c.build_batch.ensures.drive c.build_batch.ensures.kept in
+    let here = same-room c.find_room.new.disk c.build_batch.new.disk c.in_ok-host.host c.build_batch.ensures.drive c.build_batch.ensures.kept c.in_ok-host.ensures.ok in
+    cut-appended c.args.disk.now c.build_batch.new.disk c.append_batch.new.disk.drive c.in_ok-host.host c.args.rest c.in_ok-count.count c.build_batch.new.batch ready.0 ready.1.0 here c.requires.can.some
+    (rw c.build_batch.ensures.drive c.in_ok-count.ensures.count) c.in_ok-count.ensures.ok.entries (inr c.in-Ok.ensures.leaves.0.logs)
+
+pub returns-in-Ok-clause-clean : goal.returns-in-Ok-clause-clean
+returns-in-Ok-clause-clean g c =
+    let found = c.in_ok-host.ensures in
+    let ready = found-stays c.args.disk.now c.find_room.new.disk c.build_batch.new.disk c.args.cleaner.now c.find_room.new.cleaner c.in_ok-host.host found.leaves found.clean c.build_batch.ensures.drive c.build_batch.ensures.kept in
+    let last = append-stays c.build_batch.new.disk c.append_batch.new.disk c.find_room.new.cleaner c.append_batch.new.self c.in_ok-host.host.zone _ (Ok tt) c.in_ok-count.ensures.ok.can c.in-Ok.ensures.leaves in
+    stays-cleaning c.args.disk.now c.append_batch.new.disk c.args.cleaner.now c.append_batch.new.self (Ok c.in_ok-count.count) (stays-join c.args.disk.now c.build_batch.new.disk c.append_batch.new.disk c.args.cleaner.now c.find_room.new.cleaner c.append_batch.new.self ready last)
 
 pub returns-in-Err-clause-leaves : goal.returns-in-Err-clause-leaves
 returns-in-Err-clause-leaves g c =
-    let before = mounted (g.D.Device.drive c.args.device.now) c.args.tables.now in
-    let found = mounted (g.D.Device.drive c.find_room.new.device) c.find_room.new.tables in
-    let room = kept-room before found c.build_batch.new.tables c.find_room.new.cleaner c.in_ok-host.ensures.leaves.0 c.in_ok-host.ensures.leaves.1 c.build_batch.ensures.kept in
-    let ready = mounted (g.D.Device.drive c.find_room.new.device) c.build_batch.new.tables in
-    let after = mounted (g.D.Device.drive c.append_batch.new.device) c.append_batch.new.tables in
+    let found = c.in_ok-host.ensures.leaves in
+    let ready = kept-room c.args.disk.now c.find_room.new.disk c.build_batch.new.disk c.find_room.new.cleaner found.0 found.1 c.build_batch.ensures.drive c.build_batch.ensures.kept in
     rw c.fault_of.ensures
-    (lost-blocks before ready after c.find_room.new.cleaner c.append_batch.new.self c.in_ok-host.host c.args.first c.args.left c.in_ok-count.count c.args.content c.build_batch.new.batch c.in-Err.halt room.0 room.1 c.in_ok-count.ensures.ok c.in-Err.ensures.leaves).0
+    (write_halts c.args.disk.now c.build_batch.new.disk c.append_batch.new.disk c.find_room.new.cleaner c.append_batch.new.self c.in_ok-host.host c.args.rest c.in_ok-count.count c.build_batch.new.batch c.in-Err.halt ready.0 ready.1 c.in_ok-count.ensures.ok c.in-Err.ensures.leaves).0
 
 pub returns-in-Err-clause-cause : goal.returns-in-Err-clause-cause
 returns-in-Err-clause-cause g c =
-    let before = mounted (g.D.Device.drive c.args.device.now) c.args.tables.now in
-    let found = mounted (g.D.Device.drive c.find_room.new.device) c.find_room.new.tables in
-    let room = kept-room before found c.build_batch.new.tables c.find_room.new.cleaner c.in_ok-host.ensures.leaves.0 c.in_ok-host.ensures.leaves.1 c.build_batch.ensures.kept in
-    let ready = mounted (g.D.Device.drive c.find_room.new.device) c.build_batch.new.tables in
-    let after = mounted (g.D.Device.drive c.append_batch.new.device) c.append_batch.new.tables in
+    let found = c.in_ok-host.ensures.leaves in
+    let ready = kept-room c.args.disk.now c.find_room.new.disk c.build_batch.new.disk c.find_room.new.cleaner found.0 found.1 c.build_batch.ensures.drive c.build_batch.ensures.kept in
     rw c.fault_of.ensures
-    (lost-blocks before ready after c.find_room.new.cleaner c.append_batch.new.self c.in_ok-host.host c.args.first c.args.left c.in_ok-count.count c.args.content c.build_batch.new.batch c.in-Err.halt room.0 room.1 c.in_ok-count.ensures.ok c.in-Err.ensures.leaves).1
-
-pub returns-in_err-host-clause-cut : goal.returns-in_err-host-clause-cut
-returns-in_err-host-clause-cut g c = λ start cut.
-    let before = mounted (g.D.Device.drive c.args.device.now) c.args.tables.now in
-    let found = mounted (g.D.Device.drive c.find_room.new.device) c.find_room.new.tables in
-    cut-only before.drive.geometry start (c.args.first + c.args.left - 1) (drive_logs before.drive) (drive_logs found.drive) (room-keeps Filling before found c.find_room.new.cleaner c.in_err-host.field-0.0 c.in_err-host.ensures.leaves).moves cut
-
-pub returns-in_err-count-clause-cut : goal.returns-in_err-count-clause-cut
-returns-in_err-count-clause-cut g c = λ start cut.
-    let before = mounted (g.D.Device.drive c.args.device.now) c.args.tables.now in
-    let found = mounted (g.D.Device.drive c.find_room.new.device) c.find_room.new.tables in
-    cut-only before.drive.geometry start (c.args.first + c.args.left - 1) (drive_logs before.drive) (drive_logs found.drive) c.in_ok-host.ensures.leaves.0.moves cut
-
-pub returns-in-Ok-clause-cut : goal.returns-in-Ok-clause-cut
-returns-in-Ok-clause-cut g c = λ start cut.
-    let before = mounted (g.D.Device.drive c.args.device.now) c.args.tables.now in
-    let found = mounted (g.D.Device.drive c.find_room.new.device) c.find_room.new.tables in
-    let room = kept-room before found c.build_batch.new.tables c.find_room.new.cleaner c.in_ok-host.ensures.leaves.0 c.in_ok-host.ensures.leaves.1 c.build_batch.ensures.kept in
-    let ready = mounted (g.D.Device.drive c.find_room.new.device) c.build_batch.new.tables in
-    let here = same-room (g.D.Device.drive c.find_room.new.device) c.find_room.new.tables c.build_batch.new.tables c.in_ok-host.host c.build_batch.ensures.kept c.in_ok-host.ensures.ok in
-    let next = c.in_ok-count.ensures.ok in
-    cut-appended before ready (g.D.Device.drive c.append_batch.new.device) c.build_batch.new.tables _ start c.in_ok-host.host c.args.first c.args.left c.in_ok-count.count c.args.content c.build_batch.new.batch room.0 room.1.0 room.0.geometry here c.requires.some refl c.in_ok-count.ensures.count next.entries (inr c.in-Ok.ensures.leaves.0.logs) cut
+    (write_halts c.args.disk.now c.build_batch.new.disk c.append_batch.new.disk c.find_room.new.cleaner c.append_batch.new.self c.in_ok-host.host c.args.rest c.in_ok-count.count c.build_batch.new.batch c.in-Err.halt ready.0 ready.1 c.in_ok-count.ensures.ok c.in-Err.ensures.leaves).1
 
 pub returns-in-Err-clause-cut : goal.returns-in-Err-clause-cut
-returns-in-Err-clause-cut g c = λ start cut.
-    let before = mounted (g.D.Device.drive c.args.device.now) c.args.tables.now in
-    let found = mounted (g.D.Device.drive c.find_room.new.device) c.find_room.new.tables in
-    let room = kept-room before found c.build_batch.new.tables c.find_room.new.cleaner c.in_ok-host.ensures.leaves.0 c.in_ok-host.ensures.leaves.1 c.build_batch.ensures.kept in
-    let ready = mounted (g.D.Device.drive c.find_room.new.device) c.build_batch.new.tables in
-    let here = same-room (g.D.Device.drive c.find_room.new.device) c.find_room.new.tables c.build_batch.new.tables c.in_ok-host.host c.build_batch.ensures.kept c.in_ok-host.ensures.ok in
-    let next = c.in_ok-count.ensures.ok in
-    cut-appended before ready (g.D.Device.drive c.append_batch.new.device) c.build_batch.new.tables _ start c.in_ok-host.host c.args.first c.args.left c.in_ok-count.count c.args.content c.build_batch.new.batch room.0 room.1.0 room.0.geometry here c.requires.some refl c.in_ok-count.ensures.count next.entries (halted-logs ready (mounted (g.D.Device.drive c.append_batch.new.device) c.append_batch.new.tables) c.find_room.new.cleaner c.append_batch.new.self c.in_ok-host.host.zone _ c.in-Err.halt c.in-Err.ensures.leaves) cut
+returns-in-Err-clause-cut g c =
+    let found = c.in_ok-host.ensures.leaves in
+    let ready = kept-room c.args.disk.now c.find_room.new.disk c.build_batch.new.disk c.find_room.new.cleaner found.0 found.1 c.build_batch.ensures.drive c.build_batch.ensures.kept in
+    let here = same-room c.find_room.new.disk c.build_batch.new.disk c.in_ok-host.host c.build_batch.ensures.drive c.build_batch.ensures.kept c.in_ok-host.ensures.ok in
+    cut-appended c.args.disk.now c.build_batch.new.disk c.append_batch.new.disk.drive c.in_ok-host.host c.args.rest c.in_ok-count.count c.build_batch.new.batch ready.0 ready.1.0 here c.requires.can.some
+    (rw c.build_batch.ensures.drive c.in_ok-count.ensures.count) c.in_ok-count.ensures.ok.entries
+    (halted-logs c.build_batch.new.disk c.append_batch.new.disk c.find_room.new.cleaner c.append_batch.new.self c.in_ok-host.host.zone _ c.in-Err.halt c.in-Err.ensures.leaves)
 
-pub returns-in-Ok-clause-turns : goal.returns-in-Ok-clause-turns
-returns-in-Ok-clause-turns g c =
-    let before = mounted (g.D.Device.drive c.args.device.now) c.args.tables.now in
-    let found = mounted (g.D.Device.drive c.find_room.new.device) c.find_room.new.tables in
-    let ready = mounted (g.D.Device.drive c.find_room.new.device) c.build_batch.new.tables in
-    let after = mounted (g.D.Device.drive c.append_batch.new.device) c.append_batch.new.tables in
-    let here = c.find_room.new.cleaner in
-    let leaves = c.in_ok-host.ensures.leaves in
-    let made = turns-kept found ready here leaves.1 (keeps-room (g.D.Device.drive c.find_room.new.device) c.find_room.new.tables c.build_batch.new.tables c.build_batch.ensures.kept leaves.1.0) in
-    let one = turns-join before found ready c.args.cleaner.now here here leaves.0.geometry c.in_ok-host.ensures.turns made in
-    turns-join before ready after c.args.cleaner.now here c.append_batch.new.self leaves.0.geometry one c.in-Ok.ensures.leaves.2.turns
+pub returns-in-Err-clause-clean : goal.returns-in-Err-clause-clean
+returns-in-Err-clause-clean g c =
+    let found = c.in_ok-host.ensures in
+    let ready = found-stays c.args.disk.now c.find_room.new.disk c.build_batch.new.disk c.args.cleaner.now c.find_room.new.cleaner c.in_ok-host.host found.leaves found.clean c.build_batch.ensures.drive c.build_batch.ensures.kept in
+    let last = append-stays c.build_batch.new.disk c.append_batch.new.disk c.find_room.new.cleaner c.append_batch.new.self c.in_ok-host.host.zone _ (Err c.in-Err.halt) c.in_ok-count.ensures.ok.can c.in-Err.ensures.leaves in
+    stays-cleaning c.args.disk.now c.append_batch.new.disk c.args.cleaner.now c.append_batch.new.self (Err c.fault_of.result) (stays-join c.args.disk.now c.build_batch.new.disk c.append_batch.new.disk c.args.cleaner.now c.find_room.new.cleaner c.append_batch.new.self ready last)

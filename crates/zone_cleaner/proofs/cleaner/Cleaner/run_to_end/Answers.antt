@@ -1,5 +1,4 @@
 use Rattle.std.proofs.Common.{◌∙◌, sym, arith}
-use Rattle.zone_choice.specs.Agreement.{mounted}
 use Rattle.zone_cleaner.proofs.RoomLaws.{room-more, room-none}
 use Rattle.zone_cleaner.proofs.RunLaws.{takes-more, takes-none}
 use Rattle.zone_cleaner.proofs.TurnLaws.{keeps-more, keeps-none}
@@ -7,31 +6,30 @@ use Rattle.zone_cleaner.proofs.cleaner.Cleaner.run_to_end.Goals as goal
 
 pub loop-self-init : goal.loop-self-init
 loop-self-init g c =
-    let first = mounted (g.D.Device.drive c.args.device.now) c.args.tables.now in
+    let first = c.args.disk.now in
     (c.requires.cleaned, keeps-none first c.args.self.now c.requires.cleaned, room-none first c.args.self.now, takes-none first c.args.self.now, omega arith)
 
 pub loop-self-preserved : goal.loop-self-preserved
 loop-self-preserved g c =
-    let first = mounted (g.D.Device.drive c.args.device.now) c.args.tables.now in
-    let before = mounted (g.D.Device.drive c.loop-self.device) c.loop-self.tables in
-    let after = mounted (g.D.Device.drive c.turn.new.device) c.turn.new.tables in
+    let first = c.args.disk.now in
+    let before = c.loop-self.disk in
+    let after = c.turn.new.disk in
     let so_far = c.loop-self.invariant in
-    let done = c.in_default.ensures in
+    let turn = c.in_default.ensures in
     let ran = sym c.running.ensures ∙ c.loop-self-test.true in
-    let fewer = rw so_far.1.geometry at (done.turns.fewer ran) in (
-      done.goes_on,
-      keeps-more first before after so_far.1 done.keeps,
-      room-more first before after c.args.self.now c.loop-self.self c.turn.new.self ran so_far.2 done.room,
-      takes-more first before after c.args.self.now c.loop-self.self c.turn.new.self so_far.3 ran done.leaves,
-      omega (arith, so_far.4, fewer, done.completed),
+    let fewer = rw so_far.1.geometry at (turn.done.turns.fewer ran) in (
+      turn.cleaning.goes_on,
+      keeps-more first before after so_far.1 turn.cleaning.keeps,
+      room-more first before after c.args.self.now c.loop-self.self c.turn.new.self ran so_far.2 turn.done.room,
+      takes-more first before after c.args.self.now c.loop-self.self c.turn.new.self so_far.3 ran turn.leaves,
+      omega (arith, so_far.4, fewer, turn.completed),
     )
 
 pub returns-in-Err-clause-leaves : goal.returns-in-Err-clause-leaves
 returns-in-Err-clause-leaves g c =
     let so_far = c.loop-self.invariant.3 in
-    record { turns = so_far.turns; middle = mounted (g.D.Device.drive c.loop-self.device) c.loop-self.tables; clean = c.loop-self.self; done = so_far.done; refused = c.in-Err.ensures.leaves }
+    record { turns = so_far.turns; middle = c.loop-self.disk; clean = c.loop-self.self; done = so_far.done; refused = c.in-Err.ensures.leaves }
 
-pub returns-in-Err-clause-keeps : goal.returns-in-Err-clause-keeps
-returns-in-Err-clause-keeps g c =
-    let first = mounted (g.D.Device.drive c.args.device.now) c.args.tables.now in
-    keeps-more first (mounted (g.D.Device.drive c.loop-self.device) c.loop-self.tables) (mounted (g.D.Device.drive c.turn.new.device) c.turn.new.tables) c.loop-self.invariant.1 c.in-Err.ensures.keeps
+pub returns-in-Err-clause-cleaning : goal.returns-in-Err-clause-cleaning
+returns-in-Err-clause-cleaning g c =
+    record { goes_on = c.in-Err.ensures.cleaning.goes_on; keeps = keeps-more c.args.disk.now c.loop-self.disk c.turn.new.disk c.loop-self.invariant.1 c.in-Err.ensures.cleaning.keeps; cause = c.in-Err.ensures.cleaning.cause }

@@ -1,5 +1,8 @@
-use Rattle.std.proofs.Common.{◌^◌, ◌∙◌, ap}
-use Rattle.zone_cleaner.proofs.EntryLaws.{each-shown, entries-shown, keeps-data}
+use Rattle.std.proofs.Common.{◌^◌, ◌∙◌, List, ap, sym}
+use Rattle.std.specs.List.{concat}
+use Rattle.zone_cleaner.specs.LiveRecords.{LiveRecord, gathered_data}
+use Rattle.zone_cleaner.specs.Moving.{move_with}
+use Rattle.zone_cleaner.proofs.EntryLaws.{each-shown, entries-shown, holds-move, keeps-data}
 use Rattle.zone_cleaner.proofs.gathered.Gathered.build.Goals as goal
 
 pub head_move-requires-clause-heading : goal.head_move-requires-clause-heading
@@ -26,11 +29,14 @@ head_move-requires-2-clause-few c =
     let same = ap (λ v. v.records) c.self.view_is ∙ c.in_ok-make_room.ensures.records in
     each-shown s.block_bytes (2 ^ 32) s.batch.bytes s.records.entries (rw (← same) at c.requires.few)
 
-pub returns-then-self-clause-heading : goal.returns-then-self-clause-heading
-returns-then-self-clause-heading c =
+pub returns-then-self-clause-built : goal.returns-then-self-clause-built
+returns-then-self-clause-built c =
     let s = c.self.inside in
     let same = ap (λ v. v.records) c.self.view_is ∙ c.in_ok-make_room.ensures.records in
-    rw c.if-self.true (rw (← entries-shown s.block_bytes s.batch.bytes s.records.entries, same) at c.head_move.ensures.heading)
+    let size = ap (λ v. v.block_bytes) c.self.view_is ∙ c.in_ok-make_room.ensures.room in
+    let heading = rw (← entries-shown s.block_bytes s.batch.bytes s.records.entries, same) at c.head_move.ensures.heading in
+    let body = (rw c.bytes-bytes.ensures at c.in_ok-pack.ensures.bytes) ∙ ap (λ (rs : List LiveRecord). concat (gathered_data rs)) (rw size at same) in
+    rw c.if-self.true (holds-move c.head_move.result c.head_move.new.batch c.args.header.block_bytes (move_with c.args.header c.args.self.now.records) _ heading c.head_move.ensures.bytes body)
 
 pub invariant_of-self-2 : goal.invariant_of-self-2
 invariant_of-self-2 c =
@@ -46,8 +52,12 @@ returns-clause-records c =
     let size = ap (λ v. v.block_bytes) c.self.view_is ∙ c.in_ok-make_room.ensures.room in
     (keeps-data s.block_bytes s.records.entries s.batch.bytes c.head_move-2.new.batch.bytes c.self.invariant.0 c.self.invariant.1 c.head_move-2.ensures.length (rw (← size) at c.head_move-2.ensures.kept)).shows ∙ same
 
-pub returns-clause-heading : goal.returns-clause-heading
-returns-clause-heading c =
+pub returns-clause-built : goal.returns-clause-built
+returns-clause-built c =
     let s = c.self.inside in
     let same = ap (λ v. v.records) c.self.view_is ∙ c.in_ok-make_room.ensures.records in
-    rw c.if-self.false (rw (← entries-shown s.block_bytes s.batch.bytes s.records.entries, same) at c.head_move-2.ensures.heading)
+    let size = ap (λ v. v.block_bytes) c.self.view_is ∙ c.in_ok-make_room.ensures.room in
+    let heading = rw (← entries-shown s.block_bytes s.batch.bytes s.records.entries, same) at c.head_move-2.ensures.heading in
+    let ordered = rw size at c.self.invariant.2 c.if-self.false in
+    let body = sym ordered ∙ ap (λ (rs : List LiveRecord). concat (gathered_data rs)) (rw size at same) in
+    rw c.if-self.false (holds-move c.head_move-2.result c.head_move-2.new.batch c.args.header.block_bytes (move_with c.args.header c.args.self.now.records) _ heading c.head_move-2.ensures.bytes body)

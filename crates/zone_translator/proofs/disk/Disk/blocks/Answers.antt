@@ -2,4 +2,4 @@ use Rattle.zone_translator.proofs.DiskLaws.{holds-agrees, length-array}
 use Rattle.zone_translator.proofs.disk.Disk.blocks.Goals as goal
 
 pub returns-clause-array : goal.returns-clause-array
-returns-clause-array g c = rw (← c.self.view_is) (λ serves. length-array _ c.self.inside.tables c.self.inside.cleaner (holds-agrees _ c.self.inside.tables c.self.inside.cleaner c.self.inside.status serves c.self.invariant))
+returns-clause-array g c = rw (← c.self.view_is) (λ serves. length-array c.self.inside.mounted c.self.inside.cleaner (holds-agrees c.self.inside.mounted c.self.inside.cleaner c.self.inside.status serves c.self.invariant))

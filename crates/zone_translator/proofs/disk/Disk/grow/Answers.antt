@@ -1,38 +1,59 @@
-use Rattle.std.proofs.Common.{refl}
-use Rattle.zone_translator.proofs.CallLaws.{growth-done, growth-refused}
-use Rattle.zone_translator.proofs.DiskLaws.{holds-agrees, holds-serving, keeps-disk, refused-growth, reserve-kept, view_of, turns-on}
+use Rattle.std.proofs.Common.{Err, Ok, refl}
+use Rattle.zone_translator.proofs.CallLaws.{cause-of, growth-done, growth-refused, growth-unknown}
+use Rattle.zone_translator.proofs.DiskLaws.{batch-turns, holds-agrees, holds-serving, keeps-disk, refused-growth, reserve-kept, turns-on, view_of}
 use Rattle.zone_translator.proofs.disk.Disk.grow.Goals as goal
 
 pub invariant_of-self : goal.invariant_of-self
 invariant_of-self g c =
-    let serves = rw (← c.self.view_is) at c.in_ok-check_growth.ensures.grows.2 in
-    rw serves (holds-serving (g.D.Device.drive c.grow_batch-grown.new.device) c.grow_batch-grown.new.tables c.grow_batch-grown.new.cleaner (reserve-kept (g.D.Device.drive c.self.inside.device) (g.D.Device.drive c.grow_batch-grown.new.device) c.self.inside.tables c.grow_batch-grown.new.tables c.in-Ok.ensures.leaves.keeps.geometry c.in-Ok.ensures.leaves.keeps.given c.self.invariant.reserve) c.in-Ok.ensures.leaves.serves)
+    let serves = rw (← c.self.view_is) at c.in_ok-check_growth.ensures.serving in
+    let leaves = c.in-Ok.ensures.leaves in
+    rw serves (holds-serving c.grow_batch.new.disk c.grow_batch.new.cleaner (reserve-kept c.self.inside.mounted c.grow_batch.new.disk leaves.keeps.geometry leaves.keeps.given c.self.invariant.reserve) leaves.serves)
 
 pub invariant_of-self-in-Err : goal.invariant_of-self-in-Err
 invariant_of-self-in-Err g c =
-    let serves = holds-agrees _ c.self.inside.tables c.self.inside.cleaner c.self.inside.status (rw (← c.self.view_is) at c.in_ok-check_growth.ensures.grows.2) c.self.invariant in
-    rw c.status_of-self-inside.ensures (refused-growth (g.D.Device.drive c.self.inside.device) (g.D.Device.drive c.grow_batch-grown.new.device) c.self.inside.tables c.grow_batch-grown.new.tables c.self.inside.cleaner c.grow_batch-grown.new.cleaner c.args.blocks c.in-Err.fault c.self.inside.status c.self.invariant.reserve serves c.in-Err.ensures.leaves).refused.holds
+    let serves = holds-agrees c.self.inside.mounted c.self.inside.cleaner c.self.inside.status (rw (← c.self.view_is) at c.in_ok-check_growth.ensures.serving) c.self.invariant in
+    rw c.status_of-self-inside.ensures (refused-growth c.self.inside.mounted c.grow_batch.new.disk c.self.inside.cleaner c.grow_batch.new.cleaner c.args.blocks c.in-Err.fault c.self.inside.status c.self.invariant.reserve serves c.in-Err.ensures.leaves).refused.holds
 
-pub returns-in-Ok-clause-flat : goal.returns-in-Ok-clause-flat
-returns-in-Ok-clause-flat g c =
+pub returns-in-Ok-clause-answers : goal.returns-in-Ok-clause-answers
+returns-in-Ok-clause-answers g c =
     let known = c.in_ok-check_growth.ensures.known in
     let grown = c.in-Ok.ensures.leaves in
-    growth-done c.args.self.now (view_of (g.D.Device.drive c.grow_batch-grown.new.device) c.grow_batch-grown.new.tables c.grow_batch-grown.new.cleaner c.self.inside.status) c.args.blocks known (rw (← c.self.view_is) grown.array) grown.size_is (rw (← c.self.view_is) refl) (rw (← c.self.view_is) grown.keeps.geometry)
+    let new = view_of c.grow_batch.new.disk c.grow_batch.new.cleaner c.self.inside.status in
+    record {
+      flat = growth-done c.args.self.now new c.args.blocks known (rw (← c.self.view_is) grown.array) grown.size_is (rw (← c.self.view_is) refl) (rw (← c.self.view_is) grown.keeps.geometry);
+      untouched = growth-unknown c.args.self.now new c.args.blocks known;
+      kept = rw (← c.self.view_is) (keeps-disk c.self.inside.mounted c.grow_batch.new.disk c.self.inside.cleaner c.grow_batch.new.cleaner c.self.inside.status c.self.inside.status (λ e. e) grown.keeps);
+      cause = tt;
+    }
 
-pub returns-in-Ok-clause-kept : goal.returns-in-Ok-clause-kept
-returns-in-Ok-clause-kept g c = rw (← c.self.view_is) (keeps-disk (g.D.Device.drive c.self.inside.device) (g.D.Device.drive c.grow_batch-grown.new.device) c.self.inside.tables c.grow_batch-grown.new.tables c.self.inside.cleaner c.grow_batch-grown.new.cleaner c.self.inside.status c.self.inside.status (λ e. e) c.in-Ok.ensures.leaves.keeps)
-
-pub returns-in-Err-clause-flat : goal.returns-in-Err-clause-flat
-returns-in-Err-clause-flat g c =
-    let serves = holds-agrees _ c.self.inside.tables c.self.inside.cleaner c.self.inside.status (rw (← c.self.view_is) at c.in_ok-check_growth.ensures.grows.2) c.self.invariant in
-    let lost = refused-growth (g.D.Device.drive c.self.inside.device) (g.D.Device.drive c.grow_batch-grown.new.device) c.self.inside.tables c.grow_batch-grown.new.tables c.self.inside.cleaner c.grow_batch-grown.new.cleaner c.args.blocks c.in-Err.fault c.self.inside.status c.self.invariant.reserve serves c.in-Err.ensures.leaves in
-    growth-refused c.args.self.now (view_of (g.D.Device.drive c.grow_batch-grown.new.device) c.grow_batch-grown.new.tables c.grow_batch-grown.new.cleaner c.status_of-self-inside.result) c.args.blocks c.in-Err.fault c.in_ok-check_growth.ensures.known (rw (← c.self.view_is) lost.front) (rw (← c.self.view_is) lost.refused.size) c.status_of-self-inside.ensures (rw (← c.self.view_is) lost.refused.kept.geometry) c.in-Err.ensures.cause
-
-pub returns-in-Err-clause-kept : goal.returns-in-Err-clause-kept
-returns-in-Err-clause-kept g c =
-    let serves = holds-agrees _ c.self.inside.tables c.self.inside.cleaner c.self.inside.status (rw (← c.self.view_is) at c.in_ok-check_growth.ensures.grows.2) c.self.invariant in
-    rw (← c.self.view_is, c.status_of-self-inside.ensures) (refused-growth (g.D.Device.drive c.self.inside.device) (g.D.Device.drive c.grow_batch-grown.new.device) c.self.inside.tables c.grow_batch-grown.new.tables c.self.inside.cleaner c.grow_batch-grown.new.cleaner c.args.blocks c.in-Err.fault c.self.inside.status c.self.invariant.reserve serves c.in-Err.ensures.leaves).refused.kept
+pub returns-in-Ok-clause-says : goal.returns-in-Ok-clause-says
+returns-in-Ok-clause-says g c =
+    let grown = c.in-Ok.ensures.leaves in
+    record { says = grown.says; written = rw (← c.self.view_is) grown.appended; early = rw (← c.self.view_is) grown.early }
 
 pub returns-in-Ok-clause-turns : goal.returns-in-Ok-clause-turns
 returns-in-Ok-clause-turns g c =
-    rw (← c.self.view_is) (turns-on (g.D.Device.drive c.self.inside.device) (g.D.Device.drive c.grow_batch-grown.new.device) c.self.inside.tables c.grow_batch-grown.new.tables c.self.inside.cleaner c.grow_batch-grown.new.cleaner c.self.inside.status c.self.inside.status c.in-Ok.ensures.leaves.keeps.geometry c.in-Ok.ensures.turns)
+    rw (← c.self.view_is) (turns-on c.self.inside.mounted c.grow_batch.new.disk c.self.inside.cleaner c.grow_batch.new.cleaner c.self.inside.status c.self.inside.status c.in-Ok.ensures.leaves.keeps.geometry c.in-Ok.ensures.clean.turns)
+
+pub returns-in-Ok-clause-clean : goal.returns-in-Ok-clause-clean
+returns-in-Ok-clause-clean g c =
+    rw (← c.self.view_is) (λ runs. batch-turns c.self.inside.mounted c.grow_batch.new.disk c.self.inside.cleaner c.grow_batch.new.cleaner c.self.inside.status c.self.inside.status (Ok tt) c.in-Ok.ensures.leaves.keeps.geometry c.in-Ok.ensures.clean runs)
+
+pub returns-in-Err-clause-answers : goal.returns-in-Err-clause-answers
+returns-in-Err-clause-answers g c =
+    let known = c.in_ok-check_growth.ensures.known in
+    let serves = holds-agrees c.self.inside.mounted c.self.inside.cleaner c.self.inside.status (rw (← c.self.view_is) at c.in_ok-check_growth.ensures.serving) c.self.invariant in
+    let lost = refused-growth c.self.inside.mounted c.grow_batch.new.disk c.self.inside.cleaner c.grow_batch.new.cleaner c.args.blocks c.in-Err.fault c.self.inside.status c.self.invariant.reserve serves c.in-Err.ensures.leaves in
+    let new = view_of c.grow_batch.new.disk c.grow_batch.new.cleaner c.status_of-self-inside.result in
+    record {
+      flat = growth-refused c.args.self.now new c.args.blocks c.in-Err.fault known (rw (← c.self.view_is) lost.front) (rw (← c.self.view_is) lost.refused.size) c.status_of-self-inside.ensures (rw (← c.self.view_is) lost.refused.kept.geometry) c.in-Err.ensures.cause;
+      untouched = growth-unknown c.args.self.now new c.args.blocks known;
+      kept = rw (← c.self.view_is, c.status_of-self-inside.ensures) lost.refused.kept;
+      cause = cause-of new c.in-Err.fault c.in-Err.ensures.cause;
+    }
+
+pub returns-in-Err-clause-clean : goal.returns-in-Err-clause-clean
+returns-in-Err-clause-clean g c =
+    let serves = holds-agrees c.self.inside.mounted c.self.inside.cleaner c.self.inside.status (rw (← c.self.view_is) at c.in_ok-check_growth.ensures.serving) c.self.invariant in
+    let lost = refused-growth c.self.inside.mounted c.grow_batch.new.disk c.self.inside.cleaner c.grow_batch.new.cleaner c.args.blocks c.in-Err.fault c.self.inside.status c.self.invariant.reserve serves c.in-Err.ensures.leaves in
+    rw (← c.self.view_is) (λ runs. batch-turns c.self.inside.mounted c.grow_batch.new.disk c.self.inside.cleaner c.grow_batch.new.cleaner c.self.inside.status c.status_of-self-inside.result (Err c.in-Err.fault) lost.refused.kept.geometry c.in-Err.ensures.clean runs)

@@ -1,32 +1,58 @@
 use Rattle.std.proofs.Common.{refl}
-use Rattle.zone_translator.proofs.CallLaws.{idle-done}
+use Rattle.zone_translator.specs.Changes.{IsCause}
+use Rattle.zone_translator.proofs.CallLaws.{cause-of, idle-done, idle-refused, idle-unknown}
 use Rattle.zone_translator.proofs.DiskLaws.{cleaned-disk, holds-agrees, holds-serving, refused-turn, reserve-kept, turns-back, view_of}
+use Rattle.zone_translator.proofs.RoomLaws.{clean_cause}
 use Rattle.zone_translator.proofs.disk.Disk.idle.Goals as goal
 
 pub invariant_of-self : goal.invariant_of-self
-invariant_of-self g c = rw (rw (← c.self.view_is) at c.in_ok-check_serving.ensures.serving) (holds-serving (g.D.Device.drive c.turn.new.device) c.turn.new.tables c.turn.new.self (reserve-kept (g.D.Device.drive c.self.inside.device) (g.D.Device.drive c.turn.new.device) c.self.inside.tables c.turn.new.tables c.in-Ok.ensures.keeps.geometry c.in-Ok.ensures.keeps.given c.self.invariant.reserve) c.in-Ok.ensures.goes_on)
+invariant_of-self g c =
+    let cleaning = c.in-Ok.ensures.cleaning in
+    rw (rw (← c.self.view_is) at c.in_ok-check_serving.ensures.serving) (holds-serving c.turn.new.disk c.turn.new.self (reserve-kept c.self.inside.mounted c.turn.new.disk cleaning.keeps.geometry cleaning.keeps.given c.self.invariant.reserve) cleaning.goes_on)
 
 pub invariant_of-self-in-Err : goal.invariant_of-self-in-Err
 invariant_of-self-in-Err g c =
-    let serves = holds-agrees _ c.self.inside.tables c.self.inside.cleaner c.self.inside.status (rw (← c.self.view_is) at c.in_ok-check_serving.ensures.serving) c.self.invariant in
-    rw (c.status_of-self-inside.ensures, c.from-fault.ensures) (refused-turn (g.D.Device.drive c.self.inside.device) (g.D.Device.drive c.turn.new.device) c.self.inside.tables c.turn.new.tables c.self.inside.cleaner c.turn.new.self c.in-Err.cause c.self.inside.status c.self.invariant.reserve serves c.in-Err.ensures.keeps c.in-Err.ensures.goes_on c.in-Err.ensures.cause).holds
+    let serves = holds-agrees c.self.inside.mounted c.self.inside.cleaner c.self.inside.status (rw (← c.self.view_is) at c.in_ok-check_serving.ensures.serving) c.self.invariant in
+    let cleaning = c.in-Err.ensures.cleaning in
+    rw (c.status_of-self-inside.ensures, c.from-fault.ensures) (refused-turn c.self.inside.mounted c.turn.new.disk c.self.inside.cleaner c.turn.new.self c.in-Err.cause c.self.inside.status c.self.invariant.reserve serves cleaning.keeps cleaning.goes_on cleaning.cause).holds
 
-pub returns-in-Ok-clause-flat : goal.returns-in-Ok-clause-flat
-returns-in-Ok-clause-flat g c =
-    let keeps = c.in-Ok.ensures.keeps in
-    idle-done c.args.self.now (view_of (g.D.Device.drive c.turn.new.device) c.turn.new.tables c.turn.new.self c.self.inside.status) c.in_ok-check_serving.ensures.serving (rw (← c.self.view_is) keeps.array) (rw (← c.self.view_is) keeps.size) (rw (← c.self.view_is) refl) (rw (← c.self.view_is) keeps.geometry)
+pub returns-in-Ok-clause-answers : goal.returns-in-Ok-clause-answers
+returns-in-Ok-clause-answers g c =
+    let serving = c.in_ok-check_serving.ensures.serving in
+    let keeps = c.in-Ok.ensures.cleaning.keeps in
+    let new = view_of c.turn.new.disk c.turn.new.self c.self.inside.status in
+    record {
+      flat = idle-done c.args.self.now new serving (rw (← c.self.view_is) keeps.array) (rw (← c.self.view_is) keeps.size) (rw (← c.self.view_is) refl) (rw (← c.self.view_is) keeps.geometry);
+      untouched = idle-unknown c.args.self.now new serving;
+      kept = rw (← c.self.view_is) (cleaned-disk c.self.inside.mounted c.turn.new.disk c.self.inside.cleaner c.turn.new.self c.self.inside.status c.self.inside.status (λ e. e) keeps);
+      cause = tt;
+    }
 
 pub returns-in-Ok-clause-turn : goal.returns-in-Ok-clause-turn
-returns-in-Ok-clause-turn g c = rw (← c.self.view_is) (λ serving. c.in-Ok.ensures.leaves)
+returns-in-Ok-clause-turn g c =
+    let done = c.in-Ok.ensures in
+    record { turn = rw (← c.self.view_is) (λ serving. done.leaves); turns = rw (← c.self.view_is) (λ serving. done.done.turns); refused = tt }
 
-pub returns-in-Ok-clause-kept : goal.returns-in-Ok-clause-kept
-returns-in-Ok-clause-kept g c = rw (← c.self.view_is) (cleaned-disk (g.D.Device.drive c.self.inside.device) (g.D.Device.drive c.turn.new.device) c.self.inside.tables c.turn.new.tables c.self.inside.cleaner c.turn.new.self c.self.inside.status c.self.inside.status (λ e. e) c.in-Ok.ensures.keeps)
+pub returns-in-Err-clause-answers : goal.returns-in-Err-clause-answers
+returns-in-Err-clause-answers g c =
+    let serving = c.in_ok-check_serving.ensures.serving in
+    let serves = holds-agrees c.self.inside.mounted c.self.inside.cleaner c.self.inside.status (rw (← c.self.view_is) at serving) c.self.invariant in
+    let cleaning = c.in-Err.ensures.cleaning in
+    let keeps = cleaning.keeps in
+    let new = view_of c.turn.new.disk c.turn.new.self c.status_of-self-inside.result in
+    let cause : IsCause c.turn.new.disk.drive c.turn.new.disk.tables.next c.from-fault.result = rw c.from-fault.ensures (clean_cause c.turn.new.disk.drive c.turn.new.disk.tables.next c.in-Err.cause cleaning.cause) in
+    record {
+      flat = idle-refused c.args.self.now new c.from-fault.result serving (rw (← c.self.view_is) keeps.array) (rw (← c.self.view_is) keeps.size) c.status_of-self-inside.ensures (rw (← c.self.view_is) keeps.geometry) cause;
+      untouched = idle-unknown c.args.self.now new serving;
+      kept = rw (← c.self.view_is, c.status_of-self-inside.ensures, c.from-fault.ensures) (refused-turn c.self.inside.mounted c.turn.new.disk c.self.inside.cleaner c.turn.new.self c.in-Err.cause c.self.inside.status c.self.invariant.reserve serves keeps cleaning.goes_on cleaning.cause).kept;
+      cause = cause-of new c.from-fault.result cause;
+    }
 
-pub returns-in-Err-clause-refused : goal.returns-in-Err-clause-refused
-returns-in-Err-clause-refused g c =
-    rw (← c.self.view_is) (turns-back (g.D.Device.drive c.self.inside.device) (g.D.Device.drive c.turn.new.device) c.self.inside.tables c.turn.new.tables c.self.inside.cleaner c.turn.new.self c.self.inside.status c.self.inside.status c.in-Err.ensures.keeps.geometry c.in-Err.ensures.refused)
-
-pub returns-in-Err-clause-kept : goal.returns-in-Err-clause-kept
-returns-in-Err-clause-kept g c =
-    let serves = holds-agrees _ c.self.inside.tables c.self.inside.cleaner c.self.inside.status (rw (← c.self.view_is) at c.in_ok-check_serving.ensures.serving) c.self.invariant in
-    rw (← c.self.view_is, c.status_of-self-inside.ensures, c.from-fault.ensures) (refused-turn (g.D.Device.drive c.self.inside.device) (g.D.Device.drive c.turn.new.device) c.self.inside.tables c.turn.new.tables c.self.inside.cleaner c.turn.new.self c.in-Err.cause c.self.inside.status c.self.invariant.reserve serves c.in-Err.ensures.keeps c.in-Err.ensures.goes_on c.in-Err.ensures.cause).kept
+pub returns-in-Err-clause-turn : goal.returns-in-Err-clause-turn
+returns-in-Err-clause-turn g c =
+    let lost = c.in-Err.ensures in
+    record {
+      turn = rw (← c.self.view_is) (λ serving. (c.in-Err.cause, c.from-fault.ensures, lost.leaves));
+      turns = λ serving. tt;
+      refused = rw (← c.self.view_is) (turns-back c.self.inside.mounted c.turn.new.disk c.self.inside.cleaner c.turn.new.self c.self.inside.status c.status_of-self-inside.result lost.cleaning.keeps.geometry lost.refused);
+    }

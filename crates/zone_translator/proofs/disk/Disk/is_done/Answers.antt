@@ -7,7 +7,7 @@ use Rattle.zone_translator.proofs.disk.Disk.is_done.Goals as goal
 
 pub returns-then-blocks-size-clause-known : goal.returns-then-blocks-size-clause-known
 returns-then-blocks-size-clause-known g c =
-    let size : disk_size c.args.self.now ≡ c.blocks-size.result = rw (← c.self.view_is) (sym c.blocks-size.ensures) in
+    let size : disk_size c.args.self.now ≡ c.mounted_blocks-size.result = rw (← c.self.view_is) (sym c.mounted_blocks-size.ensures) in
     known-past c.args.self.now c.args.first c.args.blocks (omega arith)
     (elim c.then-blocks-size.branch as (λ _. disk_size c.args.self.now < c.args.first + c.args.blocks) [
       | then-blocks-size-via-then-blocks-size w ↦ omega (arith, size)
@@ -16,5 +16,5 @@ returns-then-blocks-size-clause-known g c =
 
 pub returns-clause-long : goal.returns-clause-long
 returns-clause-long g c =
-    let serves = holds-agrees _ c.self.inside.tables c.self.inside.cleaner c.self.inside.status (rw (← c.self.view_is) at c.in_ok-check_serving.ensures.serving) c.self.invariant in
-    rw (← c.self.view_is) (λ e. length-array _ c.self.inside.tables c.self.inside.cleaner serves)
+    let serves = holds-agrees c.self.inside.mounted c.self.inside.cleaner c.self.inside.status (rw (← c.self.view_is) at c.in_ok-check_serving.ensures.serving) c.self.invariant in
+    rw (← c.self.view_is) (λ e. length-array c.self.inside.mounted c.self.inside.cleaner serves)

@@ -1,43 +1,87 @@
-use Rattle.std.proofs.Common.{◌≡◌, ◌∙◌, refl, arith}
-use Rattle.zone_translator.specs.View.{array_of}
-use Rattle.zone_translator.proofs.CallLaws.{goes-begun, read-done, read-refused, shown-more}
-use Rattle.zone_translator.proofs.DiskLaws.{kept-join}
+use Rattle.std.proofs.Common.{◌≡◌, Ok, refl, rules, arith}
+use Rattle.zone_translator.specs.View.{disk_array}
+use Rattle.zone_translator.proofs.CallLaws.{done-known, goes-begun, has-data, none-stopped, read-cause, read-done, read-known, read-refused, read-unknown, shown-more}
+use Rattle.zone_translator.proofs.DiskLaws.{kept-refl, read-join, read-none}
 use Rattle.zone_translator.proofs.disk.Disk.read.Goals as goal
+
+-- ---- what is known before anything is done
+
+pub returns-in_err-is_done-clause-answers : goal.returns-in_err-is_done-clause-answers
+returns-in_err-is_done-clause-answers g c = record {
+  flat = read-known c.args.self.now c.args.first c.args.blocks c.from_residual.result _ (search rules) c.clear.ensures.items;
+  untouched = λ known. refl;
+  kept = kept-refl c.args.self.now c.is_done.ensures.sound.mountable;
+  cause = search rules;
+  stops = λ serves stopped. none-stopped c.args.self.now c.args.first c.args.blocks c.from_residual.result (search rules) serves stopped;
+}
+
+pub returns-then-branch-clause-answers : goal.returns-then-branch-clause-answers
+returns-then-branch-clause-answers g c = record {
+  flat = read-known c.args.self.now c.args.first c.args.blocks (Ok tt) _ (done-known c.args.self.now c.args.first c.args.blocks c.in_ok-is_done.field-0 c.in_ok-is_done.ensures.known c.if-branch.true) c.clear.ensures.items;
+  untouched = λ known. refl;
+  kept = kept-refl c.args.self.now c.is_done.ensures.sound.mountable;
+  cause = tt;
+  stops = λ serves stopped. absurd (cc);
+}
+
+-- ---- block by block
+
+pub loop-i-init : goal.loop-i-init
+loop-i-init g c = (read-none c.args.self.now c.is_done.ensures.sound.mountable, c.in_ok-is_done.ensures.serving c.if-branch.false, c.clear.ensures.items, omega arith)
 
 pub read_one-requires-clause-in_range : goal.read_one-requires-clause-in_range
 read_one-requires-clause-in_range g c =
     let range = c.in_ok-is_done.ensures.in_range c.if-branch.false in
-    omega (arith, range.1, c.loop-i.invariant.1)
+    omega (arith, range, c.loop-i.invariant.0.size)
 
 pub loop-i-preserved : goal.loop-i-preserved
 loop-i-preserved g c =
     let so_far = c.loop-i.invariant in
     let range = c.in_ok-is_done.ensures.in_range c.if-branch.false in (
-      kept-join _ _ _ so_far.0 c.read_one.ensures.kept,
-      c.read_one.ensures.size ∙ so_far.1,
+      read-join c.args.self.now c.loop-i.self c.read_one.new.self so_far.0 c.read_one.ensures.keeps,
       c.in_default.ensures.serving,
-      c.read_one.ensures.array ∙ so_far.3,
-      shown-more (array_of c.args.self.now) c.args.first c.loop-i.i _ _ _ refl (omega (arith, range.1, c.in_ok-is_done.ensures.long c.if-branch.false)) so_far.4 (rw so_far.3 at c.in_default.ensures.ok),
-      omega (arith, so_far.5, c.read_one.ensures.completed),
-      c.read_one.ensures.turns ∙ so_far.6,
+      shown-more (disk_array c.args.self.now) c.args.first c.loop-i.i _ _ _ refl (omega (arith, range, c.in_ok-is_done.ensures.long c.if-branch.false)) so_far.2 (rw so_far.0.array at c.in_default.ensures.ok),
+      omega (arith, so_far.3, c.read_one.ensures.completed),
     )
 
-pub returns-in-Err-clause-flat : goal.returns-in-Err-clause-flat
-returns-in-Err-clause-flat g c =
+pub returns-in-Err-clause-answers : goal.returns-in-Err-clause-answers
+returns-in-Err-clause-answers g c =
     let so_far = c.loop-i.invariant in
-    read-refused c.args.self.now c.read_one.new.self c.args.first c.args.blocks c.in-Err.fault _ (goes-begun c.args.self.now c.args.first c.args.blocks c.in_ok-is_done.field-0 c.in_ok-is_done.ensures.known c.if-branch.false)
-    c.clear-in-Err.ensures.items (c.read_one.ensures.array ∙ so_far.3) (c.read_one.ensures.size ∙ so_far.1) c.in-Err.ensures.status (c.read_one.ensures.kept.geometry ∙ so_far.0.geometry) c.in-Err.ensures.err
+    let disk = c.args.self.now in
+    let new = c.read_one.new.self in
+    let none = goes-begun disk c.args.first c.args.blocks c.in_ok-is_done.field-0 c.in_ok-is_done.ensures.known c.if-branch.false in
+    let keeps = read-join disk c.loop-i.self new so_far.0 c.read_one.ensures.keeps in
+    let lost = c.in-Err.ensures.err in
+    record {
+      flat = read-refused disk new c.args.first c.args.blocks c.in-Err.fault _ none c.clear-in-Err.ensures.items keeps.array keeps.size lost.status keeps.kept.geometry lost.cause;
+      untouched = read-unknown disk new c.args.first c.args.blocks none;
+      kept = keeps.kept;
+      cause = read-cause new c.in-Err.fault lost.cause;
+      stops = λ serves stopped. has-data disk c.loop-i.self c.args.first c.args.blocks _ c.loop-i.i c.in-Err.fault _ refl refl (omega (arith, c.loop-i-test.true)) so_far.0.places lost.stops stopped;
+    }
+
+pub returns-in-Err-clause-turns : goal.returns-in-Err-clause-turns
+returns-in-Err-clause-turns g c = (read-join c.args.self.now c.loop-i.self c.read_one.new.self c.loop-i.invariant.0 c.read_one.ensures.keeps).turns
 
 pub returns-in-Err-clause-completed : goal.returns-in-Err-clause-completed
-returns-in-Err-clause-completed g c = omega (arith, c.loop-i.invariant.5, c.read_one.ensures.completed, c.loop-i-test.true)
+returns-in-Err-clause-completed g c = omega (arith, c.loop-i.invariant.3, c.read_one.ensures.completed, c.loop-i-test.true)
 
-pub returns-clause-flat : goal.returns-clause-flat
-returns-clause-flat g c =
+pub returns-clause-answers : goal.returns-clause-answers
+returns-clause-answers g c =
     let so_far = c.loop-i.invariant in
-    let range = c.in_ok-is_done.ensures.in_range c.if-branch.false in
+    let disk = c.args.self.now in
     let all : c.loop-i.i ≡ c.args.blocks = omega (arith, c.loop-i-test.false, c.loop-i.auto.i-end) in
-    read-done c.args.self.now c.loop-i.self c.args.first c.args.blocks _ (goes-begun c.args.self.now c.args.first c.args.blocks c.in_ok-is_done.field-0 c.in_ok-is_done.ensures.known c.if-branch.false) range.2
-    (rw all at so_far.4) so_far.3 so_far.1 so_far.2 so_far.0.geometry
+    let none = goes-begun disk c.args.first c.args.blocks c.in_ok-is_done.field-0 c.in_ok-is_done.ensures.known c.if-branch.false in
+    record {
+      flat = read-done disk c.loop-i.self c.args.first c.args.blocks _ none (c.in_ok-is_done.ensures.serving c.if-branch.false) (rw all at so_far.2) so_far.0.array so_far.0.size so_far.1 so_far.0.kept.geometry;
+      untouched = read-unknown disk c.loop-i.self c.args.first c.args.blocks none;
+      kept = so_far.0.kept;
+      cause = tt;
+      stops = λ serves stopped. absurd (cc);
+    }
+
+pub returns-clause-turns : goal.returns-clause-turns
+returns-clause-turns g c = c.loop-i.invariant.0.turns
 
 pub returns-clause-completed : goal.returns-clause-completed
-returns-clause-completed g c = let all : c.loop-i.i ≡ c.args.blocks = omega (arith, c.loop-i-test.false, c.loop-i.auto.i-end) in omega (arith, c.loop-i.invariant.5, all)
+returns-clause-completed g c = let all : c.loop-i.i ≡ c.args.blocks = omega (arith, c.loop-i-test.false, c.loop-i.auto.i-end) in omega (arith, c.loop-i.invariant.3, all)

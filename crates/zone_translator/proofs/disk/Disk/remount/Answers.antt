@@ -1,25 +1,18 @@
 use Rattle.std.proofs.Common.{None}
 use Rattle.zone_translator.proofs.DiskLaws.{holds-serving, view_of}
-use Rattle.zone_translator.proofs.MountLaws.{mounted-fits, mounted-serves, refused-flat, remount-halts, remounted, remounted-flat}
+use Rattle.zone_translator.proofs.MountLaws.{mounted-fits, mounted-serves, remount-refused, remounts}
 use Rattle.zone_translator.proofs.disk.Disk.remount.Goals as goal
 
 pub invariant_of-self : goal.invariant_of-self
 invariant_of-self g c =
-    rw c.new.ensures (holds-serving (g.D.Device.drive c.mount.new.device) c.in-Ok.tables None (mounted-fits (g.D.Device.drive c.self.inside.device) (g.D.Device.drive c.mount.new.device) c.given.result c.in-Ok.tables c.mount.ensures.kept.geometry c.in-Ok.ensures.ok)
-    (mounted-serves _ _ c.given.result c.in-Ok.tables c.in-Ok.ensures.ok))
+    let old = c.self.inside.mounted in
+    let new = c.mount_again.new.disk in
+    rw c.new_cleaner.ensures (holds-serving new None (mounted-fits old.drive new.drive old.tables.given new.tables c.mount_again.ensures.kept.geometry c.in-Ok.ensures.ok) (mounted-serves old.drive new.drive old.tables.given new.tables c.in-Ok.ensures.ok))
 
-pub returns-in-Ok-clause-flat : goal.returns-in-Ok-clause-flat
-returns-in-Ok-clause-flat g c =
-    rw (← c.self.view_is) (remounted-flat (view_of (g.D.Device.drive c.self.inside.device) c.self.inside.tables c.self.inside.cleaner c.self.inside.status) (g.D.Device.drive c.mount.new.device) c.given.result c.in-Ok.tables c.new.result c.given.ensures c.mount.ensures.kept.geometry c.in-Ok.ensures.ok)
+pub returns-in-Ok : goal.returns-in-Ok
+returns-in-Ok g c =
+    rw (← c.self.view_is) (remounts (view_of c.self.inside.mounted c.self.inside.cleaner c.self.inside.status) c.mount_again.new.disk c.new_cleaner.result c.new_cleaner.ensures c.mount_again.ensures.kept c.in-Ok.ensures.ok)
 
-pub returns-in-Ok-clause-disk : goal.returns-in-Ok-clause-disk
-returns-in-Ok-clause-disk g c =
-    rw (← c.self.view_is, c.new.ensures) (remounted (view_of (g.D.Device.drive c.self.inside.device) c.self.inside.tables c.self.inside.cleaner c.self.inside.status) (g.D.Device.drive c.mount.new.device) c.given.result c.in-Ok.tables c.given.ensures c.in-Ok.ensures.ok)
-
-pub returns-in-Err-clause-flat : goal.returns-in-Err-clause-flat
-returns-in-Err-clause-flat g c =
-    rw (← c.self.view_is) (refused-flat (view_of (g.D.Device.drive c.self.inside.device) c.self.inside.tables c.self.inside.cleaner c.self.inside.status) (g.D.Device.drive c.mount.new.device) c.given.result c.new.result c.in-Err.fault c.given.ensures c.self.invariant c.mount.ensures.kept c.in-Err.ensures.err)
-
-pub returns-in-Err-clause-cause : goal.returns-in-Err-clause-cause
-returns-in-Err-clause-cause g c =
-    remount-halts (g.D.Device.drive c.self.inside.device) (g.D.Device.drive c.mount.new.device) c.self.inside.tables c.self.inside.cleaner c.self.inside.status c.given.result c.in-Err.fault c.given.ensures c.self.invariant c.in-Err.ensures.err
+pub returns-in-Err : goal.returns-in-Err
+returns-in-Err g c =
+    rw (← c.self.view_is) (remount-refused (view_of c.self.inside.mounted c.self.inside.cleaner c.self.inside.status) c.mount_again.new.disk c.new_cleaner.result c.in-Err.fault c.new_cleaner.ensures c.in-Err.ensures.tables c.self.invariant c.mount_again.ensures.kept c.in-Err.ensures.err)

@@ -1,123 +1,200 @@
-use Rattle.std.proofs.Common.{◌≡◌, ◌∙◌, ◌-◌, ◌+◌, drop, sym, refl, ap, rules, arith}
+use Rattle.std.proofs.Common.{◌≡◌, ◌∙◌, ◌-◌, ◌+◌, Ok, ℕ, drop, sym, refl, ap, rules, arith}
 use Rattle.zone_states.specs.declared.geometry.Geometry.{Geometry}
 use Rattle.zone_translator.specs.Batches.{blocks_of, is_trim}
 use Rattle.zone_translator.specs.Changes.{batch_commands}
-use Rattle.zone_translator.specs.View.{array_of, logs_of, most_batches}
-use Rattle.zone_translator.proofs.CallLaws.{batches-less, batches-some, cause-of, goes-begun, named-more, spend, write-done, write-front, write-known, write-refused, write-unknown, written-more}
+use Rattle.zone_translator.specs.View.{disk_array, logs_of, most_batches, mounted_of}
+use Rattle.zone_translator.proofs.CallLaws.{batches-less, batches-some, cause-of, done-known, goes-begun, named-more, spend, write-done, write-front, write-known, write-refused, write-unknown, written-more}
+use Rattle.zone_translator.proofs.CleaningLaws.{cleaning-stays, same-stays, stays-join}
 use Rattle.zone_translator.proofs.ContentLaws.{length-blocks, rest-is, rest-whole}
 use Rattle.zone_translator.proofs.CutLaws.{cut-old, cut-step}
-use Rattle.zone_translator.proofs.DiskLaws.{kept-join, kept-refl}
+use Rattle.zone_translator.proofs.DiskLaws.{done-clean, kept-join, kept-refl, refused-clean, same-clean, turns-on}
 use Rattle.zone_translator.proofs.FlatLaws.{replaced-none}
 use Rattle.zone_translator.proofs.disk.Disk.write_all.Goals as goal
 
-pub returns-in_err-is_done-clause-flat : goal.returns-in_err-is_done-clause-flat
-returns-in_err-is_done-clause-flat g c = write-known c.args.self.now c.args.first c.args.blocks _ c.from_residual.result (length-blocks _ c.args.blocks c.args.content) (search rules)
+-- ---- what is known before anything is done
+
+pub returns-in_err-is_done-clause-answers : goal.returns-in_err-is_done-clause-answers
+returns-in_err-is_done-clause-answers g c = record {
+  flat = write-known c.args.self.now c.args.first c.args.blocks _ c.from_residual.result (length-blocks _ c.args.blocks c.args.content) (search rules);
+  untouched = λ known. refl;
+  kept = kept-refl c.args.self.now c.is_done.ensures.sound.mountable;
+  cause = search rules;
+}
+
+pub returns-in_err-is_done-clause-stores : goal.returns-in_err-is_done-clause-stores
+returns-in_err-is_done-clause-stores g c = record { named = search rules; says = search rules; early = search rules; cut = cut-old c.args.self.now.drive.geometry (c.args.first + c.args.blocks - 1) (logs_of c.args.self.now) }
+
+pub returns-in_err-is_done-clause-clean : goal.returns-in_err-is_done-clause-clean
+returns-in_err-is_done-clause-clean g c = λ serves. same-clean c.args.self.now
+
+pub returns-then-branch-clause-answers : goal.returns-then-branch-clause-answers
+returns-then-branch-clause-answers g c = record {
+  flat = write-known c.args.self.now c.args.first c.args.blocks _ (Ok tt) (length-blocks _ c.args.blocks c.args.content) (done-known c.args.self.now c.args.first c.args.blocks c.in_ok-is_done.field-0 c.in_ok-is_done.ensures.known c.if-branch.true);
+  untouched = λ known. refl;
+  kept = kept-refl c.args.self.now c.is_done.ensures.sound.mountable;
+  cause = tt;
+}
+
+pub returns-then-branch-clause-stores : goal.returns-then-branch-clause-stores
+returns-then-branch-clause-stores g c =
+    let none = c.in_ok-is_done.ensures.none c.if-branch.true in
+    record {
+      named = λ block low high. absurd (omega (arith, none));
+      says = λ some. absurd (omega (arith, none));
+      early = λ some. absurd (omega (arith, none));
+      cut = cut-old c.args.self.now.drive.geometry (c.args.first + c.args.blocks - 1) (logs_of c.args.self.now);
+    }
+
+pub returns-then-branch-clause-clean : goal.returns-then-branch-clause-clean
+returns-then-branch-clause-clean g c = λ serves. same-clean c.args.self.now
+
+-- ---- batch by batch
 
 pub loop-done-init : goal.loop-done-init
 loop-done-init g c =
-    let range = c.in_ok-is_done.ensures.in_range c.if-branch.false in
     let whole : c.args.blocks - 0 ≡ c.args.blocks = omega arith in
     let disk = c.args.self.now in (
-      kept-refl c.args.self.now c.is_done.ensures.mountable,
+      kept-refl disk c.is_done.ensures.sound.mountable,
       refl,
-      range.2,
+      c.in_ok-is_done.ensures.serving c.if-branch.false,
       omega arith,
-      sym (replaced-none (array_of c.args.self.now) c.args.first),
+      sym (replaced-none (disk_array disk) c.args.first),
       λ block low high. absurd (omega arith),
+      λ some. absurd (omega arith),
       λ some. absurd (omega arith),
       rw whole (omega arith),
       cut-old disk.drive.geometry (c.args.first + c.args.blocks - 1) (logs_of disk),
-      omega arith,
+      same-stays (mounted_of disk) disk.clean,
     )
 
-pub write_some-requires-clause-whole : goal.write_some-requires-clause-whole
-write_some-requires-clause-whole g c =
+pub write_some-requires-clause-can : goal.write_some-requires-clause-can
+write_some-requires-clause-can g c =
     let so_far = c.loop-done.invariant in
-    let block_is : c.geometry-block.result.block ≡ c.args.self.now.drive.geometry.block = rw (← c.self.view_is) (ap (λ (x : Geometry). x.block) c.geometry-block.ensures.value) in
-    rw so_far.0.geometry (rest-whole c.args.self.now.drive.geometry.block c.args.blocks c.loop-done.done c.args.content c.after-rest.result so_far.3 c.requires.whole (rw block_is at c.after-rest.ensures))
+    let range = c.in_ok-is_done.ensures.in_range c.if-branch.false in
+    let block_is : c.geometry-block.result.block ≡ c.args.self.now.drive.geometry.block = rw (← c.self.view_is) (ap (λ (x : Geometry). x.block) c.geometry-block.ensures) in
+    record {
+      some = omega (arith, c.loop-done-test.true);
+      in_range = omega (arith, so_far.1, range, so_far.3, c.loop-done-test.true);
+      whole = rw so_far.0.geometry (rest-whole c.args.self.now.drive.geometry.block c.args.blocks c.loop-done.done c.args.content c.after-unwritten.result so_far.3 c.requires.whole (rw block_is at c.after-unwritten.ensures));
+    }
 
 pub loop-done-preserved : goal.loop-done-preserved
 loop-done-preserved g c =
     let so_far = c.loop-done.invariant in
     let disk = c.args.self.now in
+    let now = c.loop-done.self in
+    let new = c.write_some.new.self in
     let left = c.args.blocks - c.loop-done.done in
-    let block_is : c.geometry-block.result.block ≡ disk.drive.geometry.block = rw (← c.self.view_is) (ap (λ (x : Geometry). x.block) c.geometry-block.ensures.value) in
-    let rest = rest-is disk.drive.geometry.block c.args.blocks c.loop-done.done c.args.content c.after-rest.result so_far.3 (rw block_is at c.after-rest.ensures) in
-    let left_is : blocks_of c.loop-done.self.drive.geometry.block left c.after-rest.result ≡ drop c.loop-done.done (blocks_of disk.drive.geometry.block c.args.blocks c.args.content) = rw so_far.0.geometry rest.blocks in
+    let block_is : c.geometry-block.result.block ≡ disk.drive.geometry.block = rw (← c.self.view_is) (ap (λ (x : Geometry). x.block) c.geometry-block.ensures) in
+    let rest = rest-is disk.drive.geometry.block c.args.blocks c.loop-done.done c.args.content c.after-unwritten.result so_far.3 (rw block_is at c.after-unwritten.ensures) in
+    let left_is : blocks_of now.drive.geometry.block left c.after-unwritten.result ≡ drop c.loop-done.done (blocks_of disk.drive.geometry.block c.args.blocks c.args.content) = rw so_far.0.geometry rest.blocks in
     let long = length-blocks disk.drive.geometry.block c.args.blocks c.args.content in
     let done = c.in-Ok.ensures in
-    let fewer : c.args.blocks - (c.loop-done.done + c.in-Ok.count) ≡ left - c.in-Ok.count = omega (arith, done.count, so_far.3) in
+    let wrote = done.wrote in
+    let fewer : c.args.blocks - (c.loop-done.done + c.in-Ok.count) ≡ left - c.in-Ok.count = omega (arith, wrote.taken, so_far.3) in
     let each = batch_commands disk.drive.geometry in
-    let less = batches-less (is_trim c.args.content) disk left c.in-Ok.count c.is_done.ensures.range done.count.0 done.count.1 (rw (so_far.0.geometry, rest.trim) at done.count.2) in (
-      kept-join disk c.loop-done.self c.write_some.new.self so_far.0 done.kept,
+    let less = batches-less (is_trim c.args.content) disk left c.in-Ok.count c.is_done.ensures.sound.range wrote.taken.0 wrote.taken.1 (rw (so_far.0.geometry, rest.trim) at wrote.taken.2) in
+    let stays = cleaning-stays {V = ℕ} (mounted_of now) (mounted_of new) now.clean new.clean c.in-Ok.count (omega (arith, done.kept.next, done.kept.appended)) done.kept.geometry done.clean in (
+      kept-join disk now new so_far.0 done.kept,
       done.size ∙ so_far.1,
-      done.serving,
-      omega (arith, done.count, so_far.3),
-      written-more (array_of disk) (array_of c.loop-done.self) (array_of c.write_some.new.self) c.args.first c.loop-done.done c.in-Ok.count _ _ (blocks_of disk.drive.geometry.block c.args.blocks c.args.content) _
-          so_far.4 refl refl (omega (arith, long, so_far.3)) left_is done.ok,
-      named-more (is_trim c.args.content) _ _ c.args.first c.loop-done.done _ c.in-Ok.count _ refl refl so_far.5 (rw rest.trim at done.names),
-      λ some. done.says,
-      rw fewer (spend (most_batches (is_trim c.args.content) disk left) _ each _ c.write_some.new.self.drive.completed _ less (rw so_far.0.geometry at done.completed) so_far.7),
-      cut-step disk.drive.geometry c.loop-done.self.drive.geometry (logs_of disk) (c.args.first + c.args.blocks - 1) _ (logs_of c.loop-done.self) (logs_of c.write_some.new.self) so_far.0.geometry (omega (arith, so_far.3)) (c.write_some.ensures.cut (logs_of disk)) so_far.8,
-      omega (arith, so_far.9, done.turns),
+      wrote.serving,
+      omega (arith, wrote.taken, so_far.3),
+      written-more (disk_array disk) (disk_array now) (disk_array new) c.args.first c.loop-done.done c.in-Ok.count _ _ (blocks_of disk.drive.geometry.block c.args.blocks c.args.content) _
+          so_far.4 refl refl (omega (arith, long, so_far.3)) left_is wrote.array,
+      named-more (is_trim c.args.content) _ _ c.args.first c.loop-done.done _ c.in-Ok.count _ refl refl so_far.5 (rw rest.trim at wrote.names),
+      λ some. wrote.says,
+      λ some. rw so_far.0.geometry at wrote.early,
+      rw fewer (spend (most_batches (is_trim c.args.content) disk left) _ each _ new.drive.completed _ less (rw so_far.0.geometry at done.completed) so_far.8),
+      cut-step disk.drive.geometry now.drive.geometry (logs_of disk) (c.args.first + c.args.blocks - 1) _ (logs_of now) (logs_of new) so_far.0.geometry (omega (arith, so_far.3)) (done.cut (logs_of disk)) so_far.9,
+      stays-join (mounted_of disk) (mounted_of now) (mounted_of new) disk.clean now.clean new.clean so_far.10 stays,
     )
 
-pub returns-in-Err-clause-flat : goal.returns-in-Err-clause-flat
-returns-in-Err-clause-flat g c =
+-- ---- a batch was refused
+
+pub returns-in-Err-clause-answers : goal.returns-in-Err-clause-answers
+returns-in-Err-clause-answers g c =
     let so_far = c.loop-done.invariant in
     let disk = c.args.self.now in
+    let now = c.loop-done.self in
+    let new = c.write_some.new.self in
     let left = c.args.blocks - c.loop-done.done in
-    let block_is : c.geometry-block.result.block ≡ disk.drive.geometry.block = rw (← c.self.view_is) (ap (λ (x : Geometry). x.block) c.geometry-block.ensures.value) in
-    let rest = rest-is disk.drive.geometry.block c.args.blocks c.loop-done.done c.args.content c.after-rest.result so_far.3 (rw block_is at c.after-rest.ensures) in
-    let left_is : blocks_of c.loop-done.self.drive.geometry.block left c.after-rest.result ≡ drop c.loop-done.done (blocks_of disk.drive.geometry.block c.args.blocks c.args.content) = rw so_far.0.geometry rest.blocks in
+    let block_is : c.geometry-block.result.block ≡ disk.drive.geometry.block = rw (← c.self.view_is) (ap (λ (x : Geometry). x.block) c.geometry-block.ensures) in
+    let rest = rest-is disk.drive.geometry.block c.args.blocks c.loop-done.done c.args.content c.after-unwritten.result so_far.3 (rw block_is at c.after-unwritten.ensures) in
+    let left_is : blocks_of now.drive.geometry.block left c.after-unwritten.result ≡ drop c.loop-done.done (blocks_of disk.drive.geometry.block c.args.blocks c.args.content) = rw so_far.0.geometry rest.blocks in
     let long = length-blocks disk.drive.geometry.block c.args.blocks c.args.content in
     let lost = c.in-Err.ensures in
-    let front = write-front (array_of disk) (array_of c.loop-done.self) (array_of c.write_some.new.self) c.args.first c.loop-done.done _ (blocks_of disk.drive.geometry.block c.args.blocks c.args.content) _
-    so_far.4 refl (omega (arith, long, so_far.3)) left_is lost.err in
-    write-refused disk c.write_some.new.self c.args.first c.args.blocks _ c.in-Err.fault long (goes-begun disk c.args.first c.args.blocks c.in_ok-is_done.field-0 c.in_ok-is_done.ensures.known c.if-branch.false) front (lost.size ∙ so_far.1) lost.status (lost.kept.geometry ∙ so_far.0.geometry) lost.cause
+    let none = goes-begun disk c.args.first c.args.blocks c.in_ok-is_done.field-0 c.in_ok-is_done.ensures.known c.if-branch.false in
+    let front = write-front (disk_array disk) (disk_array now) (disk_array new) c.args.first c.loop-done.done _ (blocks_of disk.drive.geometry.block c.args.blocks c.args.content) _
+    so_far.4 refl (omega (arith, long, so_far.3)) left_is lost.err.front in
+    record {
+      flat = write-refused disk new c.args.first c.args.blocks _ c.in-Err.fault long none front (lost.size ∙ so_far.1) lost.err.status (lost.kept.geometry ∙ so_far.0.geometry) lost.err.cause;
+      untouched = write-unknown disk new c.args.first c.args.blocks _ long none;
+      kept = kept-join disk now new so_far.0 lost.kept;
+      cause = cause-of new c.in-Err.fault lost.err.cause;
+    }
 
-pub returns-in-Err-clause-untouched : goal.returns-in-Err-clause-untouched
-returns-in-Err-clause-untouched g c =
-    write-unknown c.args.self.now c.write_some.new.self c.args.first c.args.blocks _ (length-blocks _ c.args.blocks c.args.content) (goes-begun c.args.self.now c.args.first c.args.blocks c.in_ok-is_done.field-0 c.in_ok-is_done.ensures.known c.if-branch.false)
+pub returns-in-Err-clause-stores : goal.returns-in-Err-clause-stores
+returns-in-Err-clause-stores g c =
+    let so_far = c.loop-done.invariant in
+    let disk = c.args.self.now in
+    record {
+      named = tt;
+      says = tt;
+      early = tt;
+      cut = cut-step disk.drive.geometry c.loop-done.self.drive.geometry (logs_of disk) (c.args.first + c.args.blocks - 1) _ (logs_of c.loop-done.self) (logs_of c.write_some.new.self) so_far.0.geometry (omega (arith, so_far.3)) (c.in-Err.ensures.cut (logs_of disk)) so_far.9;
+    }
+
+pub returns-in-Err-clause-clean : goal.returns-in-Err-clause-clean
+returns-in-Err-clause-clean g c =
+    let so_far = c.loop-done.invariant in
+    let disk = c.args.self.now in
+    let now = c.loop-done.self in
+    let new = c.write_some.new.self in
+    let lost = c.in-Err.ensures in
+    λ serves. refused-clean (mounted_of disk) (mounted_of now) (mounted_of new) disk.clean now.clean new.clean disk.status new.status c.in-Err.fault (lost.kept.geometry ∙ so_far.0.geometry) so_far.10 lost.clean (sym lost.err.status ∙ serves)
 
 pub returns-in-Err-clause-completed : goal.returns-in-Err-clause-completed
 returns-in-Err-clause-completed g c =
     let so_far = c.loop-done.invariant in
-    let one = batches-some (is_trim c.args.content) c.args.self.now (c.args.blocks - c.loop-done.done) c.is_done.ensures.range (omega (arith, c.loop-done-test.true)) in
+    let one = batches-some (is_trim c.args.content) c.args.self.now (c.args.blocks - c.loop-done.done) c.is_done.ensures.sound.range (omega (arith, c.loop-done-test.true)) in
     let each = batch_commands c.args.self.now.drive.geometry in
-    let last = spend (most_batches (is_trim c.args.content) c.args.self.now (c.args.blocks - c.loop-done.done)) 0 each _ c.write_some.new.self.drive.completed _ (omega (arith, one)) (rw so_far.0.geometry at c.in-Err.ensures.completed) so_far.7 in
+    let last = spend (most_batches (is_trim c.args.content) c.args.self.now (c.args.blocks - c.loop-done.done)) 0 each _ c.write_some.new.self.drive.completed _ (omega (arith, one)) (rw so_far.0.geometry at c.in-Err.ensures.completed) so_far.8 in
     omega (arith, last)
 
-pub returns-clause-flat : goal.returns-clause-flat
-returns-clause-flat g c =
-    let so_far = c.loop-done.invariant in
-    write-done c.args.self.now c.loop-done.self c.args.first c.args.blocks c.loop-done.done _ (length-blocks _ c.args.blocks c.args.content) (goes-begun c.args.self.now c.args.first c.args.blocks c.in_ok-is_done.field-0 c.in_ok-is_done.ensures.known c.if-branch.false)
-    (c.in_ok-is_done.ensures.in_range c.if-branch.false).2 (omega (arith, c.loop-done-test.false)) so_far.4 so_far.1 so_far.2 so_far.0.geometry
+-- ---- all is done
 
-pub returns-clause-untouched : goal.returns-clause-untouched
-returns-clause-untouched g c =
-    write-unknown c.args.self.now c.loop-done.self c.args.first c.args.blocks _ (length-blocks _ c.args.blocks c.args.content) (goes-begun c.args.self.now c.args.first c.args.blocks c.in_ok-is_done.field-0 c.in_ok-is_done.ensures.known c.if-branch.false)
-
-pub returns-clause-named : goal.returns-clause-named
-returns-clause-named g c = let so_far = c.loop-done.invariant in λ block low high. so_far.5 block low (omega (arith, high, c.loop-done-test.false))
-
-pub returns-in_err-is_done-clause-cut : goal.returns-in_err-is_done-clause-cut
-returns-in_err-is_done-clause-cut g c = cut-old c.args.self.now.drive.geometry (c.args.first + c.args.blocks - 1) (logs_of c.args.self.now)
-
-pub returns-then-branch-clause-cut : goal.returns-then-branch-clause-cut
-returns-then-branch-clause-cut g c = cut-old c.args.self.now.drive.geometry (c.args.first + c.args.blocks - 1) (logs_of c.args.self.now)
-
-pub returns-in-Err-clause-cut : goal.returns-in-Err-clause-cut
-returns-in-Err-clause-cut g c =
+pub returns-clause-answers : goal.returns-clause-answers
+returns-clause-answers g c =
     let so_far = c.loop-done.invariant in
     let disk = c.args.self.now in
-    cut-step disk.drive.geometry c.loop-done.self.drive.geometry (logs_of disk) (c.args.first + c.args.blocks - 1) _ (logs_of c.loop-done.self) (logs_of c.write_some.new.self) so_far.0.geometry (omega (arith, so_far.3)) (c.write_some.ensures.cut (logs_of disk)) so_far.8
+    let long = length-blocks disk.drive.geometry.block c.args.blocks c.args.content in
+    let none = goes-begun disk c.args.first c.args.blocks c.in_ok-is_done.field-0 c.in_ok-is_done.ensures.known c.if-branch.false in
+    record {
+      flat = write-done disk c.loop-done.self c.args.first c.args.blocks c.loop-done.done _ long none (c.in_ok-is_done.ensures.serving c.if-branch.false) (omega (arith, c.loop-done-test.false)) so_far.4 so_far.1 so_far.2 so_far.0.geometry;
+      untouched = write-unknown disk c.loop-done.self c.args.first c.args.blocks _ long none;
+      kept = so_far.0;
+      cause = tt;
+    }
 
-pub returns-clause-cut : goal.returns-clause-cut
-returns-clause-cut g c = c.loop-done.invariant.8
+pub returns-clause-stores : goal.returns-clause-stores
+returns-clause-stores g c =
+    let so_far = c.loop-done.invariant in
+    record {
+      named = λ block low high. so_far.5 block low (omega (arith, high, c.loop-done-test.false));
+      says = λ some. so_far.6 (omega (arith, some, c.loop-done-test.false));
+      early = λ some. so_far.7 (omega (arith, some, c.loop-done-test.false));
+      cut = so_far.9;
+    }
 
-pub returns-in-Err-clause-kept : goal.returns-in-Err-clause-kept
-returns-in-Err-clause-kept g c = kept-join c.args.self.now c.loop-done.self c.write_some.new.self c.loop-done.invariant.0 c.write_some.ensures.kept
+pub returns-clause-turns : goal.returns-clause-turns
+returns-clause-turns g c =
+    let so_far = c.loop-done.invariant in
+    let disk = c.args.self.now in
+    let new = c.loop-done.self in
+    turns-on (mounted_of disk) (mounted_of new) disk.clean new.clean disk.status new.status so_far.0.geometry so_far.10.turns
 
-pub returns-in-Err-clause-cause : goal.returns-in-Err-clause-cause
-returns-in-Err-clause-cause g c = cause-of c.write_some.new.self c.in-Err.fault c.in-Err.ensures.cause
+pub returns-clause-clean : goal.returns-clause-clean
+returns-clause-clean g c =
+    let disk = c.args.self.now in
+    let new = c.loop-done.self in
+    λ serves. done-clean (mounted_of disk) (mounted_of new) disk.clean new.clean disk.status new.status c.loop-done.invariant.10

@@ -1,19 +1,21 @@
 use Rattle.std.proofs.Common.{◌≡◌, ◌-◌, ◌+◌, ◌*◌, ◌≤◌, take, Some}
+use Rattle.zone_choice.specs.Changes.{sequence_end}
 use Rattle.zone_translator.specs.declared.status.DiskStatus.TheVariants.{Serving}
 use Rattle.zone_translator.specs.Batches.{LogsAreCut, blocks_of, is_trim}
 use Rattle.zone_translator.specs.Changes.{AreNamed, batch_commands}
 use Rattle.zone_translator.specs.Flat.{replaced}
-use Rattle.zone_translator.specs.View.{KeepsDisk, array_of, disk_size, disk_turns, logs_of, most_batches, places_of, size_on}
+use Rattle.zone_translator.specs.View.{KeepsDisk, disk_array, disk_size, logs_of, most_batches, mounted_of, next_sequence, disk_places, size_on}
+use Rattle.zone_translator.proofs.CleaningLaws.{StaysClean}
 use Rattle.zone_translator.proofs.disk.Disk.write_all.Given as goal
 
 abbrev pub invariant-loop-done : goal.invariant-loop-done
 invariant-loop-done g l =
     KeepsDisk l.fn.self l.self × (disk_size l.self ≡ disk_size l.fn.self) × (l.self.status ≡ Serving) × (l.done ≤ l.blocks)
-    × (array_of l.self ≡ replaced (array_of l.fn.self) l.first (take l.done (blocks_of l.fn.self.drive.geometry.block l.blocks l.content)))
-    × AreNamed (is_trim l.content) (places_of l.self) l.first l.done × (1 ≤ l.done → size_on l.self ≡ Some (disk_size l.self))
+    × (disk_array l.self ≡ replaced (disk_array l.fn.self) l.first (take l.done (blocks_of l.fn.self.drive.geometry.block l.blocks l.content)))
+    × AreNamed (is_trim l.content) (disk_places l.self) l.first l.done × (1 ≤ l.done → size_on l.self ≡ Some (disk_size l.self)) × (1 ≤ l.done → next_sequence l.self ≤ sequence_end l.fn.self.drive.geometry)
     × (l.self.drive.completed + most_batches (is_trim l.content) l.fn.self (l.blocks - l.done) * batch_commands l.fn.self.drive.geometry ≤ l.fn.self.drive.completed + most_batches (is_trim l.content) l.fn.self l.blocks * batch_commands l.fn.self.drive.geometry)
     × LogsAreCut l.fn.self.drive.geometry (logs_of l.fn.self) (l.first + l.blocks - 1) (logs_of l.self)
-    × (disk_turns l.self ≤ disk_turns l.fn.self)
+    × StaysClean (mounted_of l.fn.self) l.fn.self.clean (mounted_of l.self) l.self.clean
 
 abbrev pub decreases-loop-done : goal.decreases-loop-done
 decreases-loop-done g l = l.blocks - l.done

@@ -1,42 +1,57 @@
 use Rattle.zone_translator.specs.Batches.{is_trim}
-use Rattle.zone_translator.proofs.ContentLaws.{took-names}
-use Rattle.zone_translator.proofs.DiskLaws.{holds-agrees, holds-serving, keeps-disk, names-on, refused-write, reserve-kept, turns-on}
+use Rattle.zone_translator.proofs.DiskLaws.{holds-agrees, holds-serving, keeps-disk, refused-write, reserve-kept, wrote-some}
 use Rattle.zone_translator.proofs.disk.Disk.write_some.Goals as goal
 
 pub invariant_of-self : goal.invariant_of-self
 invariant_of-self g c =
     let serves = rw (← c.self.view_is) at c.requires.serving in
-    rw serves (holds-serving (g.D.Device.drive c.next_batch-written.new.device) c.next_batch-written.new.tables c.next_batch-written.new.cleaner (reserve-kept (g.D.Device.drive c.self.inside.device) (g.D.Device.drive c.next_batch-written.new.device) c.self.inside.tables c.next_batch-written.new.tables c.in-Ok.ensures.leaves.keeps.geometry c.in-Ok.ensures.leaves.keeps.given c.self.invariant.reserve) c.in-Ok.ensures.leaves.serves)
+    let leaves = c.in-Ok.ensures.leaves in
+    rw serves (holds-serving c.next_batch.new.disk c.next_batch.new.cleaner (reserve-kept c.self.inside.mounted c.next_batch.new.disk leaves.keeps.geometry leaves.keeps.given c.self.invariant.reserve) leaves.serves)
+
+pub next_batch-requires-clause-agrees : goal.next_batch-requires-clause-agrees
+next_batch-requires-clause-agrees g c = holds-agrees c.self.inside.mounted c.self.inside.cleaner c.self.inside.status (rw (← c.self.view_is) at c.requires.serving) c.self.invariant
 
 pub invariant_of-self-in-Err : goal.invariant_of-self-in-Err
 invariant_of-self-in-Err g c =
-    let serves = holds-agrees _ c.self.inside.tables c.self.inside.cleaner c.self.inside.status (rw (← c.self.view_is) at c.requires.serving) c.self.invariant in
-    rw c.status_of-self-inside.ensures (refused-write (g.D.Device.drive c.self.inside.device) (g.D.Device.drive c.next_batch-written.new.device) c.self.inside.tables c.next_batch-written.new.tables c.self.inside.cleaner c.next_batch-written.new.cleaner (is_trim c.args.content) _ _ c.in-Err.fault c.self.inside.status c.self.invariant.reserve serves c.in-Err.ensures.leaves).refused.holds
+    let serves = holds-agrees c.self.inside.mounted c.self.inside.cleaner c.self.inside.status (rw (← c.self.view_is) at c.requires.serving) c.self.invariant in
+    rw c.status_of-self-inside.ensures (refused-write c.self.inside.mounted c.next_batch.new.disk c.self.inside.cleaner c.next_batch.new.cleaner (is_trim c.args.rest.content) _ _ c.in-Err.fault c.self.inside.status c.self.invariant.reserve serves c.in-Err.ensures.leaves).refused.holds
+
+pub returns-in-Ok-clause-wrote : goal.returns-in-Ok-clause-wrote
+returns-in-Ok-clause-wrote g c =
+    let serving = rw (← c.self.view_is) at c.requires.serving in
+    let serves = holds-agrees c.self.inside.mounted c.self.inside.cleaner c.self.inside.status serving c.self.invariant in
+    rw (← c.self.view_is) (wrote-some c.self.inside.mounted c.next_batch.new.disk c.self.inside.cleaner c.next_batch.new.cleaner c.self.inside.status c.self.inside.status c.args.rest c.in-Ok.count serving serves c.in-Ok.ensures.count c.in-Ok.ensures.leaves)
 
 pub returns-in-Ok-clause-kept : goal.returns-in-Ok-clause-kept
-returns-in-Ok-clause-kept g c = rw (← c.self.view_is) (keeps-disk (g.D.Device.drive c.self.inside.device) (g.D.Device.drive c.next_batch-written.new.device) c.self.inside.tables c.next_batch-written.new.tables c.self.inside.cleaner c.next_batch-written.new.cleaner c.self.inside.status c.self.inside.status (λ e. e) c.in-Ok.ensures.leaves.keeps)
+returns-in-Ok-clause-kept g c = rw (← c.self.view_is) (keeps-disk c.self.inside.mounted c.next_batch.new.disk c.self.inside.cleaner c.next_batch.new.cleaner c.self.inside.status c.self.inside.status (λ e. e) c.in-Ok.ensures.leaves.keeps)
 
-pub returns-in-Ok-clause-names : goal.returns-in-Ok-clause-names
-returns-in-Ok-clause-names g c =
-    let serves = holds-agrees _ c.self.inside.tables c.self.inside.cleaner c.self.inside.status (rw (← c.self.view_is) at c.requires.serving) c.self.invariant in
-    let names = took-names _ _ _ _ _ _ _ _ (c.in-Ok.ensures.count.1) c.in-Ok.ensures.leaves.names in
-    rw (← c.self.view_is) (names-on (g.D.Device.drive c.self.inside.device) (g.D.Device.drive c.next_batch-written.new.device) c.self.inside.tables c.next_batch-written.new.tables c.self.inside.cleaner c.next_batch-written.new.cleaner _ _ _ c.self.inside.status c.self.inside.status serves c.in-Ok.ensures.leaves.serves names)
+pub returns-in-Ok-clause-size : goal.returns-in-Ok-clause-size
+returns-in-Ok-clause-size g c = rw (← c.self.view_is) c.in-Ok.ensures.leaves.size
 
-pub returns-in-Err-clause-kept : goal.returns-in-Err-clause-kept
-returns-in-Err-clause-kept g c =
-    let serves = holds-agrees _ c.self.inside.tables c.self.inside.cleaner c.self.inside.status (rw (← c.self.view_is) at c.requires.serving) c.self.invariant in
-    rw (← c.self.view_is, c.status_of-self-inside.ensures) (refused-write (g.D.Device.drive c.self.inside.device) (g.D.Device.drive c.next_batch-written.new.device) c.self.inside.tables c.next_batch-written.new.tables c.self.inside.cleaner c.next_batch-written.new.cleaner (is_trim c.args.content) _ _ c.in-Err.fault c.self.inside.status c.self.invariant.reserve serves c.in-Err.ensures.leaves).refused.kept
+pub returns-in-Ok-clause-clean : goal.returns-in-Ok-clause-clean
+returns-in-Ok-clause-clean g c = rw (← c.self.view_is) c.in-Ok.ensures.clean
 
-pub returns-in-Err-clause-size : goal.returns-in-Err-clause-size
-returns-in-Err-clause-size g c =
-    let serves = holds-agrees _ c.self.inside.tables c.self.inside.cleaner c.self.inside.status (rw (← c.self.view_is) at c.requires.serving) c.self.invariant in
-    rw (← c.self.view_is) (refused-write (g.D.Device.drive c.self.inside.device) (g.D.Device.drive c.next_batch-written.new.device) c.self.inside.tables c.next_batch-written.new.tables c.self.inside.cleaner c.next_batch-written.new.cleaner (is_trim c.args.content) _ _ c.in-Err.fault c.self.inside.status c.self.invariant.reserve serves c.in-Err.ensures.leaves).refused.size
+pub returns-in-Ok-clause-cut : goal.returns-in-Ok-clause-cut
+returns-in-Ok-clause-cut g c = rw (← c.self.view_is) c.in-Ok.ensures.cut
 
 pub returns-in-Err-clause-err : goal.returns-in-Err-clause-err
 returns-in-Err-clause-err g c =
-    let serves = holds-agrees _ c.self.inside.tables c.self.inside.cleaner c.self.inside.status (rw (← c.self.view_is) at c.requires.serving) c.self.invariant in
-    rw (← c.self.view_is) (refused-write (g.D.Device.drive c.self.inside.device) (g.D.Device.drive c.next_batch-written.new.device) c.self.inside.tables c.next_batch-written.new.tables c.self.inside.cleaner c.next_batch-written.new.cleaner (is_trim c.args.content) _ _ c.in-Err.fault c.self.inside.status c.self.invariant.reserve serves c.in-Err.ensures.leaves).front
+    let serves = holds-agrees c.self.inside.mounted c.self.inside.cleaner c.self.inside.status (rw (← c.self.view_is) at c.requires.serving) c.self.invariant in
+    let lost = refused-write c.self.inside.mounted c.next_batch.new.disk c.self.inside.cleaner c.next_batch.new.cleaner (is_trim c.args.rest.content) _ _ c.in-Err.fault c.self.inside.status c.self.invariant.reserve serves c.in-Err.ensures.leaves in
+    record { status = c.status_of-self-inside.ensures; front = rw (← c.self.view_is) lost.front; cause = c.in-Err.ensures.cause }
 
-pub returns-in-Ok-clause-turns : goal.returns-in-Ok-clause-turns
-returns-in-Ok-clause-turns g c =
-    rw (← c.self.view_is) (turns-on (g.D.Device.drive c.self.inside.device) (g.D.Device.drive c.next_batch-written.new.device) c.self.inside.tables c.next_batch-written.new.tables c.self.inside.cleaner c.next_batch-written.new.cleaner c.self.inside.status c.self.inside.status c.in-Ok.ensures.leaves.keeps.geometry c.in-Ok.ensures.turns)
+pub returns-in-Err-clause-kept : goal.returns-in-Err-clause-kept
+returns-in-Err-clause-kept g c =
+    let serves = holds-agrees c.self.inside.mounted c.self.inside.cleaner c.self.inside.status (rw (← c.self.view_is) at c.requires.serving) c.self.invariant in
+    rw (← c.self.view_is, c.status_of-self-inside.ensures) (refused-write c.self.inside.mounted c.next_batch.new.disk c.self.inside.cleaner c.next_batch.new.cleaner (is_trim c.args.rest.content) _ _ c.in-Err.fault c.self.inside.status c.self.invariant.reserve serves c.in-Err.ensures.leaves).refused.kept
+
+pub returns-in-Err-clause-size : goal.returns-in-Err-clause-size
+returns-in-Err-clause-size g c =
+    let serves = holds-agrees c.self.inside.mounted c.self.inside.cleaner c.self.inside.status (rw (← c.self.view_is) at c.requires.serving) c.self.invariant in
+    rw (← c.self.view_is) (refused-write c.self.inside.mounted c.next_batch.new.disk c.self.inside.cleaner c.next_batch.new.cleaner (is_trim c.args.rest.content) _ _ c.in-Err.fault c.self.inside.status c.self.invariant.reserve serves c.in-Err.ensures.leaves).refused.size
+
+pub returns-in-Err-clause-clean : goal.returns-in-Err-clause-clean
+returns-in-Err-clause-clean g c = rw (← c.self.view_is) c.in-Err.ensures.clean
+
+pub returns-in-Err-clause-cut : goal.returns-in-Err-clause-cut
+returns-in-Err-clause-cut g c = rw (← c.self.view_is) c.in-Err.ensures.cut

@@ -1,0 +1,212 @@
+// The file of a drive: changes behind its image that are cut off or damaged anywhere, and a store that fails.
+
+ghost use Rattle.nvme_wire.specs.Entry.{IsAdmitted};
+
+use disk_files::FailAfter;
+use drive_images::write_image;
+use drive_journal::{FileFault, Held, Journaling, Store, Unknown, open_drive};
+use drive_port::{Device, read_extending};
+use nvme_wire::{Action, Command, Completion, Status};
+use std::alloc::Global;
+use std::test::Fail;
+use zone_drive::Drive;
+use zone_states::{Geometry, ZoneState};
+
+const GEOMETRY: Geometry = Geometry {
+    block: 512,
+    zones: 3,
+    size: 4,
+    capacity: 4,
+    transfer: 2,
+    active: 2,
+    open: 2,
+};
+
+// The image of a fresh drive, and where it ends.
+const IMAGE: usize = 64 + 3 * 8;
+
+// Where each of the five changes ends.
+const ENDS: [usize; 6] = [
+    IMAGE,
+    IMAGE + 592,
+    IMAGE + 1184,
+    IMAGE + 1776,
+    IMAGE + 1856,
+    IMAGE + 1936,
+];
+
+// The blocks of the first two zones after as many changes.
+const BLOCKS: [(usize, usize); 6] = [(0, 0), (1, 0), (1, 1), (2, 1), (2, 1), (0, 1)];
+
+// Submits a command, and tells whether it was done.
+fn is_done<D: Device>(device: &mut D, command: Command, bytes: &[u8], into: &mut Vec<u8>) -> bool
+    requires { IsAdmitted command }
+{
+    let Ok(completion) = device.submit(&command.encode(0), bytes, into) else {
+        return false;
+    };
+    match Completion::decode(&completion) {
+        Ok(told) => told.status == Status::Success,
+        Err(_) => false,
+    }
+}
+
+// An Append of one block to the zone that starts there.
+fn append_at(zslba: u64) -> Command
+    ensures { result ≡ Command.Append zslba 1 }
+{
+    Command::Append { zslba, blocks: 1 }
+}
+
+// A command for the zone that starts there.
+fn send_to(slba: u64, action: Action) -> Command
+    ensures { result ≡ Command.Send slba action false }
+{
+    Command::Send {
+        slba,
+        action,
+        all: false,
+    }
+}
+
+// Submits five commands that change the drive, and one that is refused, and counts those that are done.
+fn run_five<D: Device>(alloc: Global, device: &mut D) -> usize {
+    let block = [0xaa; 512];
+    let mut into = Vec::new(alloc);
+    if !is_done(device, append_at(0), &block, &mut into) {
+        return 0;
+    }
+    if !is_done(device, append_at(4), &block, &mut into) {
+        return 1;
+    }
+    if !is_done(device, append_at(0), &block, &mut into) {
+        return 2;
+    }
+    if !is_done(device, send_to(4, Action::Finish), &[], &mut into) {
+        return 3;
+    }
+    if !is_done(device, send_to(0, Action::Reset), &[], &mut into) {
+        return 4;
+    }
+    if is_done(device, append_at(4), &block, &mut into) {
+        return 6;
+    }
+    5
+}
+
+// The file of a fresh drive after the five changes.
+fn five_changes(alloc: Global) -> Result<Vec<u8>, Fail> {
+    let drive = Drive::new(alloc, GEOMETRY)?;
+    let mut bytes = Vec::new(alloc);
+    write_image(&drive, &mut bytes)?;
+    let mut device = Journaling::new(alloc, drive, Unknown::new(bytes));
+    run_five(alloc, &mut device);
+    let (_, store) = device.into_parts();
+    Ok(store.into_inner())
+}
+
+// How many changes are whole in so many bytes of the file.
+fn changes_within(bytes: u64) -> usize
+    ensures { result ≤ 5 }
+{
+    let mut changes = 0;
+    for i in 1..6 {
+        if ENDS[i] as u64 <= bytes {
+            changes = i;
+        }
+    }
+    changes
+}
+
+// The file gives the drive after these changes.
+fn holds(alloc: Global, bytes: &[u8], changes: usize) -> bool
+    requires { changes < 6 }
+{
+    let Ok(opened) = open_drive(alloc, &mut &bytes[..]) else {
+        return false;
+    };
+    let mut blocks = (9, 9);
+    if let Some(zone) = opened.drive.zone(0) {
+        blocks.0 = zone.blocks(&GEOMETRY);
+    }
+    if let Some(zone) = opened.drive.zone(1) {
+        blocks.1 = zone.blocks(&GEOMETRY);
+        if changes >= 4 && zone.state() != ZoneState::Full {
+            return false;
+        }
+    }
+    blocks == BLOCKS[changes] && opened.whole == ENDS[changes] as u64
+}
+
+#[test]
+fn opens_a_file_that_is_cut_anywhere(rt: HostRuntime) -> Result<(), Fail> {
+    let bytes = five_changes(rt.alloc())?;
+    assert_eq!(rt; bytes.len(), ENDS[5]);
+    for end in 0..bytes.len() + 1 {
+        let front = &bytes[..end];
+        if end < IMAGE {
+            assert!(rt; open_drive(rt.alloc(), &mut &front[..]).is_err());
+        } else {
+            assert!(rt; holds(rt.alloc(), front, changes_within(end as u64)));
+        }
+    }
+    Ok(())
+}
+
+#[test]
+fn opens_a_file_with_a_damaged_byte_up_to_it(rt: HostRuntime) -> Result<(), Fail> {
+    let mut bytes = five_changes(rt.alloc())?;
+    for at in IMAGE..bytes.len() {
+        bytes[at] ^= 0x10;
+        let before = changes_within(at as u64);
+        match open_drive(rt.alloc(), &mut bytes.as_slice()) {
+            Ok(opened) => assert_eq!(rt; opened.whole, ENDS[before] as u64),
+            Err(FileFault::Damaged(place)) => assert_eq!(rt; place, ENDS[before] as u64),
+            Err(_) => assert_eq!(rt; before, 0),
+        }
+        bytes[at] ^= 0x10;
+    }
+    Ok(())
+}
+
+#[test]
+fn a_store_that_fails_holds_what_was_answered(rt: HostRuntime) -> Result<(), Fail> {
+    for left in 0..1940 {
+        let drive = Drive::new(rt.alloc(), GEOMETRY)?;
+        let mut bytes = Vec::new(rt.alloc());
+        write_image(&drive, &mut bytes)?;
+        let writer = FailAfter::in_steps(bytes, left, 100);
+        let mut device = Journaling::new(rt.alloc(), drive, Unknown::new(writer));
+        let answered = run_five(rt.alloc(), &mut device);
+        assert_eq!(rt; device.store_failed(), left < 1936);
+        let (_, store) = device.into_parts();
+        let written = store.into_inner().inner;
+        assert_eq!(rt; answered, changes_within((IMAGE + left) as u64));
+        assert!(rt; holds(rt.alloc(), &written, answered.min(5)));
+    }
+    Ok(())
+}
+
+#[test]
+fn reads_what_it_wrote(rt: HostRuntime) -> Result<(), Fail> {
+    let alloc = rt.alloc();
+    let drive = Drive::new(alloc, GEOMETRY)?;
+    let mut device = Journaling::new(alloc, drive, Unknown::new(Vec::new(alloc)));
+    let mut none = Vec::new(alloc);
+    assert!(rt; is_done(&mut device, append_at(0), &[0xaa; 512], &mut none));
+    let mut read = Vec::new(alloc);
+    read_extending(&mut device, 0, 1, &mut read)?;
+    assert_eq!(rt; read.as_slice(), [0xaa; 512].as_slice());
+    assert_eq!(rt; device.completed(), 2);
+    assert_eq!(rt; device.geometry(), GEOMETRY);
+    Ok(())
+}
+
+#[test]
+fn a_store_in_memory_holds_what_it_was_given(rt: HostRuntime) -> Result<(), Fail> {
+    let mut store = Held::new(Vec::new(rt.alloc()));
+    store.append(b"one")?;
+    store.append(b"two")?;
+    assert_eq!(rt; store.bytes(), b"onetwo".as_slice());
+    Ok(())
+}

@@ -1,0 +1,24 @@
+-- The line by which the program tells its fault.
+use Rattle.std.specs.Prelude.{ℕ, List, codes}
+use Rattle.std.specs.Io.KnownBytes.{Keeps}
+use Rattle.drive_survey.specs.declared.fault.MountFault.TheVariants as mounts
+use Rattle.disk_files.specs.Output.{AppendsFront}
+use Rattle.drive_images.specs.FaultText.{image_fault_text as image_text}
+use Rattle.disk_runs.specs.FaultText.{run_fault_text as run_text}
+use Rattle.disk_runs.specs.Run.{Known}
+use Rattle.disk_runs.specs.declared.fault.RunFault.TheVariants as runs
+use Rattle.disk_jobs.specs.declared.fault.ProgramFault.{ProgramFault}
+use Rattle.disk_jobs.specs.declared.fault.ProgramFault.TheVariants as program
+
+-- a run by the line of its fault, a number of blocks that does not fit by that of the mount, an image by its own, and a file by one line for all its faults
+abbrev pub program_text : ProgramFault → List ℕ
+program_text (program.Run fault) = run_text fault
+program_text (program.Reserve most) = run_text (runs.Mount mounts.Reserve)
+program_text (program.Image fault) = image_text fault
+program_text fault = codes "fault file\n"
+
+-- why the line is not written: the writer failed within it, or there was no memory for it
+abbrev pub IsUnwritten : List ℕ → ProgramFault → Known → Known → Type 0
+IsUnwritten text (program.Run runs.Output) old new = AppendsFront old new text
+IsUnwritten text (program.Run runs.Memory) old new = Keeps old new
+IsUnwritten text fault old new = ⊥

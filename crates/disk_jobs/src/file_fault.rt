@@ -1,0 +1,84 @@
+use std::fmt::{Display, Formatter};
+use std::io::ErrorKind;
+use std::{fmt, io};
+use thiserror::Error;
+
+/// What the system said of a call that failed.
+#[derive(Clone, Copy, Debug, PartialEq, Eq)]
+pub struct SystemError {
+    kind: ErrorKind,
+    code: Option<i32>,
+}
+
+impl SystemError {
+    /// Whether there was no memory for the call.
+    pub fn is_memory(self) -> bool {
+        self.kind == ErrorKind::OutOfMemory
+    }
+}
+
+impl From<io::Error> for SystemError {
+    fn from(error: io::Error) -> SystemError {
+        SystemError {
+            kind: error.kind(),
+            code: error.raw_os_error(),
+        }
+    }
+}
+
+impl Display for SystemError {
+    fn fmt<W: fmt::Write>(&self, f: &mut Formatter<W>) -> fmt::Result {
+        match self.code {
+            Some(code) => io::Error::from_raw_os_error(code).fmt(f),
+            None => self.kind.fmt(f),
+        }
+    }
+}
+
+/// Why the file of an image is not used, or why the drive is not saved in it. Its text goes on after the file's path.
+/// After each of them the file holds what it held before.
+#[derive(Clone, Copy, Debug, PartialEq, Eq, Error)]
+pub enum FileFault {
+    /// It cannot be opened, or a new file cannot be made at its path.
+    #[error("cannot be opened: {0}")]
+    Open(SystemError),
+    /// It is a folder, a device or a pipe.
+    #[error("is not a regular file")]
+    NotRegular,
+    /// It is not empty, and does not begin as an image does.
+    #[error("does not begin as an image does: --force replaces it all the same")]
+    NotImage,
+    /// The system keeps no locks for it.
+    #[error("cannot be locked: {0}")]
+    Lock(SystemError),
+    /// Another program has locked it, or has just replaced it.
+    #[error("is in use by another program")]
+    InUse,
+    /// No new file can be made in its folder.
+    #[error("is not saved, and holds what it held before: no new file can be made in its folder: {0}")]
+    NewFile(SystemError),
+    /// The new file cannot be written.
+    #[error("is not saved, and holds what it held before: the new file cannot be written: {0}")]
+    Write(SystemError),
+    /// Another file is at its path now.
+    #[error("is not saved: another file is at its path now")]
+    Replaced,
+    /// The new file cannot take its place.
+    #[error("is not saved, and holds what it held before: the new file cannot take its place: {0}")]
+    Rename(SystemError),
+}
+
+impl FileFault {
+    /// Whether memory ran out.
+    pub fn is_memory(self) -> bool {
+        match self {
+            FileFault::Open(error)
+            | FileFault::Lock(error)
+            | FileFault::NewFile(error)
+            | FileFault::Write(error)
+            | FileFault::Rename(error) => error.is_memory(),
+            FileFault::NotRegular | FileFault::NotImage | FileFault::InUse | FileFault::Replaced =>
+                { false }
+        }
+    }
+}

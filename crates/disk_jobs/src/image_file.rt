@@ -1,0 +1,181 @@
+// The file of an image. It is opened and locked before the image is read, and locked until the drive is saved.
+//
+// The lock is on the image file itself, so it needs no file of its own, and is the same through each link. A save puts
+// a new file in the place of the locked one. So a program that has locked the file looks whether the path still names
+// it: if not, the image was replaced before the file was locked.
+
+use crate::file_fault::{FileFault, SystemError};
+use drive_images::{ImageFault, read_image};
+use std::alloc::Global;
+use std::fs::{File, Metadata, OpenOptions, TryLockError};
+use std::io::{ErrorKind, Read};
+use std::os::unix::fs::MetadataExt;
+use std::rt::Files;
+use std::{fs, io};
+
+/// An image file that is open and locked.
+#[derive(Drop)]
+pub struct ImageFile {
+    /// Where the file is. It is no symbolic link, unless the image is only read.
+    pub path: String,
+    pub file: File,
+    /// Of the file when it was locked.
+    pub metadata: Metadata,
+    /// Whether the file was made here, and is empty until the drive is saved.
+    pub is_new: bool,
+}
+
+fn open_fault(error: io::Error) -> FileFault {
+    FileFault::Open(SystemError::from(error))
+}
+
+fn is_same_file(one: &Metadata, other: &Metadata) -> bool {
+    one.dev() == other.dev() && one.ino() == other.ino()
+}
+
+/// What an attempt to lock a file comes to.
+fn locked(attempt: Result<(), TryLockError>) -> Result<(), FileFault> {
+    match attempt {
+        Ok(()) => Ok(()),
+        Err(TryLockError::WouldBlock) => Err(FileFault::InUse),
+        Err(TryLockError::Error(error)) => Err(FileFault::Lock(SystemError::from(error))),
+    }
+}
+
+/// The path of the file that a symbolic link leads to, and any other path as it is.
+fn without_link<F: Files>(files: &F, alloc: Global, path: &str) -> io::Result<String> {
+    if fs::symlink_metadata(files, path)?.is_symlink() {
+        return Ok(files.canonicalize(alloc, path)?.into_string());
+    }
+    Ok(String::from_str(alloc, path)?)
+}
+
+/// Opens a file to read and to write it, or only to read it. Network file systems lock no file that cannot be written.
+fn open_both_ways<F: Files>(files: &F, path: &str) -> io::Result<F::File> {
+    match OpenOptions::new().read(true).write(true).open(files, path) {
+        Ok(file) => Ok(file),
+        Err(_) => fs::open(files, path),
+    }
+}
+
+/// Opens a regular file. It looks first, since opening a pipe waits for its other end.
+fn open_regular<F: Files>(files: &F, path: &str) -> Result<F::File, FileFault> {
+    let metadata = fs::metadata(files, path).map_err(open_fault)?;
+    if !metadata.is_file() {
+        return Err(FileFault::NotRegular);
+    }
+    open_both_ways(files, path).map_err(open_fault)
+}
+
+/// Locks a file against each other program, if the path still names it.
+fn lock_at<F: Files>(
+    files: &F,
+    path: String,
+    file: File,
+    is_new: bool,
+) -> Result<ImageFile, FileFault> {
+    locked(file.try_lock())?;
+    let metadata = file.metadata().map_err(open_fault)?;
+    let named = fs::metadata(files, path.as_str()).map_err(open_fault)?;
+    if !is_same_file(&metadata, &named) {
+        return Err(FileFault::InUse);
+    }
+    Ok(ImageFile {
+        path,
+        file,
+        metadata,
+        is_new,
+    })
+}
+
+/// Opens the file of an image to read it. Other programs can read it too, and none can change it.
+pub fn open_to_read<F: Files<File = File>>(
+    files: &F,
+    alloc: Global,
+    path: &str,
+) -> Result<ImageFile, FileFault> {
+    let file = fs::open(files, path).map_err(open_fault)?;
+    locked(file.try_lock_shared())?;
+    let metadata = file.metadata().map_err(open_fault)?;
+    let path = String::from_str(alloc, path).map_err(|error| open_fault(io::Error::from(error)))?;
+    Ok(ImageFile {
+        path,
+        file,
+        metadata,
+        is_new: false,
+    })
+}
+
+/// Opens the file of an image whose drive is going to be saved. No other program can read or change it.
+pub fn open_to_save<F: Files<File = File>>(
+    files: &F,
+    alloc: Global,
+    path: &str,
+) -> Result<ImageFile, FileFault> {
+    let path = without_link(files, alloc, path).map_err(open_fault)?;
+    let file = open_regular(files, &path)?;
+    lock_at(files, path, file, false)
+}
+
+/// Makes an empty file for an image. It is removed again where it cannot be locked, unless another program has it.
+fn make<F: Files<File = File>>(
+    files: &F,
+    alloc: Global,
+    path: &str,
+) -> Result<ImageFile, FileFault> {
+    let owned = String::from_str(alloc, path).map_err(|error| open_fault(io::Error::from(error)))?;
+    let file = File::create_new(files, path).map_err(open_fault)?;
+    let made = lock_at(files, owned, file, true);
+    match made {
+        Ok(_) | Err(FileFault::InUse) => {}
+        Err(_) => {
+            let _ = fs::remove_file(files, path);
+        }
+    }
+    made
+}
+
+/// Whether a file begins as an image does. The reader of images says so of its first bytes.
+fn begins_as_image(alloc: Global, mut file: &File) -> io::Result<bool> {
+    let mut head = [0; 64];
+    file.read(&mut head)?;
+    let read = read_image(alloc, &mut head.as_slice());
+    Ok(!matches!(read, Err(ImageFault::Magic)))
+}
+
+/// Opens the file in which a fresh drive is going to be saved, or makes it. What it holds is going to be lost: so it
+/// has to be empty or to begin as an image does, or `force` is given.
+pub fn open_to_format<F: Files<File = File>>(
+    files: &F,
+    alloc: Global,
+    path: &str,
+    force: bool,
+) -> Result<ImageFile, FileFault> {
+    match fs::symlink_metadata(files, path) {
+        Err(error) if error.kind() == ErrorKind::NotFound => return make(files, alloc, path),
+        _ => {}
+    }
+    let image = open_to_save(files, alloc, path)?;
+    if force || image.metadata.len() == 0 {
+        return Ok(image);
+    }
+    if !begins_as_image(alloc, &image.file).map_err(open_fault)? {
+        return Err(FileFault::NotImage);
+    }
+    Ok(image)
+}
+
+impl ImageFile {
+    /// Whether the path still names the file.
+    pub fn is_named<F: Files>(&self, files: &F) -> io::Result<bool> {
+        let named = fs::metadata(files, self.path.as_str())?;
+        Ok(is_same_file(&self.metadata, &named))
+    }
+
+    /// Removes the file where it was made here.
+    pub fn discard<F: Files>(&self, files: &F) {
+        if self.is_new && self.is_named(files).unwrap_or(false) {
+            let _ = fs::remove_file(files, self.path.as_str());
+        }
+    }
+}

@@ -1,0 +1,9 @@
+pub mod Reserve
+pub mod Records
+pub mod Sizes
+pub mod ZoneLogs
+pub mod Spare
+pub mod Repair
+pub mod Repairing
+pub mod Mountable
+pub mod Laws

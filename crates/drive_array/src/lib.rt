@@ -1,0 +1,29 @@
+//! The array that a drive holds: the records of all batches of all zones, the array that the newest of
+//! them encode, which drives can be mounted, and how many blocks are kept in reserve.
+//!
+//! ```text
+//! let geometry = Geometry { block: 512, zones: 4, size: 8, capacity: 6, transfer: 4, active: 2, open: 2 };
+//! batch_most(&geometry);      // 3: entries of a batch at most
+//! fill(&geometry, 4);         // 6: blocks that the Moves of 4 records take at most
+//! most_blocks(&geometry);     // 9: logical blocks at most
+//! fits_reserve(&geometry, 9); // true
+//! ```
+//!
+//! Nothing here keeps a state or sends a command. The definitions say what a drive means: its records
+//! (`specs/Records`), its size (`specs/Sizes`), its logs and its array (`specs/ZoneLogs`), which zones can be
+//! given up (`specs/Spare`), how a torn zone is repaired (`specs/Repair`, `specs/Repairing`), which drives can
+//! be mounted (`IsMountable` in `specs/Mountable`), and the reserve (`FitsReserve` in `specs/Reserve`).
+//!
+//! `laws` has what holds of all drives' contents: what an Append, whole or torn, a Finish, and the Resets of a
+//! mount change of logs, array and mountability. The functions compute the reserve. Tests of both are in
+//! `worked_runs`.
+#![tactic(auto)]
+
+mod laws;
+mod reserve;
+
+pub use laws::{
+    append_first, append_logs, append_writes, empty_spare, finish_logs, finish_mounts, greatest_is,
+    newest_is_live, one_clearing, repair_mounts, resets_mount, spelled_blocks, torn_mounts,
+};
+pub use reserve::{batch_most, fill, fits_reserve, most_blocks};

@@ -1,0 +1,13 @@
+pub mod RestLaws
+pub mod StepLaws
+pub mod CutLaws
+pub mod FillLaws
+pub mod ReadLaws
+pub mod StoredLaws
+pub mod ReplayLaws
+pub mod FileLaws
+pub mod KeepingLaws
+pub mod JournalingLaws
+pub mod MeaningLaws
+pub mod MomentLaws
+pub mod NoFaultLaws

@@ -1,0 +1,9 @@
+pub mod Change
+pub mod Tail
+pub mod Replay
+pub mod File
+pub mod FileFaults
+pub mod Journaling
+pub mod Moments
+pub mod Reading
+pub mod Held

@@ -1,0 +1,37 @@
+ghost use Rattle.std.specs.Prelude.{◌≡◌};
+ghost use Rattle.drive_images.specs.declared.fault.ImageFault.TheVariants.{OutOfMemory};
+ghost use Rattle.drive_journal.specs.declared.fault.FileFault.TheVariants.{Image};
+
+use drive_images::ImageFault;
+use std::alloc::AllocError;
+use thiserror::Error;
+
+/// Why no drive is read in a file: the first fault that is met.
+#[derive(Clone, Copy, Debug, PartialEq, Eq, Error)]
+pub enum FileFault {
+    /// The file does not begin with an image, or other bytes than changes follow it (`ImageFault::Long`).
+    #[error("{0}")]
+    Image(ImageFault),
+    /// The change at this byte of the file is damaged, and it is not one that was cut off.
+    #[error("the change at byte {0} is damaged")]
+    Damaged(u64),
+    /// The changes make zones that no drive has.
+    #[error("no drive has the zones that the changes make")]
+    Zones,
+}
+
+impl From<ImageFault> for FileFault {
+    ghost from_gives = { λ fault file_fault. file_fault ≡ Image fault };
+
+    fn from(fault: ImageFault) -> FileFault {
+        FileFault::Image(fault)
+    }
+}
+
+impl From<AllocError> for FileFault {
+    ghost from_gives = { λ _ fault. fault ≡ Image OutOfMemory };
+
+    fn from(_error: AllocError) -> FileFault {
+        FileFault::Image(ImageFault::OutOfMemory)
+    }
+}

@@ -1,0 +1,66 @@
+ghost use Rattle.std.specs.Prelude.{◌≡◌, IfErr, IfOk, IfSome, OnErr, if◌then◌else◌};
+ghost use Rattle.zone_states.specs.Geometry.{IsInRange};
+ghost use Rattle.zone_drive.specs.Stored.{unused, zones_of};
+ghost use Rattle.drive_port.specs.Drive.{IsLawful};
+ghost use Rattle.drive_journal.specs.File.{IsDriveFile};
+ghost use Rattle.drive_journal.specs.FileFaults.{IsFileFault};
+ghost use Rattle.drive_journal.specs.Replay.{HaveWholeBlocks, at_rest};
+
+use crate::fault::FileFault;
+use crate::replaying::{close_zones, replay};
+use drive_images::{image_length, read_image_front};
+use std::alloc::Global;
+use std::io::Read;
+use zone_drive::Drive;
+use zone_states::{Geometry, Zone};
+
+/// A drive that was read in a file.
+#[derive(Drop)]
+pub struct OpenedDrive {
+    pub drive: Drive,
+    /// How many bytes of the file are the image and whole changes. The bytes behind them are a change that was cut
+    /// off: the file is cut there before more is written.
+    pub whole: u64,
+}
+
+// Closes the open zones, if there were changes.
+fn settle(zones: &mut [Zone], block: u32, has_changes: bool)
+    ensures zones { zones_of block zones.new
+        ≡ (if has_changes then at_rest (zones_of block zones.old) else zones_of block zones.old) }
+    ensures whole { HaveWholeBlocks block zones.old → HaveWholeBlocks block zones.new }
+{
+    if has_changes {
+        close_zones(block, zones);
+    }
+}
+
+// A drive of these zones, if there is one.
+fn make_drive(alloc: Global, geometry: Geometry, zones: Vec<Zone>) -> Result<Drive, FileFault>
+    requires in_range { IsInRange geometry }
+    requires whole { HaveWholeBlocks geometry.block zones.items }
+    ensures ok { IfOk result (λ drive. drive.state ≡ unused geometry (zones_of geometry.block zones.items)) }
+    ensures err { IfErr result (λ fault. fault ≡ FileFault.Zones) }
+    ensures none { OnErr result (IsLawful (unused geometry (zones_of geometry.block zones.items)) → ⊥) }
+{
+    match Drive::from_zones(alloc, geometry, zones) {
+        Ok(drive) => Ok(drive),
+        Err(_) => Err(FileFault::Zones),
+    }
+}
+
+/// Reads the drive that a file holds, to the end of the reader: the image, and the changes behind it. The drive has
+/// completed no command. If there are changes, none of its zones is open, as after a restart; else they are as saved.
+pub fn open_drive<R: Read>(alloc: Global, reader: &mut R) -> Result<OpenedDrive, FileFault>
+    ensures ok { IfOk result (λ opened. IfSome (R.remaining reader.old) (λ bytes.
+        IsDriveFile bytes opened.drive.state opened.whole)) }
+    ensures err { IfErr result (λ fault. IfSome (R.remaining reader.old) (λ bytes. IsFileFault bytes fault)) }
+{
+    let saved = read_image_front(alloc, reader)?;
+    let geometry = saved.geometry;
+    let mut zones = saved.zones;
+    let from = image_length(&geometry, &zones);
+    let whole = replay(alloc, reader, &geometry, &mut zones, from)?;
+    settle(&mut zones, geometry.block, whole > from);
+    let drive = make_drive(alloc, geometry, zones)?;
+    Ok(OpenedDrive { drive, whole })
+}

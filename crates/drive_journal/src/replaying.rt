@@ -1,0 +1,169 @@
+ghost use Rattle.std.specs.Prelude.{◌≡◌, ◌≤◌, ◌==◌, IfErr, IfOk, IfSome, OnOk, if◌then◌else◌, map};
+ghost use Rattle.zone_states.specs.Geometry.{IsInRange};
+ghost use Rattle.drive_port.specs.Step.{is_selected};
+ghost use Rattle.zone_drive.specs.Stored.{zones_of};
+ghost use Rattle.zone_drive.specs.Table.{sent_in, sent_stored};
+ghost use Rattle.drive_journal.specs.FileFaults.{IsJournalFault};
+ghost use Rattle.drive_journal.specs.Reading.{Replays};
+ghost use Rattle.drive_journal.specs.Replay.{HaveWholeBlocks, at_rest, stored_changed, written_in};
+
+use crate::fault::FileFault;
+use crate::found::Found;
+use crate::read::read_change;
+use drive_images::ImageFault;
+use nvme_wire::{Action, Command, DecodeFault, ZoneState};
+use std::alloc::{AllocError, Global};
+use std::io::Read;
+use zone_states::{Geometry, Zone};
+
+/// Writes bytes after those of the zone with a number, if there is one.
+fn write_in(
+    geometry: &Geometry,
+    zones: &mut [Zone],
+    index: u64,
+    bytes: &[u8],
+) -> Result<(), AllocError>
+    ensures { OnOk result (zones.new ≡ written_in geometry.now zones.old index bytes.now) }
+{
+    let index = index as usize;
+    if index >= zones.len() {
+        return Ok(());
+    }
+    zones[index].extend(geometry, bytes)
+}
+
+/// Does an action on the zone with a number, if there is one.
+fn send_in(zones: &mut [Zone], index: u64, action: Action)
+    ensures { zones.new ≡ sent_in zones.old index action }
+{
+    let index = index as usize;
+    if index >= zones.len() {
+        return;
+    }
+    let _ = zones[index].apply(action);
+}
+
+fn selects(action: Action, state: ZoneState) -> bool
+    ensures { result ≡ is_selected action state }
+{
+    match state {
+        ZoneState::ImplicitlyOpened | ZoneState::ExplicitlyOpened => {
+            action != Action::Open && action != Action::Offline
+        }
+        ZoneState::Closed => action == Action::Finish || action == Action::Reset,
+        ZoneState::Full => action == Action::Reset,
+        ZoneState::ReadOnly => action == Action::Offline,
+        ZoneState::Empty | ZoneState::Offline => false,
+    }
+}
+
+fn send_if_selected(zone: &mut Zone, action: Action)
+    ensures { zone.new ≡ sent_stored action zone.old }
+{
+    if selects(action, zone.state()) {
+        let _ = zone.apply(action);
+    }
+}
+
+fn send_to_each(zones: &mut [Zone], action: Action)
+    ensures { zones.new ≡ map (sent_stored action) zones.old }
+{
+    for zone in zones.iter_mut() {
+        send_if_selected(zone, action);
+    }
+}
+
+/// Does a change again.
+fn apply_change(
+    geometry: &Geometry,
+    zones: &mut [Zone],
+    command: Result<Command, DecodeFault>,
+    bytes: &[u8],
+) -> Result<(), AllocError>
+    requires { 1 ≤ geometry.now.size }
+    ensures { OnOk result (zones.new ≡ stored_changed geometry.now zones.old command bytes.now) }
+{
+    let size = u64::from(geometry.size);
+    match command {
+        Ok(Command::Write { slba, .. }) => write_in(geometry, zones, slba / size, bytes),
+        Ok(Command::Append { zslba, .. }) => write_in(geometry, zones, zslba / size, bytes),
+        Ok(
+            Command::Send {
+                action,
+                all: true,
+                ..
+            },
+        ) => {
+            send_to_each(zones, action);
+            Ok(())
+        }
+        Ok(
+            Command::Send {
+                slba,
+                action,
+                all: false,
+            },
+        ) => {
+            send_in(zones, slba / size, action);
+            Ok(())
+        }
+        _ => Ok(()),
+    }
+}
+
+/// Closes all open zones.
+pub(crate) fn close_zones(block: u32, zones: &mut [Zone])
+    ensures zones { zones_of block zones.new ≡ at_rest (zones_of block zones.old) }
+    ensures whole { HaveWholeBlocks block zones.old → HaveWholeBlocks block zones.new }
+{
+    send_to_each(zones, Action::Close);
+}
+
+/// The fault of bytes that do not begin as a change does, behind an image that ends at `from`.
+fn other_fault(from: u64, at: u64) -> FileFault
+    ensures { result ≡ (if at == from then FileFault.Image ImageFault.Long else FileFault.Damaged at) }
+{
+    if at == from {
+        FileFault::Image(ImageFault::Long)
+    } else {
+        FileFault::Damaged(at)
+    }
+}
+
+/// Does the changes that a reader has left again on these zones, and says where in the file the last whole one ends.
+/// `from` says where the first one begins.
+///
+/// A change that was cut off is dropped, and all others are done. Of a change nothing is checked but its checksum,
+/// since its command succeeded once: whether a drive can have the zones, `Drive::from_zones` says.
+pub fn replay<R: Read>(
+    alloc: Global,
+    reader: &mut R,
+    geometry: &Geometry,
+    zones: &mut [Zone],
+    from: u64,
+) -> Result<u64, FileFault>
+    requires in_range { IsInRange geometry.now }
+    requires whole { HaveWholeBlocks geometry.now.block zones.old }
+    ensures ok { IfOk result (λ end. Replays geometry.now (R.remaining reader.old) from
+        (zones_of geometry.now.block zones.old) end (zones_of geometry.now.block zones.new)) }
+    ensures whole { OnOk result (HaveWholeBlocks geometry.now.block zones.new) }
+    ensures err { IfErr result (λ fault. IfSome (R.remaining reader.old) (λ bytes.
+        IsJournalFault geometry.now from bytes fault)) }
+{
+    let mut entry = [0; 64];
+    let mut bytes = Vec::new(alloc);
+    let mut at = from;
+    for _ in 0..u64::MAX {
+        match read_change(reader, geometry, &mut entry, &mut bytes)? {
+            Found::Change => apply_change(geometry, zones, Command::decode(&entry), &bytes)?,
+            Found::CutOff => return Ok(at),
+            Found::TooLong => return Err(FileFault::Damaged(at)),
+            Found::Other => return Err(other_fault(from, at)),
+        }
+        let Some(next) = at.checked_add(80 + bytes.len() as u64) else {
+            return Err(FileFault::Image(ImageFault::Input));
+        };
+        at = next;
+    }
+    Err(FileFault::Image(ImageFault::Input))
+}

@@ -1,0 +1,217 @@
+-- What is found of the zones.
+use Rattle.std.proofs.Common.{◌≡◌, ◌≢◌, ◌⊎◌, inl, inr, ℕ, zero, suc, ◌<◌, ◌≤◌, List, [], ◌∷◌, length, get_or, set, Option, Some, None, Bool, true, false, eqb, Result, Ok, Err, refl, sym, ap, subst, ◌∙◌, arith}
+use Rattle.std.specs.Prelude.{IfOk, IsTrue, slice_get}
+use Rattle.std.specs.BTreeSet.{BTreeSet, IsLowerBound, Updates, btree_set_len, contains}
+use Rattle.std.specs.BTreeMap.{is_at}
+use Rattle.std.specs.Ordering.{is_gt, nat_cmp}
+use Rattle.std.specs.List.{AllByRecursion}
+use Rattle.std.proofs.lemmas.Bool.{cases_eq, cases_lt, ne_eqb}
+use Rattle.std.proofs.lemmas.Bool.Decides.{nat_tests}
+use Rattle.std.proofs.lemmas.List.{get_or_past, map-set, nil_from_length}
+use Rattle.std.proofs.Math.Seq.{map-set_same}
+use Rattle.drive_port.specs.Drive.{DriveState}
+use Rattle.batch_log.specs.Log.{Batch}
+use Rattle.drive_array.specs.Records.{without}
+use Rattle.drive_array.specs.Sizes.{encoded_size}
+use Rattle.drive_array.specs.Spare.{IsHalfClean}
+use Rattle.drive_array.specs.ZoneLogs.{log_at}
+use Rattle.drive_array.proofs.ClearingLaws.{has_batch}
+use Rattle.drive_array.proofs.SizeLaws.{same-size}
+use Rattle.drive_survey.specs.declared.clearing.block_records.BlockRecords.{BlockRecords}
+use Rattle.drive_survey.specs.declared.clearing.Candidates.{Candidates}
+use Rattle.drive_survey.specs.declared.clearing.sizes.SizeCounts.{SizeCounts}
+use Rattle.drive_survey.specs.declared.scan.ScannedZone.{ScannedZone}
+use Rattle.drive_survey.specs.declared.survey.Survey.{Survey}
+use Rattle.drive_survey.specs.declared.clearing.Finding.{Finding}
+use Rattle.drive_survey.specs.declared.clearing.Finding.TheVariants.{HalfClean, NotMoves, NeedsBlock, NeedsSize}
+use Rattle.drive_survey.specs.Clearing.{AreOf, CoversZone, FindsLowest, FindsNeeded, LooksFor, ShowsSame, entries_at, without_heads, kept_entries_of}
+use Rattle.drive_survey.specs.Heads.{HeadsView, no_heads}
+use Rattle.drive_survey.specs.KeptRecords.{block_of_kept}
+use Rattle.drive_array.specs.Repairing.{IsMoved}
+use Rattle.drive_survey.specs.Known.{Finds, Knows}
+use Rattle.drive_survey.specs.Reported.{KeepsZones}
+use Rattle.drive_survey.specs.BlockRecords.{HoldsBlocks, HoldsRecords}
+use Rattle.drive_survey.specs.Scan.{heads_in, tails_in}
+use Rattle.drive_survey.specs.SizeCounts.{size_counts}
+use Rattle.drive_survey.specs.Waiting.{AllWait, AreCandidates, IsNeeded, OthersWait, TellsFinding, TellsSize}
+use Rattle.drive_survey.proofs.HeadRecordLaws.{entries-are, entries_of}
+use Rattle.drive_survey.proofs.MovedLaws.{found-heads, missing-log, there}
+use Rattle.drive_survey.proofs.SpareLaws.{all-same, knows-kept, knows-small, knows-stand, needed-inside, spare-all, spare-at}
+
+-- ---- headers are forgotten
+
+pub forgets-heads : (scanned : List ScannedZone) (zone : ℕ) (one : ScannedZone) → one.heads ≡ no_heads → heads_in (set scanned zone one) ≡ without_heads (heads_in scanned) zone
+forgets-heads scanned zone one none = map-set (λ (z : ScannedZone). z.heads) scanned zone one ∙ ap (λ (h : HeadsView). set (heads_in scanned) zone h) none
+
+pub forgets-tails : (scanned : List ScannedZone) (zone : ℕ) (one old : ScannedZone) → one.is_torn ≡ old.is_torn → old ≡ get_or scanned zone old → tails_in (set scanned zone one) ≡ tails_in scanned
+forgets-tails scanned zone one old same is = map-set_same (λ (z : ScannedZone). z.is_torn) scanned zone one old (same ∙ ap (λ (z : ScannedZone). z.is_torn) is)
+
+pub forgets-past : (scanned : List ScannedZone) (zone : ℕ) → length scanned ≤ zone → heads_in scanned ≡ without_heads (heads_in scanned) zone
+forgets-past [] zone le = refl
+forgets-past (s ∷ ss) zero le = absurd (omega (arith, le))
+forgets-past (s ∷ ss) (suc zone) le = ap (λ (hs : List HeadsView). s.heads ∷ hs) (forgets-past ss zone (omega (arith, le)))
+
+-- ---- what is found of a zone
+
+pub half-moved : (block_bytes n : ℕ) (logs : List (List Batch)) (zone : ℕ) → IsHalfClean block_bytes n logs zone → IsMoved logs zone
+half-moved block_bytes n logs zone half = record { victim = half.victim; apart = half.apart; moves = half.moves; older = half.older }
+
+pub finds-needed : (drive : DriveState) (n : ℕ) (logs : List (List Batch)) (survey : Survey) (zone block : ℕ) → Knows drive n logs survey → IsMoved logs zone → (ShowsSame drive.geometry.block logs zone block → ⊥) → Finds drive.geometry.block n logs zone (NeedsBlock block)
+finds-needed drive n logs survey zone block known moved differs =
+    (moved, record { in_range = needed-inside drive.geometry.block (encoded_size n logs) logs zone block known.sound.inside differs; differs = differs })
+
+own-entries : (scanned : List ScannedZone) (logs : List (List Batch)) (zone : ℕ) → AreOf scanned logs → entries_at scanned zone ≡ entries_of (log_at logs zone)
+own-entries scanned logs zone are = by (slice_get scanned zone) refl
+  where
+    by : (x : Option ScannedZone) → slice_get scanned zone ≡ x → kept_entries_of x ≡ entries_of (log_at logs zone)
+    by None e = sym (ap entries_of (missing-log scanned logs zone are e))
+    by (Some found) e = ap (λ (h : HeadsView). h.entries) (found-heads scanned logs zone found are e) ∙ entries-are (log_at logs zone)
+
+pub finds-half : (drive : DriveState) (n : ℕ) (logs : List (List Batch)) (survey : Survey) (zone : ℕ) → Knows drive n logs survey → IsMoved logs zone
+    → FindsNeeded drive.geometry.block logs zone (entries_at survey.scanned.items zone) None → encoded_size n (without logs zone) ≡ encoded_size n logs → Finds drive.geometry.block n logs zone HalfClean
+finds-half drive n logs survey zone known moved same sizes =
+    let b = drive.geometry.block in
+    let own = own-entries survey.scanned.items logs zone known.heads in
+    let each = all-same b logs zone (knows-small drive n logs survey known) (subst (λ (xs : List ℕ). AllByRecursion (λ entry. ShowsSame b logs zone (block_of_kept entry)) xs) own same) in
+    record { victim = moved.victim; apart = moved.apart; moves = moved.moves; older = moved.older; spare = spare-all b n logs zone sizes each }
+
+pub needed-not : (block_bytes n : ℕ) (logs : List (List Batch)) (zone : ℕ) → IsNeeded block_bytes n logs zone → IsHalfClean block_bytes n logs zone → ⊥
+needed-not block_bytes n logs zone (inl never) half = never (half-moved block_bytes n logs zone half)
+needed-not block_bytes n logs zone (inr (inl needs)) half =
+    let same = same-size block_bytes n (without logs zone) logs half.spare in
+    needs.1.differs (spare-at block_bytes n logs zone needs.0 same half.spare needs.1.in_range)
+needed-not block_bytes n logs zone (inr (inr differs)) half = differs (same-size block_bytes n (without logs zone) logs half.spare)
+
+finds-other : (block_bytes n : ℕ) (logs : List (List Batch)) (zone : ℕ) (finding : Finding) → (finding ≡ HalfClean → ⊥) → Finds block_bytes n logs zone finding → IsNeeded block_bytes n logs zone
+finds-other block_bytes n logs zone HalfClean other finds = absurd (other refl)
+finds-other block_bytes n logs zone NotMoves other finds = inl finds
+finds-other block_bytes n logs zone (NeedsBlock block) other finds = inr (inl (block, finds.1))
+finds-other block_bytes n logs zone NeedsSize other finds = inr (inr finds.1)
+
+-- ---- what a look at a zone tells
+
+finding-first : (first now : DriveState) (n : ℕ) (survey : Survey) (table : BlockRecords) (zone : ℕ) (finding : Finding) → KeepsZones first now → TellsFinding now n survey table zone finding → TellsFinding first n survey table zone finding
+finding-first first now n survey table zone finding kept tells logs known holds covers = rw (← kept.geometry) (tells logs (knows-kept first now n logs survey kept known) holds covers)
+
+-- ---- sets of zones
+
+pub at-is : (k q : ℕ) → is_at (nat_cmp k) q ≡ eqb k q
+at-is k q = grind (arith, nat_tests)
+
+pub not-above : (k q : ℕ) → is_gt (nat_cmp k q) ≡ false → k ≤ q
+not-above k q = grind (arith, nat_tests)
+
+taken-other : (old new : BTreeSet ℕ) (zone q : ℕ) → Updates nat_cmp old new zone false → q ≢ zone → IsTrue (contains nat_cmp old q) → IsTrue (contains nat_cmp new q)
+taken-other old new zone q updates apart waits = updates.2 q (at-is zone q ∙ ne_eqb zone q (λ e. apart (sym e))) ∙ waits
+
+pub no-length : (n : ℕ) → (0 < n → ⊥) → n ≡ 0
+no-length zero none = refl
+no-length (suc n) none = absurd (none (omega arith))
+
+none-waits : (waiting : BTreeSet ℕ) (q : ℕ) → btree_set_len waiting ≡ 0 → IsTrue (contains nat_cmp waiting q) → ⊥
+none-waits waiting q none waits =
+    let empty : waiting.keys ≡ [] = nil_from_length waiting.keys none in
+    let bad = rw empty at waits in
+    absurd (cc)
+
+-- ---- those that wait are looked at, the lowest first
+
+-- each half clean zone still waits
+abbrev pub Sifts : DriveState → ℕ → Survey → Candidates → Candidates → Type 0
+Sifts drive n survey first now = (logs : List (List Batch)) → AreCandidates drive n logs survey first → AllWait drive n logs first → AllWait drive n logs now
+
+pub sifts-more : (first now : DriveState) (n : ℕ) (survey : Survey) (begin old new : Candidates) (zone : ℕ) (finding : Finding) → KeepsZones first now → old.records ≡ begin.records → Updates nat_cmp old.waiting new.waiting zone false
+    → (finding ≡ HalfClean → ⊥) → TellsFinding now n survey old.records zone finding → Sifts first n survey begin old → Sifts first n survey begin new
+sifts-more first now n survey begin old new zone finding kept same updates other tells so_far logs are wait q lt = elim (cases_eq q zone) as (λ _. IsTrue (contains nat_cmp new.waiting q) ⊎ IsNeeded first.geometry.block n logs q) [
+  | inl here ↦ (
+      let told = finding-first first now n survey begin.records zone finding kept (rw same at tells) in
+      inr (rw here (finds-other first.geometry.block n logs zone finding other (told logs are.known are.records (are.covers zone))))
+      )
+  | inr apart ↦ (elim (so_far logs are wait q lt) as (λ _. IsTrue (contains nat_cmp new.waiting q) ⊎ IsNeeded first.geometry.block n logs q) [
+    | inl waits ↦ inl (taken-other old.waiting new.waiting zone q updates apart waits)
+    | inr needed ↦ inr needed
+  ])
+]
+
+half-there : (block_bytes n : ℕ) (logs : List (List Batch)) (zone : ℕ) → IsHalfClean block_bytes n logs zone → zone < length logs
+half-there block_bytes n logs zone half = elim (cases_lt zone (length logs)) as (λ _. zone < length logs) [
+  | inl lt ↦ lt
+  | inr ge ↦ absurd (has_batch block_bytes n logs zone half (get_or_past logs zone [] ge))
+]
+
+pub lowest-here : (first now : DriveState) (n : ℕ) (survey : Survey) (begin old : Candidates) (zone : ℕ) (finding : Finding) → KeepsZones first now → old.records ≡ begin.records → IsLowerBound nat_cmp old.waiting zone
+    → finding ≡ HalfClean → TellsFinding now n survey old.records zone finding → Sifts first n survey begin old
+    → (logs : List (List Batch)) → AreCandidates first n logs survey begin → AllWait first n logs begin → FindsLowest first.geometry.block n logs (Some zone)
+lowest-here first now n survey begin old zone finding kept same least is tells so_far logs are wait =
+    let told = finding-first first now n survey begin.records zone HalfClean kept (rw (same, is) at tells) in
+    let half : IsHalfClean first.geometry.block n logs zone = told logs are.known are.records (are.covers zone) in
+    let range = half-there first.geometry.block n logs zone half in
+    record {
+      in_range = range;
+      half_clean = half;
+      lowest = λ other lt half'. elim (so_far logs are wait other (omega (arith, lt, range))) as (λ _. ⊥) [
+        | inl waits ↦ absurd (omega (arith, lt, not-above zone other (least other waits)))
+        | inr needed ↦ needed-not first.geometry.block n logs other needed half'
+      ];
+    }
+
+pub others-wait : (drive : DriveState) (n : ℕ) (survey : Survey) (begin old new : Candidates) (zone : ℕ) → Updates nat_cmp old.waiting new.waiting zone false → Sifts drive n survey begin old
+    → (logs : List (List Batch)) → AreCandidates drive n logs survey begin → AllWait drive n logs begin → OthersWait drive n logs new zone
+others-wait drive n survey begin old new zone updates so_far logs are wait q lt apart = elim (so_far logs are wait q lt) as (λ _. IsTrue (contains nat_cmp new.waiting q) ⊎ IsNeeded drive.geometry.block n logs q) [
+  | inl waits ↦ inl (taken-other old.waiting new.waiting zone q updates apart waits)
+  | inr needed ↦ inr needed
+]
+
+pub lowest-none : (drive : DriveState) (n : ℕ) (survey : Survey) (begin now : Candidates) → btree_set_len now.waiting ≡ 0 → Sifts drive n survey begin now
+    → (logs : List (List Batch)) → AreCandidates drive n logs survey begin → AllWait drive n logs begin → FindsLowest drive.geometry.block n logs None
+lowest-none drive n survey begin now none so_far logs are wait zone lt half = elim (so_far logs are wait zone lt) as (λ _. ⊥) [
+  | inl waits ↦ none-waits now.waiting zone none waits
+  | inr needed ↦ needed-not drive.geometry.block n logs zone needed half
+]
+
+-- ---- a zone is examined
+
+abbrev pub AllMoved : Survey → ℕ → Type 0
+AllMoved survey zone = (logs : List (List Batch)) → AreOf survey.scanned.items logs → IsMoved logs zone
+
+covered-at : (scanned : List ScannedZone) (table : BlockRecords) (zone : ℕ) → CoversZone scanned table zone → HoldsBlocks table (entries_at scanned zone)
+covered-at scanned table zone covers = by (slice_get scanned zone) refl
+  where
+    by : (x : Option ScannedZone) → slice_get scanned zone ≡ x → HoldsBlocks table (kept_entries_of x)
+    by None e = tt
+    by (Some found) e = covers found e
+
+looked : (drive : DriveState) (n : ℕ) (survey : Survey) (table : BlockRecords) (zone : ℕ) (block : Option ℕ) → AllMoved survey zone → LooksFor drive table zone (entries_at survey.scanned.items zone) block
+    → (logs : List (List Batch)) → Knows drive n logs survey → HoldsRecords logs table → (IsMoved logs zone → CoversZone survey.scanned.items table zone) → FindsNeeded drive.geometry.block logs zone (entries_at survey.scanned.items zone) block
+looked drive n survey table zone block moved looks logs known holds covers =
+    looks logs holds (knows-stand drive n logs survey known) (covered-at survey.scanned.items table zone (covers (moved logs known.heads)))
+
+pub examine-needs : (drive : DriveState) (n : ℕ) (survey : Survey) (table : BlockRecords) (zone block : ℕ) → AllMoved survey zone
+    → LooksFor drive table zone (entries_at survey.scanned.items zone) (Some block) → TellsFinding drive n survey table zone (NeedsBlock block)
+examine-needs drive n survey table zone block moved looks logs known holds covers =
+    finds-needed drive n logs survey zone block known (moved logs known.heads) (looked drive n survey table zone (Some block) moved looks logs known holds covers)
+
+pub examine-size : (drive : DriveState) (n : ℕ) (survey : Survey) (table : BlockRecords) (sizes : SizeCounts) (zone : ℕ) (told : Bool) → AllMoved survey zone → sizes ≡ size_counts survey.size (heads_in survey.scanned.items) → told ≡ false → TellsSize n survey sizes zone told
+    → TellsFinding drive n survey table zone NeedsSize
+examine-size drive n survey table sizes zone told moved counts is tells logs known holds covers =
+    let tells' = rw is at tells in
+    (moved logs known.heads, tells' drive logs known counts)
+
+pub examine-half : (drive : DriveState) (n : ℕ) (survey : Survey) (table : BlockRecords) (sizes : SizeCounts) (zone : ℕ) (told : Bool) → AllMoved survey zone → LooksFor drive table zone (entries_at survey.scanned.items zone) None
+    → sizes ≡ size_counts survey.size (heads_in survey.scanned.items) → told ≡ true → TellsSize n survey sizes zone told → TellsFinding drive n survey table zone HalfClean
+examine-half drive n survey table sizes zone told moved looks counts is tells logs known holds covers =
+    let tells' = rw is at tells in
+    finds-half drive n logs survey zone known (moved logs known.heads) (looked drive n survey table zone None moved looks logs known holds covers) (tells' drive logs known counts)
+
+pub found-in : (items : List ScannedZone) (survey : Survey) (zone : ℕ) (found : ScannedZone) → items ≡ survey.scanned.items → zone < length items → found ≡ get_or items zone found → slice_get survey.scanned.items zone ≡ Some found
+found-in items survey zone found same lt is = subst (λ (xs : List ScannedZone). slice_get xs zone ≡ Some found) same (there items zone found lt is)
+
+-- a table of one zone's blocks
+pub examine-one : (drive : DriveState) (n : ℕ) (survey : Survey) (table : BlockRecords) (zone : ℕ) (finding : Finding) → CoversZone survey.scanned.items table zone
+    → ((some : DriveState) (k : ℕ) (logs : List (List Batch)) → Knows some k logs survey → HoldsRecords logs table) → TellsFinding drive n survey table zone finding
+    → (logs : List (List Batch)) → Knows drive n logs survey → Finds drive.geometry.block n logs zone finding
+examine-one drive n survey table zone finding covers holds tells logs known = tells logs known (holds drive n logs known) (λ moved. covers)
+
+pub finding-ok : {E : Type 0} (P Q : Finding → Type 0) (result : Result Finding E) → ((finding : Finding) → P finding → Q finding) → IfOk result P → IfOk result Q
+finding-ok P Q (Ok finding) f p = f finding p
+finding-ok P Q (Err e) f p = tt

@@ -1,0 +1,206 @@
+-- A table holds the records of the logs that its headers are of.
+use Rattle.std.proofs.Common.{◌≡◌, ◌≢◌, ◌⊎◌, inl, inr, ℕ, zero, suc, ◌+◌, ◌≤◌, not, Bool, true, false, cond, eqb, ◌&&◌, List, [], ◌∷◌, map, Option, Some, None, refl, sym, ap, subst, ◌∙◌, arith}
+use Rattle.std.specs.BTreeMap.{BTreeMap, IsEmpty, get}
+use Rattle.std.specs.List.{AllByRecursion, Contains}
+use Rattle.std.specs.Option.{option_map}
+use Rattle.std.specs.Ordering.{nat_cmp}
+use Rattle.std.proofs.lemmas.Bool.{eq-eqb, eqb-true, ne_eqb}
+use Rattle.std.proofs.lemmas.List.Elements.{Contains-append_left, Contains-append_right}
+use Rattle.batch_log.specs.Log.{Batch}
+use Rattle.drive_array.specs.Records.{Record, log_records, records, without}
+use Rattle.drive_array.specs.ZoneLogs.{log_at}
+use Rattle.drive_array.proofs.AllLaws.{all-append, all-weaker}
+use Rattle.drive_array.proofs.NewestLaws.{all-among}
+use Rattle.drive_survey.specs.declared.records.KeptRecord.{KeptRecord}
+use Rattle.drive_survey.specs.declared.clearing.block_records.BlockRecords.{BlockRecords}
+use Rattle.drive_survey.specs.BlockRecords.{AreRecords, HasNoRecord, HoldsRecords, forgets, held_of, notes, slot_after, slot_of}
+use Rattle.drive_survey.specs.KeptRecords.{kept_record}
+use Rattle.drive_survey.proofs.OutsideLaws.{is_outside, log-zone, outside, outside-is, records-from}
+use Rattle.drive_survey.proofs.RecordKeyLaws.{AreApart, same-record}
+use Rattle.drive_survey.proofs.RecordTableLaws.{Changes}
+
+-- ---- one place
+
+-- no record of these has this block and this sequence
+abbrev NoneAt : ℕ → ℕ → List Record → Type 0
+NoneAt block sequence rs = AllByRecursion (λ (r : Record). r.block ≡ block → r.sequence ≡ sequence → ⊥) rs
+
+-- what stands at a place comes from a record of these, or was there before
+abbrev Comes : (KeptRecord → Option KeptRecord) → ℕ → ℕ → Option KeptRecord → List Record → Option (Option KeptRecord) → Type 0
+Comes put block sequence found rs now =
+    ((r : Record) × Contains rs r × (r.block ≡ block) × (r.sequence ≡ sequence) × (now ≡ Some (put (kept_record r)))) ⊎ (NoneAt block sequence rs × (now ≡ Some found))
+
+in-rest : (r x : Record) (rs : List Record) → Contains rs x → Contains (r ∷ rs) x
+in-rest r x rs (k, lt, is) = (suc k, omega (arith, lt), is)
+
+comes : (put : KeptRecord → Option KeptRecord) (block sequence : ℕ) (found : Option KeptRecord) (rs : List Record) → Comes put block sequence found rs (slot_after put block sequence (Some found) (map kept_record rs))
+comes put block sequence found [] = inr (tt, refl)
+comes put block sequence found (r ∷ rs) = by (eqb r.block block) (eqb r.sequence sequence) refl refl (comes put block sequence found rs) (comes put block sequence (put (kept_record r)) rs)
+  where
+    after : Option KeptRecord → Option (Option KeptRecord)
+    after x = slot_after put block sequence (Some x) (map kept_record rs)
+
+    passed : (x : Option KeptRecord) → ((r.block ≡ block) → (r.sequence ≡ sequence) → ⊥) → Comes put block sequence found rs (after found) → Comes put block sequence found (r ∷ rs) (after found)
+    passed x other (inl here) = inl (here.0, in-rest r here.0 rs here.1, here.2, here.3, here.4)
+    passed x other (inr none) = inr ((other, none.0), none.1)
+
+    taken : (r.block ≡ block) → (r.sequence ≡ sequence) → Comes put block sequence (put (kept_record r)) rs (after (put (kept_record r))) → Comes put block sequence found (r ∷ rs) (after (put (kept_record r)))
+    taken e f (inl here) = inl (here.0, in-rest r here.0 rs here.1, here.2, here.3, here.4)
+    taken e f (inr none) = inl (r, (0, omega arith, refl), e, f, none.1)
+
+    by : (s t : Bool) → eqb r.block block ≡ s → eqb r.sequence sequence ≡ t → Comes put block sequence found rs (after found) → Comes put block sequence (put (kept_record r)) rs (after (put (kept_record r)))
+        → Comes put block sequence found (r ∷ rs) (after (cond (s && t) (put (kept_record r)) found))
+    by true true e f first second = taken (eqb-true r.block block e) (eqb-true r.sequence sequence f) second
+    by true false e f first second = passed found (λ same_block same. let bad : eqb r.sequence sequence ≡ true = eq-eqb r.sequence sequence same in absurd (cc)) first
+    by false t e f first second = passed found (λ same same_sequence. let bad : eqb r.block block ≡ true = eq-eqb r.block block same in absurd (cc)) first
+
+-- ---- all records are put in
+
+slot-there : (table : BlockRecords) (block sequence : ℕ) (held : BTreeMap ℕ KeptRecord) → held_of table block ≡ Some held → slot_of table block sequence ≡ Some (get nat_cmp held sequence)
+slot-there table block sequence held there = ap (option_map (λ (h : BTreeMap ℕ KeptRecord). get nat_cmp h sequence)) there
+
+slot-absent : (put : KeptRecord → Option KeptRecord) (block sequence : ℕ) (rs : List KeptRecord) → slot_after put block sequence None rs ≡ None
+slot-absent put block sequence [] = refl
+slot-absent put block sequence (r ∷ rs) = slot-absent put block sequence rs
+
+empty-none : (held : BTreeMap ℕ KeptRecord) (sequence : ℕ) → IsEmpty held → get nat_cmp held sequence ≡ None
+empty-none held sequence empty = rw empty refl
+
+-- a block that a changed table holds was held before
+was-held : (put : KeptRecord → Option KeptRecord) (old new : BlockRecords) (rs : List KeptRecord) (block : ℕ) (held : BTreeMap ℕ KeptRecord) → Changes put old new rs → held_of new block ≡ Some held → (first : BTreeMap ℕ KeptRecord) × (held_of old block ≡ Some first)
+was-held put old new rs block held changes there = by (held_of old block) refl
+  where
+    by : (x : Option (BTreeMap ℕ KeptRecord)) → held_of old block ≡ x → (first : BTreeMap ℕ KeptRecord) × (held_of old block ≡ Some first)
+    by None e =
+        let none : slot_of old block 0 ≡ None = ap (option_map (λ (h : BTreeMap ℕ KeptRecord). get nat_cmp h 0)) e in
+        let bad = sym (slot-there new block 0 held there) ∙ changes block 0 ∙ ap (λ (x : Option (Option KeptRecord)). slot_after put block 0 x rs) none ∙ slot-absent put block 0 rs in
+        absurd (cc)
+    by (Some first) e = (first, e)
+
+-- what a changed table has of a block
+now-at : (put : KeptRecord → Option KeptRecord) (old new : BlockRecords) (rs : List Record) (block sequence : ℕ) (first held : BTreeMap ℕ KeptRecord) → Changes put old new (map kept_record rs) → held_of old block ≡ Some first → held_of new block ≡ Some held
+    → Comes put block sequence (get nat_cmp first sequence) rs (Some (get nat_cmp held sequence))
+now-at put old new rs block sequence first held changes was there =
+    let now : slot_after put block sequence (Some (get nat_cmp first sequence)) (map kept_record rs) ≡ Some (get nat_cmp held sequence) =
+    ap (λ (x : Option (Option KeptRecord)). slot_after put block sequence x (map kept_record rs)) (sym (slot-there old block sequence first was)) ∙ sym (changes block sequence) ∙ slot-there new block sequence held there in
+    subst (Comes put block sequence (get nat_cmp first sequence) rs) now (comes put block sequence (get nat_cmp first sequence) rs)
+
+noted-records : (logs : List (List Batch)) (block : ℕ) (held : BTreeMap ℕ KeptRecord) → AreApart (records 0 logs) → ((sequence : ℕ) → Comes notes block sequence None (records 0 logs) (Some (get nat_cmp held sequence))) → AreRecords logs block held
+noted-records logs block held apart at = record {
+  all_held = all;
+  no_other = λ sequence found e. other sequence found e (at sequence);
+}
+  where
+    all : (r : Record) → Contains (records 0 logs) r → r.block ≡ block → get nat_cmp held r.sequence ≡ Some (kept_record r)
+    all r c same = by (at r.sequence)
+      where
+        by : Comes notes block r.sequence None (records 0 logs) (Some (get nat_cmp held r.sequence)) → get nat_cmp held r.sequence ≡ Some (kept_record r)
+        by (inl x) =
+            let one : x.0 ≡ r = same-record (records 0 logs) x.0 r apart x.1 c (x.2 ∙ sym same) x.3 in
+            let now : get nat_cmp held r.sequence ≡ Some (kept_record x.0) = (let e = x.4 in cc) in
+            now ∙ ap (λ (y : Record). Some (kept_record y)) one
+        by (inr none) = absurd (all-among (λ (x : Record). x.block ≡ block → x.sequence ≡ r.sequence → ⊥) (records 0 logs) r none.0 c same refl)
+
+    other : (sequence : ℕ) (found : KeptRecord) → get nat_cmp held sequence ≡ Some found → Comes notes block sequence None (records 0 logs) (Some (get nat_cmp held sequence)) → (r : Record) × Contains (records 0 logs) r × (r.block ≡ block) × (r.sequence ≡ sequence) × (kept_record r ≡ found)
+    other sequence found e (inl x) = (x.0, x.1, x.2, x.3, (let now = x.4 in cc))
+    other sequence found e (inr none) = absurd (let now = none.1 in cc)
+
+pub holds-noted : (logs : List (List Batch)) (old new : BlockRecords) → AreApart (records 0 logs) → HasNoRecord old → Changes notes old new (map kept_record (records 0 logs)) → HoldsRecords logs new
+holds-noted logs old new apart none changes block held there =
+    let was = was-held notes old new (map kept_record (records 0 logs)) block held changes there in
+    noted-records logs block held apart
+    (λ sequence. subst (λ (x : Option KeptRecord). Comes notes block sequence x (records 0 logs) (Some (get nat_cmp held sequence))) (empty-none was.0 sequence (none block was.0 was.1))
+    (now-at notes old new (records 0 logs) block sequence was.0 held changes was.1 there))
+
+-- ---- those of a zone are taken out
+
+pub among-outside : (zone : ℕ) (rs : List Record) (r : Record) → Contains (outside zone rs) r → Contains rs r × (r.zone ≢ zone)
+among-outside zone [] r c = absurd (omega (arith, c.1))
+among-outside zone (x ∷ rs) r c = by (eqb x.zone zone) refl (λ d. among-outside zone rs r d) c
+  where
+    Rest : Type 0
+    Rest = Contains (outside zone rs) r → Contains rs r × (r.zone ≢ zone)
+
+    more : Contains rs r × (r.zone ≢ zone) → Contains (x ∷ rs) r × (r.zone ≢ zone)
+    more both = (in-rest x r rs both.0, both.1)
+
+    first : eqb x.zone zone ≡ false → Rest → Contains (x ∷ outside zone rs) r → Contains (x ∷ rs) r × (r.zone ≢ zone)
+    first e rest (zero, lt, is) = ((0, omega arith, is), λ same. let bad : eqb x.zone zone ≡ true = eq-eqb x.zone zone (ap (λ (y : Record). y.zone) is ∙ same) in absurd (cc))
+    first e rest (suc k, lt, is) = more (rest (k, omega (arith, lt), is))
+
+    by : (b : Bool) → eqb x.zone zone ≡ b → Rest → Contains (cond (not b) (x ∷ outside zone rs) (outside zone rs)) r → Contains (x ∷ rs) r × (r.zone ≢ zone)
+    by true e rest d = more (rest d)
+    by false e rest d = first e rest d
+
+pub outside-among : (zone : ℕ) (rs : List Record) (r : Record) → Contains rs r → r.zone ≢ zone → Contains (outside zone rs) r
+outside-among zone [] r c apart = absurd (omega (arith, c.1))
+outside-among zone (x ∷ rs) r (zero, lt, is) apart = rw (ne_eqb x.zone zone (λ same. apart (ap (λ (y : Record). y.zone) (sym is) ∙ same))) (0, omega arith, is)
+outside-among zone (x ∷ rs) r (suc k, lt, is) apart = by (is_outside zone x) (outside-among zone rs r (k, omega (arith, lt), is) apart)
+  where
+    by : (b : Bool) → Contains (outside zone rs) r → Contains (cond b (x ∷ outside zone rs) (outside zone rs)) r
+    by true d = in-rest x r (outside zone rs) d
+    by false d = d
+
+-- a zone's records are among all records, and lie in it
+own-among : (first index zone : ℕ) (logs : List (List Batch)) (r : Record) → zone ≡ first + index → Contains (log_records zone 0 (log_at logs index)) r → Contains (records first logs) r
+own-among first index zone [] r e c = absurd (omega (arith, c.1))
+own-among first zero zone (log ∷ logs) r e c =
+    let same : zone ≡ first = omega (arith, e) in
+    Contains-append_left (log_records first 0 log) (records (suc first) logs) r (rw same at c)
+own-among first (suc index) zone (log ∷ logs) r e c =
+    Contains-append_right (log_records first 0 log) (records (suc first) logs) r (own-among (suc first) index zone logs r (omega (arith, e)) c)
+
+-- what holds of a zone's records holds of all that lie in it
+zone-own : (P : Record → Type 0) (first index zone : ℕ) (logs : List (List Batch)) → zone ≡ first + index → AllByRecursion P (log_records zone 0 (log_at logs index)) → AllByRecursion (λ (r : Record). r.zone ≡ zone → P r) (records first logs)
+zone-own P first index zone [] e all = tt
+zone-own P first zero zone (log ∷ logs) e all =
+    let same : zone ≡ first = omega (arith, e) in
+    let own = rw same at all in
+    all-append (λ (r : Record). r.zone ≡ zone → P r) (log_records first 0 log) (records (suc first) logs)
+    (all-weaker P (λ (r : Record). r.zone ≡ zone → P r) (log_records first 0 log) (λ r p here. p) own)
+    (all-weaker (λ (r : Record). suc first ≤ r.zone) (λ (r : Record). r.zone ≡ zone → P r) (records (suc first) logs) (λ r le here. absurd (omega (arith, same, le, here))) (records-from (suc first) (suc first) logs (omega arith)))
+zone-own P first (suc index) zone (log ∷ logs) e all =
+    all-append (λ (r : Record). r.zone ≡ zone → P r) (log_records first 0 log) (records (suc first) logs)
+    (all-weaker (λ (r : Record). r.zone ≡ first) (λ (r : Record). r.zone ≡ zone → P r) (log_records first 0 log) (λ r is here. absurd (omega (arith, e, is, here))) (log-zone first 0 log))
+    (zone-own P (suc first) index zone logs (omega (arith, e)) all)
+
+forgotten-records : (logs : List (List Batch)) (zone block : ℕ) (first held : BTreeMap ℕ KeptRecord) → AreApart (records 0 logs) → AreRecords logs block first
+    → ((sequence : ℕ) → Comes forgets block sequence (get nat_cmp first sequence) (log_records zone 0 (log_at logs zone)) (Some (get nat_cmp held sequence))) → AreRecords (without logs zone) block held
+forgotten-records logs zone block first held apart are at = record {
+  all_held = λ r c same. all r (among-outside zone all_records r (subst (λ (rs : List Record). Contains rs r) (sym others) c)) same (at r.sequence);
+  no_other = λ sequence found e. other sequence found e (at sequence);
+}
+  where
+    all_records : List Record
+    all_records = records 0 logs
+
+    own : List Record
+    own = log_records zone 0 (log_at logs zone)
+
+    others : outside zone all_records ≡ records 0 (without logs zone)
+    others = outside-is 0 zone zone logs (omega arith)
+
+    all : (r : Record) → Contains all_records r × (r.zone ≢ zone) → r.block ≡ block → Comes forgets block r.sequence (get nat_cmp first r.sequence) own (Some (get nat_cmp held r.sequence)) → get nat_cmp held r.sequence ≡ Some (kept_record r)
+    all r both same (inl x) =
+        let one : x.0 ≡ r = same-record all_records x.0 r apart (own-among 0 zone zone logs x.0 (omega arith) x.1) both.0 (x.2 ∙ sym same) x.3 in
+        let here : x.0.zone ≡ zone = all-among (λ (y : Record). y.zone ≡ zone) own x.0 (log-zone zone 0 (log_at logs zone)) x.1 in
+        absurd (both.1 (ap (λ (y : Record). y.zone) (sym one) ∙ here))
+    all r both same (inr none) =
+        let now : get nat_cmp held r.sequence ≡ get nat_cmp first r.sequence = (let e = none.1 in cc) in
+        now ∙ are.all_held r both.0 same
+
+    other : (sequence : ℕ) (found : KeptRecord) → get nat_cmp held sequence ≡ Some found → Comes forgets block sequence (get nat_cmp first sequence) own (Some (get nat_cmp held sequence))
+        → (r : Record) × Contains (records 0 (without logs zone)) r × (r.block ≡ block) × (r.sequence ≡ sequence) × (kept_record r ≡ found)
+    other sequence found e (inl x) = absurd (let now = x.4 in cc)
+    other sequence found e (inr none) =
+        let was : get nat_cmp first sequence ≡ Some found = (let now = none.1 in cc) in
+        let r = are.no_other sequence found was in
+        let apart_zone : r.0.zone ≢ zone = (λ here. all-among (λ (y : Record). y.zone ≡ zone → y.block ≡ block → y.sequence ≡ sequence → ⊥) all_records r.0
+        (zone-own (λ (y : Record). y.block ≡ block → y.sequence ≡ sequence → ⊥) 0 zone zone logs (omega arith) none.0) r.1 here r.2 r.3) in
+        (r.0, subst (λ (rs : List Record). Contains rs r.0) others (outside-among zone all_records r.0 r.1 apart_zone), r.2, r.3, r.4)
+
+pub holds-forgotten : (logs : List (List Batch)) (zone : ℕ) (old new : BlockRecords) → AreApart (records 0 logs) → HoldsRecords logs old → Changes forgets old new (map kept_record (log_records zone 0 (log_at logs zone))) → HoldsRecords (without logs zone) new
+holds-forgotten logs zone old new apart holds changes block held there =
+    let own = log_records zone 0 (log_at logs zone) in
+    let was = was-held forgets old new (map kept_record own) block held changes there in
+    forgotten-records logs zone block was.0 held apart (holds block was.0 was.1) (λ sequence. now-at forgets old new own block sequence was.0 held changes was.1 there)

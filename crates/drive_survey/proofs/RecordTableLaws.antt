@@ -1,0 +1,85 @@
+-- A table of records changes, record by record.
+use Rattle.std.proofs.Common.{◌≡◌, ◌⊎◌, inl, inr, ℕ, suc, ◌-◌, ◌<◌, ◌≤◌, min, cond, eqb, ◌&&◌, List, [], ◌∷◌, ◌++◌, length, take, drop, get_or, Option, Some, None, refl, sym, ap, ◌∙◌, arith}
+use Rattle.std.specs.BTreeMap.{BTreeMap, get, is_at}
+use Rattle.std.specs.Option.{IsSome, option_map}
+use Rattle.std.specs.Ordering.{nat_cmp}
+use Rattle.std.proofs.lemmas.Bool.{cases_lt}
+use Rattle.std.proofs.lemmas.Bool.Decides.{nat_tests}
+use Rattle.std.proofs.lemmas.List.{drop_all, take_min}
+use Rattle.std.proofs.Math.Seq.{drop-cons}
+use Rattle.drive_survey.specs.declared.heads.Head.{Head}
+use Rattle.drive_survey.specs.declared.records.KeptRecord.{KeptRecord}
+use Rattle.drive_survey.specs.declared.scan.ScannedZone.{ScannedZone}
+use Rattle.drive_survey.specs.declared.clearing.block_records.BlockRecords.{BlockRecords}
+use Rattle.drive_survey.specs.BlockRecords.{held_of, slot_after, slot_of}
+use Rattle.drive_survey.specs.KeptRecords.{kept_batches, kept_entries, kept_of_zone, kept_records}
+use Rattle.drive_survey.specs.Scan.{heads_in}
+
+abbrev Put : Type 0
+Put = KeptRecord → Option KeptRecord
+
+abbrev Slot : Type 0
+Slot = Option (Option KeptRecord)
+
+-- ---- one record
+
+pub at-is : (k q : ℕ) → is_at (nat_cmp k) q ≡ eqb k q
+at-is k q = grind (arith, nat_tests)
+
+-- ---- one part after the other
+
+pub slot-append : (put : Put) (block sequence : ℕ) (slot : Slot) (xs ys : List KeptRecord) → slot_after put block sequence slot (xs ++ ys) ≡ slot_after put block sequence (slot_after put block sequence slot xs) ys
+slot-append put block sequence slot [] ys = refl
+slot-append put block sequence slot (x ∷ xs) ys =
+    slot-append put block sequence (option_map (λ (found : Option KeptRecord). cond (eqb x.block block && eqb x.sequence sequence) (put x) found) slot) xs ys
+
+drop-min : {X : Type 0} (n : ℕ) (xs : List X) → drop (min n (length xs)) xs ≡ drop n xs
+drop-min {X} n xs = by (cases_lt n (length xs))
+  where
+    by : (n < length xs) ⊎ (length xs ≤ n) → drop (min n (length xs)) xs ≡ drop n xs
+    by (inl lt) = let same : min n (length xs) ≡ n = omega arith in ap (λ (k : ℕ). drop k xs) same
+    by (inr le) = drop_all (min n (length xs)) xs (omega arith) ∙ sym (drop_all n xs le)
+
+-- the records of a batch are taken
+pub batch-step : (put : Put) (block sequence zone from i i' k : ℕ) (heads items : List Head) (head d : Head) (rest own others : List ℕ) (slot slot' all : Slot)
+    → items ≡ heads → i < length items → head ≡ get_or items i d → i' ≡ suc i → k ≡ min (head.end - from) (length rest) → own ≡ take k rest → others ≡ drop k rest
+    → slot' ≡ slot_after put block sequence slot (kept_entries head.sequence zone head.offset 0 own)
+    → slot_after put block sequence slot (kept_batches zone from (drop i heads) rest) ≡ all → slot_after put block sequence slot' (kept_batches zone head.end (drop i' heads) others) ≡ all
+batch-step put block sequence zone from i i' k heads items head d rest own others slot slot' all same lt is more count owned left taken before =
+    let next : drop i heads ≡ head ∷ drop (suc i) heads = rw (← same) (drop-cons items i d lt ∙ ap (λ (h : Head). h ∷ drop (suc i) items) (sym is)) in
+    let own_is : own ≡ take (head.end - from) rest = owned ∙ ap (λ (n : ℕ). take n rest) count ∙ take_min (head.end - from) rest in
+    let others_is : others ≡ drop (head.end - from) rest = left ∙ ap (λ (n : ℕ). drop n rest) count ∙ drop-min (head.end - from) rest in
+    let before' = rw next at before in
+    rw (taken, own_is, others_is, more) (sym (slot-append put block sequence slot (kept_entries head.sequence zone head.offset 0 (take (head.end - from) rest)) (kept_batches zone head.end (drop (suc i) heads) (drop (head.end - from) rest))) ∙ before')
+
+-- those of a zone are taken
+pub zone-step : (put : Put) (block sequence zone zone' : ℕ) (scanned : List ScannedZone) (found : ScannedZone) (slot slot' all : Slot)
+    → zone < length scanned → found ≡ get_or scanned zone found → zone' ≡ suc zone → slot' ≡ slot_after put block sequence slot (kept_of_zone zone found.heads)
+    → slot_after put block sequence slot (kept_records zone (heads_in (drop zone scanned))) ≡ all → slot_after put block sequence slot' (kept_records zone' (heads_in (drop zone' scanned))) ≡ all
+zone-step put block sequence zone zone' scanned found slot slot' all lt is more taken before =
+    let next : drop zone scanned ≡ found ∷ drop (suc zone) scanned = drop-cons scanned zone found lt ∙ ap (λ (s : ScannedZone). s ∷ drop (suc zone) scanned) (sym is) in
+    let before' = rw next at before in
+    rw (more, taken) (sym (slot-append put block sequence slot (kept_of_zone zone found.heads) (kept_records (suc zone) (heads_in (drop (suc zone) scanned)))) ∙ before')
+
+-- ---- the blocks stay
+
+slot-stays : (put : Put) (block sequence : ℕ) (slot : Slot) (rs : List KeptRecord) → IsSome slot → IsSome (slot_after put block sequence slot rs)
+slot-stays put block sequence slot [] some = some
+slot-stays put block sequence None (r ∷ rs) some = absurd (cc)
+slot-stays put block sequence (Some found) (r ∷ rs) some = slot-stays put block sequence (Some (cond (eqb r.block block && eqb r.sequence sequence) (put r) found)) rs refl
+
+slot-held : (held : Option (BTreeMap ℕ KeptRecord)) (sequence : ℕ) → IsSome held → IsSome (option_map (λ (h : BTreeMap ℕ KeptRecord). get nat_cmp h sequence) held)
+slot-held None sequence some = absurd (cc)
+slot-held (Some held) sequence some = refl
+
+held-slot : (held : Option (BTreeMap ℕ KeptRecord)) (sequence : ℕ) → IsSome (option_map (λ (h : BTreeMap ℕ KeptRecord). get nat_cmp h sequence) held) → IsSome held
+held-slot None sequence some = absurd (cc)
+held-slot (Some held) sequence some = refl
+
+-- a table that took records in or out
+abbrev pub Changes : Put → BlockRecords → BlockRecords → List KeptRecord → Type 0
+Changes put old new rs = (block sequence : ℕ) → slot_of new block sequence ≡ slot_after put block sequence (slot_of old block sequence) rs
+
+pub changed-more : (put : Put) (old new : BlockRecords) (rs : List KeptRecord) → Changes put old new rs → (block : ℕ) → IsSome (held_of old block) → IsSome (held_of new block)
+changed-more put old new rs changes block some =
+    held-slot (held_of new block) 0 (rw (changes block 0) (slot-stays put block 0 (slot_of old block 0) rs (slot-held (held_of old block) 0 some)))

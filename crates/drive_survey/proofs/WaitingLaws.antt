@@ -1,0 +1,313 @@
+-- Which zones have to be looked at again once a half clean zone is forgotten.
+use Rattle.std.proofs.Common.{◌≡◌, ◌≢◌, ◌⊎◌, inl, inr, ℕ, zero, suc, ◌<◌, ◌≤◌, Bool, true, false, cond, List, [], ◌∷◌, length, map, drop, get_or, Option, Some, None, Result, Ok, Err, refl, sym, ap, subst, ◌∙◌, arith}
+use Rattle.std.specs.Prelude.{IsSome, IsTrue, OnOk, slice_get}
+use Rattle.std.specs.Option.{option_map}
+use Rattle.std.specs.BTreeSet.{BTreeSet, IsSubset, Updates, contains}
+use Rattle.std.specs.BTreeMap.{is_at}
+use Rattle.std.specs.List.{AllByRecursion, count_by}
+use Rattle.std.specs.Ordering.{nat_cmp}
+use Rattle.std.proofs.lemmas.Bool.{cases_eq, cases_lt, eq-eqb}
+use Rattle.std.proofs.lemmas.List.{drop_all, get_or-set_other, length-set, set_comm}
+use Rattle.std.proofs.Math.Seq.{drop-cons}
+use Rattle.drive_port.specs.Drive.{DriveState}
+use Rattle.batch_log.specs.Log.{Batch}
+use Rattle.drive_array.specs.Records.{IsNewest, Record, newest, records, shown, without}
+use Rattle.drive_array.specs.Repairing.{IsMoved, NeedsItsBlock}
+use Rattle.drive_array.specs.Sizes.{encoded_size, size_or}
+use Rattle.drive_array.specs.Spare.{IsBefore, IsHalfClean, first_sequence}
+use Rattle.drive_array.specs.ZoneLogs.{log_at}
+use Rattle.drive_array.proofs.AllLaws.{all-at, all-weaker}
+use Rattle.drive_array.proofs.NewestLaws.{all-among, newest-is}
+use Rattle.drive_array.proofs.SizeLaws.{same-size}
+use Rattle.drive_survey.specs.declared.clearing.block_records.BlockRecords.{BlockRecords}
+use Rattle.drive_survey.specs.declared.clearing.Candidates.{Candidates}
+use Rattle.drive_survey.specs.declared.records.KeptRecord.{KeptRecord}
+use Rattle.drive_survey.specs.declared.scan.ScannedZone.{ScannedZone}
+use Rattle.drive_survey.specs.declared.clearing.sizes.SizeCounts.{SizeCounts}
+use Rattle.drive_survey.specs.declared.survey.Survey.{Survey}
+use Rattle.drive_survey.specs.BlockRecords.{HoldsBlocks, HoldsMore, HoldsRecords, held_of}
+use Rattle.drive_survey.specs.Clearing.{AreOf, CoversMoved, Tells, without_heads}
+use Rattle.drive_survey.specs.Heads.{HeadsView, heads_of}
+use Rattle.drive_survey.specs.KeptRecords.{block_of_kept, kept_record}
+use Rattle.drive_survey.specs.Known.{Knows}
+use Rattle.drive_survey.specs.Scan.{heads_in}
+use Rattle.drive_survey.specs.SizeCounts.{IsSized, says_some, size_counts}
+use Rattle.drive_survey.specs.Survey.{greatest_in}
+use Rattle.drive_survey.specs.Waiting.{AllWait, AreCandidates, HolderWaits, HoldersWait, IsNeeded, LastWaits, OthersWait}
+use Rattle.drive_survey.proofs.ClearLaws.{Forgets, knows-less}
+use Rattle.drive_survey.proofs.FindLaws.{at-is, half-moved}
+use Rattle.drive_survey.proofs.HeadRecordLaws.{entries-are, entries_of}
+use Rattle.drive_survey.proofs.MovedLaws.{forgotten-are, found-heads, moved-batch, not-found, not-there, size-forgotten}
+use Rattle.drive_survey.proofs.OutsideLaws.{is_outside, none-outside, outside, outside-is, stays-outside}
+use Rattle.drive_survey.proofs.SizeCountLaws.{size-needs}
+use Rattle.drive_survey.proofs.SurveyLaws.{greatest-heads}
+use Rattle.drive_survey.proofs.SpareLaws.{knows-small, same-none, same-other, zone-named}
+
+-- ---- sets of zones
+
+added-waits : (old new : BTreeSet ℕ) (zone : ℕ) → Updates nat_cmp old new zone true → IsTrue (contains nat_cmp new zone)
+added-waits old new zone updates = updates.0 zone ∙ ap (λ (b : Bool). cond b true (contains nat_cmp old zone)) (at-is zone zone ∙ eq-eqb zone zone refl)
+
+pub added-more : (old new : BTreeSet ℕ) (zone : ℕ) → Updates nat_cmp old new zone true → IsSubset nat_cmp old new
+added-more old new zone updates q waits = updates.0 q ∙ by (is_at (nat_cmp zone) q)
+  where
+    by : (b : Bool) → IsTrue (cond b true (contains nat_cmp old q))
+    by true = refl
+    by false = waits
+
+holders-more : (logs : List (List Batch)) (old new : BTreeSet ℕ) (entries : List ℕ) → IsSubset nat_cmp old new → HoldersWait logs old entries → HoldersWait logs new entries
+holders-more logs old new entries more all = all-weaker (λ entry. HolderWaits logs old (block_of_kept entry)) (λ entry. HolderWaits logs new (block_of_kept entry)) entries (λ entry waits r is. more r.zone (waits r is)) all
+
+-- ---- a zone of Moves
+
+-- a log that is gone
+gone-is : (logs : List (List Batch)) (gone : ℕ) → log_at (without logs gone) gone ≡ []
+gone-is [] gone = refl
+gone-is (l ∷ ls) zero = refl
+gone-is (l ∷ ls) (suc gone) = gone-is ls gone
+
+before-some : (y : Option ℕ) → IsBefore None y → ⊥
+before-some y h = h
+
+-- a zone of Moves was one before
+moved-less : (logs : List (List Batch)) (gone zone : ℕ) → zone ≢ gone → IsMoved (without logs gone) zone → IsMoved logs zone
+moved-less logs gone zone apart is =
+    let own : log_at (without logs gone) zone ≡ log_at logs zone = get_or-set_other logs gone zone [] [] apart in
+    elim (cases_eq is.victim gone) as (λ _. IsMoved logs zone) [
+      | inl same ↦ absurd (before-some (first_sequence (log_at (without logs gone) zone)) (rw (same, gone-is logs gone) at is.older))
+      | inr other ↦ record { victim = is.victim; apart = is.apart; moves = rw own at is.moves; older = rw (own, get_or-set_other logs gone is.victim [] [] other) at is.older }
+    ]
+
+-- ---- a block that a zone shows
+
+abbrev AllWoken : List (List Batch) → ℕ → BTreeSet ℕ → Type 0
+AllWoken logs gone waiting = AllByRecursion (λ (r : Record). r.zone ≡ gone → HolderWaits (without logs gone) waiting r.block) (records 0 logs)
+
+all-outside : (P : Record → Type 0) (zone : ℕ) (rs : List Record) → AllByRecursion P rs → AllByRecursion P (outside zone rs)
+all-outside P zone [] all = tt
+all-outside P zone (r ∷ rs) all = by (is_outside zone r) (all-outside P zone rs all.1)
+  where
+    by : (t : Bool) → AllByRecursion P (outside zone rs) → AllByRecursion P (cond t (r ∷ outside zone rs) (outside zone rs))
+    by true rest = (all.0, rest)
+    by false rest = rest
+
+without-is : (zone : ℕ) (logs : List (List Batch)) → outside zone (records 0 logs) ≡ records 0 (without logs zone)
+without-is zone logs = outside-is 0 zone zone logs (omega arith)
+
+-- A block that shows something else without a zone does so still, unless the zone that is gone names the block too: then the first one waits.
+block-needs : (block_bytes n : ℕ) (logs : List (List Batch)) (gone zone block : ℕ) (waiting : BTreeSet ℕ) → zone ≢ gone → encoded_size n (without logs gone) ≡ encoded_size n logs → AllWoken logs gone waiting
+    → NeedsItsBlock block_bytes n logs zone block → IsTrue (contains nat_cmp waiting zone) ⊎ NeedsItsBlock block_bytes n (without logs gone) zone block
+block-needs block_bytes n logs gone zone block waiting apart size woken needs = by (newest block (records 0 logs)) refl
+  where
+    Goal : Type 0
+    Goal = IsTrue (contains nat_cmp waiting zone) ⊎ NeedsItsBlock block_bytes n (without logs gone) zone block
+
+    turned : without (without logs gone) zone ≡ without (without logs zone) gone
+    turned = set_comm logs gone zone [] [] (λ e. apart (sym e))
+
+    shows : (r : Record) → newest block (records 0 logs) ≡ Some r → r.zone ≢ gone → newest block (records 0 (without logs gone)) ≡ Some r
+    shows r is other = ap (newest block) (sym (without-is gone logs)) ∙ stays-outside block gone (records 0 logs) r is other
+
+    -- without the zone the block shows the same as before
+    still : (r : Record) → newest block (records 0 logs) ≡ Some r → r.zone ≢ gone → newest block (records 0 (without (without logs zone) gone)) ≡ newest block (records 0 (without logs zone)) → Goal
+    still r is other same = inr (record {
+      in_range = rw size needs.in_range;
+      differs = λ shown_same. needs.differs (
+          ap (shown block_bytes) (sym same ∙ ap (λ (ls : List (List Batch)). newest block (records 0 ls)) (sym turned)) ∙ shown_same ∙ ap (shown block_bytes) (shows r is other ∙ sym is)
+          );
+    })
+
+    next : (r : Record) → newest block (records 0 logs) ≡ Some r → r.zone ≡ zone → r.zone ≢ gone → (x : Option Record) → newest block (records 0 (without logs zone)) ≡ x → IsNewest (records 0 (without logs zone)) block x → Goal
+    next r is here other None none found = still r is other (ap (newest block) (sym (without-is gone (without logs zone))) ∙ none-outside block gone (records 0 (without logs zone)) none ∙ sym none)
+    next r is here other (Some q) some found = elim (cases_eq q.zone gone) as (λ _. Goal) [
+      | inl same ↦ (
+          let P : Record → Type 0 = λ x. x.zone ≡ gone → HolderWaits (without logs gone) waiting x.block in
+          let all : AllByRecursion P (records 0 (without logs zone)) = subst (AllByRecursion P) (without-is zone logs) (all-outside P zone (records 0 logs) woken) in
+          let waits = all-among P (records 0 (without logs zone)) q all found.1.among same in
+          let waits' = subst (HolderWaits (without logs gone) waiting) found.0 waits in
+          inl (subst (λ (z : ℕ). IsTrue (contains nat_cmp waiting z)) here (waits' r (shows r is other)))
+          )
+      | inr q_other ↦ still r is other (ap (newest block) (sym (without-is gone (without logs zone))) ∙ stays-outside block gone (records 0 (without logs zone)) q some q_other ∙ sym some)
+    ]
+
+    by : (x : Option Record) → newest block (records 0 logs) ≡ x → Goal
+    by None e = absurd (needs.differs (same-none block_bytes logs zone block e))
+    by (Some r) e = elim (cases_eq r.zone zone) as (λ _. Goal) [
+      | inl here ↦ next r e here (λ there. apart (sym here ∙ there)) (newest block (records 0 (without logs zone))) refl (newest-is block (records 0 (without logs zone)))
+      | inr other ↦ absurd (needs.differs (same-other block_bytes logs zone block r e other))
+    ]
+
+-- ---- a zone that is not half clean
+
+abbrev IsLastWoken : List HeadsView → ℕ → BTreeSet ℕ → Type 0
+IsLastWoken views gone waiting = count_by says_some (without_heads views gone) ≡ 1 → count_by says_some views ≢ 1 → LastWaits (without_heads views gone) waiting
+
+-- it is not half clean still, unless it waits
+needed-still : (block_bytes n : ℕ) (logs : List (List Batch)) (views : List HeadsView) (gone zone : ℕ) (waiting : BTreeSet ℕ) → views ≡ map heads_of logs → zone ≢ gone → encoded_size n (without logs gone) ≡ encoded_size n logs
+    → AllWoken logs gone waiting → IsLastWoken views gone waiting → IsNeeded block_bytes n logs zone → IsTrue (contains nat_cmp waiting zone) ⊎ IsNeeded block_bytes n (without logs gone) zone
+needed-still block_bytes n logs views gone zone waiting are apart size woken last (inl never) = inr (inl (λ moved. never (moved-less logs gone zone apart moved)))
+needed-still block_bytes n logs views gone zone waiting are apart size woken last (inr (inl needs)) = elim (block-needs block_bytes n logs gone zone needs.0 waiting apart size woken needs.1) as (λ _. IsTrue (contains nat_cmp waiting zone) ⊎ IsNeeded block_bytes n (without logs gone) zone) [
+  | inl waits ↦ inl waits
+  | inr needs' ↦ inr (inr (inl (needs.0, needs')))
+]
+needed-still block_bytes n logs views gone zone waiting are apart size woken last (inr (inr differs)) =
+    let all = encoded_size n logs in
+    let left = size-forgotten n logs views gone are in
+    let own = size-forgotten n logs views zone are in
+    let both = size-forgotten n (without logs gone) (without_heads views gone) zone (forgotten-are logs views gone are) in
+    elim (size-needs n all gone zone views waiting apart (sym (left ∙ size)) (sym (ap (size_or n) (ap greatest_in are ∙ greatest-heads logs))) (λ same. differs (sym own ∙ same)) last) as (λ _. IsTrue (contains nat_cmp waiting zone) ⊎ IsNeeded block_bytes n (without logs gone) zone) [
+      | inl waits ↦ inl waits
+      | inr differs' ↦ inr (inr (inr (λ same. differs' (both ∙ same ∙ size))))
+    ]
+
+-- ---- a half clean zone is given up
+
+-- what is done of the candidates
+pub record Wakes (before after : Survey) (old new : Candidates) (woken : BTreeSet ℕ) (zone : ℕ) : Type 0 where
+  pub forgets : Forgets before after zone
+  pub more : HoldsMore old.records new.records
+  pub holds : (drive : DriveState) (n : ℕ) (logs : List (List Batch)) → Knows drive n logs before → HoldsRecords logs old.records → HoldsRecords (without logs zone) new.records
+  pub sizes : old.sizes ≡ size_counts before.size (heads_in before.scanned.items) → new.sizes ≡ size_counts before.size (without_heads (heads_in before.scanned.items) zone)
+  pub first : IsSubset nat_cmp old.waiting woken
+  pub holders : (logs : List (List Batch)) (found : ScannedZone) → slice_get before.scanned.items zone ≡ Some found → HoldsRecords logs new.records → HoldsBlocks new.records found.heads.entries → HoldersWait logs woken found.heads.entries
+  pub then : IsSubset nat_cmp woken new.waiting
+  pub last : new.sizes.any ≡ 1 → old.sizes.any ≢ 1 → LastWaits (heads_in after.scanned.items) new.waiting
+
+blocks-held : (old new : BlockRecords) (entries : List ℕ) → HoldsMore old new → HoldsBlocks old entries → HoldsBlocks new entries
+blocks-held old new [] more holds = tt
+blocks-held old new (e ∷ es) more holds = (more (block_of_kept e) holds.0, blocks-held old new es more holds.1)
+
+-- the blocks of zones of Moves are held still
+covers-less : (logs : List (List Batch)) (before after : Survey) (old new : BlockRecords) (gone : ℕ) → heads_in before.scanned.items ≡ map heads_of logs → heads_in after.scanned.items ≡ without_heads (heads_in before.scanned.items) gone → HoldsMore old new
+    → CoversMoved logs before.scanned.items old → CoversMoved (without logs gone) after.scanned.items new
+covers-less logs before after old new gone are forgets more covers zone moved found there_is = by (slice_get before.scanned.items zone) refl
+  where
+    apart : zone ≢ gone
+    apart same = moved-batch (without logs gone) zone moved (rw same (gone-is logs gone))
+
+    was : IsMoved logs zone
+    was = moved-less logs gone zone apart moved
+
+    by : (x : Option ScannedZone) → slice_get before.scanned.items zone ≡ x → HoldsBlocks new found.heads.entries
+    by None is = absurd (not-found before.scanned.items logs zone are is was)
+    by (Some old_found) is =
+        let own : log_at (without logs gone) zone ≡ log_at logs zone = get_or-set_other logs gone zone [] [] apart in
+        let now = found-heads after.scanned.items (without logs gone) zone found (forgets ∙ forgotten-are logs (heads_in before.scanned.items) gone are) there_is in
+        let then = found-heads before.scanned.items logs zone old_found are is in
+        let same : old_found.heads ≡ found.heads = then ∙ ap heads_of (sym own) ∙ sym now in
+        subst (λ (h : HeadsView). HoldsBlocks new h.entries) same (blocks-held old new old_found.heads.entries more (covers zone was old_found is))
+
+pub given-are : (before after : Survey) (old new : Candidates) (woken : BTreeSet ℕ) (gone : ℕ) → Wakes before after old new woken gone
+    → (drive : DriveState) (n : ℕ) (logs : List (List Batch)) → AreCandidates drive n logs before old → IsHalfClean drive.geometry.block n logs gone → AreCandidates drive n (without logs gone) after new
+given-are before after old new woken gone wakes drive n logs are half = record {
+  known = knows-less drive n logs before after gone are.known half wakes.forgets;
+  records = wakes.holds drive n logs are.known are.records;
+  covers = covers-less logs before after old.records new.records gone are.known.heads wakes.forgets.heads wakes.more are.covers;
+  sizes = wakes.sizes are.sizes ∙ ap (λ (size : ℕ). size_counts size (without_heads (heads_in before.scanned.items) gone)) (sym wakes.forgets.size) ∙ ap (λ (hs : List HeadsView). size_counts after.size hs) (sym wakes.forgets.heads);
+}
+
+-- the zones that show a block of the zone wait
+all-woken : (drive : DriveState) (n : ℕ) (logs : List (List Batch)) (before after : Survey) (old new : Candidates) (woken : BTreeSet ℕ) (gone : ℕ) → Wakes before after old new woken gone → AreCandidates drive n logs before old → IsMoved logs gone
+    → AllWoken logs gone new.waiting
+all-woken drive n logs before after old new woken gone wakes are moved = by (slice_get before.scanned.items gone) refl
+  where
+    P : ℕ → Type 0
+    P block = HolderWaits (without logs gone) new.waiting block
+
+    by : (x : Option ScannedZone) → slice_get before.scanned.items gone ≡ x → AllWoken logs gone new.waiting
+    by None is = absurd (not-found before.scanned.items logs gone are.known.heads is moved)
+    by (Some found) is =
+        let held = blocks-held old.records new.records found.heads.entries wakes.more (are.covers gone moved found is) in
+        let wait = wakes.holders (without logs gone) found is (wakes.holds drive n logs are.known are.records) held in
+        let entries : found.heads.entries ≡ entries_of (log_at logs gone) = ap (λ (h : HeadsView). h.entries) (found-heads before.scanned.items logs gone found are.known.heads is) ∙ entries-are (log_at logs gone) in
+        let all : AllByRecursion (λ x. P (block_of_kept x)) (entries_of (log_at logs gone)) = subst (HoldersWait (without logs gone) new.waiting) entries (holders-more (without logs gone) woken new.waiting found.heads.entries wakes.then wait) in
+        zone-named P 0 gone gone logs (omega arith) (knows-small drive n logs before are.known) all
+
+pub given-wait : (before after : Survey) (old new : Candidates) (woken : BTreeSet ℕ) (gone : ℕ) → Wakes before after old new woken gone
+    → (drive : DriveState) (n : ℕ) (logs : List (List Batch)) → AreCandidates drive n logs before old → IsHalfClean drive.geometry.block n logs gone → OthersWait drive n logs old gone → AllWait drive n (without logs gone) new
+given-wait before after old new woken gone wakes drive n logs are half others zone lt = elim (cases_eq zone gone) as (λ _. IsTrue (contains nat_cmp new.waiting zone) ⊎ IsNeeded b n (without logs gone) zone) [
+  | inl here ↦ inr (inl (λ moved. moved-batch (without logs gone) zone moved (rw here (gone-is logs gone))))
+  | inr apart ↦ (elim (others zone (omega (arith, lt, length-set logs gone [])) apart) as (λ _. IsTrue (contains nat_cmp new.waiting zone) ⊎ IsNeeded b n (without logs gone) zone) [
+    | inl waits ↦ inl (wakes.then zone (wakes.first zone waits))
+    | inr needed ↦ needed-still b n logs (heads_in before.scanned.items) gone zone new.waiting are.known.heads apart (same-size b n (without logs gone) logs half.spare)
+        (all-woken drive n logs before after old new woken gone wakes are (half-moved b n logs gone half)) last needed
+  ])
+]
+  where
+    b : ℕ
+    b = drive.geometry.block
+
+    last : IsLastWoken (heads_in before.scanned.items) gone new.waiting
+    last one more = subst (λ (hs : List HeadsView). LastWaits hs new.waiting) wakes.forgets.heads
+        (wakes.last (ap (λ (c : SizeCounts). c.any) (wakes.sizes are.sizes) ∙ one) (λ same. more (sym (ap (λ (c : SizeCounts). c.any) are.sizes) ∙ same)))
+
+pub ok-both : {T E P Q R : Type 0} (result : Result T E) → (P → Q → R) → OnOk result P → OnOk result Q → OnOk result R
+ok-both (Ok x) f p q = f p q
+ok-both (Err e) f p q = tt
+
+-- ---- entry after entry
+
+-- the holders of the first entries' blocks wait
+abbrev pub WokenSoFar : BlockRecords → BTreeSet ℕ → List ℕ → ℕ → Type 0
+WokenSoFar table now entries i = (logs : List (List Batch)) → HoldsRecords logs table → HoldsBlocks table entries → (more : BTreeSet ℕ) → IsSubset nat_cmp now more → HoldersWait logs more (drop i entries) → HoldersWait logs more entries
+
+pub woken-more : (table : BlockRecords) (old new : BTreeSet ℕ) (entries : List ℕ) (i i' block : ℕ) → i < length entries → i' ≡ suc i → block ≡ block_of_kept (get_or entries i 0) → IsSubset nat_cmp old new
+    → ((logs : List (List Batch)) → HoldsRecords logs table → IsSome (held_of table block) → HolderWaits logs new block) → WokenSoFar table old entries i → WokenSoFar table new entries i'
+woken-more table old new entries i i' block lt next is grown tells so_far logs holds held more larger rest =
+    let tells' = rw is at tells in
+    let here : HolderWaits logs more (block_of_kept (get_or entries i 0)) = λ r shows. larger r.zone (tells' logs holds (all-at (λ entry. IsSome (held_of table (block_of_kept entry))) entries i 0 held lt) r shows) in
+    so_far logs holds held more (λ q waits. larger q (grown q waits)) (rw (drop-cons entries i 0 lt) (here, rw next at rest))
+
+pub woken-all : (table : BlockRecords) (now : BTreeSet ℕ) (entries : List ℕ) (i : ℕ) → length entries ≤ i → WokenSoFar table now entries i → (logs : List (List Batch)) → HoldsRecords logs table → HoldsBlocks table entries → HoldersWait logs now entries
+woken-all table now entries i le so_far logs holds held = so_far logs holds held now (λ q waits. waits) (rw (drop_all i entries le) tt)
+
+-- the zone of the newest record was added
+pub holder-waits : (table : BlockRecords) (old new : BTreeSet ℕ) (block : ℕ) (found : KeptRecord) → Updates nat_cmp old new found.zone true
+    → ((logs : List (List Batch)) → HoldsRecords logs table → IsSome (held_of table block) → Some found ≡ option_map kept_record (newest block (records 0 logs)))
+    → (logs : List (List Batch)) → HoldsRecords logs table → IsSome (held_of table block) → HolderWaits logs new block
+holder-waits table old new block found updates tells logs holds held r shows =
+    let one : Some found ≡ Some (kept_record r) = tells logs holds held ∙ ap (option_map kept_record) shows in
+    let same : found ≡ kept_record r = cc in
+    subst (λ (z : ℕ). IsTrue (contains nat_cmp new z)) (ap (λ (k : KeptRecord). k.zone) same) (added-waits old new found.zone updates)
+
+pub none-shows : (table : BlockRecords) (waiting : BTreeSet ℕ) (block : ℕ) → ((logs : List (List Batch)) → HoldsRecords logs table → IsSome (held_of table block) → None ≡ option_map kept_record (newest block (records 0 logs)))
+    → (logs : List (List Batch)) → HoldsRecords logs table → IsSome (held_of table block) → HolderWaits logs waiting block
+none-shows table waiting block tells logs holds held r shows = absurd (let bad = tells logs holds held ∙ ap (option_map kept_record) shows in cc)
+
+pub last-waits : (views : List HeadsView) (old new : BTreeSet ℕ) (zone : ℕ) → IsSized views zone → Updates nat_cmp old new zone true → LastWaits views new
+last-waits views old new zone sized updates = inr (zone, sized, added-waits old new zone updates)
+
+-- ---- all zones of Moves
+
+-- those below a limit, and no other
+abbrev pub MovedSoFar : List ScannedZone → BTreeSet ℕ → ℕ → Type 0
+MovedSoFar scanned zones limit =
+    ((logs : List (List Batch)) → AreOf scanned logs → (zone : ℕ) → zone < limit → Tells (contains nat_cmp zones zone) (IsMoved logs zone)) × ((zone : ℕ) → limit ≤ zone → contains nat_cmp zones zone ≡ false)
+
+pub moved-none : (scanned : List ScannedZone) (zones : BTreeSet ℕ) → zones.keys ≡ [] → MovedSoFar scanned zones 0
+moved-none scanned zones none = (λ logs are zone lt. absurd (omega (arith, lt)), λ zone le. rw none refl)
+
+pub moved-more : (scanned : List ScannedZone) (old new : BTreeSet ℕ) (limit limit' : ℕ) → limit' ≡ suc limit
+    → (contains nat_cmp old limit ≡ false → (logs : List (List Batch)) → AreOf scanned logs → Tells (contains nat_cmp new limit) (IsMoved logs limit))
+    → ((q : ℕ) → q ≢ limit → contains nat_cmp new q ≡ contains nat_cmp old q) → MovedSoFar scanned old limit → MovedSoFar scanned new limit'
+moved-more scanned old new limit limit' next own others so_far = (below, λ zone le. others zone (λ e. omega (arith, e, le, next)) ∙ so_far.1 zone (omega (arith, le, next)))
+  where
+    below : (logs : List (List Batch)) → AreOf scanned logs → (zone : ℕ) → zone < limit' → Tells (contains nat_cmp new zone) (IsMoved logs zone)
+    below logs are zone lt = elim (cases_eq zone limit) as (λ _. Tells (contains nat_cmp new zone) (IsMoved logs zone)) [
+      | inl here ↦ rw here (own (so_far.1 limit (omega arith)) logs are)
+      | inr apart ↦ rw (others zone apart) (so_far.0 logs are zone (omega (arith, lt, next, apart)))
+    ]
+
+pub moved-all : (scanned : List ScannedZone) (zones : BTreeSet ℕ) (limit : ℕ) → length scanned ≤ limit → MovedSoFar scanned zones limit → (logs : List (List Batch)) → AreOf scanned logs → (zone : ℕ) → Tells (contains nat_cmp zones zone) (IsMoved logs zone)
+moved-all scanned zones limit le so_far logs are zone = elim (cases_lt zone limit) as (λ _. Tells (contains nat_cmp zones zone) (IsMoved logs zone)) [
+  | inl lt ↦ so_far.0 logs are zone lt
+  | inr ge ↦ rw (so_far.1 zone ge) (not-found scanned logs zone are (not-there scanned zone (omega (arith, le, ge))))
+]
+
+-- a set of them has each half clean zone
+pub all-wait : (zones : BTreeSet ℕ) (block_bytes n : ℕ) (logs : List (List Batch)) (zone : ℕ) → Tells (contains nat_cmp zones zone) (IsMoved logs zone) → IsTrue (contains nat_cmp zones zone) ⊎ IsNeeded block_bytes n logs zone
+all-wait zones block_bytes n logs zone tells = by (contains nat_cmp zones zone) refl tells
+  where
+    by : (b : Bool) → contains nat_cmp zones zone ≡ b → Tells b (IsMoved logs zone) → IsTrue (contains nat_cmp zones zone) ⊎ IsNeeded block_bytes n logs zone
+    by true is told = inl is
+    by false is never = inr (inl never)

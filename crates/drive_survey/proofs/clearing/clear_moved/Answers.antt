@@ -1,0 +1,53 @@
+use Rattle.std.proofs.Common.{Some, None, refl, ap, ◌∙◌}
+use Rattle.drive_array.specs.ZoneLogs.{drive_logs}
+use Rattle.drive_survey.specs.declared.survey.Survey.{Survey}
+use Rattle.drive_survey.proofs.ClearLaws.{clears-all, clears-fewer, finds-given, leaves-given, next-known, searches-more, searches-none}
+use Rattle.drive_survey.proofs.ReadLaws.{keeps-both, keeps-none}
+use Rattle.drive_survey.proofs.SpareLaws.{knows-kept}
+use Rattle.drive_survey.proofs.clearing.clear_moved.Goals as goal
+
+pub returns-then-not-has_moved-clause-kept : goal.returns-then-not-has_moved-clause-kept
+returns-then-not-has_moved-clause-kept g c = keeps-none _ c.requires.known.zones.lawful
+
+pub returns-in_err-candidates-clause-kept : goal.returns-in_err-candidates-clause-kept
+returns-in_err-candidates-clause-kept g c = keeps-none _ c.requires.known.zones.lawful
+
+pub loop-candidates-init : goal.loop-candidates-init
+loop-candidates-init g c =
+    (rw c.new-resets.ensures.items (searches-none (g.D.Device.drive c.args.device.now) c.args.survey.now.given c.args.survey.now c.in_ok-candidates.candidates c.requires.known c.in_ok-candidates.ensures.are c.in_ok-candidates.ensures.wait), refl)
+
+pub returns-in_err-zone-clause-kept : goal.returns-in_err-zone-clause-kept
+returns-in_err-zone-clause-kept g c = keeps-both _ _ _ c.loop-candidates.invariant.0.clears.kept c.next_half_clean.ensures.kept
+
+pub returns-then-is_err-clause-kept : goal.returns-then-is_err-clause-kept
+returns-then-is_err-clause-kept g c = keeps-both _ _ _ c.loop-candidates.invariant.0.clears.kept c.next_half_clean.ensures.kept
+
+pub loop-candidates-smaller : goal.loop-candidates-smaller
+loop-candidates-smaller g c =
+    clears-fewer (g.D.Device.drive c.args.device.now).geometry.block c.args.survey.now.given (drive_logs (g.D.Device.drive c.args.device.now)) c.loop-candidates.resets.items c.push.new.self.items c.in-Some.zone
+    (next-known (g.D.Device.drive c.args.device.now) (g.D.Device.drive c.loop-candidates.device) c.args.survey.now.given c.loop-candidates.survey c.loop-candidates.candidates c.loop-candidates.resets.items (Some c.in-Some.zone) c.loop-candidates.invariant.0 (finds-given (g.D.Device.drive c.loop-candidates.device) c.args.survey.now.given c.loop-candidates.survey.given c.loop-candidates.survey c.loop-candidates.candidates (Some c.in-Some.zone) c.loop-candidates.invariant.0.are.known.given_is (rw c.in-Some.is at c.in_ok-zone.ensures.ok)))
+    (rw c.if-is_err.ensures.negation at c.push.ensures.items)
+
+pub returns-in_err-give_up-clause-kept : goal.returns-in_err-give_up-clause-kept
+returns-in_err-give_up-clause-kept g c = keeps-both _ _ _ c.loop-candidates.invariant.0.clears.kept c.next_half_clean.ensures.kept
+
+pub loop-candidates-preserved : goal.loop-candidates-preserved
+loop-candidates-preserved g c = (
+  searches-more (g.D.Device.drive c.args.device.now) (g.D.Device.drive c.loop-candidates.device) (g.D.Device.drive c.next_half_clean.new.device) c.args.survey.now.given c.loop-candidates.survey c.give_up.new.survey
+      c.loop-candidates.candidates c.next_half_clean.new.candidates c.give_up.new.candidates c.loop-candidates.resets.items c.push.new.self.items c.in-Some.zone c.loop-candidates.invariant.0 c.next_half_clean.ensures.kept
+      c.next_half_clean.ensures.records c.next_half_clean.ensures.sizes (finds-given (g.D.Device.drive c.loop-candidates.device) c.args.survey.now.given c.loop-candidates.survey.given c.loop-candidates.survey c.loop-candidates.candidates (Some c.in-Some.zone) c.loop-candidates.invariant.0.are.known.given_is (rw c.in-Some.is at c.in_ok-zone.ensures.ok)) (leaves-given (g.D.Device.drive c.loop-candidates.device) c.args.survey.now.given c.loop-candidates.survey.given c.loop-candidates.survey c.loop-candidates.candidates c.next_half_clean.new.candidates c.in-Some.zone c.loop-candidates.invariant.0.are.known.given_is (rw c.in-Some.is at c.in_ok-zone.ensures.others))
+      (record { heads = c.in_ok-give_up.ensures.heads; tails = c.give_up.ensures.tails; zones = ap (λ (s : Survey). s.zones) c.give_up.ensures.others; size = ap (λ (s : Survey). s.size) c.give_up.ensures.others; given = ap (λ (s : Survey). s.given) c.give_up.ensures.others })
+      (record { are = c.in_ok-give_up.ensures.are; wait = c.in_ok-give_up.ensures.wait }) (rw c.if-is_err.ensures.negation at c.push.ensures.items),
+  ap (λ (s : Survey). s.zones) c.give_up.ensures.others ∙ c.loop-candidates.invariant.1,
+)
+
+pub returns-clause-clearing : goal.returns-clause-clearing
+returns-clause-clearing g c =
+    clears-all (g.D.Device.drive c.args.device.now) (g.D.Device.drive c.loop-candidates.device) c.args.survey.now.given c.loop-candidates.survey c.loop-candidates.resets.items c.loop-candidates.invariant.0.clears
+    (next-known (g.D.Device.drive c.args.device.now) (g.D.Device.drive c.loop-candidates.device) c.args.survey.now.given c.loop-candidates.survey c.loop-candidates.candidates c.loop-candidates.resets.items None c.loop-candidates.invariant.0 (finds-given (g.D.Device.drive c.loop-candidates.device) c.args.survey.now.given c.loop-candidates.survey.given c.loop-candidates.survey c.loop-candidates.candidates None c.loop-candidates.invariant.0.are.known.given_is (rw c.in_default.is at c.in_ok-zone.ensures.ok)))
+
+pub returns-clause-known : goal.returns-clause-known
+returns-clause-known g c = knows-kept _ _ _ _ _ c.next_half_clean.ensures.kept c.loop-candidates.invariant.0.are.known
+
+pub returns-clause-kept : goal.returns-clause-kept
+returns-clause-kept g c = keeps-both _ _ _ c.loop-candidates.invariant.0.clears.kept c.next_half_clean.ensures.kept

@@ -1,0 +1,50 @@
+use Rattle.std.proofs.Common.{arith}
+use Rattle.drive_survey.proofs.ReadLaws.{keeps-both, keeps-none, kept-known}
+use Rattle.drive_survey.proofs.TakeLaws.{takes-none}
+use Rattle.drive_survey.proofs.NextLaws.{all-next, if-fault}
+use Rattle.drive_survey.proofs.ScanLaws.{step-err, step-ok, taken-next}
+use Rattle.drive_survey.proofs.scan.scan_zone.Goals as goal
+
+pub loop-zone-init : goal.loop-zone-init
+loop-zone-init g c = (keeps-none _ c.requires.zone.lawful, rw c.new-heads.ensures (takes-none _ _ c.args.seen.now.keys), rw c.new-heads.ensures (omega arith))
+
+pub next_head-requires-clause-zone : goal.next_head-requires-clause-zone
+next_head-requires-clause-zone g c = kept-known _ _ c.args.zone.number c.args.zone.reported c.loop-zone.invariant.0 c.requires.zone
+
+pub next_head-requires-clause-few : goal.next_head-requires-clause-few
+next_head-requires-clause-few g c = c.loop-zone.invariant.2
+
+pub returns-in_err-is_torn-clause-err : goal.returns-in_err-is_torn-clause-err
+returns-in_err-is_torn-clause-err g c =
+    if-fault c.from_residual.result c.in_err-is_torn.field-0.0 _ c.from_residual.ensures.1
+    (step-err (g.D.Device.drive c.args.device.now) (g.D.Device.drive c.loop-zone.device) (g.D.Device.drive c.next_head.new.device) c.args.zone.number c.args.seen.now.keys c.loop-zone.seen.keys c.loop-zone.heads _ c.loop-zone.invariant.0 c.loop-zone.invariant.1 c.in_err-is_torn.ensures.err)
+
+pub returns-in_err-is_torn-clause-kept : goal.returns-in_err-is_torn-clause-kept
+returns-in_err-is_torn-clause-kept g c = keeps-both _ _ _ c.loop-zone.invariant.0 c.next_head.ensures.kept
+
+pub returns-in-Some-clause-ok : goal.returns-in-Some-clause-ok
+returns-in-Some-clause-ok g c =
+    let next = step-ok (g.D.Device.drive c.args.device.now) (g.D.Device.drive c.loop-zone.device) c.args.zone.number c.args.seen.now.keys c.loop-zone.seen.keys _ c.loop-zone.heads c.next_head.new.heads c.in_ok-is_torn.field-0 c.loop-zone.invariant.0 c.loop-zone.invariant.1 c.in_ok-is_torn.ensures.ok in
+    rw c.in-Some.is at next
+
+pub returns-in-Some-clause-kept : goal.returns-in-Some-clause-kept
+returns-in-Some-clause-kept g c = keeps-both _ _ _ c.loop-zone.invariant.0 c.next_head.ensures.kept
+
+pub loop-zone-smaller : goal.loop-zone-smaller
+loop-zone-smaller g c =
+    let next = step-ok (g.D.Device.drive c.args.device.now) (g.D.Device.drive c.loop-zone.device) c.args.zone.number c.args.seen.now.keys c.loop-zone.seen.keys c.next_head.new.seen.keys c.loop-zone.heads c.next_head.new.heads c.in_ok-is_torn.field-0 c.loop-zone.invariant.0 c.loop-zone.invariant.1 c.in_ok-is_torn.ensures.ok in
+    let taken = taken-next (g.D.Device.drive c.args.device.now) c.args.zone.number c.args.seen.now.keys c.next_head.new.seen.keys c.loop-zone.heads c.next_head.new.heads c.in_ok-is_torn.field-0 next c.in_default.not-Some in
+    omega (arith, taken.1, c.loop-zone-test.true, c.blocks-in-loop-zone.ensures)
+
+pub loop-zone-preserved : goal.loop-zone-preserved
+loop-zone-preserved g c =
+    let next = step-ok (g.D.Device.drive c.args.device.now) (g.D.Device.drive c.loop-zone.device) c.args.zone.number c.args.seen.now.keys c.loop-zone.seen.keys c.next_head.new.seen.keys c.loop-zone.heads c.next_head.new.heads c.in_ok-is_torn.field-0 c.loop-zone.invariant.0 c.loop-zone.invariant.1 c.in_ok-is_torn.ensures.ok in
+    let taken = taken-next (g.D.Device.drive c.args.device.now) c.args.zone.number c.args.seen.now.keys c.next_head.new.seen.keys c.loop-zone.heads c.next_head.new.heads c.in_ok-is_torn.field-0 next c.in_default.not-Some in
+    (keeps-both _ _ _ c.loop-zone.invariant.0 c.next_head.ensures.kept, taken.0, c.in_ok-is_torn.ensures.few)
+
+pub returns-clause-ok : goal.returns-clause-ok
+returns-clause-ok g c =
+    all-next (g.D.Device.drive c.args.device.now) c.args.zone.number c.args.zone.reported c.loop-zone.heads c.args.seen.now.keys c.loop-zone.seen.keys c.requires.zone (omega (arith, c.loop-zone-test.false, c.blocks-in-loop-zone.ensures)) c.loop-zone.invariant.1
+
+pub returns-clause-kept : goal.returns-clause-kept
+returns-clause-kept g c = c.loop-zone.invariant.0

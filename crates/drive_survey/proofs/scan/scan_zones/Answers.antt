@@ -1,0 +1,37 @@
+use Rattle.std.proofs.Common.{◌≡◌, ◌++◌, [], ◌∷◌, arith}
+use Rattle.drive_survey.proofs.ReadLaws.{keeps-both, keeps-none}
+use Rattle.drive_survey.proofs.NextLaws.{if-fault}
+use Rattle.drive_survey.proofs.AllScanLaws.{all-known, scans-all, scans-fail, scans-more, scans-none, there-is}
+use Rattle.drive_survey.proofs.scan.scan_zones.Goals as goal
+
+pub loop-number-init : goal.loop-number-init
+loop-number-init g c = (keeps-none _ c.requires.zones.lawful, rw (c.new-scanned.ensures.items, c.new-seen.ensures.empty) (scans-none (g.D.Device.drive c.args.device.now)))
+
+pub scan_zone-requires : goal.scan_zone-requires
+scan_zone-requires g c =
+    record { zone = all-known (g.D.Device.drive c.args.device.now) _ c.args.zones.now c.loop-number.number _ c.requires.zones c.loop-number.invariant.0 (there-is c.args.zones.now c.loop-number.number _ c.loop-number-test.true) }
+
+pub returns-in_err-heads-clause-err : goal.returns-in_err-heads-clause-err
+returns-in_err-heads-clause-err g c =
+    if-fault c.from_residual.result c.in_err-heads.field-0.0 _ c.from_residual.ensures.1
+    (scans-fail (g.D.Device.drive c.args.device.now) (g.D.Device.drive c.loop-number.device) (g.D.Device.drive c.scan_zone.new.device) c.loop-number.scanned.items c.loop-number.seen.keys c.loop-number.number _ c.loop-number.invariant.0 (omega (arith, c.loop-number-test.true, c.requires.zones.count)) c.loop-number.invariant.1 c.in_err-heads.ensures.err)
+
+pub returns-in_err-heads-clause-kept : goal.returns-in_err-heads-clause-kept
+returns-in_err-heads-clause-kept g c = keeps-both _ _ _ c.loop-number.invariant.0 c.scan_zone.ensures.kept
+
+pub returns-then-is_err-clause-kept : goal.returns-then-is_err-clause-kept
+returns-then-is_err-clause-kept g c = keeps-both _ _ _ c.loop-number.invariant.0 c.scan_zone.ensures.kept
+
+pub loop-number-preserved : goal.loop-number-preserved
+loop-number-preserved g c =
+    let pushed : c.push.new.self.items ≡ c.loop-number.scanned.items ++ c.in_ok-heads.heads ∷ [] = rw c.if-is_err.ensures.negation at c.push.ensures.items in (
+      keeps-both _ _ _ c.loop-number.invariant.0 c.scan_zone.ensures.kept,
+      scans-more (g.D.Device.drive c.args.device.now) (g.D.Device.drive c.loop-number.device) c.loop-number.scanned.items c.push.new.self.items c.in_ok-heads.heads c.loop-number.seen.keys c.scan_zone.new.seen.keys c.loop-number.number c.loop-number.invariant.0 (omega (arith, c.loop-number-test.true, c.requires.zones.count)) pushed c.loop-number.invariant.1 c.in_ok-heads.ensures.ok,
+    )
+
+pub returns-clause-ok : goal.returns-clause-ok
+returns-clause-ok g c =
+    scans-all (g.D.Device.drive c.args.device.now) c.loop-number.scanned.items c.loop-number.seen.keys c.loop-number.number (omega (arith, c.loop-number-test.false, c.requires.zones.count)) c.loop-number.invariant.1
+
+pub returns-clause-kept : goal.returns-clause-kept
+returns-clause-kept g c = c.loop-number.invariant.0

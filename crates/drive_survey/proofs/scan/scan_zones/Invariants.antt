@@ -1,0 +1,7 @@
+use Rattle.drive_survey.specs.Reported.{KeepsZones}
+use Rattle.drive_survey.proofs.AllScanLaws.{ScansTo}
+use Rattle.drive_survey.proofs.scan.scan_zones.Given as goal
+
+abbrev pub invariant-loop-number : goal.invariant-loop-number
+invariant-loop-number g l =
+    KeepsZones (g.D.Device.drive l.fn.device) (g.D.Device.drive l.device) × ScansTo (g.D.Device.drive l.fn.device) l.scanned.items l.number l.seen.keys

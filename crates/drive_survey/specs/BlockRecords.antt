@@ -1,0 +1,69 @@
+-- The records of some blocks, each found by its block and its sequence.
+use Rattle.std.specs.Prelude.{◌≡◌, ◌≢◌, ◌++◌, ℕ, ◌==◌, ◌&&◌, if◌then◌else◌, List, [], ◌∷◌, Option, Some, None, IsSome, Contains}
+use Rattle.std.specs.BTreeMap.{BTreeMap, get, IsEmpty}
+use Rattle.std.specs.List.{AllByRecursion}
+use Rattle.std.specs.Option.{option_map}
+use Rattle.std.specs.Ordering.{nat_cmp}
+use Rattle.batch_log.specs.Log.{Batch}
+use Rattle.drive_array.specs.Records.{Record, records}
+use Rattle.drive_survey.specs.declared.records.KeptRecord.{KeptRecord}
+use Rattle.drive_survey.specs.declared.clearing.block_records.BlockRecords.{BlockRecords}
+use Rattle.drive_survey.specs.KeptRecords.{block_of_kept, kept_record}
+
+-- what a table holds of a block
+abbrev pub held_of : BlockRecords → ℕ → Option (BTreeMap ℕ KeptRecord)
+held_of table block = get nat_cmp table.blocks block
+
+-- it holds the blocks of these entries
+abbrev pub HoldsBlocks : BlockRecords → List ℕ → Type 0
+HoldsBlocks table entries = AllByRecursion (λ entry. IsSome (held_of table (block_of_kept entry))) entries
+
+-- it has no record yet
+abbrev pub HasNoRecord : BlockRecords → Type 0
+HasNoRecord table = (block : ℕ) (held : BTreeMap ℕ KeptRecord) → held_of table block ≡ Some held → IsEmpty held
+
+-- what is held of a block are all its records in these logs, each by its sequence
+pub record AreRecords (logs : List (List Batch)) (block : ℕ) (held : BTreeMap ℕ KeptRecord) : Type 0 where
+  pub all_held : (r : Record) → Contains (records 0 logs) r → r.block ≡ block → get nat_cmp held r.sequence ≡ Some (kept_record r)
+  pub no_other : (sequence : ℕ) (found : KeptRecord) → get nat_cmp held sequence ≡ Some found → (r : Record) × Contains (records 0 logs) r × (r.block ≡ block) × (r.sequence ≡ sequence) × (kept_record r ≡ found)
+
+-- and so of all blocks that a table holds
+abbrev pub HoldsRecords : List (List Batch) → BlockRecords → Type 0
+HoldsRecords logs table = (block : ℕ) (held : BTreeMap ℕ KeptRecord) → held_of table block ≡ Some held → AreRecords logs block held
+
+-- the blocks that a table holds are held by another one too
+abbrev pub HoldsMore : BlockRecords → BlockRecords → Type 0
+HoldsMore old new = (block : ℕ) → IsSome (held_of old block) → IsSome (held_of new block)
+
+-- ---- a table changes
+
+-- what a table has of a block at a sequence, where it holds the block
+abbrev pub slot_of : BlockRecords → ℕ → ℕ → Option (Option KeptRecord)
+slot_of table block sequence = option_map (λ (held : BTreeMap ℕ KeptRecord). get nat_cmp held sequence) (held_of table block)
+
+-- what stands there after these records were put in, or taken out, by what `put` makes of a record
+abbrev pub slot_after : (KeptRecord → Option KeptRecord) → ℕ → ℕ → Option (Option KeptRecord) → List KeptRecord → Option (Option KeptRecord)
+slot_after put block sequence slot [] = slot
+slot_after put block sequence slot (r ∷ rs) =
+    slot_after put block sequence (option_map (λ (found : Option KeptRecord). if r.block == block && r.sequence == sequence then put r else found) slot) rs
+
+-- a record is put in
+abbrev pub notes : KeptRecord → Option KeptRecord
+notes r = Some r
+
+-- a record is taken out
+abbrev pub forgets : KeptRecord → Option KeptRecord
+forgets r = None
+
+-- ---- the last record outside a zone
+
+-- The entries of a block up to some sequence, where all that follow lie in a zone.
+pub record OthersIn (held : BTreeMap ℕ KeptRecord) (zone : ℕ) (rest : List (ℕ × KeptRecord)) : Type 0 where
+  pub after : List (ℕ × KeptRecord)
+  pub split : held.entries ≡ rest ++ after
+  pub inside : AllByRecursion (λ (e : ℕ × KeptRecord). e.1.zone ≡ zone) after
+
+-- the last one outside a zone, or that all lie in it
+abbrev pub IsLastOutside : BTreeMap ℕ KeptRecord → ℕ → Option KeptRecord → Type 0
+IsLastOutside held zone None = OthersIn held zone []
+IsLastOutside held zone (Some found) = (front : List (ℕ × KeptRecord)) × (sequence : ℕ) × (found.zone ≢ zone) × OthersIn held zone (front ++ (sequence, found) ∷ [])

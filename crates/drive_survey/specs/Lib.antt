@@ -1,0 +1,10 @@
+pub mod Reported
+pub mod Heads
+pub mod Scan
+pub mod Survey
+pub mod Known
+pub mod KeptRecords
+pub mod BlockRecords
+pub mod SizeCounts
+pub mod Clearing
+pub mod Waiting

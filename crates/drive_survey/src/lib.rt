@@ -1,0 +1,48 @@
+//! What a drive holds, read without changing it: its zones, the headers of all batches, and the faults for which it
+//! cannot be mounted.
+//!
+//! ```text
+//! let mut survey = survey_drive(alloc, &mut device, 9)?; // one report, and one Read for each batch
+//! survey.size;                                           // how many logical blocks the drive has
+//! survey.scanned[2].heads.heads();                       // the headers of the batches of zone 2
+//! survey.scanned[2].is_torn;                             // whether a stopped Append left a tail there
+//! clear_zones(alloc, &mut device, &mut survey, 9)?;      // the zones that a stopped clean left half clean
+//! ```
+//!
+//! # What is promised
+//!
+//! * A drive is surveyed exactly where it can be: its geometry and the number of blocks are in range, no zone is Read
+//!   Only or Offline, at most two are partly written, each zone holds a log, the batches are sound, and the reserve
+//!   allows the size that they say. Then the headers of all batches are known (`Surveys` in specs/Survey).
+//! * Each fault but `Halted` and `OutOfMemory` is the first one, in the order in which a survey looks (`SurveyFails`):
+//!   the report first, then zone by zone and batch by batch (`FailsFirst` in specs/Scan).
+//! * The half clean zones are found, each the lowest of its moment (`IsClearing` in zone_choice/specs/Spare). `NoSpare`
+//!   comes exactly where there is neither a half clean zone nor a vacant one.
+//! * Whatever is answered, only a report and Reads were sent: the drive holds what it held, and no command was refused.
+//!   Its controller may have closed zones (`KeepsZones` in specs/Reported).
+//!
+//! # How it goes
+//!
+//! `report_zones` asks for the states of all zones. `scan_zones` reads the header of each batch, 16 bytes of which are
+//! kept, and 4 bytes of each entry (`heads_of` in specs/Heads). `survey_drive` compares what they say with the size of
+//! the disk. `clear_zones` looks at the zones of Moves, the lowest first: a zone is half clean if no block shows
+//! anything else without it (`examine_zone`). Only blocks whose newest record is in such a zone are read.
+#![tactic(auto)]
+
+mod clearing;
+mod fault;
+mod heads;
+mod records;
+mod reported;
+mod scan;
+mod sequences;
+mod survey;
+
+pub use clearing::{Finding, clear_zones, examine_zone};
+pub use fault::MountFault;
+pub use heads::{Head, ZoneHeads};
+pub use records::{KeptRecord, entry_record, is_trim};
+pub use reported::{ReportedZone, fault_of, report_zones};
+pub use scan::{ReadableZone, ScannedZone, read_block, scan_zones};
+pub use sequences::greatest_sequence;
+pub use survey::{Survey, is_partly_written, survey_drive};

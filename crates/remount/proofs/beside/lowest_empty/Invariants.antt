@@ -1,8 +1,0 @@
-use Rattle.std.proofs.Common.{◌≡◌, ◌≢◌, ◌<◌, ℕ, Some}
-use Rattle.std.specs.Prelude.{slice_get}
-use Rattle.nvme_wire.specs.declared.zone_state.ZoneState.TheVariants as states
-use Rattle.remount.specs.declared.reported.ReportedZone.{ReportedZone}
-use Rattle.remount.proofs.beside.lowest_empty.Given as goal
-
-abbrev pub invariant-loop-number : goal.invariant-loop-number
-invariant-loop-number l = (other : ℕ) (reported : ReportedZone) → other < l.number → slice_get l.zones other ≡ Some reported → reported.state ≢ states.Empty

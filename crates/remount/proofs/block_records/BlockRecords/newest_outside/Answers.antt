@@ -1,7 +1,0 @@
-use Rattle.std.proofs.Common.{sym}
-use Rattle.remount.proofs.RecordNewestLaws.{outside-newest}
-use Rattle.remount.proofs.block_records.BlockRecords.newest_outside.Goals as goal
-
-pub returns : goal.returns
-returns c = λ logs holds some.
-    outside-newest logs c.args.self.now c.args.block c.args.zone c.in_ok-held.held.now c.last_outside.result (sym c.in_ok-held.ensures.value) c.last_outside.ensures.ordered c.last_outside.ensures.last holds

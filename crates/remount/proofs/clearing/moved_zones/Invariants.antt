@@ -1,5 +1,0 @@
-use Rattle.remount.proofs.WaitingLaws.{MovedSoFar}
-use Rattle.remount.proofs.clearing.moved_zones.Given as goal
-
-abbrev pub invariant-loop-zone : goal.invariant-loop-zone
-invariant-loop-zone l = MovedSoFar l.scanned l.zones l.zone

@@ -1,6 +1,0 @@
-use Rattle.std.proofs.Common.{◌≡◌, drop}
-use Rattle.remount.specs.Heads.{highest_of}
-use Rattle.remount.proofs.heads.highest_of.Given as goal
-
-abbrev pub invariant-loop-i : goal.invariant-loop-i
-invariant-loop-i l = highest_of l.highest (drop l.i l.header.entries) ≡ highest_of l.fn.highest l.header.entries

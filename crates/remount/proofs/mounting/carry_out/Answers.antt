@@ -1,0 +1,107 @@
+use Rattle.std.proofs.Common.{ℕ, ◌≡◌, sym, subst, ◌∙◌}
+use Rattle.std.specs.Prelude.{OnOk}
+use Rattle.drive_port.specs.Contents.{contents}
+use Rattle.drive_array.specs.ZoneLogs.{drive_logs, zone_tails}
+use Rattle.remount.specs.Mount.{IsRepaired, KeepsOthers, LeavesCleared, LeavesPlanned, Plans}
+use Rattle.remount.specs.Resets.{KeepsGoing}
+use Rattle.remount.proofs.KeepLaws.{keeps-mountable-both}
+use Rattle.remount.proofs.StepLaws.{Empties, carried-left, carried-others, cleared-own, emptied-plans, keeps-given, on-ok, untorn-own}
+use Rattle.remount.proofs.mounting.carry_out.Goals as goal
+
+pub repair_torn-requires-clause-cleared : goal.repair_torn-requires-clause-cleared
+repair_torn-requires-clause-cleared g c = cleared-own (g.D.Device.drive c.empty_zones.new.device) c.args.survey.now.given c.empty_zones.new.survey c.in_ok-empty_zones.ensures.cleared
+
+pub repair_torn-requires-clause-plan : goal.repair_torn-requires-clause-plan
+repair_torn-requires-clause-plan g c =
+    let n = c.args.survey.now.given in
+    let old = g.D.Device.drive c.args.device.now in
+    let middle = g.D.Device.drive c.empty_zones.new.device in
+    let first = c.empty_zones.new.survey in
+    let resets = c.args.plan.now.half_clean.items in
+    let cleared_now = c.in_ok-empty_zones.ensures.cleared in
+    let left = c.in_ok-empty_zones.ensures.left in
+    let is : Empties old middle n resets first = record { known = cleared_now.known; logs = left.logs; vacant = cleared_now.empty; tails = left.tails; kept = c.empty_zones.ensures.kept } in
+    subst (λ (k : ℕ). Plans middle.geometry k (drive_logs middle) (zone_tails (contents middle.zones)) c.args.plan.now.repair) (sym cleared_now.known.given_is) (emptied-plans old middle n c.args.survey.now first c.args.plan.now c.requires.planned is)
+
+pub returns-in_err-repair_torn-clause-kept : goal.returns-in_err-repair_torn-clause-kept
+returns-in_err-repair_torn-clause-kept g c =
+    let n = c.args.survey.now.given in
+    let old = g.D.Device.drive c.args.device.now in
+    let middle = g.D.Device.drive c.empty_zones.new.device in
+    let first = c.empty_zones.new.survey in
+    let resets = c.args.plan.now.half_clean.items in
+    let cleared_now = c.in_ok-empty_zones.ensures.cleared in
+    let left = c.in_ok-empty_zones.ensures.left in
+    let is : Empties old middle n resets first = record { known = cleared_now.known; logs = left.logs; vacant = cleared_now.empty; tails = left.tails; kept = c.empty_zones.ensures.kept } in
+    keeps-mountable-both n old middle _ c.empty_zones.ensures.kept (keeps-given first.given n middle _ cleared_now.known.given_is c.repair_torn.ensures.kept)
+
+pub finish_zones-requires : goal.finish_zones-requires
+finish_zones-requires g c = record { untorn = untorn-own (g.D.Device.drive c.repair_torn.new.device) c.empty_zones.new.survey.given c.repair_torn.new.survey c.in_ok-repair_torn.ensures.ok }
+
+pub returns-clause-repaired : goal.returns-clause-repaired
+returns-clause-repaired g c =
+    let n = c.args.survey.now.given in
+    let old = g.D.Device.drive c.args.device.now in
+    let middle = g.D.Device.drive c.empty_zones.new.device in
+    let first = c.empty_zones.new.survey in
+    let resets = c.args.plan.now.half_clean.items in
+    let cleared_now = c.in_ok-empty_zones.ensures.cleared in
+    let left = c.in_ok-empty_zones.ensures.left in
+    let is : Empties old middle n resets first = record { known = cleared_now.known; logs = left.logs; vacant = cleared_now.empty; tails = left.tails; kept = c.empty_zones.ensures.kept } in
+    let third = g.D.Device.drive c.repair_torn.new.device in
+    let second = c.repair_torn.new.survey in
+    let new = g.D.Device.drive c.finish_zones.new.device in
+    let same = c.in_ok-repair_torn.ensures.ok.known.given_is ∙ cleared_now.known.given_is in
+    subst (λ (k : ℕ). OnOk c.finish_zones.result (IsRepaired new k c.finish_zones.new.survey)) same c.finish_zones.ensures.repaired
+
+pub returns-clause-kept : goal.returns-clause-kept
+returns-clause-kept g c =
+    let n = c.args.survey.now.given in
+    let old = g.D.Device.drive c.args.device.now in
+    let middle = g.D.Device.drive c.empty_zones.new.device in
+    let first = c.empty_zones.new.survey in
+    let resets = c.args.plan.now.half_clean.items in
+    let cleared_now = c.in_ok-empty_zones.ensures.cleared in
+    let left = c.in_ok-empty_zones.ensures.left in
+    let is : Empties old middle n resets first = record { known = cleared_now.known; logs = left.logs; vacant = cleared_now.empty; tails = left.tails; kept = c.empty_zones.ensures.kept } in
+    let third = g.D.Device.drive c.repair_torn.new.device in
+    let second = c.repair_torn.new.survey in
+    let new = g.D.Device.drive c.finish_zones.new.device in
+    let same = c.in_ok-repair_torn.ensures.ok.known.given_is ∙ cleared_now.known.given_is in
+    keeps-mountable-both n old middle new c.empty_zones.ensures.kept
+    (keeps-mountable-both n middle third new (keeps-given first.given n middle third cleared_now.known.given_is c.repair_torn.ensures.kept) (keeps-given second.given n third new same c.finish_zones.ensures.kept))
+
+pub returns-clause-left : goal.returns-clause-left
+returns-clause-left g c =
+    let n = c.args.survey.now.given in
+    let old = g.D.Device.drive c.args.device.now in
+    let middle = g.D.Device.drive c.empty_zones.new.device in
+    let first = c.empty_zones.new.survey in
+    let resets = c.args.plan.now.half_clean.items in
+    let cleared_now = c.in_ok-empty_zones.ensures.cleared in
+    let left = c.in_ok-empty_zones.ensures.left in
+    let is : Empties old middle n resets first = record { known = cleared_now.known; logs = left.logs; vacant = cleared_now.empty; tails = left.tails; kept = c.empty_zones.ensures.kept } in
+    let third = g.D.Device.drive c.repair_torn.new.device in
+    let second = c.repair_torn.new.survey in
+    let new = g.D.Device.drive c.finish_zones.new.device in
+    let same = c.in_ok-repair_torn.ensures.ok.known.given_is ∙ cleared_now.known.given_is in
+    let planned = subst (λ (k : ℕ). LeavesPlanned middle.geometry k (drive_logs middle) c.args.plan.now.repair (drive_logs third)) cleared_now.known.given_is c.in_ok-repair_torn.ensures.left in
+    on-ok c.finish_zones.result (drive_logs new ≡ drive_logs third) (LeavesCleared n old resets new)
+    (carried-left old middle third new n resets c.args.plan.now.repair first is c.requires.planned.repair planned) c.finish_zones.ensures.logs
+
+pub returns-clause-others : goal.returns-clause-others
+returns-clause-others g c =
+    let n = c.args.survey.now.given in
+    let old = g.D.Device.drive c.args.device.now in
+    let middle = g.D.Device.drive c.empty_zones.new.device in
+    let first = c.empty_zones.new.survey in
+    let resets = c.args.plan.now.half_clean.items in
+    let cleared_now = c.in_ok-empty_zones.ensures.cleared in
+    let left = c.in_ok-empty_zones.ensures.left in
+    let is : Empties old middle n resets first = record { known = cleared_now.known; logs = left.logs; vacant = cleared_now.empty; tails = left.tails; kept = c.empty_zones.ensures.kept } in
+    let third = g.D.Device.drive c.repair_torn.new.device in
+    let second = c.repair_torn.new.survey in
+    let new = g.D.Device.drive c.finish_zones.new.device in
+    let same = c.in_ok-repair_torn.ensures.ok.known.given_is ∙ cleared_now.known.given_is in
+    on-ok c.finish_zones.result (KeepsGoing third new) (KeepsOthers old resets new)
+    (carried-others old middle third new n resets c.args.plan.now.repair first is c.requires.planned.repair left.others c.in_ok-repair_torn.ensures.others) c.finish_zones.ensures.others

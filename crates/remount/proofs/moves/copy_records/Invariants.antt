@@ -1,6 +1,0 @@
-use Rattle.std.proofs.Common.{drop}
-use Rattle.remount.proofs.MoveBuildLaws.{Copying}
-use Rattle.remount.proofs.moves.copy_records.Given as goal
-
-abbrev pub invariant-loop-block : goal.invariant-loop-block
-invariant-loop-block g l = Copying (g.D.Device.drive l.fn.device) (g.D.Device.drive l.device) l.tables l.zone l.reported l.fn.batch l.batch l.blocks (drop l.block-index l.blocks)

@@ -1,8 +1,0 @@
-use Rattle.std.proofs.Common.{List, ap, ◌∙◌}
-use Rattle.remount.specs.Heads.{HeadsView, greatest_sequence}
-use Rattle.remount.specs.Torn.{sequences_in}
-use Rattle.remount.proofs.TornPlanLaws.{sequences-kept}
-use Rattle.remount.proofs.order.greatest_sequence.Goals as goal
-
-pub returns : goal.returns
-returns c = λ logs heads. c.greatest_sequence.ensures ∙ ap (λ (hs : List HeadsView). greatest_sequence (sequences_in hs)) heads ∙ ap greatest_sequence (sequences-kept logs)

@@ -1,0 +1,104 @@
+use Rattle.std.proofs.Common.{ℕ, ◌≡◌, ◌+◌, ◌≤◌, false, inr, List, length, refl, sym, ap, subst, ◌∙◌, arith}
+use Rattle.drive_array.specs.Repair.{moves}
+use Rattle.drive_array.specs.Reserve.{batch_most}
+use Rattle.drive_survey.specs.declared.scan.ScannedZone.{ScannedZone}
+use Rattle.drive_survey.specs.Heads.{greatest_sequence, sequences_in}
+use Rattle.drive_survey.specs.Scan.{heads_in}
+use Rattle.remount.specs.Torn.{IsNextTorn, is_torn_in}
+use Rattle.remount.proofs.TornPlanLaws.{IsReady, answer-past, answer-plan, answer-spent, answer-two, can-count, can-plan, none-of, none-torn, some-of}
+use Rattle.remount.proofs.repair.torn.plan_repair.Goals as goal
+
+pub returns-in_default-clause-ok : goal.returns-in_default-clause-ok
+returns-in_default-clause-ok c = λ drive logs same known.
+    let none : (zone : ℕ) → 0 ≤ zone → is_torn_in c.args.survey.now.scanned.items zone ≡ false = subst (λ (zs : List ScannedZone). (zone : ℕ) → 0 ≤ zone → is_torn_in zs zone ≡ false) c.deref.ensures.value c.in_default.ensures.none in
+    none-torn drive c.args.survey.now.given logs c.args.survey.now known none
+
+pub returns-then-is_some-clause-err : goal.returns-then-is_some-clause-err
+returns-then-is_some-clause-err c =
+    let survey = c.args.survey.now in
+    let zone = c.in-Some.zone in
+    let next : IsNextTorn survey.scanned.items 0 zone = subst (λ (zs : List ScannedZone). IsNextTorn zs 0 zone) c.deref.ensures.value c.in-Some.ensures.some in
+    let second = some-of (IsNextTorn c.deref-2.result.now (zone + 1)) c.find_torn-2.result (sym c.if-is_some.ensures) c.find_torn-2.ensures.some in
+    inr (answer-two c.args.geometry.now c.args.survey.now.given survey zone second.0 next (subst (λ (zs : List ScannedZone). IsNextTorn zs (zone + 1) second.0) c.deref-2.ensures.value second.1))
+
+pub live_blocks-requires-clause-few : goal.live_blocks-requires-clause-few
+live_blocks-requires-clause-few c = (can-count c.args.geometry.now c.args.survey.now.given c.args.survey.now c.in_ok-tables.tables c.requires.surveyed c.in_ok-tables.ensures.placed).few
+
+pub live_blocks-requires-clause-zone : goal.live_blocks-requires-clause-zone
+live_blocks-requires-clause-zone c =
+    let survey = c.args.survey.now in
+    let zone = c.in-Some.zone in
+    let next : IsNextTorn survey.scanned.items 0 zone = subst (λ (zs : List ScannedZone). IsNextTorn zs 0 zone) c.deref.ensures.value c.in-Some.ensures.some in
+    let can = can-count c.args.geometry.now c.args.survey.now.given survey c.in_ok-tables.tables c.requires.surveyed c.in_ok-tables.ensures.placed in
+    let plan = can-plan c.args.geometry.now c.args.survey.now.given survey c.requires.surveyed in
+    omega (arith, next.in_range, can.zones, plan.long)
+
+pub returns-then-geometry-moves-clause-err : goal.returns-then-geometry-moves-clause-err
+returns-then-geometry-moves-clause-err c =
+    let survey = c.args.survey.now in
+    let zone = c.in-Some.zone in
+    let next : IsNextTorn survey.scanned.items 0 zone = subst (λ (zs : List ScannedZone). IsNextTorn zs 0 zone) c.deref.ensures.value c.in-Some.ensures.some in
+    let geometry = c.args.geometry.now in
+    let blocks = c.in_ok-live.live.blocks.items in
+    let with_data = c.in_ok-live.live.with_data in
+    let tables = c.in_ok-tables.tables in
+    let none : (other : ℕ) → zone + 1 ≤ other → is_torn_in survey.scanned.items other ≡ false =
+    subst (λ (zs : List ScannedZone). (other : ℕ) → zone + 1 ≤ other → is_torn_in zs other ≡ false) c.deref-2.ensures.value (none-of ((other : ℕ) → zone + 1 ≤ other → is_torn_in c.deref-2.result.now other ≡ false) c.find_torn-2.result (sym c.if-is_some.ensures) c.find_torn-2.ensures.none) in
+    let count = c.count_moves-moves.result in
+    let long : c.len.result ≡ length blocks = omega (arith, c.len.ensures) in
+    let count-is : count ≡ moves (batch_most geometry) (length blocks) = c.count_moves-moves.ensures.moves ∙ ap (λ (most : ℕ). moves most c.len.result) c.batch_most.ensures.most ∙ ap (λ (n : ℕ). moves (batch_most geometry) n) long in
+    let ready : IsReady geometry c.args.survey.now.given survey tables zone count blocks with_data = record {
+      next = next;
+      none = none;
+      placed = c.in_ok-tables.ensures.placed;
+      counted = record { blocks_are = c.in_ok-live.ensures.blocks; data_is = c.in_ok-live.ensures.data; count_is = count-is };
+    } in
+    inr (answer-past geometry c.args.survey.now.given survey tables zone count blocks with_data ready c.if-geometry-moves.true)
+
+pub returns-then-greatest_sequence-moves-clause-err : goal.returns-then-greatest_sequence-moves-clause-err
+returns-then-greatest_sequence-moves-clause-err c =
+    let survey = c.args.survey.now in
+    let zone = c.in-Some.zone in
+    let next : IsNextTorn survey.scanned.items 0 zone = subst (λ (zs : List ScannedZone). IsNextTorn zs 0 zone) c.deref.ensures.value c.in-Some.ensures.some in
+    let geometry = c.args.geometry.now in
+    let blocks = c.in_ok-live.live.blocks.items in
+    let with_data = c.in_ok-live.live.with_data in
+    let tables = c.in_ok-tables.tables in
+    let none : (other : ℕ) → zone + 1 ≤ other → is_torn_in survey.scanned.items other ≡ false =
+    subst (λ (zs : List ScannedZone). (other : ℕ) → zone + 1 ≤ other → is_torn_in zs other ≡ false) c.deref-2.ensures.value (none-of ((other : ℕ) → zone + 1 ≤ other → is_torn_in c.deref-2.result.now other ≡ false) c.find_torn-2.result (sym c.if-is_some.ensures) c.find_torn-2.ensures.none) in
+    let count = c.count_moves-moves.result in
+    let long : c.len.result ≡ length blocks = omega (arith, c.len.ensures) in
+    let count-is : count ≡ moves (batch_most geometry) (length blocks) = c.count_moves-moves.ensures.moves ∙ ap (λ (most : ℕ). moves most c.len.result) c.batch_most.ensures.most ∙ ap (λ (n : ℕ). moves (batch_most geometry) n) long in
+    let ready : IsReady geometry c.args.survey.now.given survey tables zone count blocks with_data = record {
+      next = next;
+      none = none;
+      placed = c.in_ok-tables.ensures.placed;
+      counted = record { blocks_are = c.in_ok-live.ensures.blocks; data_is = c.in_ok-live.ensures.data; count_is = count-is };
+    } in
+    let greatest : c.greatest_sequence.result ≡ greatest_sequence (sequences_in (heads_in survey.scanned.items)) = c.greatest_sequence.ensures ∙ ap (λ (zs : List ScannedZone). greatest_sequence (sequences_in (heads_in zs))) c.deref-3.ensures.value in
+    inr (answer-spent geometry c.args.survey.now.given survey tables zone count blocks with_data c.greatest_sequence.result ready c.if-geometry-moves.false greatest (omega (arith, c.if-greatest_sequence-moves.true)))
+
+pub returns-clause-ok : goal.returns-clause-ok
+returns-clause-ok c =
+    let survey = c.args.survey.now in
+    let zone = c.in-Some.zone in
+    let next : IsNextTorn survey.scanned.items 0 zone = subst (λ (zs : List ScannedZone). IsNextTorn zs 0 zone) c.deref.ensures.value c.in-Some.ensures.some in
+    let geometry = c.args.geometry.now in
+    let blocks = c.in_ok-live.live.blocks.items in
+    let with_data = c.in_ok-live.live.with_data in
+    let tables = c.in_ok-tables.tables in
+    let none : (other : ℕ) → zone + 1 ≤ other → is_torn_in survey.scanned.items other ≡ false =
+    subst (λ (zs : List ScannedZone). (other : ℕ) → zone + 1 ≤ other → is_torn_in zs other ≡ false) c.deref-2.ensures.value (none-of ((other : ℕ) → zone + 1 ≤ other → is_torn_in c.deref-2.result.now other ≡ false) c.find_torn-2.result (sym c.if-is_some.ensures) c.find_torn-2.ensures.none) in
+    let count = c.count_moves-moves.result in
+    let long : c.len.result ≡ length blocks = omega (arith, c.len.ensures) in
+    let count-is : count ≡ moves (batch_most geometry) (length blocks) = c.count_moves-moves.ensures.moves ∙ ap (λ (most : ℕ). moves most c.len.result) c.batch_most.ensures.most ∙ ap (λ (n : ℕ). moves (batch_most geometry) n) long in
+    let ready : IsReady geometry c.args.survey.now.given survey tables zone count blocks with_data = record {
+      next = next;
+      none = none;
+      placed = c.in_ok-tables.ensures.placed;
+      counted = record { blocks_are = c.in_ok-live.ensures.blocks; data_is = c.in_ok-live.ensures.data; count_is = count-is };
+    } in
+    let plan = can-plan c.args.geometry.now c.args.survey.now.given survey c.requires.surveyed in
+    let greatest : c.greatest_sequence.result ≡ greatest_sequence (sequences_in (heads_in survey.scanned.items)) = c.greatest_sequence.ensures ∙ ap (λ (zs : List ScannedZone). greatest_sequence (sequences_in (heads_in zs))) c.deref-3.ensures.value in
+    answer-plan geometry c.args.survey.now.given survey tables zone count blocks with_data c.greatest_sequence.result _ refl refl c.in_ok-live.ensures.kept ready c.if-geometry-moves.false greatest
+    (omega (arith, c.if-greatest_sequence-moves.false, c.if-geometry-moves.false, plan.range.capacity, plan.range.size))

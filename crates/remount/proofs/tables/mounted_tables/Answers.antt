@@ -1,0 +1,19 @@
+use Rattle.std.proofs.Common.{◌∙◌, ap, length, sym}
+use Rattle.zone_choice.specs.Roles.{RolesView}
+use Rattle.remount.proofs.MountedLaws.{mounted-agrees, roles-mounted}
+use Rattle.remount.proofs.MountingLaws.{length-empties}
+use Rattle.remount.proofs.tables.mounted_tables.Goals as goal
+
+pub begin-requires : goal.begin-requires
+begin-requires c =
+    ap (λ (r : RolesView). length r.empty) c.in_ok-roles.ensures.is ∙ length-empties _ _ ∙ sym c.in_ok-tables.ensures.zones
+
+pub returns-clause-agrees : goal.returns-clause-agrees
+returns-clause-agrees c drive same repaired below few =
+    let mounts = rw c.deref.ensures.value at c.in_ok-roles.ensures in
+    rw c.begin.ensures (mounted-agrees drive c.args.geometry.now c.args.survey.now.given c.args.next c.args.survey.now c.in_ok-tables.tables c.in_ok-roles.roles same repaired.known repaired below few (c.in_ok-tables.ensures.placed drive _ same repaired.known) mounts)
+
+pub returns-clause-roles : goal.returns-clause-roles
+returns-clause-roles c drive same repaired =
+    let mounts = rw c.deref.ensures.value at c.in_ok-roles.ensures in
+    rw c.begin.ensures (roles-mounted drive c.args.geometry.now c.args.survey.now.given c.args.survey.now c.in_ok-roles.roles same repaired.known repaired mounts)

@@ -1,0 +1,90 @@
+ghost use Rattle.std.specs.Prelude.{◌≡◌, ◌<◌, true, length, IfErr, OnOk};
+ghost use Rattle.drive_port.specs.Contents.{Finishes};
+ghost use Rattle.drive_survey.specs.Scan.{AreKnown, IsInterruption};
+ghost use Rattle.drive_array.specs.ZoneLogs.{drive_logs};
+ghost use Rattle.drive_array.specs.Reserve.{batch_most};
+ghost use Rattle.remount.specs.Kept.{KeepsMountable};
+ghost use Rattle.remount.specs.Mount.{IsRepaired, IsUntorn};
+ghost use Rattle.remount.specs.Resets.{FinishesIf, FinishesOne, IsTested, KeepsGoing, MayChange, is_to_finish};
+
+use drive_port::{Device, finish};
+use drive_survey::{MountFault, ReportedZone, Survey, ZoneHeads, fault_of, is_partly_written};
+use nvme_wire::ZoneState;
+use std::alloc::Global;
+use zone_choice::batch_most;
+
+/// Finishes a zone, and notes that it is Full.
+pub(crate) fn finish_zone<D: Device>(
+    alloc: Global,
+    device: &mut D,
+    survey: &mut Survey,
+    zone: u32,
+) -> Result<(), MountFault>
+    requires zones { AreKnown (D.drive device.old) survey.old.zones.items }
+    requires in_range { zone < length survey.old.zones.items }
+    ensures ok { OnOk result (FinishesOne (D.drive device.old) (D.drive device.new) survey.old survey.new zone) }
+    ensures err { IfErr result (IsInterruption (D.drive device.new)) }
+    ensures kept { MayChange (λ old new. Finishes old new zone) (D.drive device.old) (D.drive device.new) }
+{
+    let geometry = device.geometry();
+    if let Err(fault) = finish(alloc, device, geometry.start_of(zone)) {
+        return Err(fault_of(fault));
+    }
+    survey.zones[zone as usize] = ReportedZone {
+        state: ZoneState::Full,
+        blocks: geometry.capacity,
+    };
+    Ok(())
+}
+
+/// Whether a zone is partly written, but a disk does not go on with it: fewer than two blocks are free, or a batch
+/// has more than `most` entries.
+fn is_to_finish(reported: ReportedZone, heads: &ZoneHeads, capacity: u32, most: u32) -> bool
+    ensures { result ≡ is_to_finish capacity most reported heads.now }
+{
+    is_partly_written(reported)
+        && ((capacity as u64) < reported.blocks as u64 + 2 || most < heads.most())
+}
+
+/// Finishes a zone, if it is partly written and a disk does not go on with it.
+fn finish_if_due<D: Device>(
+    alloc: Global,
+    device: &mut D,
+    survey: &mut Survey,
+    zone: u32,
+) -> Result<(), MountFault>
+    requires zones { AreKnown (D.drive device.old) survey.old.zones.items }
+    requires in_range { zone < length survey.old.zones.items }
+    requires scanned { length survey.old.scanned.items ≡ length survey.old.zones.items }
+    ensures ok { OnOk result (FinishesIf (D.drive device.old) (D.drive device.new) survey.old survey.new zone) }
+    ensures err { IfErr result (IsInterruption (D.drive device.new)) }
+    ensures kept { MayChange (λ old new. Finishes old new zone × IsTested (D.drive device.old).geometry.capacity (batch_most (D.drive device.old).geometry) survey.old zone true) (D.drive device.old) (D.drive device.new) }
+{
+    let geometry = device.geometry();
+    let reported = survey.zones[zone as usize];
+    let heads = &survey.scanned[zone as usize].heads;
+    if !is_to_finish(reported, heads, geometry.capacity, batch_most(&geometry)) {
+        return Ok(());
+    }
+    finish_zone(alloc, device, survey, zone)
+}
+
+/// Finishes the zones that are partly written and have fewer than two free blocks, or a batch with more entries than
+/// ours.
+pub(crate) fn finish_zones<D: Device>(
+    alloc: Global,
+    device: &mut D,
+    survey: &mut Survey,
+) -> Result<(), MountFault>
+    requires untorn { IsUntorn (D.drive device.old) survey.old.given survey.old }
+    ensures repaired { OnOk result (IsRepaired (D.drive device.new) survey.old.given survey.new) }
+    ensures logs { OnOk result (drive_logs (D.drive device.new) ≡ drive_logs (D.drive device.old)) }
+    ensures others { OnOk result (KeepsGoing (D.drive device.old) (D.drive device.new)) }
+    ensures err { IfErr result (IsInterruption (D.drive device.new)) }
+    ensures kept { KeepsMountable survey.old.given (D.drive device.old) (D.drive device.new) }
+{
+    for zone in 0..survey.zones.len() {
+        finish_if_due(alloc, device, survey, zone as u32)?;
+    }
+    Ok(())
+}

@@ -1,0 +1,81 @@
+ghost use Rattle.std.specs.Prelude.{◌≡◌, ◌≢◌, ◌⊎◌, IfErr, IfOk, None, OnOk};
+ghost use Rattle.drive_port.specs.Contents.{contents};
+ghost use Rattle.drive_survey.specs.declared.fault.MountFault.TheVariants as faults;
+ghost use Rattle.drive_survey.specs.Reported.{KeepsZones};
+ghost use Rattle.drive_survey.specs.Scan.{FailsBy, IsInterruption};
+ghost use Rattle.drive_survey.specs.Survey.{MayAsk};
+ghost use Rattle.drive_array.specs.ZoneLogs.{drive_logs, zone_tails};
+ghost use Rattle.remount.specs.Kept.{KeepsMountable};
+ghost use Rattle.remount.specs.Mount.{IsCleared, IsPlanned, IsRepaired, IsToMount, IsUntorn, KeepsOthers, LeavesCleared, LeavesPlanned, MountFails, Mounts, Plans};
+
+use crate::empty::empty_zones;
+use crate::finish::finish_zones;
+use crate::plan::{Plan, plan_mount};
+use crate::repair::{Repair, repair_zone};
+use crate::tables::mounted_tables;
+use drive_port::Device;
+use drive_survey::{MountFault, Survey, greatest_sequence, survey_drive};
+use std::alloc::Global;
+use zone_choice::Tables;
+
+/// Repairs the torn zone, if there is one.
+fn repair_torn<D: Device>(
+    alloc: Global,
+    device: &mut D,
+    survey: &mut Survey,
+    repair: &Option<Repair>,
+) -> Result<(), MountFault>
+    requires cleared { IsCleared (D.drive device.old) survey.old.given survey.old }
+    requires plan { Plans (D.drive device.old).geometry survey.old.given (drive_logs (D.drive device.old)) (zone_tails (contents (D.drive device.old).zones)) repair.now }
+    ensures ok { OnOk result (IsUntorn (D.drive device.new) survey.old.given survey.new) }
+    ensures left { OnOk result (LeavesPlanned (D.drive device.old).geometry survey.old.given (drive_logs (D.drive device.old)) repair.now (drive_logs (D.drive device.new))) }
+    ensures others { OnOk result (repair.now ≡ None → D.drive device.new ≡ D.drive device.old) }
+    ensures err { IfErr result (IsInterruption (D.drive device.new)) }
+    ensures kept { KeepsMountable survey.old.given (D.drive device.old) (D.drive device.new) }
+{
+    let Some(repair) = repair else {
+        return Ok(());
+    };
+    repair_zone(alloc, device, survey, repair)
+}
+
+/// Empties and repairs zones, and finishes those that are to be written no more.
+fn carry_out<D: Device>(
+    alloc: Global,
+    device: &mut D,
+    survey: &mut Survey,
+    plan: &Plan,
+) -> Result<(), MountFault>
+    requires planned { IsPlanned (D.drive device.old) survey.old.given survey.old plan.now }
+    ensures repaired { OnOk result (IsRepaired (D.drive device.new) survey.old.given survey.new) }
+    ensures left { OnOk result (LeavesCleared survey.old.given (D.drive device.old) plan.now.half_clean.items (D.drive device.new)) }
+    ensures others { OnOk result (KeepsOthers (D.drive device.old) plan.now.half_clean.items (D.drive device.new)) }
+    ensures err { IfErr result (IsInterruption (D.drive device.new)) }
+    ensures kept { KeepsMountable survey.old.given (D.drive device.old) (D.drive device.new) }
+{
+    empty_zones(alloc, device, survey, plan)?;
+    repair_torn(alloc, device, survey, &plan.repair)?;
+    finish_zones(alloc, device, survey)
+}
+
+/// Mounts a drive: checks it, repairs what a stop left, and finds where each block is. `given` is how many logical
+/// blocks the drive has if no header says how many.
+pub fn mount<D: Device>(alloc: Global, device: &mut D, given: u64) -> Result<Tables, MountFault>
+    ensures ok { IfOk result (Mounts (D.drive device.old) (D.drive device.new) given) }
+    ensures err { IfErr result (FailsBy (MountFails (D.drive device.old) given) (D.drive device.new)) }
+    ensures refused { IfErr result (λ fault. fault ≢ faults.Halted → fault ≢ faults.OutOfMemory → KeepsZones (D.drive device.old) (D.drive device.new)) }
+    ensures early { IfErr result (λ _. KeepsZones (D.drive device.old) (D.drive device.new) ⊎ IsToMount (D.drive device.old) given) }
+    ensures kept { KeepsMountable given (D.drive device.old) (D.drive device.new) }
+    ensures unsent { (MayAsk (D.drive device.old) given → ⊥) → D.drive device.new ≡ D.drive device.old }
+{
+    let geometry = device.geometry();
+    let mut survey = survey_drive(alloc, device, given)?;
+    let greatest = greatest_sequence(&survey.scanned);
+    let plan = plan_mount(alloc, device, &mut survey)?;
+    carry_out(alloc, device, &mut survey, &plan)?;
+    let next = greatest_sequence(&survey.scanned)
+        .max(greatest)
+        .saturating_add(1);
+    let tables = mounted_tables(alloc, &survey, &geometry, next)?;
+    Ok(tables)
+}

@@ -1,0 +1,102 @@
+ghost use Rattle.std.specs.Prelude.{◌≡◌, ◌≢◌, ◌<◌, ◌≤◌, ◌^◌, ℕ, true, false, length, slice_get, slice_index_or, Some, IfErr, IfNone, IfOk, IfSome, OnOk};
+ghost use Rattle.drive_port.specs.Contents.{contents};
+ghost use Rattle.zone_choice.specs.Agreement.{IsShut};
+ghost use Rattle.drive_array.specs.ZoneLogs.{drive_logs, zone_tails};
+ghost use Rattle.remount.specs.Kept.{AreVacantEmpty, KeepsMountable};
+ghost use Rattle.drive_survey.specs.Known.{Knows};
+ghost use Rattle.remount.specs.Mount.{IsCleared, IsOnlyTorn};
+ghost use Rattle.remount.specs.Moving.{KeepsShut, SettlesOthers, SettlesZone};
+ghost use Rattle.drive_survey.specs.Reported.{IsKnown};
+ghost use Rattle.drive_survey.specs.Scan.{IsInterruption};
+ghost use Rattle.drive_survey.specs.declared.reported.ReportedZone.{ReportedZone};
+ghost use Rattle.nvme_wire.specs.declared.zone_state.ZoneState.TheVariants as states;
+
+use crate::finish::finish_zone;
+use drive_port::{Device, close};
+use drive_survey::{MountFault, ReportedZone, Survey, fault_of};
+use nvme_wire::ZoneState;
+use std::alloc::Global;
+use zone_states::{is_active, is_open};
+
+/// Finishes a zone that is opened or Closed, unless it is the torn one.
+fn finish_other<D: Device>(
+    alloc: Global,
+    device: &mut D,
+    survey: &mut Survey,
+    torn: u32,
+    zone: u32,
+) -> Result<(), MountFault>
+    requires known { (n : ℕ) × Knows (D.drive device.old) n (drive_logs (D.drive device.old)) survey.old }
+    requires vacant { AreVacantEmpty survey.old.zones.items (drive_logs (D.drive device.old)) }
+    requires torn { IsOnlyTorn (drive_logs (D.drive device.old)) (zone_tails (contents (D.drive device.old).zones)) torn }
+    requires in_range { zone < length survey.old.zones.items }
+    ensures ok { OnOk result ((n : ℕ) → Knows (D.drive device.old) n (drive_logs (D.drive device.old)) survey.old → SettlesZone n (D.drive device.old) (D.drive device.new) survey.old survey.new torn zone) }
+    ensures err { IfErr result (IsInterruption (D.drive device.new)) }
+    ensures kept { (n : ℕ) → KeepsMountable n (D.drive device.old) (D.drive device.new) }
+{
+    if zone == torn {
+        return Ok(());
+    }
+    if !is_active(survey.zones[zone as usize].state) {
+        return Ok(());
+    }
+    finish_zone(alloc, device, survey, zone)
+}
+
+/// Finishes each zone but the torn one that is opened or Closed.
+pub(crate) fn finish_beside<D: Device>(
+    alloc: Global,
+    device: &mut D,
+    survey: &mut Survey,
+    torn: u32,
+) -> Result<(), MountFault>
+    requires cleared { IsCleared (D.drive device.old) survey.old.given survey.old }
+    requires torn { IsOnlyTorn (drive_logs (D.drive device.old)) (zone_tails (contents (D.drive device.old).zones)) torn }
+    ensures cleared { OnOk result (IsCleared (D.drive device.new) survey.old.given survey.new) }
+    ensures left { OnOk result (SettlesOthers (D.drive device.old) (D.drive device.new) torn) }
+    ensures err { IfErr result (IsInterruption (D.drive device.new)) }
+    ensures kept { KeepsMountable survey.old.given (D.drive device.old) (D.drive device.new) }
+{
+    for zone in 0..survey.zones.len() as u32 {
+        finish_other(alloc, device, survey, torn, zone)?;
+    }
+    Ok(())
+}
+
+/// The lowest zone that was reported Empty.
+pub(crate) fn lowest_empty(zones: &[ReportedZone]) -> Option<u32>
+    requires { length zones.now < 2 ^ 32 }
+    ensures some { IfSome result (λ zone. (zone < length zones.now) × ((reported : ReportedZone) → slice_get zones.now zone ≡ Some reported → reported.state ≡ states.Empty)) }
+    ensures lowest { IfSome result (λ zone. (other : ℕ) (reported : ReportedZone) → other < zone → slice_get zones.now other ≡ Some reported → reported.state ≢ states.Empty) }
+    ensures none { IfNone result ((zone : ℕ) (reported : ReportedZone) → slice_get zones.now zone ≡ Some reported → reported.state ≢ states.Empty) }
+{
+    for (number, zone) in zones.iter().enumerate() {
+        if zone.state == ZoneState::Empty {
+            return Some(number as u32);
+        }
+    }
+    None
+}
+
+/// Sends Close to a zone that was reported open, if only one zone may be open.
+pub(crate) fn close_alone<D: Device>(
+    alloc: Global,
+    device: &mut D,
+    zone: u32,
+    reported: ReportedZone,
+) -> Result<(), MountFault>
+    requires known { IsKnown (D.drive device.old) zone reported }
+    ensures shut { OnOk result ((D.drive device.old).geometry.open < 2 → IsShut (D.drive device.new).zones zone) }
+    ensures spared { 2 ≤ (D.drive device.old).geometry.open → D.drive device.new ≡ D.drive device.old }
+    ensures err { IfErr result (IsInterruption (D.drive device.new)) }
+    ensures kept { KeepsShut (D.drive device.old) (D.drive device.new) }
+{
+    let geometry = device.geometry();
+    if geometry.open > 1 || !is_open(reported.state) {
+        return Ok(());
+    }
+    if let Err(fault) = close(alloc, device, geometry.start_of(zone)) {
+        return Err(fault_of(fault));
+    }
+    Ok(())
+}

@@ -1,6 +1,0 @@
-use Rattle.std.proofs.Common.{arith}
-use Rattle.zone_choice.proofs.NewestLaws.{newest-append_log}
-use Rattle.zone_choice.proofs.laws.append_first.Goals as goal
-
-pub returns : goal.returns
-returns c = λ block zone logs batch. newest-append_log block 0 logs zone zone batch (omega arith)

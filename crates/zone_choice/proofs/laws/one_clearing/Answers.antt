@@ -1,9 +1,0 @@
-use Rattle.zone_choice.proofs.ClearingLaws.{clearing_keeps}
-use Rattle.zone_choice.proofs.DecideLaws.{has_clearing}
-use Rattle.zone_choice.proofs.laws.one_clearing.Goals as goal
-
-pub returns-clause-one : goal.returns-clause-one
-returns-clause-one c = has_clearing
-
-pub returns-clause-keeps : goal.returns-clause-keeps
-returns-clause-keeps c = clearing_keeps
