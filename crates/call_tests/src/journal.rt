@@ -1,5 +1,6 @@
 // The file of a drive: changes behind its image that are cut off or damaged anywhere, and a store that fails.
 
+ghost use Rattle.std.specs.Prelude.{◌≡◌, ◌≤◌, ◌<◌, false};
 ghost use Rattle.nvme_wire.specs.Entry.{IsAdmitted};
 
 use disk_files::FailAfter;
@@ -115,7 +116,7 @@ fn changes_within(bytes: u64) -> usize
             changes = i;
         }
     }
-    changes
+    changes.min(5)
 }
 
 // The file gives the drive after these changes.
