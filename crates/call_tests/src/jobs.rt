@@ -533,11 +533,11 @@ const FORCE_TEXT: &str =
 #[test]
 fn formats_no_other_file(rt: HostRuntime) -> Result<(), Fail> {
     fs::write(&rt, "text.image", b"not an image".as_slice())?;
-    check_written(&rt, rt.alloc(), &[(FORMAT_TEXT, b"", b"fault file\n")]);
+    check_written(&rt, rt.alloc(), &[(FORMAT_TEXT, b"", b"ok\nfault file\n")]);
     assert_eq!(rt; fs::metadata(&rt, "text.image")?.len(), 12);
     let file = fs::open(&rt, "text.image")?;
     file.lock_shared()?;
-    check_written(&rt, rt.alloc(), &[(FORCE_TEXT, b"", b"fault file\n")]);
+    check_written(&rt, rt.alloc(), &[(FORCE_TEXT, b"", b"ok\nfault file\n")]);
     assert_eq!(rt; fs::metadata(&rt, "text.image")?.len(), 12);
     file.unlock()?;
     check_written(&rt, rt.alloc(), &[(FORCE_TEXT, b"", b"ok\n")]);
