@@ -66,6 +66,14 @@ pub struct Setting {
     pub habit: Habit,
 }
 
+/// The drive over which the lines of a step run, and how.
+#[derive(Clone, Copy)]
+pub struct Stage<'a> {
+    pub alloc: Global,
+    pub world: &'a World,
+    pub setting: Setting,
+}
+
 impl Setting {
     pub const PLAIN: Setting = Setting {
         stop_after: None,

@@ -1,6 +1,6 @@
 //! Calls of the libraries: those of a disk, and the typed calls to a drive.
 
-use crate::bench::{Bench, Setting, bench_of, world_after};
+use crate::bench::{Bench, Setting, Stage, bench_of, world_after};
 use crate::fault::ScriptFault;
 use crate::requests::{Request, parse_request};
 use crate::runs::{show_report, show_unreached};
@@ -269,16 +269,14 @@ fn show_disk_over(
 /// Mounts the drive as a disk, and makes the calls of each line, also after a refusal. The line `report`
 /// asks it for a report of all zones, `place L` where block `L` lies, `live I` how many blocks lie in zone `I`.
 pub fn show_disk(
-    alloc: Global,
-    world: &World,
-    setting: Setting,
+    stage: Stage,
     blocks: u64,
     lines: &[&str],
     out: &mut String,
 ) -> Result<World, ScriptFault> {
-    let bench = bench_of(alloc, world, setting)?;
-    let (bench, shown) = show_disk_over(alloc, bench, blocks, lines, out);
-    world_after(alloc, world.geometry, bench, shown)
+    let bench = bench_of(stage.alloc, stage.world, stage.setting)?;
+    let (bench, shown) = show_disk_over(stage.alloc, bench, blocks, lines, out);
+    world_after(stage.alloc, stage.world.geometry, bench, shown)
 }
 
 // What a typed call answers.

@@ -1,6 +1,6 @@
 //! Traces, raw lines and commands, over the drive of a script.
 
-use crate::bench::{Left, Setting, bench_of, left_by};
+use crate::bench::{Left, Setting, Stage, bench_of, left_by};
 use crate::fault::ScriptFault;
 use crate::requests::parse_request;
 use crate::show::{show_answer_bytes, show_fault, show_line, show_lines, show_sent};
@@ -157,9 +157,8 @@ struct Shown {
 
 // Shows what a longer run did more than was shown.
 fn show_more(
-    alloc: Global,
+    stage: Stage,
     shown: Shown,
-    setting: Setting,
     lines: Lines,
     line: &str,
     ran: &Ran,
@@ -168,13 +167,13 @@ fn show_more(
     let entries = ran.left.entries.as_slice();
     if let Lines::Trace(_) = lines {
         let sent = entries.get(shown.commands..).unwrap_or(&[]);
-        show_sent(alloc, sent, setting.shows_entries, out)?;
+        show_sent(stage.alloc, sent, stage.setting.shows_entries, out)?;
     }
     let replies = ran.replies.get(shown.replies..).unwrap_or(&[]);
     let replies = std::str::from_utf8(replies).or(Err(ScriptFault::Words))?;
-    show_replies(alloc, lines, line, replies, out)?;
+    show_replies(stage.alloc, lines, line, replies, out)?;
     if let Err(fault) = ran.result {
-        show_fault(alloc, fault, out)?;
+        show_fault(stage.alloc, fault, out)?;
     }
     Ok(Shown {
         commands: entries.len(),
@@ -230,32 +229,23 @@ fn text_of(
 
 // Runs the first lines of a step, and shows what the last of them did.
 fn show_front(
-    alloc: Global,
-    world: &World,
-    setting: Setting,
+    stage: Stage,
     lines: Lines,
     block: &[&str],
     shown: &mut Shown,
     out: &mut String,
 ) -> Result<Ran, ScriptFault> {
-    let ran = run(
-        alloc,
-        world,
-        setting,
-        lines,
-        &text_of(alloc, world, lines, block)?,
-    )?;
+    let text = text_of(stage.alloc, stage.world, lines, block)?;
+    let ran = run(stage.alloc, stage.world, stage.setting, lines, &text)?;
     let last = block.last().copied().unwrap_or("");
-    *shown = show_more(alloc, *shown, setting, lines, last, &ran, out)?;
+    *shown = show_more(stage, *shown, lines, last, &ran, out)?;
     Ok(ran)
 }
 
 /// Runs the lines of a step, and shows below each of them what it did. To tell the lines apart, each
 /// front of the lines is run over the same drive.
 pub fn show_run(
-    alloc: Global,
-    world: &World,
-    setting: Setting,
+    stage: Stage,
     lines: Lines,
     block: &[&str],
     out: &mut String,
@@ -264,7 +254,7 @@ pub fn show_run(
         commands: 0,
         replies: 0,
     };
-    let mut ran = show_front(alloc, world, setting, lines, &[], &mut shown, out)?;
+    let mut ran = show_front(stage, lines, &[], &mut shown, out)?;
     for (number, line) in block.iter().enumerate() {
         if ran.result.is_err() {
             show_unreached(&block[number..], out)?;
@@ -272,7 +262,7 @@ pub fn show_run(
         }
         show_line(line, out)?;
         let (front, _) = block.split_at(number + 1);
-        ran = show_front(alloc, world, setting, lines, front, &mut shown, out)?;
+        ran = show_front(stage, lines, front, &mut shown, out)?;
     }
     let left = ran.left;
     Ok(left.world)

@@ -1,7 +1,7 @@
 //! The lines of a script, and what each of them does.
 
 use crate::batches::parse_batch;
-use crate::bench::Setting;
+use crate::bench::{Setting, Stage};
 use crate::calls::{show_calls, show_disk};
 use crate::fault::ScriptFault;
 use crate::grammar::{show_raw_lines, show_trace_lines};
@@ -14,7 +14,7 @@ use crate::questions::{
 };
 use crate::runs::{Lines, show_run};
 use crate::show::show_answer_bytes;
-use crate::stops::{Halts, show_halts};
+use crate::stops::{Halts, Trace, Trial};
 use crate::survey::show_survey;
 use crate::sweeps::show_all_stops;
 use crate::words::{byte, bytes, habit, meant, number, part, shape, state};
@@ -338,41 +338,6 @@ impl<'a> Session<'a> {
         }
     }
 
-    // What the drive holds after calls, or after lines that are sent to it.
-    fn after_commands(
-        &self,
-        name: &str,
-        setting: Setting,
-        lines: &[&str],
-        out: &mut String,
-    ) -> Result<World, ScriptFault> {
-        let world = &self.world;
-        match name {
-            "raw" => show_run(self.alloc, world, setting, Lines::Raw, lines, out),
-            "commands" => show_run(self.alloc, world, setting, Lines::Commands, lines, out),
-            "calls" => show_calls(self.alloc, world, setting, lines, out),
-            _ => Err(ScriptFault::Words),
-        }
-    }
-
-    // What the drive holds after the lines of a disk of `n` blocks.
-    fn after_disk(
-        &self,
-        name: &str,
-        n: u64,
-        setting: Setting,
-        lines: &[&str],
-        out: &mut String,
-    ) -> Result<World, ScriptFault> {
-        let world = &self.world;
-        match name {
-            "trace" => show_run(self.alloc, world, setting, Lines::Trace(n), lines, out),
-            "disk" => show_disk(self.alloc, world, setting, n, lines, out),
-            "mount" => show_mount(self.alloc, world, setting, n, out),
-            _ => Err(ScriptFault::Words),
-        }
-    }
-
     // What the drive holds after the lines of a run.
     fn world_after(
         &self,
@@ -381,9 +346,19 @@ impl<'a> Session<'a> {
         lines: &[&str],
         out: &mut String,
     ) -> Result<World, ScriptFault> {
+        let world = &self.world;
+        let stage = Stage {
+            alloc: self.alloc,
+            world,
+            setting,
+        };
         match words {
-            [name] => self.after_commands(name, setting, lines, out),
-            [name, n] => self.after_disk(name, number(n)?, setting, lines, out),
+            ["raw"] => show_run(stage, Lines::Raw, lines, out),
+            ["commands"] => show_run(stage, Lines::Commands, lines, out),
+            ["calls"] => show_calls(self.alloc, world, setting, lines, out),
+            ["trace", n] => show_run(stage, Lines::Trace(number(n)?), lines, out),
+            ["disk", n] => show_disk(stage, number(n)?, lines, out),
+            ["mount", n] => show_mount(self.alloc, world, setting, number(n)?, out),
             _ => Err(ScriptFault::Words),
         }
     }
@@ -397,6 +372,24 @@ impl<'a> Session<'a> {
         }
     }
 
+    // Runs a trace once with each halt.
+    fn run_halts(
+        &self,
+        halts: Halts,
+        blocks: &str,
+        lines: &[&str],
+        out: &mut String,
+    ) -> Result<(), ScriptFault> {
+        let n = u32::try_from(number(blocks)?).or(Err(ScriptFault::Words))?;
+        let trace = Trace::new(self.alloc, lines, out)?;
+        let trial = Trial {
+            world: &self.world,
+            n,
+            trace: &trace,
+        };
+        trial.show_halts(self.alloc, halts, out)
+    }
+
     // Runs a trace, or mounts the drive, again and again.
     fn run_sweep(
         &self,
@@ -408,9 +401,7 @@ impl<'a> Session<'a> {
         let alloc = self.alloc;
         let world = &self.world;
         match (words, sweep) {
-            (["trace", n], Sweep::Each(halts)) => {
-                show_halts(alloc, world, halts, number(n)?, lines, out)
-            }
+            (["trace", n], Sweep::Each(halts)) => self.run_halts(halts, n, lines, out),
             (["trace", n], Sweep::Mounts) => show_all_stops(alloc, world, number(n)?, lines, out),
             (["mount", n], Sweep::Each(halts)) => {
                 show_mount_halts(alloc, world, halts, number(n)?, out)

@@ -223,8 +223,14 @@ impl<'a> Trial<'a> {
         Ok(settings)
     }
 
-    // Checks a run with each halt.
-    fn show_halts(&self, alloc: Global, halts: Halts, out: &mut String) -> Result<(), ScriptFault> {
+    /// Runs the trace once with each halt, and checks that each time the lines before it are answered, and the drive
+    /// can be mounted and holds their array with a front of the next.
+    pub fn show_halts(
+        &self,
+        alloc: Global,
+        halts: Halts,
+        out: &mut String,
+    ) -> Result<(), ScriptFault> {
         let settings = self.settings(alloc, halts)?;
         for setting in &settings {
             checked("trace", *setting, self.check(alloc, *setting), out)?;
@@ -254,24 +260,4 @@ fn show_right(halts: Halts, count: usize, out: &mut String) -> Result<(), AllocE
         out,
         "    and it holds the array with a front of the next line"
     )
-}
-
-/// Runs a trace once with each halt, and checks that each time the lines before it are answered, and the
-/// drive can be mounted and holds their array with a front of the next.
-pub fn show_halts(
-    alloc: Global,
-    world: &World,
-    halts: Halts,
-    blocks: u64,
-    lines: &[&str],
-    out: &mut String,
-) -> Result<(), ScriptFault> {
-    let n = u32::try_from(blocks).or(Err(ScriptFault::Words))?;
-    let trace = Trace::new(alloc, lines, out)?;
-    let trial = Trial {
-        world,
-        n,
-        trace: &trace,
-    };
-    trial.show_halts(alloc, halts, out)
 }
