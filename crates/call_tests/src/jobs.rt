@@ -416,7 +416,7 @@ fn check_narrow_image<R: Files + Alloc + Abort>(rt: &R, want: &[u8]) {
 // What a run that stops before its first command writes.
 const HALTED: &[u8] = b"fault mount 10 Halted\n";
 
-// Such a run saves the drive as it was, restarted.
+// Such a run only restarts the drive, and saves it.
 #[test]
 fn keeps_each_byte_where_a_run_stops_at_once(rt: HostRuntime) -> Result<(), Fail> {
     let empty = narrow_image(rt.alloc())?;
@@ -488,7 +488,7 @@ fn long_name(rt: &impl Abort, alloc: Global) -> String {
     name
 }
 
-// The replies come before the fault, and the image stays as it was. Both the fault of a line and the save are told.
+// The replies come before the fault, and the image does not change. Both the fault of a line and the save are told.
 #[test]
 fn keeps_the_image_where_a_save_fails(rt: HostRuntime) -> Result<(), Fail> {
     let alloc = rt.alloc();

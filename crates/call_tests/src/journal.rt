@@ -1,4 +1,4 @@
-// The file of a drive: changes behind its image that are cut off or damaged anywhere, and a store that fails.
+// The file of a drive: changes after its image that are cut off or damaged anywhere, and a store that fails.
 
 ghost use Rattle.std.specs.Prelude.{◌≡◌, ◌≤◌, ◌<◌, false};
 ghost use Rattle.nvme_wire.specs.Entry.{IsAdmitted};
@@ -106,7 +106,7 @@ fn five_changes(alloc: Global) -> Result<Vec<u8>, Fail> {
     Ok(store.into_inner())
 }
 
-// How many changes are whole in so many bytes of the file.
+// How many changes are whole in that many bytes of the file.
 fn changes_within(bytes: u64) -> usize
     ensures { result ≤ 5 }
 {

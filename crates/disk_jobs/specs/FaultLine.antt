@@ -10,7 +10,7 @@ use Rattle.disk_runs.specs.declared.fault.RunFault.TheVariants as runs
 use Rattle.disk_jobs.specs.declared.fault.ProgramFault.{ProgramFault}
 use Rattle.disk_jobs.specs.declared.fault.ProgramFault.TheVariants as program
 
--- a run by the line of its fault, a number of blocks that does not fit by that of the mount, an image by its own, and a file by one line for all its faults
+-- a run by the line of its fault, a number of blocks that does not fit by the line of the mount, an image by its own, and a file by one line for all its faults
 abbrev pub program_text : ProgramFault → List ℕ
 program_text (program.Run fault) = run_text fault
 program_text (program.Reserve most) = run_text (runs.Mount mounts.Reserve)

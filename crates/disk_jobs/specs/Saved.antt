@@ -115,11 +115,11 @@ HasDrive job image (Some drive) old new = BeginsOn job image drive × SaysFirst 
 
 -- ---- what the lines make of it
 
--- the device over which the lines run: it stops after so many commands of this drive, and tears an Append by so many blocks
+-- the device over which the lines run: it stops after that many commands of this drive, and tears an Append after that many blocks
 abbrev pub stopping : Stop → DriveState → Stopping
 stopping stop drive = record { inner = drive; limit = stop.commands; tear = stop.tear; completed = 0; progress = Going }
 
--- a trace is run over the device, mounted as so many blocks, and leaves the zones of this drive
+-- a trace is run over the device, mounted as that many blocks, and leaves the zones of this drive
 pub record RunsTrace (blocks : ℕ) (device : Stopping) (bytes : Exchange) (ended : Result (Unit {0}) RunFault) (new : DriveState) : Type 0 where
   pub seen : DriveState
   pub gives : RunGives blocks bytes (drive_of device) ended seen

@@ -43,7 +43,7 @@ fn told(fault: FileFault) -> ProgramFault {
     ProgramFault::File(fault)
 }
 
-/// Sends on its way what was written.
+/// Sends what was written.
 fn send<W: Write>(output: &mut W) -> Result<(), ProgramFault> {
     output.flush().or(Err(ProgramFault::Run(RunFault::Output)))
 }
@@ -61,7 +61,7 @@ fn open_image<F: Files<File = File>>(
     }
 }
 
-/// Does a job on the bytes of an image, sends on its way what it wrote, and hands back the drive to save, if there is
+/// Does a job on the bytes of an image, sends what it wrote, and hands back the drive to save, if there is
 /// one.
 fn run_on<I: Read, R: Read + Drop, W: Write>(
     alloc: Global,
@@ -127,7 +127,7 @@ fn format<F: Files<File = File>, R: Read + Drop, W: Write>(
     }
 }
 
-/// Does a job, sends on its way what it wrote, and then saves the drive if the job works on one in a file, also after
+/// Does a job, sends what it wrote, and then saves the drive if the job works on one in a file, also after
 /// a fault. The file is locked from before it is read until after the drive is saved.
 pub fn do_job<F: Files<File = File>, R: Read + Drop, W: Write>(
     files: &F,

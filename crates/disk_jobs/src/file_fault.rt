@@ -35,7 +35,7 @@ impl Display for SystemError {
     }
 }
 
-/// Why the file of an image is not used, or why the drive is not saved in it. Its text goes on after the file's path.
+/// Why the file of an image is not used, or why the drive is not saved in it. Its text follows the file's path.
 /// After each of them the file holds what it held before.
 #[derive(Clone, Copy, Debug, PartialEq, Eq, Error)]
 pub enum FileFault {

@@ -20,7 +20,7 @@
 //!
 //! * The drive that [`run_job`] hands back is the one that the lines left, also after a fault: of `run`, what `run_trace`
 //!   of `disk_runs` left of the drive in the image, restarted; of `nvme`, what `run_raw` left of it; of `format`, a
-//!   fresh drive (`specs/Saved.antt`). Then the fault is that of the run, and the output is `ok` of `format`, the
+//!   fresh drive (`specs/Saved.antt`). Then the fault comes from the run, and the output is `ok` of `format`, the
 //!   replies, and then the zones if they are asked for.
 //! * There is no drive only after a report, or where none was made or read. Then no line was read, and the fault says
 //!   why. Nothing is written before a fault of the image.

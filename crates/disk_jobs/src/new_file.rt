@@ -69,7 +69,7 @@ fn make_at_free_name<F: Files>(
     Err(io::Error::from(ErrorKind::AlreadyExists))
 }
 
-/// The mode of a new file, by that of the old one. Where the new file has another group, its group may do what all
+/// The mode of a new file, by the mode of the old one. Where the new file has another group, its group may do what all
 /// may do.
 fn mode_of(old: u32, is_group_kept: bool) -> u32 {
     if is_group_kept {

@@ -60,7 +60,8 @@ fn show_zones<W: Write>(alloc: Global, drive: &Drive, output: &mut W) -> Result<
     Ok(())
 }
 
-/// A device that stops after so many commands of a drive, and tears the Append after them by so many blocks.
+/// A device that stops after the commands of a stop, or inside the Append after them. Then the first blocks of the
+/// Append are written.
 fn stopping(drive: Drive, stop: Stop) -> StopAfter<Drive>
     ensures { result ≡ stopping stop drive.state }
 {
@@ -279,7 +280,7 @@ pub fn run_job<I: Read, R: Read + Drop, W: Write>(
     input: &mut LineReader<R>,
     output: &mut W,
 ) -> (Option<Drive>, Result<(), ProgramFault>)
-    // A drive that is handed back is the one that the lines left, whatever ended them; the fault is that of their run.
+    // A drive that is handed back is the one that the lines left, whatever ended them; the fault comes from their run.
     ensures saved { IfSome result.0 (λ drive. LeftByLines job.now (I.remaining image.old)
         (exchange input.old.left (W.contents output.old) (W.contents output.new))
         (ended_by result.1) drive.state) }

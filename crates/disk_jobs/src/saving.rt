@@ -5,7 +5,7 @@ use crate::fault::ProgramFault;
 use crate::job::Job;
 use zone_drive::Drive;
 
-/// What is saved of a job, by the drive that it left and how it ended, with what it wrote sent on its way: that drive,
+/// What is saved of a job, by the drive that it left and how it ended, once what it wrote was sent: that drive,
 /// also after a fault. A fresh drive is saved only if its `ok` was sent.
 pub(crate) fn drive_to_save(
     job: &Job,

@@ -10,7 +10,7 @@
 //! ```
 //!
 //! What is promised: a `Counter` does what every device promises, and its counts rise with each completed
-//! command as `after` in specs/Counting says. No command is sent for them. A count that would pass `u64::MAX`
+//! command as `counts_after` in specs/Counting says. No command is sent for them. A count that would pass `u64::MAX`
 //! stays there. The text is that of specs/StatisticsText.
 #![tactic(auto)]
 

@@ -121,7 +121,7 @@ module _ (geometry : Geometry) (zones : List StoredZone) (old mid : Option (List
       none = λ lawful. none (rw (zones-are last e) lawful);
     })
 
-  -- bytes behind the image have a fault
+  -- bytes after the image have a fault
   behind : (fault : FileFault) → IfSome mid (λ rest. IsJournalFault geometry (length image) rest fault) → IfSome old (λ bytes. FailsBehindImage bytes fault)
   behind fault fails = by old mid read.text fails
     where
@@ -130,14 +130,14 @@ module _ (geometry : Geometry) (zones : List StoredZone) (old mid : Option (List
       by (Some xs) None front fails = absurd front
       by (Some xs) (Some ys) front fails = record { image = image; saved = unused geometry here; rest = ys; text = front; is_image = image_of geometry zones old mid read; fails = fails }
 
--- what is told of bytes behind an image is never that no drive has the zones
+-- what is told of bytes after an image is never that no drive has the zones
 not-zones : (begins short first : Bool) (at : ℕ) → first_failing ((not begins && first, Image Long) ∷ (not begins || short, Damaged at) ∷ []) ≡ Some Zones → ⊥
 not-zones true true first at e = absurd (cc e)
 not-zones true false first at e = absurd (cc e)
 not-zones false short true at e = absurd (cc e)
 not-zones false short false at e = absurd (cc e)
 
--- a fault behind an image is one of the file
+-- a fault after an image is one of the file
 pub journal-fault : (geometry : Geometry) (zones : List StoredZone) (old mid : Option (List ℕ)) (fault : FileFault) → ReadsImage geometry old mid zones
     → IfSome mid (λ rest. IsJournalFault geometry (length (image_bytes geometry (zones_of geometry.block zones))) rest fault) → IfSome old (λ bytes. IsFileFault bytes fault)
 journal-fault geometry zones old mid (Image fault) read fails = some_so old (λ bytes. FailsBehindImage bytes (Image fault)) (λ bytes. IsFileFault bytes (Image fault)) (λ bytes f. inr f) (behind geometry zones old mid read (Image fault) fails)

@@ -170,7 +170,7 @@ lost-kept j entry lost runs =
 abbrev pub journaled : DriveState → Loss → Option (List ℕ) → Journaled
 journaled inner loss contents = record { inner = inner; loss = loss; contents = contents }
 
--- what was put behind the held bytes is taken away
+-- what was put after the held bytes is taken away
 pub adds-taken : (held returned : List ℕ) (n : ℕ) (Given : List ℕ → Type 0) → length held ≡ n → Given [] → Adds held Given (take n (held ++ returned))
 adds-taken held returned n Given long given = rw (take_at held returned n long) (adds-nothing held Given given)
 

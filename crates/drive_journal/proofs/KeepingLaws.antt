@@ -53,7 +53,7 @@ module _ (bytes : List ℕ) (old : DriveState) (whole : IsStoredWhole bytes old)
     refl,
   )
 
-  -- a change that was cut off is behind them
+  -- a change that was cut off is after them
   pub stored-cut : (cut : List ℕ) → IsCutOff old.geometry cut → IsStored (bytes ++ cut) old
   stored-cut cut cut_off = record {
     parts = record { image = parts.image; saved = parts.saved; changes = parts.changes; cut = cut };

@@ -14,7 +14,7 @@ use Rattle.drive_journal.specs.Replay.{at_rest, replayed}
 use Rattle.drive_journal.proofs.CutLaws.{cut-nothing, one-reading}
 use Rattle.drive_journal.proofs.RestLaws.{rest-rest}
 
--- bytes have one image, one list of changes behind it, and one rest
+-- bytes have one image, one list of changes after it, and one rest
 pub record SameParts (a b : Parts) : Type 0 where
   pub image : a.image ≡ b.image
   pub saved : a.saved ≡ b.saved

@@ -86,7 +86,7 @@ image-no-fault image (byte ∷ rest) drive fault is fails = by (is_of_bytes faul
         absurd (front-not-long (image ++ byte ∷ rest) (rw same at fails))
     by false e = e
 
--- ---- what is behind it
+-- ---- what is after it
 
 -- a change that was cut off has no fault
 no-tail-fault : (geometry : Geometry) (from at : ℕ) (cut : List ℕ) → IsCutOff geometry cut → tail_fault geometry from at cut ≡ None

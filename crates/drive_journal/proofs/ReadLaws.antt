@@ -76,7 +76,7 @@ end-many geometry old mid entry long text many = known geometry old mid entry lo
 data_is : (geometry : Geometry) (entry rest after : List ℕ) (change : Change) → IsChange geometry change → Follows entry rest change after → length change.bytes ≡ beside_blocks (decode_of entry) * geometry.block
 data_is geometry entry rest after change is f = is.bytes ∙ ap (λ (l : List ℕ). beside_blocks (decode_of l) * geometry.block) f.entry_is
 
--- nor does one with fewer bytes behind it than its data
+-- nor does one with fewer bytes after it than its data
 pub end-data : (geometry : Geometry) (old mid : Option (List ℕ)) (entry : List ℕ) (count : ℕ) → length entry ≡ 64 → Consumes old mid entry → count ≡ beside_blocks (decode_of entry) * geometry.block
     → IfSome mid (λ bytes. length bytes < count) → IfSome old (HasNoBody geometry)
 end-data geometry old mid entry count long text count_is short = known geometry old mid entry long text (λ rest is_rest change after is f.

@@ -78,7 +78,7 @@ not-false : (b : Bool) → not b ≡ false → b ≡ true
 not-false true e = refl
 not-false false e = absurd (cc e)
 
--- what stands beside a command that succeeds is the data of just its blocks
+-- what comes with a command that succeeds is the data of just its blocks
 data-passed : (geometry : Geometry) (zones : List Zone) (command : Result Command DecodeFault) (bytes : List ℕ) → changes command ≡ true → AllPass (checks_of geometry zones command bytes)
     → (beside_blocks command ≤ geometry.transfer) × (length (beside_bytes command bytes) ≡ beside_blocks command * geometry.block)
 data-passed geometry zones (Err fault) bytes e all = absurd (cc e)

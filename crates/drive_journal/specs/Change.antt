@@ -1,4 +1,4 @@
--- A change of a drive, as a file keeps it: a mark, the entry of the command that made it, the data beside the entry, and a checksum of both.
+-- A change of a drive, as a file keeps it: a mark, the entry of the command that made it, the data of the entry, and a checksum of both.
 use Rattle.std.specs.Prelude.{◌≡◌, ℕ, suc, ◌-◌, ◌*◌, ◌≤◌, nat_lt, take, Bool, true, false, if◌then◌else◌, List, [], ◌∷◌, ◌++◌, length, Result, Ok}
 use Rattle.std.specs.List.{flat_map}
 use Rattle.byteorder.specs.Endian.{little_bytes}
@@ -26,7 +26,7 @@ beside_blocks (Ok (Write slba blocks)) = blocks
 beside_blocks (Ok (Append zslba blocks)) = blocks
 beside_blocks command = 0
 
--- the bytes beside an entry, where its command writes them
+-- the bytes that come with an entry, where its command writes them
 abbrev pub beside_bytes : Result Command DecodeFault → List ℕ → List ℕ
 beside_bytes (Ok (Write slba blocks)) bytes = bytes
 beside_bytes (Ok (Append zslba blocks)) bytes = bytes
@@ -45,7 +45,7 @@ pub record IsChange (geometry : Geometry) (change : Change) : Type 0 where
 -- ---- its bytes
 
 -- `ZNSCHG01`. An image begins with other letters, and the head of a zone has zeros where this has letters.
--- So bytes that come behind an image by accident, as the rest of a longer one, begin with it only where somebody wrote it.
+-- So bytes that come after an image by accident, as the rest of a longer one, begin with it only where somebody wrote it.
 abbrev pub mark : List ℕ
 mark = 0x5a ∷ 0x4e ∷ 0x53 ∷ 0x43 ∷ 0x48 ∷ 0x47 ∷ 0x30 ∷ 0x31 ∷ []
 

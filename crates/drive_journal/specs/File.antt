@@ -1,4 +1,4 @@
--- What a file holds: the image of a drive, and behind it the changes made since.
+-- What a file holds: the image of a drive, and after it the changes made since.
 use Rattle.std.specs.Prelude.{◌≡◌, ℕ, ◌+◌, List, [], ◌∷◌, ◌++◌, length}
 use Rattle.std.specs.List.{AllByRecursion}
 use Rattle.zone_states.specs.Zone.{Zone}

@@ -28,7 +28,7 @@ IsJournalFault geometry from bytes (Image Input) = ⊤
 IsJournalFault geometry from bytes (Image OutOfMemory) = ⊤
 IsJournalFault geometry from bytes fault = FailsBehindChanges geometry from bytes fault
 
--- an image is whole, and what is behind it has this fault
+-- an image is whole, and what is after it has this fault
 pub record FailsBehindImage (bytes : List ℕ) (fault : FileFault) : Type 0 where
   pub image : List ℕ
   pub saved : DriveState

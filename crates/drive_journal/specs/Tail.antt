@@ -1,4 +1,4 @@
--- What may be behind the last whole change of a file, and what is a fault.
+-- What may be after the last whole change of a file, and what is a fault.
 use Rattle.std.specs.Prelude.{◌≡◌, ℕ, ◌+◌, ◌*◌, ◌≤◌, ◌==◌, nat_eq, nat_lt, not, ◌&&◌, ◌||◌, Bool, true, List, [], ◌∷◌, length, take, Option}
 use Rattle.std.specs.List.{starts_with}
 use Rattle.zone_states.specs.declared.geometry.Geometry.{Geometry}
@@ -26,7 +26,7 @@ pub record IsCutOff (geometry : Geometry) (bytes : List ℕ) : Type 0 where
   pub short : length bytes ≤ longest_change geometry
 
 -- What is wrong with bytes at a place of a file, whose changes would begin at `from`, if no whole change is at their front.
--- Directly behind the image they have to begin as the mark does; a change that was cut off is not longer than one can be.
+-- Directly after the image they have to begin as the mark does; a change that was cut off is not longer than one can be.
 abbrev pub tail_fault : Geometry → ℕ → ℕ → List ℕ → Option FileFault
 tail_fault geometry from at bytes =
     first_failing ((not (begins_as_mark bytes) && at == from, Image images.Long)

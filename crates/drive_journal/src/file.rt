@@ -18,7 +18,7 @@ use zone_states::{Geometry, Zone};
 #[derive(Drop)]
 pub struct OpenedDrive {
     pub drive: Drive,
-    /// How many bytes of the file are the image and whole changes. The bytes behind them are a change that was cut
+    /// How many bytes of the file are the image and whole changes. The bytes after them are a change that was cut
     /// off: the file is cut there before more is written.
     pub whole: u64,
 }
@@ -48,7 +48,7 @@ fn make_drive(alloc: Global, geometry: Geometry, zones: Vec<Zone>) -> Result<Dri
     }
 }
 
-/// Reads the drive that a file holds, to the end of the reader: the image, and the changes behind it. The drive has
+/// Reads the drive that a file holds, to the end of the reader: the image, and the changes after it. The drive has
 /// completed no command. If there are changes, none of its zones is open, as after a restart; else they are as saved.
 pub fn open_drive<R: Read>(alloc: Global, reader: &mut R) -> Result<OpenedDrive, FileFault>
     ensures ok { IfOk result (λ opened. IfSome (R.remaining reader.old) (λ bytes.

@@ -13,7 +13,7 @@ use std::alloc::Global;
 use std::marker::Model;
 
 /// A device that writes each change of another to a store, before it gives the completion. The store holds the image
-/// of a drive, and behind it the changes since.
+/// of a drive, and after it the changes since.
 ///
 /// Where the store fails, the device has stopped, and the completion is lost. The store then holds the drive as it was
 /// before the command, and a beginning of the change.
@@ -114,7 +114,8 @@ impl<D: Device + Drop, S: Store + Drop> Device for Journaling<D, S> {
         bytes: &[u8],
         into: &mut Vec<u8>,
     ) -> Result<[u8; 16], Halt>
-        ensures gives { SubmitGives (journaled_drive self.old) entry.now bytes.now result into.new.items (journaled_drive self.new) }
+        ensures gives { SubmitGives (journaled_drive self.old) entry.now bytes.now result into.new.items
+            (journaled_drive self.new) }
         ensures was_lawful { IsLawful (journaled_drive self.old) }
         ensures lawful { IsLawful (journaled_drive self.new) }
         ensures writes { WritesChange self.old entry.now bytes.now result self.new }

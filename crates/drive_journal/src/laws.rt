@@ -14,7 +14,7 @@ ghost use Rattle.drive_journal.specs.Moments.{IsOfAMoment, RunsTo};
 ghost use Rattle.drive_journal.specs.Tail.{IsCutOff};
 ghost use Rattle.drive_journal.specs.declared.fault.FileFault.{FileFault};
 
-/// Bytes are read as one list of changes at most, and what is left behind it.
+/// Bytes are read as one list of changes at most, and what is left after it.
 pub fn one_reading()
     ensures { (geometry : Geometry) (a b : List Change) (x y : List ℕ) →
         AllByRecursion (IsChange geometry) a → AllByRecursion (IsChange geometry) b →
@@ -40,14 +40,14 @@ pub fn restart_is_stored()
     ensures { (bytes : List ℕ) (drive : DriveState) → IsStored bytes drive → IsStored bytes (restarted drive) }
 {}
 
-/// The whole bytes of a file store the drive that was read in it, so more changes may be written behind them.
+/// The whole bytes of a file store the drive that was read in it, so more changes may be written after them.
 pub fn opened_is_stored()
     ensures { (bytes : List ℕ) (drive : DriveState) (whole : ℕ) → IsDriveFile bytes drive whole →
         IsStoredWhole (take whole bytes) drive }
 {}
 
 /// What a file stores is read in it: the drive that is read is the stored one, up to a restart of both, and no byte
-/// behind the whole ones is taken for a change.
+/// after the whole ones is taken for a change.
 pub fn stored_is_read()
     ensures drive { (bytes : List ℕ) (drive opened : DriveState) (whole : ℕ) →
         IsStored bytes drive → IsDriveFile bytes opened whole → restarted opened ≡ restarted drive }
@@ -55,7 +55,7 @@ pub fn stored_is_read()
         (stored : IsStored bytes drive) → IsDriveFile bytes opened whole → whole ≡ whole_length stored.parts }
 {}
 
-/// A run that is killed: however the file is cut behind what it held at a moment of the run, as when a reply was sent,
+/// A run that is killed: however the file is cut after what it held at a moment of the run, as when a reply was sent,
 /// it stores the drive of that moment or of a later one.
 pub fn cut_at_a_moment()
     ensures { (first last : Journaled) (before bytes : List ℕ) (n : ℕ) → RunsTo first last →

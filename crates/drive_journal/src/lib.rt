@@ -1,4 +1,4 @@
-//! The file of a drive: its image, and behind it the changes made since.
+//! The file of a drive: its image, and after it the changes made since.
 //!
 //! ```text
 //! let opened = open_drive(alloc, &mut reader)?; // the drive that the file holds
@@ -7,8 +7,8 @@
 //! append(alloc, &mut device, 0, &block)?; // in the file before it is answered
 //! ```
 //!
-//! A change is a mark of 8 bytes, the entry of 64 bytes of the command that made it, the data beside the entry, and a
-//! checksum of 8 bytes. An image says itself where it ends, and behind it come the changes in order. So a file that
+//! A change is a mark of 8 bytes, the entry of 64 bytes of the command that made it, the data of the entry, and a
+//! checksum of 8 bytes. An image says itself where it ends, and after it come the changes in order. So a file that
 //! was just saved is the image and nothing more, and its first change begins with the first mark.
 //!
 //! # What is promised
@@ -20,7 +20,7 @@
 //!   (`KeptAfter`), whatever the drive within has done.
 //! * [`open_drive`] reads the drive that a file holds (`IsDriveFile` in `specs/File.antt`), or tells its first fault
 //!   (`IsFileFault`). A change that was cut off is dropped, since its command was never answered. Bytes that are no
-//!   change are a fault: behind the image itself `Long`, as ever; behind a change, or where they are more than a change
+//!   change are a fault: after the image itself `Long`, as ever; after a change, or where they are more than a change
 //!   can have, `Damaged`, with the place of the first.
 //! * What a store holds is read again, up to a restart (`laws::stored_is_read`).
 //!

@@ -119,7 +119,7 @@ pub(crate) fn close_zones(block: u32, zones: &mut [Zone])
     send_to_each(zones, Action::Close);
 }
 
-/// The fault of bytes that do not begin as a change does, behind an image that ends at `from`.
+/// The fault of bytes that do not begin as a change does, after an image that ends at `from`.
 fn other_fault(from: u64, at: u64) -> FileFault
     ensures { result ≡ (if at == from then FileFault.Image ImageFault.Long else FileFault.Damaged at) }
 {

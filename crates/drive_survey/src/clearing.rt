@@ -114,7 +114,8 @@ fn add_moved(
     scanned: &[ScannedZone],
     zone: u32,
 ) -> Result<(), AllocError>
-    ensures own { OnOk result (contains nat_cmp zones.old zone ≡ false → (logs : List (List Batch)) → AreOf scanned.now logs → Tells (contains nat_cmp zones.new zone) (IsMoved logs zone)) }
+    ensures own { OnOk result (contains nat_cmp zones.old zone ≡ false → (logs : List (List Batch))
+        → AreOf scanned.now logs → Tells (contains nat_cmp zones.new zone) (IsMoved logs zone)) }
     ensures others { OnOk result ((q : ℕ) → q ≢ zone → contains nat_cmp zones.new q ≡ contains nat_cmp zones.old q) }
 {
     if !is_moved(scanned, zone) {
@@ -127,7 +128,8 @@ fn add_moved(
 /// All zones of Moves from an older zone.
 fn moved_zones(alloc: Global, scanned: &[ScannedZone]) -> Result<BTreeSet<u32>, AllocError>
     requires few { length scanned.now < 2 ^ 32 }
-    ensures { IfOk result (λ zones. (logs : List (List Batch)) → AreOf scanned.now logs → (zone : ℕ) → Tells (contains nat_cmp zones zone) (IsMoved logs zone)) }
+    ensures { IfOk result (λ zones. (logs : List (List Batch)) → AreOf scanned.now logs → (zone : ℕ)
+        → Tells (contains nat_cmp zones zone) (IsMoved logs zone)) }
 {
     let mut zones = BTreeSet::new(alloc);
     for zone in 0..scanned.len() as u32 {
@@ -140,8 +142,10 @@ impl Candidates {
     /// All zones of Moves from an older zone wait.
     fn new(alloc: Global, survey: &Survey) -> Result<Candidates, AllocError>
         requires few { length survey.now.scanned.items < 2 ^ 32 }
-        ensures are { IfOk result (λ candidates. (drive : DriveState) (n : ℕ) (logs : List (List Batch)) → Knows drive n logs survey.now → AreCandidates drive n logs survey.now candidates) }
-        ensures wait { IfOk result (λ candidates. (drive : DriveState) (n : ℕ) (logs : List (List Batch)) → Knows drive n logs survey.now → AllWait drive n logs candidates) }
+        ensures are { IfOk result (λ candidates. (drive : DriveState) (n : ℕ) (logs : List (List Batch))
+            → Knows drive n logs survey.now → AreCandidates drive n logs survey.now candidates) }
+        ensures wait { IfOk result (λ candidates. (drive : DriveState) (n : ℕ) (logs : List (List Batch))
+            → Knows drive n logs survey.now → AllWait drive n logs candidates) }
     {
         let records = BlockRecords::of_moved(alloc, survey)?;
         let waiting = moved_zones(alloc, &survey.scanned)?;
@@ -163,7 +167,8 @@ fn next_half_clean<D: Device>(
     requires zones { AreKnown (D.drive device.old) survey.now.zones.items }
     requires sizes { candidates.old.sizes ≡ size_counts survey.now.size (heads_in survey.now.scanned.items) }
     ensures ok { IfOk result (FindsLowestWaiting (D.drive device.old) survey.now.given survey.now candidates.old) }
-    ensures others { IfOk result (λ found. IfSome found (LeavesWaiting (D.drive device.old) survey.now.given survey.now candidates.old candidates.new)) }
+    ensures others { IfOk result (λ found. IfSome found
+        (LeavesWaiting (D.drive device.old) survey.now.given survey.now candidates.old candidates.new)) }
     ensures records { candidates.new.records ≡ candidates.old.records }
     ensures sizes { candidates.new.sizes ≡ candidates.old.sizes }
     ensures err { IfErr result (IsInterruption (D.drive device.new)) }
@@ -186,7 +191,8 @@ fn wake_one(
     block: u32,
 ) -> Result<(), AllocError>
     ensures more { OnOk result (IsSubset nat_cmp waiting.old waiting.new) }
-    ensures holder { OnOk result ((logs : List (List Batch)) → HoldsRecords logs records.now → IsSome (held_of records.now block) → HolderWaits logs waiting.new block) }
+    ensures holder { OnOk result ((logs : List (List Batch)) → HoldsRecords logs records.now
+        → IsSome (held_of records.now block) → HolderWaits logs waiting.new block) }
 {
     let Some(newest) = records.newest(block) else {
         return Ok(());
@@ -202,7 +208,8 @@ fn wake(
     entries: &[u32],
 ) -> Result<(), AllocError>
     ensures more { OnOk result (IsSubset nat_cmp waiting.old waiting.new) }
-    ensures holders { OnOk result ((logs : List (List Batch)) → HoldsRecords logs records.now → HoldsBlocks records.now entries.now → HoldersWait logs waiting.new entries.now) }
+    ensures holders { OnOk result ((logs : List (List Batch)) → HoldsRecords logs records.now
+        → HoldsBlocks records.now entries.now → HoldersWait logs waiting.new entries.now) }
 {
     for entry in entries {
         wake_one(records, waiting, block_in(*entry))?;
@@ -218,7 +225,9 @@ fn wake_holders(
     zone: u32,
 ) -> Result<(), AllocError>
     ensures more { OnOk result (IsSubset nat_cmp waiting.old waiting.new) }
-    ensures holders { OnOk result ((logs : List (List Batch)) (found : ScannedZone) → slice_get survey.now.scanned.items zone ≡ Some found → HoldsRecords logs records.now → HoldsBlocks records.now found.heads.entries → HoldersWait logs waiting.new found.heads.entries) }
+    ensures holders { OnOk result ((logs : List (List Batch)) (found : ScannedZone)
+        → slice_get survey.now.scanned.items zone ≡ Some found → HoldsRecords logs records.now
+        → HoldsBlocks records.now found.heads.entries → HoldersWait logs waiting.new found.heads.entries) }
 {
     let Some(found) = survey.scanned.get(zone as usize) else {
         return Ok(());
@@ -259,9 +268,14 @@ fn give_up(
     zone: u32,
 ) -> Result<(), AllocError>
     requires few { length survey.old.scanned.items < 2 ^ 32 }
-    ensures are { OnOk result ((drive : DriveState) (n : ℕ) (logs : List (List Batch)) → AreCandidates drive n logs survey.old candidates.old → IsHalfClean drive.geometry.block n logs zone → AreCandidates drive n (without logs zone) survey.new candidates.new) }
-    ensures wait { OnOk result ((drive : DriveState) (n : ℕ) (logs : List (List Batch)) → AreCandidates drive n logs survey.old candidates.old → IsHalfClean drive.geometry.block n logs zone → OthersWait drive n logs candidates.old zone → AllWait drive n (without logs zone) candidates.new) }
-    ensures heads { OnOk result (heads_in survey.new.scanned.items ≡ without_heads (heads_in survey.old.scanned.items) zone) }
+    ensures are { OnOk result ((drive : DriveState) (n : ℕ) (logs : List (List Batch))
+        → AreCandidates drive n logs survey.old candidates.old → IsHalfClean drive.geometry.block n logs zone
+        → AreCandidates drive n (without logs zone) survey.new candidates.new) }
+    ensures wait { OnOk result ((drive : DriveState) (n : ℕ) (logs : List (List Batch))
+        → AreCandidates drive n logs survey.old candidates.old → IsHalfClean drive.geometry.block n logs zone
+        → OthersWait drive n logs candidates.old zone → AllWait drive n (without logs zone) candidates.new) }
+    ensures heads { OnOk result (heads_in survey.new.scanned.items ≡ without_heads
+        (heads_in survey.old.scanned.items) zone) }
     ensures tails { tails_in survey.new.scanned.items ≡ tails_in survey.old.scanned.items }
     ensures others { survey.new ≡ record survey.old { scanned = survey.new.scanned } }
 {
@@ -281,8 +295,10 @@ fn clear_moved<D: Device>(
     survey: &mut Survey,
 ) -> Result<Vec<u32>, MountFault>
     requires known { Knows (D.drive device.old) survey.old.given (drive_logs (D.drive device.old)) survey.old }
-    ensures clearing { IfOk result (λ resets. IsClearing (D.drive device.old).geometry.block survey.old.given (drive_logs (D.drive device.old)) resets.items) }
-    ensures known { IfOk result (λ resets. Knows (D.drive device.new) survey.old.given (cleared (drive_logs (D.drive device.old)) resets.items) survey.new) }
+    ensures clearing { IfOk result (λ resets. IsClearing (D.drive device.old).geometry.block survey.old.given
+        (drive_logs (D.drive device.old)) resets.items) }
+    ensures known { IfOk result (λ resets. Knows (D.drive device.new) survey.old.given
+        (cleared (drive_logs (D.drive device.old)) resets.items) survey.new) }
     ensures zones { survey.new.zones ≡ survey.old.zones }
     ensures err { IfErr result (IsInterruption (D.drive device.new)) }
     ensures kept { KeepsZones (D.drive device.old) (D.drive device.new) }
@@ -309,11 +325,16 @@ pub fn clear_zones<D: Device>(
     survey: &mut Survey,
 ) -> Result<Vec<u32>, MountFault>
     requires known { Knows (D.drive device.old) survey.old.given (drive_logs (D.drive device.old)) survey.old }
-    ensures clearing { IfOk result (λ resets. IsClearing (D.drive device.old).geometry.block survey.old.given (drive_logs (D.drive device.old)) resets.items) }
-    ensures known { IfOk result (λ resets. Knows (D.drive device.new) survey.old.given (cleared (drive_logs (D.drive device.old)) resets.items) survey.new) }
+    ensures clearing { IfOk result (λ resets. IsClearing (D.drive device.old).geometry.block survey.old.given
+        (drive_logs (D.drive device.old)) resets.items) }
+    ensures known { IfOk result (λ resets. Knows (D.drive device.new) survey.old.given
+        (cleared (drive_logs (D.drive device.old)) resets.items) survey.new) }
     ensures zones { survey.new.zones ≡ survey.old.zones }
-    ensures spare { OnOk result (HasSpare (D.drive device.old).geometry.block survey.old.given (drive_logs (D.drive device.old))) }
-    ensures err { IfErr result (FailsBy (λ fault. (fault ≡ NoSpare) × (HasSpare (D.drive device.old).geometry.block survey.old.given (drive_logs (D.drive device.old)) → ⊥)) (D.drive device.new)) }
+    ensures spare { OnOk result (HasSpare (D.drive device.old).geometry.block survey.old.given
+        (drive_logs (D.drive device.old))) }
+    ensures err { IfErr result (FailsBy (λ fault. (fault ≡ NoSpare)
+        × (HasSpare (D.drive device.old).geometry.block survey.old.given (drive_logs (D.drive device.old)) → ⊥))
+        (D.drive device.new)) }
     ensures kept { KeepsZones (D.drive device.old) (D.drive device.new) }
 {
     let resets = clear_moved(alloc, device, survey)?;

@@ -222,7 +222,8 @@ impl ZoneHeads {
 
     /// The sequence of the last batch that begins at this block of the zone or before it.
     pub fn sequence_at(&self, offset: u64) -> Option<u64>
-        ensures { IsNonDecreasingBy (λ (head : Head). head.offset) self.now.heads → result ≡ sequence_at self.now.heads offset }
+        ensures { IsNonDecreasingBy (λ (head : Head). head.offset) self.now.heads
+            → result ≡ sequence_at self.now.heads offset }
     {
         let after = self
             .heads

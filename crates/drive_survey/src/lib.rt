@@ -16,10 +16,10 @@
 //!   allows the size that they say. Then the headers of all batches are known (`Surveys` in specs/Survey).
 //! * Each fault but `Halted` and `OutOfMemory` is the first one, in the order in which a survey looks (`SurveyFails`):
 //!   the report first, then zone by zone and batch by batch (`FailsFirst` in specs/Scan).
-//! * The half clean zones are found, each the lowest of its moment (`IsClearing` in zone_choice/specs/Spare). `NoSpare`
+//! * The half clean zones are found, each the lowest of its moment (`IsClearing` in drive_array/specs/Spare). `NoSpare`
 //!   comes exactly where there is neither a half clean zone nor a vacant one.
-//! * Whatever is answered, only a report and Reads were sent: the drive holds what it held, and no command was refused.
-//!   Its controller may have closed zones (`KeepsZones` in specs/Reported).
+//! * Whatever is answered, no command was refused and nothing was appended. The zones are as before, but that the
+//!   controller may have closed some (`KeepsZones` in specs/Reported).
 //!
 //! # How it goes
 //!

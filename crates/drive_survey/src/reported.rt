@@ -38,7 +38,8 @@ pub fn fault_of(fault: PortFault) -> MountFault
 
 /// How many blocks of a zone a host reads, as its descriptor tells.
 fn readable_blocks(descriptor: &Descriptor, capacity: u32) -> u32
-    ensures { (geometry : Geometry) (zone : Zone) → DescribesZone geometry capacity zone descriptor.now → IsReported geometry zone (record { state = descriptor.now.state; blocks = result }) }
+    ensures { (geometry : Geometry) (zone : Zone) → DescribesZone geometry capacity zone descriptor.now
+        → IsReported geometry zone (record { state = descriptor.now.state; blocks = result }) }
 {
     if descriptor.state == ZoneState::Full {
         return capacity;
@@ -57,7 +58,8 @@ fn read_descriptors(
     bytes: &[u8],
     capacity: u32,
 ) -> Result<Vec<ReportedZone>, AllocError>
-    ensures { IfOk result (λ reported. (geometry : Geometry) (zones : List Zone) → TellsZones geometry capacity zones bytes.now → AreReported geometry zones reported.items) }
+    ensures { IfOk result (λ reported. (geometry : Geometry) (zones : List Zone)
+        → TellsZones geometry capacity zones bytes.now → AreReported geometry zones reported.items) }
 {
     let mut rest = bytes;
     let mut reported = Vec::new(alloc);

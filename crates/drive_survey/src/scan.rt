@@ -110,8 +110,13 @@ fn end_at<D: Device>(
     requires cause { header_fault block.old.items ≡ Some cause }
     requires none { IsNoHeader block.old.items }
     requires long { length block.old.items ≡ (D.drive device.old).geometry.block }
-    ensures ok { OnOk result ((is_full (usage_of zone.reported.state) ≡ true) × IsTail (D.drive device.old).geometry.block (is_full (content_at (contents (D.drive device.old).zones) zone.number).usage) (drop offset (readable_at (D.drive device.old) zone.number))) }
-    ensures err { IfErr result (FailsBy (λ fault. (ending : Ending) × EndsZone (D.drive device.old) zone.number offset ending × (ending_fault zone.number offset ending ≡ Some fault)) (D.drive device.new)) }
+    ensures ok { OnOk result ((is_full (usage_of zone.reported.state) ≡ true)
+        × IsTail (D.drive device.old).geometry.block
+        (is_full (content_at (contents (D.drive device.old).zones) zone.number).usage)
+        (drop offset (readable_at (D.drive device.old) zone.number))) }
+    ensures err { IfErr result (FailsBy (λ fault. (ending : Ending)
+        × EndsZone (D.drive device.old) zone.number offset ending
+        × (ending_fault zone.number offset ending ≡ Some fault)) (D.drive device.new)) }
     ensures kept { KeepsZones (D.drive device.old) (D.drive device.new) }
 {
     if !is_full(zone.reported.state) {
@@ -134,8 +139,11 @@ fn take_header(
 ) -> Result<(), MountFault>
     requires few { length heads.old.entries + length header.now.entries < 2 ^ 32 }
     requires short { heads.old.blocks + 1 + data_count header.now.entries < 2 ^ 32 }
-    ensures ok { OnOk result ((heading_fault seen.old.keys header.now ≡ None) × (heads.new ≡ with_heading heads.old header.now) × (seen.new.keys ≡ insert_key nat_cmp seen.old.keys header.now.sequence)) }
-    ensures err { IfErr result (λ fault. (fault ≡ MountFault.OutOfMemory) ⊎ (heading_fault seen.old.keys header.now ≡ Some fault)) }
+    ensures ok { OnOk result ((heading_fault seen.old.keys header.now ≡ None)
+        × (heads.new ≡ with_heading heads.old header.now)
+        × (seen.new.keys ≡ insert_key nat_cmp seen.old.keys header.now.sequence)) }
+    ensures err { IfErr result (λ fault. (fault ≡ MountFault.OutOfMemory)
+        ⊎ (heading_fault seen.old.keys header.now ≡ Some fault)) }
 {
     let sequence = header.sequence();
     if sequence >= 1 << 63 {
@@ -212,7 +220,9 @@ pub fn scan_zone<D: Device>(
 ) -> Result<ScannedZone, MountFault>
     requires zone { IsKnown (D.drive device.old) zone.number zone.reported }
     ensures ok { IfOk result (λ scanned. Scans (D.drive device.old).geometry (content_at (contents (D.drive device.old).zones) zone.number) seen.old.keys scanned.heads scanned.is_torn seen.new.keys) }
-    ensures err { IfErr result (FailsBy (FailsIn (D.drive device.old).geometry (content_at (contents (D.drive device.old).zones) zone.number) zone.number seen.old.keys) (D.drive device.new)) }
+    ensures err { IfErr result (FailsBy (FailsIn (D.drive device.old).geometry
+        (content_at (contents (D.drive device.old).zones) zone.number) zone.number seen.old.keys)
+        (D.drive device.new)) }
     ensures kept { KeepsZones (D.drive device.old) (D.drive device.new) }
 {
     let mut heads = ZoneHeads::new(alloc);
@@ -234,8 +244,10 @@ pub fn scan_zones<D: Device>(
     zones: &[ReportedZone],
 ) -> Result<Vec<ScannedZone>, MountFault>
     requires zones { AreKnown (D.drive device.old) zones.now }
-    ensures ok { IfOk result (λ scanned. ScansAll (D.drive device.old).geometry (contents (D.drive device.old).zones) scanned.items) }
-    ensures err { IfErr result (FailsBy (FailsFirst (D.drive device.old).geometry (contents (D.drive device.old).zones)) (D.drive device.new)) }
+    ensures ok { IfOk result (λ scanned. ScansAll (D.drive device.old).geometry
+        (contents (D.drive device.old).zones) scanned.items) }
+    ensures err { IfErr result (FailsBy (FailsFirst (D.drive device.old).geometry
+        (contents (D.drive device.old).zones)) (D.drive device.new)) }
     ensures kept { KeepsZones (D.drive device.old) (D.drive device.new) }
 {
     let mut seen = BTreeSet::new(alloc);

@@ -47,7 +47,8 @@ fn reset_zones<D: Device>(
 ) -> Result<(), MountFault>
     requires zones { AreKnown (D.drive device.old) survey.old.zones.items }
     requires scanned { length survey.old.scanned.items ≡ length survey.old.zones.items }
-    requires may { MayReset (D.drive device.old).geometry.block survey.old.given (drive_logs (D.drive device.old)) zones.now }
+    requires may { MayReset (D.drive device.old).geometry.block survey.old.given
+        (drive_logs (D.drive device.old)) zones.now }
     ensures ok { OnOk result (ResetsAll (D.drive device.old) (D.drive device.new) survey.old survey.new zones.now) }
     ensures err { IfErr result (IsInterruption (D.drive device.new)) }
     ensures kept { KeepsMountable survey.old.given (D.drive device.old) (D.drive device.new) }

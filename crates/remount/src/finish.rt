@@ -58,7 +58,9 @@ fn finish_if_due<D: Device>(
     requires scanned { length survey.old.scanned.items ≡ length survey.old.zones.items }
     ensures ok { OnOk result (FinishesIf (D.drive device.old) (D.drive device.new) survey.old survey.new zone) }
     ensures err { IfErr result (IsInterruption (D.drive device.new)) }
-    ensures kept { MayChange (λ old new. Finishes old new zone × IsTested (D.drive device.old).geometry.capacity (batch_most (D.drive device.old).geometry) survey.old zone true) (D.drive device.old) (D.drive device.new) }
+    ensures kept { MayChange (λ old new. Finishes old new zone
+        × IsTested (D.drive device.old).geometry.capacity
+        (batch_most (D.drive device.old).geometry) survey.old zone true) (D.drive device.old) (D.drive device.new) }
 {
     let geometry = device.geometry();
     let reported = survey.zones[zone as usize];

@@ -26,9 +26,11 @@ fn repair_torn<D: Device>(
     repair: &Option<Repair>,
 ) -> Result<(), MountFault>
     requires cleared { IsCleared (D.drive device.old) survey.old.given survey.old }
-    requires plan { Plans (D.drive device.old).geometry survey.old.given (drive_logs (D.drive device.old)) (zone_tails (contents (D.drive device.old).zones)) repair.now }
+    requires plan { Plans (D.drive device.old).geometry survey.old.given (drive_logs (D.drive device.old))
+        (zone_tails (contents (D.drive device.old).zones)) repair.now }
     ensures ok { OnOk result (IsUntorn (D.drive device.new) survey.old.given survey.new) }
-    ensures left { OnOk result (LeavesPlanned (D.drive device.old).geometry survey.old.given (drive_logs (D.drive device.old)) repair.now (drive_logs (D.drive device.new))) }
+    ensures left { OnOk result (LeavesPlanned (D.drive device.old).geometry survey.old.given
+        (drive_logs (D.drive device.old)) repair.now (drive_logs (D.drive device.new))) }
     ensures others { OnOk result (repair.now ≡ None → D.drive device.new ≡ D.drive device.old) }
     ensures err { IfErr result (IsInterruption (D.drive device.new)) }
     ensures kept { KeepsMountable survey.old.given (D.drive device.old) (D.drive device.new) }
@@ -48,7 +50,8 @@ fn carry_out<D: Device>(
 ) -> Result<(), MountFault>
     requires planned { IsPlanned (D.drive device.old) survey.old.given survey.old plan.now }
     ensures repaired { OnOk result (IsRepaired (D.drive device.new) survey.old.given survey.new) }
-    ensures left { OnOk result (LeavesCleared survey.old.given (D.drive device.old) plan.now.half_clean.items (D.drive device.new)) }
+    ensures left { OnOk result (LeavesCleared survey.old.given (D.drive device.old) plan.now.half_clean.items
+        (D.drive device.new)) }
     ensures others { OnOk result (KeepsOthers (D.drive device.old) plan.now.half_clean.items (D.drive device.new)) }
     ensures err { IfErr result (IsInterruption (D.drive device.new)) }
     ensures kept { KeepsMountable survey.old.given (D.drive device.old) (D.drive device.new) }
@@ -63,8 +66,10 @@ fn carry_out<D: Device>(
 pub fn mount<D: Device>(alloc: Global, device: &mut D, given: u64) -> Result<Tables, MountFault>
     ensures ok { IfOk result (Mounts (D.drive device.old) (D.drive device.new) given) }
     ensures err { IfErr result (FailsBy (MountFails (D.drive device.old) given) (D.drive device.new)) }
-    ensures refused { IfErr result (λ fault. fault ≢ faults.Halted → fault ≢ faults.OutOfMemory → KeepsZones (D.drive device.old) (D.drive device.new)) }
-    ensures early { IfErr result (λ _. KeepsZones (D.drive device.old) (D.drive device.new) ⊎ IsToMount (D.drive device.old) given) }
+    ensures refused { IfErr result (λ fault. fault ≢ faults.Halted → fault ≢ faults.OutOfMemory
+        → KeepsZones (D.drive device.old) (D.drive device.new)) }
+    ensures early { IfErr result (λ _. KeepsZones (D.drive device.old) (D.drive device.new)
+        ⊎ IsToMount (D.drive device.old) given) }
     ensures kept { KeepsMountable given (D.drive device.old) (D.drive device.new) }
     ensures unsent { (MayAsk (D.drive device.old) given → ⊥) → D.drive device.new ≡ D.drive device.old }
 {

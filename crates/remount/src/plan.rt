@@ -32,7 +32,9 @@ pub struct Plan {
 fn zones_to_empty(alloc: Global, survey: &Survey) -> Result<Vec<u32>, AllocError>
     requires few { length survey.now.zones.items < 2 ^ 32 }
     requires scanned { length survey.now.scanned.items ≡ length survey.now.zones.items }
-    ensures { IfOk result (λ zones. (logs : List (List Batch)) → heads_in survey.now.scanned.items ≡ map heads_of logs → length survey.now.zones.items ≡ length logs → AreToEmpty logs survey.now zones.items) }
+    ensures { IfOk result (λ zones. (logs : List (List Batch))
+        → heads_in survey.now.scanned.items ≡ map heads_of logs → length survey.now.zones.items ≡ length logs
+        → AreToEmpty logs survey.now zones.items) }
 {
     let mut zones = Vec::new(alloc);
     for zone in 0..survey.zones.len() {
@@ -49,7 +51,9 @@ fn is_to_empty(survey: &Survey, zone: usize) -> bool
     requires scanned { length survey.now.scanned.items ≡ length survey.now.zones.items }
     ensures yes { IsTrue result → (slice_index_or (heads_in survey.now.scanned.items) zone no_heads).blocks ≡ 0 }
     ensures needed { IsTrue result → (slice_index_or survey.now.zones.items zone reported_empty).state ≢ Empty }
-    ensures never { IsFalse result → (slice_index_or (heads_in survey.now.scanned.items) zone no_heads).blocks ≡ 0 → (slice_index_or survey.now.zones.items zone reported_empty).state ≡ Empty }
+    ensures never { IsFalse result → (slice_index_or
+        (heads_in survey.now.scanned.items) zone no_heads).blocks ≡ 0
+        → (slice_index_or survey.now.zones.items zone reported_empty).state ≡ Empty }
 {
     survey.scanned[zone].heads.blocks() == 0 && survey.zones[zone].state != ZoneState::Empty
 }

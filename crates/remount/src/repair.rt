@@ -40,9 +40,11 @@ pub fn repair_zone<D: Device>(
     repair: &Repair,
 ) -> Result<(), MountFault>
     requires cleared { IsCleared (D.drive device.old) survey.old.given survey.old }
-    requires plan { IsPlan (D.drive device.old).geometry survey.old.given (drive_logs (D.drive device.old)) (zone_tails (contents (D.drive device.old).zones)) repair.now }
+    requires plan { IsPlan (D.drive device.old).geometry survey.old.given (drive_logs (D.drive device.old))
+        (zone_tails (contents (D.drive device.old).zones)) repair.now }
     ensures untorn { OnOk result (IsUntorn (D.drive device.new) survey.old.given survey.new) }
-    ensures repaired { OnOk result (RepairsTorn (D.drive device.old).geometry survey.old.given (drive_logs (D.drive device.old)) repair.now.zone (drive_logs (D.drive device.new))) }
+    ensures repaired { OnOk result (RepairsTorn (D.drive device.old).geometry survey.old.given
+        (drive_logs (D.drive device.old)) repair.now.zone (drive_logs (D.drive device.new))) }
     ensures err { IfErr result (IsInterruption (D.drive device.new)) }
     ensures kept { KeepsMountable survey.old.given (D.drive device.old) (D.drive device.new) }
 {

@@ -57,7 +57,8 @@ fn place_blocks(tables: &mut Tables, entries: &[Entry], header: u64) -> u32
     requires few { length entries.now < 2 ^ 31 }
     requires size { size_of tables.old ≤ 2 ^ 31 }
     requires fits { header < 2 ^ 62 }
-    ensures placed { tables.new ≡ with_places tables.old (placed header (header + 1) entries.now tables.old.map.places) }
+    ensures placed { tables.new ≡ with_places tables.old
+        (placed header (header + 1) entries.now tables.old.map.places) }
     ensures blocks { result ≡ 1 + data_count entries.now }
 {
     let mut address = header + 1;

@@ -136,8 +136,10 @@ impl BatchBuilder {
     #[inline]
     pub fn read<D: Device>(&mut self, device: &mut D, address: u64) -> Result<(), PortFault>
         ensures heading { self.new.heading ≡ self.old.heading }
-        ensures gives { Adds self.old.bytes (λ returned. ReadGives (D.drive device.old) address 1 result returned (D.drive device.new)) self.new.bytes }
-        ensures shown { OnOk result (self.new.bytes ≡ self.old.bytes ++ bytes_at (D.drive device.old).geometry (contents (D.drive device.old).zones) address 1) }
+        ensures gives { Adds self.old.bytes (λ returned. ReadGives (D.drive device.old) address 1 result returned
+            (D.drive device.new)) self.new.bytes }
+        ensures shown { OnOk result (self.new.bytes ≡ self.old.bytes ++ bytes_at (D.drive device.old).geometry
+            (contents (D.drive device.old).zones) address 1) }
         ensures length { OnOk result (length self.new.bytes ≡ length self.old.bytes + (D.drive device.old).geometry.block) }
         ensures err { OnErr result (self.new.bytes ≡ self.old.bytes) }
         ensures leaves { ReadLeaves (D.drive device.old) address result (D.drive device.new) }
@@ -211,7 +213,8 @@ fn write_header(header: &Header, bytes: &mut [u8], front: usize, block_bytes: us
     requires block { (block_bytes ≡ 512) ⊎ (block_bytes ≡ 4096) }
     requires room { front + block_bytes ≤ length bytes.old }
     requires heading { IsHeading block_bytes (heading_of header.now) }
-    ensures bytes { drop front bytes.new ≡ header_block block_bytes (heading_of header.now) ++ drop block_bytes (drop front bytes.old) }
+    ensures bytes { drop front bytes.new ≡ header_block block_bytes (heading_of header.now) ++ drop block_bytes
+        (drop front bytes.old) }
     ensures length { length bytes.new ≡ length bytes.old }
 {
     let (_, after) = bytes.split_at_mut(front);

@@ -18,7 +18,7 @@
 //! What is promised, of any drive that obeys its rules: a batch that is appended changes the array by
 //! what it says and by nothing else, and the tables name the place of each block's newest record again
 //! (`Places` in specs/Changes); out of memory, the array is as before; where the drive stops, it encodes
-//! the old array or that with the batch, and can be mounted (`AppendLeaves`). The drive refuses no such
+//! the old array or that with the batch, and can be mounted (`BatchLeaves`). The drive refuses no such
 //! Append (`CanPlace` says what it needs). At an open limit of 1, the other zone that is being filled is
 //! closed before it (`ClosesBeside`), if it may be open. The tables know the sealed zone with the fewest
 //! live records (`least_sealed`), and take note of what a clean makes of the zones. A mount places the

@@ -167,7 +167,8 @@ impl Roles {
 
     /// Makes the lowest empty zone the host zone, unless it is the last empty one.
     pub fn take_empty(&mut self) -> Option<u32>
-        ensures some { IfSome result (λ zone. IsLowestEmpty self.old zone × (2 ≤ empty_count self.old) × (self.new ≡ taken self.old zone)) }
+        ensures some { IfSome result (λ zone. IsLowestEmpty self.old zone × (2 ≤ empty_count self.old)
+            × (self.new ≡ taken self.old zone)) }
         ensures none { IfNone result ((empty_count self.old < 2) × (self.new ≡ self.old)) }
     {
         if self.empty.count() < 2 {
@@ -184,7 +185,8 @@ impl Roles {
     /// Makes the lowest empty zone the destination, where there is no second zone.
     pub fn take_destination(&mut self) -> Option<u32>
         requires { self.old.second ≡ None }
-        ensures some { IfSome result (λ zone. IsLowestEmpty self.old zone × (self.new ≡ with_destination self.old zone)) }
+        ensures some { IfSome result (λ zone. IsLowestEmpty self.old zone
+            × (self.new ≡ with_destination self.old zone)) }
         ensures none { IfNone result ((empty_count self.old ≡ 0) × (self.new ≡ self.old)) }
     {
         let Some(zone) = self.empty.take_lowest() else {
@@ -309,7 +311,8 @@ fn grow(filling: &mut Option<Filling>, zone: u32, blocks: u32)
 }
 
 fn grow_second(second: &mut Option<Second>, zone: u32, blocks: u32)
-    requires { AllByRecursion (λ filling. filling.written + blocks < 2 ^ 32) (filling_list (option_map filling_of second.old)) }
+    requires { AllByRecursion (λ filling. filling.written + blocks < 2 ^ 32)
+        (filling_list (option_map filling_of second.old)) }
     ensures { second.new ≡ option_map (second_with (grown zone blocks)) second.old }
 {
     match second {

@@ -172,7 +172,8 @@ impl Tables {
 
     /// Makes the lowest empty zone the host zone, unless it is the last empty one.
     pub fn take_empty(&mut self) -> Option<u32>
-        ensures some { IfSome result (λ zone. IsLowestEmpty self.old.roles zone × (2 ≤ empty_count self.old.roles) × (self.new ≡ record self.old { roles = taken self.old.roles zone })) }
+        ensures some { IfSome result (λ zone. IsLowestEmpty self.old.roles zone
+            × (2 ≤ empty_count self.old.roles) × (self.new ≡ record self.old { roles = taken self.old.roles zone })) }
         ensures none { IfNone result ((empty_count self.old.roles < 2) × (self.new ≡ self.old)) }
     {
         self.roles.take_empty()
@@ -181,7 +182,8 @@ impl Tables {
     /// Makes the lowest empty zone the destination, where there is no second zone.
     pub fn take_destination(&mut self) -> Option<u32>
         requires { self.old.roles.second ≡ None }
-        ensures some { IfSome result (λ zone. IsLowestEmpty self.old.roles zone × (self.new ≡ record self.old { roles = with_destination self.old.roles zone })) }
+        ensures some { IfSome result (λ zone. IsLowestEmpty self.old.roles zone
+            × (self.new ≡ record self.old { roles = with_destination self.old.roles zone })) }
         ensures none { IfNone result ((empty_count self.old.roles ≡ 0) × (self.new ≡ self.old)) }
     {
         self.roles.take_destination()

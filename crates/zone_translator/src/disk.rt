@@ -295,7 +295,8 @@ impl<D: Device + Drop> Disk<D> {
         ensures stores { Stores false self.old first (count_of_blocks self.old bytes.now) result self.new }
         ensures turns { OnOk result (disk_turns self.new ≤ disk_turns self.old) }
         ensures clean { self.new.status ≡ Serving → KeepsClean self.old self.new }
-        ensures completed { CompletesAtMost self.old (write_commands false self.old (count_of_blocks self.old bytes.now)) self.new }
+        ensures completed { CompletesAtMost self.old
+            (write_commands false self.old (count_of_blocks self.old bytes.now)) self.new }
     {
         let block = self.mounted.geometry().block as usize;
         self.write_all(first, (bytes.len() / block) as u64, Content::Bytes(bytes))

@@ -47,7 +47,8 @@ fn hold_moved(
 ) -> Result<(), AllocError>
     requires none { HasNoRecord table.old }
     ensures none { OnOk result (HasNoRecord table.new) }
-    ensures covers { OnOk result (length scanned.now < 2 ^ 32 → (logs : List (List Batch)) → AreOf scanned.now logs → CoversMoved logs scanned.now table.new) }
+    ensures covers { OnOk result (length scanned.now < 2 ^ 32 → (logs : List (List Batch))
+        → AreOf scanned.now logs → CoversMoved logs scanned.now table.new) }
 {
     for (number, found) in scanned.iter().enumerate() {
         let Ok(zone) = u32::try_from(number) else {
@@ -63,7 +64,9 @@ fn hold_moved(
 
 /// Takes a record, if its block is in the table.
 fn note(table: &mut BlockRecords, found: KeptRecord) -> Result<(), AllocError>
-    ensures { OnOk result ((block sequence : ℕ) → slot_of table.new block sequence ≡ slot_after notes block sequence (slot_of table.old block sequence) (found ∷ [])) }
+    ensures { OnOk result ((block sequence : ℕ)
+        → slot_of table.new block sequence ≡ slot_after notes block sequence (slot_of table.old block sequence)
+        (found ∷ [])) }
 {
     let Some(held) = table.blocks.get_mut(&found.block) else {
         return Ok(());
@@ -79,7 +82,9 @@ fn note_batch(
     head: &Head,
     entries: &[u32],
 ) -> Result<(), AllocError>
-    ensures { OnOk result ((block sequence : ℕ) → slot_of table.new block sequence ≡ slot_after notes block sequence (slot_of table.old block sequence) (kept_entries head.now.sequence zone head.now.offset 0 entries.now)) }
+    ensures { OnOk result ((block sequence : ℕ)
+        → slot_of table.new block sequence ≡ slot_after notes block sequence (slot_of table.old block sequence)
+        (kept_entries head.now.sequence zone head.now.offset 0 entries.now)) }
 {
     let mut before = 0;
     for entry in entries {
@@ -93,7 +98,9 @@ fn note_batch(
 
 /// Takes the records of a zone's batches.
 fn note_zone(table: &mut BlockRecords, zone: u32, heads: &ZoneHeads) -> Result<(), AllocError>
-    ensures { OnOk result ((block sequence : ℕ) → slot_of table.new block sequence ≡ slot_after notes block sequence (slot_of table.old block sequence) (kept_of_zone zone heads.now)) }
+    ensures { OnOk result ((block sequence : ℕ)
+        → slot_of table.new block sequence ≡ slot_after notes block sequence (slot_of table.old block sequence)
+        (kept_of_zone zone heads.now)) }
 {
     let mut from = 0;
     let mut rest = heads.entries();
@@ -110,7 +117,9 @@ fn note_zone(table: &mut BlockRecords, zone: u32, heads: &ZoneHeads) -> Result<(
 /// Takes the records of all batches.
 fn note_all(table: &mut BlockRecords, scanned: &[ScannedZone]) -> Result<(), AllocError>
     ensures more { OnOk result (HoldsMore table.old table.new) }
-    ensures noted { OnOk result (length scanned.now < 2 ^ 32 → (block sequence : ℕ) → slot_of table.new block sequence ≡ slot_after notes block sequence (slot_of table.old block sequence) (kept_records 0 (heads_in scanned.now))) }
+    ensures noted { OnOk result (length scanned.now < 2 ^ 32 → (block sequence : ℕ)
+        → slot_of table.new block sequence ≡ slot_after notes block sequence (slot_of table.old block sequence)
+        (kept_records 0 (heads_in scanned.now))) }
 {
     for (number, found) in scanned.iter().enumerate() {
         let Ok(zone) = u32::try_from(number) else {
@@ -123,7 +132,8 @@ fn note_all(table: &mut BlockRecords, scanned: &[ScannedZone]) -> Result<(), All
 
 /// Takes a record out, if its block is in the table.
 fn forget_record(table: &mut BlockRecords, found: KeptRecord)
-    ensures { (block sequence : ℕ) → slot_of table.new block sequence ≡ slot_after forgets block sequence (slot_of table.old block sequence) (found ∷ []) }
+    ensures { (block sequence : ℕ) → slot_of table.new block sequence ≡ slot_after forgets block sequence
+        (slot_of table.old block sequence) (found ∷ []) }
 {
     if let Some(held) = table.blocks.get_mut(&found.block) {
         held.remove(&found.sequence);
@@ -132,7 +142,8 @@ fn forget_record(table: &mut BlockRecords, found: KeptRecord)
 
 /// Takes the records of a batch out.
 fn forget_batch(table: &mut BlockRecords, zone: u32, head: &Head, entries: &[u32])
-    ensures { (block sequence : ℕ) → slot_of table.new block sequence ≡ slot_after forgets block sequence (slot_of table.old block sequence) (kept_entries head.now.sequence zone head.now.offset 0 entries.now) }
+    ensures { (block sequence : ℕ) → slot_of table.new block sequence ≡ slot_after forgets block sequence
+        (slot_of table.old block sequence) (kept_entries head.now.sequence zone head.now.offset 0 entries.now) }
 {
     let mut before = 0;
     for entry in entries {
@@ -145,7 +156,8 @@ fn forget_batch(table: &mut BlockRecords, zone: u32, head: &Head, entries: &[u32
 
 /// Takes the records of a zone's batches out.
 fn forget_zone(table: &mut BlockRecords, zone: u32, heads: &ZoneHeads)
-    ensures { (block sequence : ℕ) → slot_of table.new block sequence ≡ slot_after forgets block sequence (slot_of table.old block sequence) (kept_of_zone zone heads.now) }
+    ensures { (block sequence : ℕ) → slot_of table.new block sequence ≡ slot_after forgets block sequence
+        (slot_of table.old block sequence) (kept_of_zone zone heads.now) }
 {
     let mut from = 0;
     let mut rest = heads.entries();
@@ -175,8 +187,10 @@ fn last_outside(held: &BTreeMap<u64, KeptRecord>, zone: u32) -> Option<KeptRecor
 impl BlockRecords {
     /// The records of the blocks that zones of Moves from an older zone name.
     pub(crate) fn of_moved(alloc: Global, survey: &Survey) -> Result<BlockRecords, AllocError>
-        ensures covers { IfOk result (λ table. (drive : DriveState) (n : ℕ) (logs : List (List Batch)) → Knows drive n logs survey.now → CoversMoved logs survey.now.scanned.items table) }
-        ensures holds { IfOk result (λ table. (drive : DriveState) (n : ℕ) (logs : List (List Batch)) → Knows drive n logs survey.now → HoldsRecords logs table) }
+        ensures covers { IfOk result (λ table. (drive : DriveState) (n : ℕ) (logs : List (List Batch))
+            → Knows drive n logs survey.now → CoversMoved logs survey.now.scanned.items table) }
+        ensures holds { IfOk result (λ table. (drive : DriveState) (n : ℕ) (logs : List (List Batch))
+            → Knows drive n logs survey.now → HoldsRecords logs table) }
     {
         let mut table = BlockRecords {
             blocks: BTreeMap::new(alloc),
@@ -193,7 +207,8 @@ impl BlockRecords {
         zone: u32,
     ) -> Result<BlockRecords, AllocError>
         ensures covers { IfOk result (λ table. CoversZone survey.now.scanned.items table zone) }
-        ensures holds { IfOk result (λ table. (drive : DriveState) (n : ℕ) (logs : List (List Batch)) → Knows drive n logs survey.now → HoldsRecords logs table) }
+        ensures holds { IfOk result (λ table. (drive : DriveState) (n : ℕ) (logs : List (List Batch))
+            → Knows drive n logs survey.now → HoldsRecords logs table) }
     {
         let mut table = BlockRecords {
             blocks: BTreeMap::new(alloc),
@@ -208,7 +223,8 @@ impl BlockRecords {
 
     /// The newest record of a block, of those that the table holds.
     pub(crate) fn newest(&self, block: u32) -> Option<KeptRecord>
-        ensures { (logs : List (List Batch)) → HoldsRecords logs self.now → IsSome (held_of self.now block) → result ≡ option_map kept_record (newest block (records 0 logs)) }
+        ensures { (logs : List (List Batch)) → HoldsRecords logs self.now → IsSome (held_of self.now block)
+            → result ≡ option_map kept_record (newest block (records 0 logs)) }
     {
         let held = self.blocks.get(&block)?;
         let (_, found) = held.last_key_value()?;
@@ -217,7 +233,8 @@ impl BlockRecords {
 
     /// The newest record of a block outside a zone.
     pub(crate) fn newest_outside(&self, block: u32, zone: u32) -> Option<KeptRecord>
-        ensures { (logs : List (List Batch)) → HoldsRecords logs self.now → IsSome (held_of self.now block) → result ≡ option_map kept_record (newest block (records 0 (without logs zone))) }
+        ensures { (logs : List (List Batch)) → HoldsRecords logs self.now → IsSome (held_of self.now block)
+            → result ≡ option_map kept_record (newest block (records 0 (without logs zone))) }
     {
         let held = self.blocks.get(&block)?;
         last_outside(held, zone)
@@ -226,7 +243,8 @@ impl BlockRecords {
     /// Takes the records of a zone out of the table.
     pub(crate) fn forget(&mut self, survey: &Survey, zone: u32)
         ensures more { HoldsMore self.old self.new }
-        ensures holds { (drive : DriveState) (n : ℕ) (logs : List (List Batch)) → Knows drive n logs survey.now → HoldsRecords logs self.old → HoldsRecords (without logs zone) self.new }
+        ensures holds { (drive : DriveState) (n : ℕ) (logs : List (List Batch)) → Knows drive n logs survey.now
+            → HoldsRecords logs self.old → HoldsRecords (without logs zone) self.new }
     {
         if let Some(found) = survey.scanned.get(zone as usize) {
             forget_zone(self, zone, &found.heads);

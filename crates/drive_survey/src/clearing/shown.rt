@@ -61,7 +61,9 @@ fn read_data<D: Device>(
     into: &mut Vec<u8>,
 ) -> Result<(), MountFault>
     requires zones { AreKnown (D.drive device.old) zones.now }
-    ensures ok { OnOk result (found.zone < length (D.drive device.old).zones → found.offset < length (readable_at (D.drive device.old) found.zone) → into.new.items ≡ block_of (D.drive device.old) found.zone found.offset) }
+    ensures ok { OnOk result (found.zone < length (D.drive device.old).zones
+        → found.offset < length (readable_at (D.drive device.old) found.zone)
+        → into.new.items ≡ block_of (D.drive device.old) found.zone found.offset) }
     ensures err { IfErr result (IsInterruption (D.drive device.new)) }
     ensures kept { KeepsZones (D.drive device.old) (D.drive device.new) }
 {
@@ -86,7 +88,8 @@ fn read_shown<D: Device>(
     into: &mut Vec<u8>,
 ) -> Result<(), MountFault>
     requires zones { AreKnown (D.drive device.old) zones.now }
-    ensures ok { OnOk result ((found : Option Record) → kept ≡ option_map kept_record found → IfStands (D.drive device.old) found → into.new.items ≡ shown (D.drive device.old).geometry.block found) }
+    ensures ok { OnOk result ((found : Option Record) → kept ≡ option_map kept_record found
+        → IfStands (D.drive device.old) found → into.new.items ≡ shown (D.drive device.old).geometry.block found) }
     ensures err { IfErr result (IsInterruption (D.drive device.new)) }
     ensures kept { KeepsZones (D.drive device.old) (D.drive device.new) }
 {
@@ -121,8 +124,10 @@ fn show_same<D: Device>(
 
 /// The newest record of a block and the newest one outside a zone, if the newest is in the zone.
 fn rivals_of(table: &BlockRecords, zone: u32, block: u32) -> Option<Rivals>
-    ensures some { IfSome result (λ rivals. (logs : List (List Batch)) → HoldsRecords logs table.now → IsSome (held_of table.now block) → AreRivals logs zone block rivals) }
-    ensures none { IfNone result ((block_bytes : ℕ) (logs : List (List Batch)) → HoldsRecords logs table.now → IsSome (held_of table.now block) → ShowsSame block_bytes logs zone block) }
+    ensures some { IfSome result (λ rivals. (logs : List (List Batch)) → HoldsRecords logs table.now
+        → IsSome (held_of table.now block) → AreRivals logs zone block rivals) }
+    ensures none { IfNone result ((block_bytes : ℕ) (logs : List (List Batch)) → HoldsRecords logs table.now
+        → IsSome (held_of table.now block) → ShowsSame block_bytes logs zone block) }
 {
     let Some(newest) = table.newest(block) else {
         return None;

@@ -60,7 +60,8 @@ impl SizeCounts {
 
     /// The counts without a zone.
     pub(crate) fn without(self, survey: &Survey, zone: u32) -> SizeCounts
-        ensures { self ≡ size_counts survey.now.size (heads_in survey.now.scanned.items) → result ≡ size_counts survey.now.size (without_heads (heads_in survey.now.scanned.items) zone) }
+        ensures { self ≡ size_counts survey.now.size (heads_in survey.now.scanned.items)
+            → result ≡ size_counts survey.now.size (without_heads (heads_in survey.now.scanned.items) zone) }
     {
         let Some(found) = survey.scanned.get(zone as usize) else {
             return self;

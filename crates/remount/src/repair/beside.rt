@@ -28,9 +28,11 @@ fn finish_other<D: Device>(
 ) -> Result<(), MountFault>
     requires known { (n : ℕ) × Knows (D.drive device.old) n (drive_logs (D.drive device.old)) survey.old }
     requires vacant { AreVacantEmpty survey.old.zones.items (drive_logs (D.drive device.old)) }
-    requires torn { IsOnlyTorn (drive_logs (D.drive device.old)) (zone_tails (contents (D.drive device.old).zones)) torn }
+    requires torn { IsOnlyTorn (drive_logs (D.drive device.old))
+        (zone_tails (contents (D.drive device.old).zones)) torn }
     requires in_range { zone < length survey.old.zones.items }
-    ensures ok { OnOk result ((n : ℕ) → Knows (D.drive device.old) n (drive_logs (D.drive device.old)) survey.old → SettlesZone n (D.drive device.old) (D.drive device.new) survey.old survey.new torn zone) }
+    ensures ok { OnOk result ((n : ℕ) → Knows (D.drive device.old) n (drive_logs (D.drive device.old)) survey.old
+        → SettlesZone n (D.drive device.old) (D.drive device.new) survey.old survey.new torn zone) }
     ensures err { IfErr result (IsInterruption (D.drive device.new)) }
     ensures kept { (n : ℕ) → KeepsMountable n (D.drive device.old) (D.drive device.new) }
 {
@@ -51,7 +53,8 @@ pub(crate) fn finish_beside<D: Device>(
     torn: u32,
 ) -> Result<(), MountFault>
     requires cleared { IsCleared (D.drive device.old) survey.old.given survey.old }
-    requires torn { IsOnlyTorn (drive_logs (D.drive device.old)) (zone_tails (contents (D.drive device.old).zones)) torn }
+    requires torn { IsOnlyTorn (drive_logs (D.drive device.old))
+        (zone_tails (contents (D.drive device.old).zones)) torn }
     ensures cleared { OnOk result (IsCleared (D.drive device.new) survey.old.given survey.new) }
     ensures left { OnOk result (SettlesOthers (D.drive device.old) (D.drive device.new) torn) }
     ensures err { IfErr result (IsInterruption (D.drive device.new)) }
@@ -66,9 +69,12 @@ pub(crate) fn finish_beside<D: Device>(
 /// The lowest zone that was reported Empty.
 pub(crate) fn lowest_empty(zones: &[ReportedZone]) -> Option<u32>
     requires { length zones.now < 2 ^ 32 }
-    ensures some { IfSome result (λ zone. (zone < length zones.now) × ((reported : ReportedZone) → slice_get zones.now zone ≡ Some reported → reported.state ≡ states.Empty)) }
-    ensures lowest { IfSome result (λ zone. (other : ℕ) (reported : ReportedZone) → other < zone → slice_get zones.now other ≡ Some reported → reported.state ≢ states.Empty) }
-    ensures none { IfNone result ((zone : ℕ) (reported : ReportedZone) → slice_get zones.now zone ≡ Some reported → reported.state ≢ states.Empty) }
+    ensures some { IfSome result (λ zone. (zone < length zones.now)
+        × ((reported : ReportedZone) → slice_get zones.now zone ≡ Some reported → reported.state ≡ states.Empty)) }
+    ensures lowest { IfSome result (λ zone. (other : ℕ) (reported : ReportedZone) → other < zone
+        → slice_get zones.now other ≡ Some reported → reported.state ≢ states.Empty) }
+    ensures none { IfNone result ((zone : ℕ) (reported : ReportedZone) → slice_get zones.now zone ≡ Some reported
+        → reported.state ≢ states.Empty) }
 {
     for (number, zone) in zones.iter().enumerate() {
         if zone.state == ZoneState::Empty {

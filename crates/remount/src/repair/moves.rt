@@ -87,8 +87,12 @@ fn copy_record<D: Device>(
     requires known { IsKnown (D.drive device.old) zone.number zone.reported }
     requires place { IsBlockAt (zone.number * (D.drive device.old).geometry.size) zone.reported.blocks place }
     ensures heading { next.new.batch.heading ≡ next.old.batch.heading }
-    ensures bytes { OnOk result (next.new.batch.bytes ≡ next.old.batch.bytes ++ concat (blocks_listed (said_at (readable_at (D.drive device.old) zone.number) (zone.number * (D.drive device.old).geometry.size) place))) }
-    ensures whole { OnOk result (AllByRecursion (λ block. length block ≡ (D.drive device.old).geometry.block) (blocks_listed (said_at (readable_at (D.drive device.old) zone.number) (zone.number * (D.drive device.old).geometry.size) place))) }
+    ensures bytes { OnOk result (next.new.batch.bytes ≡ next.old.batch.bytes ++ concat
+        (blocks_listed (said_at (readable_at (D.drive device.old) zone.number)
+        (zone.number * (D.drive device.old).geometry.size) place))) }
+    ensures whole { OnOk result (AllByRecursion (λ block. length block ≡ (D.drive device.old).geometry.block)
+        (blocks_listed (said_at (readable_at (D.drive device.old) zone.number)
+        (zone.number * (D.drive device.old).geometry.size) place))) }
     ensures err { IfErr result (IsInterruption (D.drive device.new)) }
     ensures kept { KeepsZones (D.drive device.old) (D.drive device.new) }
 {
@@ -110,10 +114,13 @@ fn copy_records<D: Device>(
     next: &mut NextMove,
 ) -> Result<(), MountFault>
     requires known { IsKnown (D.drive device.old) zone.number zone.reported }
-    requires places { AllByRecursion (IsReadableAt tables.now (zone.number * (D.drive device.old).geometry.size) zone.reported.blocks) blocks.now }
+    requires places { AllByRecursion (IsReadableAt tables.now
+        (zone.number * (D.drive device.old).geometry.size) zone.reported.blocks) blocks.now }
     ensures heading { next.new.batch.heading ≡ next.old.batch.heading }
-    ensures bytes { OnOk result (next.new.batch.bytes ≡ next.old.batch.bytes ++ concat (moved_data (source_of (D.drive device.old) tables.now zone.number) blocks.now)) }
-    ensures whole { OnOk result (AllByRecursion (λ block. length block ≡ (D.drive device.old).geometry.block) (moved_data (source_of (D.drive device.old) tables.now zone.number) blocks.now)) }
+    ensures bytes { OnOk result (next.new.batch.bytes ≡ next.old.batch.bytes ++ concat
+        (moved_data (source_of (D.drive device.old) tables.now zone.number) blocks.now)) }
+    ensures whole { OnOk result (AllByRecursion (λ block. length block ≡ (D.drive device.old).geometry.block)
+        (moved_data (source_of (D.drive device.old) tables.now zone.number) blocks.now)) }
     ensures err { IfErr result (IsInterruption (D.drive device.new)) }
     ensures kept { KeepsZones (D.drive device.old) (D.drive device.new) }
 {
@@ -179,9 +186,12 @@ fn build_move<D: Device>(
     requires most { 1 ≤ plan.now.most }
     requires few { number < move_count plan.now }
     requires last { plan.now.next + number < 2 ^ 63 }
-    requires places { AllByRecursion (IsReadableAt tables.now (plan.now.torn * (D.drive device.old).geometry.size) plan.now.reported.blocks) (named_by plan.now number) }
-    requires heading { IsHeading (D.drive device.old).geometry.block (move_by (source_of (D.drive device.old) tables.now plan.now.torn) plan.now number).heading }
-    ensures built { OnOk result (IsBuiltAs (D.drive device.old).geometry.block (move_by (source_of (D.drive device.old) tables.now plan.now.torn) plan.now number) next.new.batch) }
+    requires places { AllByRecursion (IsReadableAt tables.now
+        (plan.now.torn * (D.drive device.old).geometry.size) plan.now.reported.blocks) (named_by plan.now number) }
+    requires heading { IsHeading (D.drive device.old).geometry.block
+        (move_by (source_of (D.drive device.old) tables.now plan.now.torn) plan.now number).heading }
+    ensures built { OnOk result (IsBuiltAs (D.drive device.old).geometry.block
+        (move_by (source_of (D.drive device.old) tables.now plan.now.torn) plan.now number) next.new.batch) }
     ensures err { IfErr result (IsInterruption (D.drive device.new)) }
     ensures kept { KeepsZones (D.drive device.old) (D.drive device.new) }
 {
@@ -225,8 +235,11 @@ fn append_move<D: Device>(
     batch: &BatchBuilder,
 ) -> Result<(), MountFault>
     requires can { CanTake (D.drive device.old) zone batch.now }
-    ensures ok { OnOk result (TakesFirst (D.drive device.old) (D.drive device.new) zone (built (D.drive device.old).geometry.block batch.now) (batch_size (built (D.drive device.old).geometry.block batch.now))) }
-    ensures left { IfErr result (λ _. TakesSome (D.drive device.old) (D.drive device.new) zone (built (D.drive device.old).geometry.block batch.now)) }
+    ensures ok { OnOk result (TakesFirst (D.drive device.old) (D.drive device.new) zone
+        (built (D.drive device.old).geometry.block batch.now)
+        (batch_size (built (D.drive device.old).geometry.block batch.now))) }
+    ensures left { IfErr result (λ _. TakesSome (D.drive device.old) (D.drive device.new) zone
+        (built (D.drive device.old).geometry.block batch.now)) }
     ensures err { IfErr result (IsInterruption (D.drive device.new)) }
 {
     let start = device.geometry().start_of(zone);
@@ -245,11 +258,16 @@ fn make_move<D: Device>(
     number: usize,
     moves: &mut Moves,
 ) -> Result<(), MountFault>
-    requires at { (n : ℕ) × (start : DriveState) × IsAtMove n start (D.drive device.old) tables.now plan.now number moves.old.heads }
+    requires at { (n : ℕ) × (start : DriveState)
+        × IsAtMove n start (D.drive device.old) tables.now plan.now number moves.old.heads }
     requires few { number < move_count plan.now }
-    ensures ok { OnOk result ((n : ℕ) (start : DriveState) → IsAtMove n start (D.drive device.old) tables.now plan.now number moves.old.heads → IsAtMove n start (D.drive device.new) tables.now plan.now (number + 1) moves.new.heads) }
+    ensures ok { OnOk result ((n : ℕ) (start : DriveState)
+        → IsAtMove n start (D.drive device.old) tables.now plan.now number moves.old.heads
+        → IsAtMove n start (D.drive device.new) tables.now plan.now (number + 1) moves.new.heads) }
     ensures err { IfErr result (IsInterruption (D.drive device.new)) }
-    ensures kept { (n : ℕ) (start : DriveState) → IsAtMove n start (D.drive device.old) tables.now plan.now number moves.old.heads → KeepsMountable n start (D.drive device.new) }
+    ensures kept { (n : ℕ) (start : DriveState)
+        → IsAtMove n start (D.drive device.old) tables.now plan.now number moves.old.heads
+        → KeepsMountable n start (D.drive device.new) }
 {
     build_move(device, plan, tables, number, &mut moves.next)?;
     let block_bytes = device.geometry().block;
@@ -265,9 +283,12 @@ pub(crate) fn make_moves<D: Device>(
     tables: &Tables,
 ) -> Result<ZoneHeads, MountFault>
     requires at { (n : ℕ) × IsAtMove n (D.drive device.old) (D.drive device.old) tables.now plan.now 0 no_heads }
-    ensures ok { IfOk result (λ heads. (n : ℕ) → IsAtMove n (D.drive device.old) (D.drive device.old) tables.now plan.now 0 no_heads → IsAtMove n (D.drive device.old) (D.drive device.new) tables.now plan.now (move_count plan.now) heads) }
+    ensures ok { IfOk result (λ heads. (n : ℕ)
+        → IsAtMove n (D.drive device.old) (D.drive device.old) tables.now plan.now 0 no_heads
+        → IsAtMove n (D.drive device.old) (D.drive device.new) tables.now plan.now (move_count plan.now) heads) }
     ensures err { IfErr result (IsInterruption (D.drive device.new)) }
-    ensures kept { (n : ℕ) → IsAtMove n (D.drive device.old) (D.drive device.old) tables.now plan.now 0 no_heads → KeepsMountable n (D.drive device.old) (D.drive device.new) }
+    ensures kept { (n : ℕ) → IsAtMove n (D.drive device.old) (D.drive device.old) tables.now plan.now 0 no_heads
+        → KeepsMountable n (D.drive device.old) (D.drive device.new) }
 {
     let mut moves = Moves {
         heads: ZoneHeads::new(alloc),

@@ -18,7 +18,8 @@ use zone_choice::batch_most;
 
 /// The greatest sequence of all batches, 0 where there is none.
 fn greatest_sequence(scanned: &[ScannedZone]) -> u64
-    ensures { (logs : List (List Batch)) → heads_in scanned.now ≡ map heads_of logs → result ≡ greatest_sequence (sequences logs) }
+    ensures { (logs : List (List Batch)) → heads_in scanned.now ≡ map heads_of logs
+        → result ≡ greatest_sequence (sequences logs) }
 {
     drive_survey::greatest_sequence(scanned)
 }
@@ -32,7 +33,8 @@ fn why_needed<D: Device>(
 ) -> Result<Finding, MountFault>
     requires known { Knows (D.drive device.old) survey.now.given (drive_logs (D.drive device.old)) survey.now }
     requires zone { zone < length (D.drive device.old).zones }
-    ensures ok { IfOk result (Finds (D.drive device.old).geometry.block survey.now.given (drive_logs (D.drive device.old)) zone) }
+    ensures ok { IfOk result (Finds (D.drive device.old).geometry.block survey.now.given
+        (drive_logs (D.drive device.old)) zone) }
     ensures err { IfErr result (IsInterruption (D.drive device.new)) }
     ensures kept { KeepsZones (D.drive device.old) (D.drive device.new) }
 {
@@ -89,7 +91,8 @@ pub(crate) fn plan_moves<D: Device>(
     into: u32,
 ) -> Result<MovePlan, MountFault>
     requires cleared { IsCleared (D.drive device.old) survey.now.given survey.now }
-    requires plan { IsPlan (D.drive device.old).geometry survey.now.given (drive_logs (D.drive device.old)) (zone_tails (contents (D.drive device.old).zones)) repair.now }
+    requires plan { IsPlan (D.drive device.old).geometry survey.now.given (drive_logs (D.drive device.old))
+        (zone_tails (contents (D.drive device.old).zones)) repair.now }
     ensures ok { IfOk result (IsMovePlan (D.drive device.old) survey.now.given survey.now repair.now into) }
     ensures err { IfErr result (IsInterruption (D.drive device.new)) }
     ensures kept { KeepsZones (D.drive device.old) (D.drive device.new) }

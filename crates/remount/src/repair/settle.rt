@@ -23,11 +23,14 @@ pub(crate) fn empty_torn<D: Device>(
     device: &mut D,
     plan: &MovePlan,
 ) -> Result<(), MountFault>
-    requires done { (n : ℕ) × (start : DriveState) × (tables : TablesView) × (heads : HeadsView) × IsAtMove n start (D.drive device.old) tables plan.now (move_count plan.now) heads }
+    requires done { (n : ℕ) × (start : DriveState) × (tables : TablesView) × (heads : HeadsView)
+        × IsAtMove n start (D.drive device.old) tables plan.now (move_count plan.now) heads }
     ensures ok { OnOk result ((n : ℕ) (start : DriveState) (tables : TablesView) (heads : HeadsView) → IsAtMove n start (D.drive device.old) tables plan.now (move_count plan.now) heads
         → EmptiesTorn n start (D.drive device.new) plan.now (moves_before (source_of start tables plan.now.torn) plan.now (move_count plan.now))) }
     ensures err { IfErr result (IsInterruption (D.drive device.new)) }
-    ensures kept { (n : ℕ) (start : DriveState) (tables : TablesView) (heads : HeadsView) → IsAtMove n start (D.drive device.old) tables plan.now (move_count plan.now) heads → KeepsMountable n start (D.drive device.new) }
+    ensures kept { (n : ℕ) (start : DriveState) (tables : TablesView) (heads : HeadsView)
+        → IsAtMove n start (D.drive device.old) tables plan.now (move_count plan.now) heads
+        → KeepsMountable n start (D.drive device.new) }
 {
     let start = device.geometry().start_of(plan.torn);
     if let Err(fault) = reset(alloc, device, start) {
@@ -67,8 +70,12 @@ pub(crate) fn note_repair(
     requires into { plan.now.into < length survey.old.zones.items }
     requires count { length survey.old.scanned.items ≡ length survey.old.zones.items }
     requires some { 1 ≤ heads.blocks }
-    ensures known { (n : ℕ) (start new : DriveState) (made : List Batch) → start.geometry.capacity ≡ capacity → heads ≡ heads_of made → Knows start n (drive_logs start) survey.old → EmptiesTorn n start new plan.now made → Knows new n (drive_logs new) survey.new }
-    ensures vacant { (n : ℕ) (start new : DriveState) (made : List Batch) → Knows start n (drive_logs start) survey.old → AreVacantEmpty survey.old.zones.items (drive_logs start) → EmptiesTorn n start new plan.now made → AreVacantEmpty survey.new.zones.items (drive_logs new) }
+    ensures known { (n : ℕ) (start new : DriveState) (made : List Batch) → start.geometry.capacity ≡ capacity
+        → heads ≡ heads_of made → Knows start n (drive_logs start) survey.old
+        → EmptiesTorn n start new plan.now made → Knows new n (drive_logs new) survey.new }
+    ensures vacant { (n : ℕ) (start new : DriveState) (made : List Batch)
+        → Knows start n (drive_logs start) survey.old → AreVacantEmpty survey.old.zones.items (drive_logs start)
+        → EmptiesTorn n start new plan.now made → AreVacantEmpty survey.new.zones.items (drive_logs new) }
 {
     let written = filled_zone(heads.blocks(), capacity);
     survey.zones[plan.into as usize] = written;

@@ -96,8 +96,14 @@ pub fn plan_repair(
     geometry: &Geometry,
 ) -> Result<Option<Repair>, MountFault>
     requires surveyed { WasSurveyed geometry.now survey.now.given survey.now }
-    ensures ok { IfOk result (λ plan. (drive : DriveState) (logs : List (List Batch)) → drive.geometry ≡ geometry.now → Knows drive survey.now.given logs survey.now → Plans geometry.now survey.now.given logs (zone_tails (contents drive.zones)) plan) }
-    ensures err { IfErr result (λ fault. (fault ≡ faults.OutOfMemory) ⊎ ((drive : DriveState) (logs : List (List Batch)) → drive.geometry ≡ geometry.now → Knows drive survey.now.given logs survey.now → CannotRepair geometry.now (encoded_size survey.now.given logs) logs (zone_tails (contents drive.zones)) fault)) }
+    ensures ok { IfOk result (λ plan. (drive : DriveState) (logs : List (List Batch))
+        → drive.geometry ≡ geometry.now → Knows drive survey.now.given logs survey.now
+        → Plans geometry.now survey.now.given logs (zone_tails (contents drive.zones)) plan) }
+    ensures err { IfErr result (λ fault. (fault ≡ faults.OutOfMemory)
+        ⊎ ((drive : DriveState) (logs : List (List Batch)) → drive.geometry ≡ geometry.now
+        → Knows drive survey.now.given logs survey.now
+        → CannotRepair geometry.now (encoded_size survey.now.given logs) logs
+        (zone_tails (contents drive.zones)) fault)) }
 {
     let Some(zone) = find_torn(&survey.scanned, 0) else {
         return Ok(None);

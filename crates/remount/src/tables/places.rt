@@ -58,7 +58,8 @@ fn sequence_of(scanned: &[ScannedZone], zone_size: u32, place: Place) -> Option<
 
 /// Whether a record is later than the one that a place belongs to.
 fn is_later(scanned: &[ScannedZone], zone_size: u32, place: Place, sequence: u64) -> bool
-    ensures { AreAscending (heads_in scanned.now) → result ≡ is_later (sequence_of zone_size (heads_in scanned.now) place) sequence }
+    ensures { AreAscending (heads_in scanned.now)
+        → result ≡ is_later (sequence_of zone_size (heads_in scanned.now) place) sequence }
 {
     match sequence_of(scanned, zone_size, place) {
         Some(old) => old < sequence,
@@ -74,7 +75,8 @@ fn place_record(
     found: KeptRecord,
 ) -> Result<(), AllocError>
     requires few { size_of tables.old ≤ 2 ^ 31 }
-    ensures places { OnOk result (AreAscending (heads_in scanned.now) → tables.new.map.places ≡ placed_one zone_size (heads_in scanned.now) tables.old.map.places found) }
+    ensures places { OnOk result (AreAscending (heads_in scanned.now)
+        → tables.new.map.places ≡ placed_one zone_size (heads_in scanned.now) tables.old.map.places found) }
     ensures kept { SameButPlaces tables.old tables.new }
 {
     let block = found.block;
@@ -99,7 +101,9 @@ fn place_batch(
     entries: &[u32],
 ) -> Result<(), AllocError>
     requires few { size_of tables.old ≤ 2 ^ 31 }
-    ensures places { OnOk result (AreAscending (heads_in scanned.now) → tables.new.map.places ≡ placed_all zone_size (heads_in scanned.now) tables.old.map.places (kept_entries head.now.sequence zone head.now.offset 0 entries.now)) }
+    ensures places { OnOk result (AreAscending (heads_in scanned.now)
+        → tables.new.map.places ≡ placed_all zone_size (heads_in scanned.now) tables.old.map.places
+        (kept_entries head.now.sequence zone head.now.offset 0 entries.now)) }
     ensures kept { SameButPlaces tables.old tables.new }
 {
     let mut before = 0;
@@ -126,7 +130,9 @@ fn place_heads(
     heads: &ZoneHeads,
 ) -> Result<(), AllocError>
     requires few { size_of tables.old ≤ 2 ^ 31 }
-    ensures places { OnOk result (AreAscending (heads_in scanned.now) → tables.new.map.places ≡ placed_all zone_size (heads_in scanned.now) tables.old.map.places (kept_of_zone zone heads.now)) }
+    ensures places { OnOk result (AreAscending (heads_in scanned.now)
+        → tables.new.map.places ≡ placed_all zone_size (heads_in scanned.now) tables.old.map.places
+        (kept_of_zone zone heads.now)) }
     ensures kept { SameButPlaces tables.old tables.new }
 {
     let mut from = 0;
@@ -149,7 +155,9 @@ fn place_zone(
     zone: u32,
 ) -> Result<(), AllocError>
     requires few { size_of tables.old ≤ 2 ^ 31 }
-    ensures places { OnOk result (AreAscending (heads_in scanned.now) → tables.new.map.places ≡ placed_all zone_size (heads_in scanned.now) tables.old.map.places (kept_of_zone zone (heads_at (heads_in scanned.now) zone))) }
+    ensures places { OnOk result (AreAscending (heads_in scanned.now)
+        → tables.new.map.places ≡ placed_all zone_size (heads_in scanned.now) tables.old.map.places
+        (kept_of_zone zone (heads_at (heads_in scanned.now) zone))) }
     ensures kept { SameButPlaces tables.old tables.new }
 {
     let Some(found) = scanned.get(zone as usize) else {
@@ -167,7 +175,9 @@ pub fn place_records(
     survey: &Survey,
     geometry: &Geometry,
 ) -> Result<Tables, AllocError>
-    ensures placed { IfOk result (λ tables. (drive : DriveState) (logs : List (List Batch)) → drive.geometry ≡ geometry.now → Knows drive survey.now.given logs survey.now → IsPlaced geometry.now survey.now.given logs tables) }
+    ensures placed { IfOk result (λ tables. (drive : DriveState) (logs : List (List Batch))
+        → drive.geometry ≡ geometry.now → Knows drive survey.now.given logs survey.now
+        → IsPlaced geometry.now survey.now.given logs tables) }
     ensures zones { IfOk result (λ tables. tables.map.zones ≡ geometry.now.zones) }
     ensures given { IfOk result (λ tables. tables.given ≡ survey.now.given) }
 {
