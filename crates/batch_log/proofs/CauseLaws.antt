@@ -3,7 +3,7 @@ use Rattle.std.proofs.Common.{◌≡◌, ◌⊎◌, inl, inr, ℕ, zero, suc, �
 use Rattle.std.specs.Prelude.{nat_eq, nat_le, ◌==◌, IfSome}
 use Rattle.std.specs.List.{flat_map, list_any, starts_with, AllByRecursion, IsDistinct}
 use Rattle.std.specs.Cmp.Lexicographic.{same_text}
-use Rattle.std.proofs.lemmas.Bool.{eqb-true, ltb-true, ltb-false, leb-true, le-ltb, le-leb}
+use Rattle.std.proofs.lemmas.Bool.{eqb-true, ltb-true, ltb-false, leb-true, le-ltb, le-leb, and_parts, not-false, or_cases}
 use Rattle.std.proofs.lemmas.List.{drop_at, drop-drop, length-drop, take-append-drop}
 use Rattle.byteorder.specs.Endian.{little_from, little_bytes}
 use Rattle.byteorder.specs.Numbers.{little_number-reads_back}
@@ -38,20 +38,8 @@ unfolding AllFail
 no_cause [] all = refl
 no_cause (check ∷ checks) all = rw all.0 (no_cause checks all.1)
 
-not-false : (b : Bool) → not b ≡ false → b ≡ true
-not-false true e = refl
-not-false false e = absurd (cc)
-
-or-true : (a b : Bool) → (a || b) ≡ true → (a ≡ true) ⊎ (b ≡ true)
-or-true true b e = inl refl
-or-true false b e = inr e
-
-and-true : (a b : Bool) → (a && b) ≡ true → (a ≡ true) × (b ≡ true)
-and-true true b e = (refl, e)
-and-true false b e = absurd (cc)
-
 one_or_two : (n : ℕ) → not (n == 1 || n == 2) ≡ false → (n ≡ 1) ⊎ (n ≡ 2)
-one_or_two n e = at (or-true (eqb n 1) (eqb n 2) (not-false (eqb n 1 || eqb n 2) e))
+one_or_two n e = at (or_cases (eqb n 1) (eqb n 2) (not-false (eqb n 1 || eqb n 2) e))
   where
     at : (eqb n 1 ≡ true) ⊎ (eqb n 2 ≡ true) → (n ≡ 1) ⊎ (n ≡ 2)
     at (inl e) = inl (eqb-true n 1 e)
@@ -90,7 +78,7 @@ distinct-back (x ∷ xs) all = rw (differ-back x xs all.0) (distinct-back xs all
 pub all_zeros : (xs : List ℕ) → is_zero xs ≡ true → xs ≡ replicate (length xs) 0
 all_zeros [] e = refl
 all_zeros (x ∷ xs) e =
-    let both = and-true (eqb x 0) (is_zero xs) e in
+    let both = and_parts (eqb x 0) (is_zero xs) e in
     rw (eqb-true x 0 both.0) (ap (λ (ys : List ℕ). 0 ∷ ys) (all_zeros xs both.1))
 
 pub zeros_zero : (n : ℕ) → is_zero (replicate n 0) ≡ true
@@ -181,7 +169,7 @@ size_back : (version word : ℕ) → (version ≡ 1) ⊎ (version ≡ 2) → has
 size_back version word (inl e) odd = rw e tt
 size_back version word (inr e) odd =
     let sized : not (is_size word) ≡ false = rw e at odd in
-    let both = and-true (nat_le 1 word) (nat_le word (2 ^ 31)) (not-false (is_size word) sized) in
+    let both = and_parts (nat_le 1 word) (nat_le word (2 ^ 31)) (not-false (is_size word) sized) in
     let size : IsSize word = (leb-true 1 word both.0, leb-true word (2 ^ 31) both.1) in
     rw e size
 

@@ -1,7 +1,7 @@
 -- Blocks are read in one way, and how they end says whether they have a log.
 use Rattle.std.proofs.Common.{◌≡◌, inl, inr, ℕ, zero, suc, ◌<◌, ◌≤◌, ◌^◌, Bool, true, false, ◌&&◌, leb, List, [], ◌∷◌, ◌++◌, length, take, drop, replicate, Option, Some, None, refl, sym, ap, ◌∙◌, append_assoc, arith}
 use Rattle.std.specs.List.{flat_map, list_all, AllByRecursion}
-use Rattle.std.proofs.lemmas.Bool.{leb-true, leb-false}
+use Rattle.std.proofs.lemmas.Bool.{leb-true, leb-false, and_parts}
 use Rattle.std.proofs.lemmas.List.{drop_at, length-append, length-take, take_at, take-append-drop}
 use Rattle.batch_log.specs.declared.fault.LogFault.{LogFault}
 use Rattle.batch_log.specs.declared.fault.LogFault.TheVariants.{Magic}
@@ -109,15 +109,11 @@ tail_blocks : (size : ℕ) (xs ys : List (List ℕ)) → AreBlocks size (xs ++ y
 tail_blocks size [] ys all = all
 tail_blocks size (x ∷ xs) ys all = tail_blocks size xs ys all.1
 
-and-both : (a b : Bool) → (a && b) ≡ true → (a ≡ true) × (b ≡ true)
-and-both true b e = (refl, e)
-and-both false b e = absurd (cc)
-
 -- zeros alone
 blocks_of_zeros : (size : ℕ) (blocks : List (List ℕ)) → AreBlocks size blocks → list_all is_zero blocks ≡ true → blocks ≡ replicate (length blocks) (zero_block size)
 blocks_of_zeros size [] all e = refl
 blocks_of_zeros size (b ∷ bs) all e =
-    let both = and-both (is_zero b) (list_all is_zero bs) e in
+    let both = and_parts (is_zero b) (list_all is_zero bs) e in
     let first : b ≡ zero_block size = all_zeros b both.0 ∙ ap zero_block all.0.0 in
     ap (λ (x : List ℕ). x ∷ bs) first ∙ ap (λ (xs : List (List ℕ)). zero_block size ∷ xs) (blocks_of_zeros size bs all.1 both.1)
 

@@ -10,6 +10,7 @@ use Rattle.batch_log.specs.Log.{data_count, one_unless}
 use Rattle.batch_log.specs.Reading.{number_at, entry_of, entries_in}
 use Rattle.batch_log.specs.Causes.{blocks_named, repeats}
 
+-- as many entries are read as the count says
 pub entries_length : (count : ℕ) (bytes : List ℕ) → length (entries_in count bytes) ≡ count
 entries_length zero bytes = refl
 entries_length (suc n) bytes = let rest = entries_length n (drop 8 bytes) in omega (arith, rest)
@@ -51,6 +52,7 @@ data_from bytes count i = data_count (entries_in (count - i) (drop (8 * i) bytes
 pub data_more : (count i : ℕ) (bytes : List ℕ) (e : Entry) → i < count → e ≡ entry_of (number_at (8 * i) 8 bytes) → data_from bytes count i ≡ one_unless e.trim + data_from bytes count (i + 1)
 data_more count i bytes e lt is = ap data_count (entries_more count i bytes lt) ∙ rw is refl
 
+-- an entry has one block of data, or none
 pub few-data : (trim : Bool) → one_unless trim ≤ 1
 few-data true = omega arith
 few-data false = omega arith

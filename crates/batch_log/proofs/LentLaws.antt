@@ -110,6 +110,7 @@ left_after size bytes offset end count after total fits is = omega (arith, is, t
 pub few_bytes : (count size : ℕ) → count ≤ 2 ^ 29 → size < 2 ^ 32 → count * size < 2 ^ 64
 few_bytes count size few small = let most : count * size ≤ 2 ^ 29 * 2 ^ 32 = mul-le count size (2 ^ 29) (2 ^ 32) few (omega arith) in omega (arith, most)
 
+-- entries have no more blocks of data than there are entries
 pub data-few : (es : List Entry) → data_count es ≤ length es
 data-few [] = omega arith
 data-few (e ∷ es) = omega (arith, data-few es, few-data e.trim)

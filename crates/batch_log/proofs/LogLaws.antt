@@ -2,7 +2,7 @@
 use Rattle.std.proofs.Common.{◌≡◌, ◌⊎◌, inl, inr, ℕ, zero, suc, ◌+◌, ◌<◌, ◌≤◌, ◌^◌, Bool, true, false, leb, List, [], ◌∷◌, ◌++◌, length, take, drop, replicate, refl, sym, ap, ◌∙◌, append_assoc, arith}
 use Rattle.std.specs.List.{flat_map, AllByRecursion}
 use Rattle.std.proofs.lemmas.Bool.{le-leb, lt-leb, lt-ltb, le-ltb, ltb-true, ltb-false}
-use Rattle.std.proofs.lemmas.List.{append-nil, take_at, drop_at, length-append, length-replicate}
+use Rattle.std.proofs.lemmas.List.{append-nil, take_at, drop_at, length-append, length-replicate, nil_from_length}
 use Rattle.std.proofs.lemmas.List.Concat.{flat_map-append}
 use Rattle.batch_log.specs.Header.{Heading, header_block}
 use Rattle.batch_log.specs.Log.{Batch, BeginsWith, IsBatch, IsLog, IsTail, IsTorn, IsUntornTail, IsWholeLog, data_count, batch_blocks, log_size, zero_block, batch_in, begins_batch, log_from, log_of, tail_of}
@@ -77,6 +77,7 @@ one_log size is_full blocks log small is =
 
 -- ---- the tail
 
+-- the blocks of a log are as many as its size says
 pub spelled_length : (size : ℕ) (log : List Batch) → AllByRecursion (IsBatch size) log → length (flat_map (batch_blocks size) log) ≡ log_size log
 spelled_length size [] all = refl
 spelled_length size (b ∷ bs) all = omega (arith, length-append b.body (flat_map (batch_blocks size) bs), all.0.body, spelled_length size bs all.1)
@@ -94,10 +95,6 @@ whole_log size is_full blocks log is = record { tail = []; front = is; end = non
     none false = inl refl
     none true = refl
 
-nil_of : {X : Type 0} (xs : List X) → length xs ≡ 0 → xs ≡ []
-nil_of [] e = refl
-nil_of (x ∷ xs) e = absurd (omega arith)
-
 -- a log's blocks are its batches' and its tail's
 pub count_tail : (size : ℕ) (blocks tail : List (List ℕ)) (log : List Batch) → BeginsWith size blocks log tail → log_of blocks ≡ log → length blocks ≡ log_size (log_of blocks) + length tail
 count_tail size blocks tail log front read = omega (arith, ap length front.spelled, length-append (flat_map (batch_blocks size) log) tail, spelled_length size log front.batches, ap log_size read)
@@ -106,7 +103,7 @@ pub no_tail : NoTail
 no_tail size blocks log small is = record {
   whole = λ none.
       let le = ltb-false (log_size (log_of blocks)) (length blocks) none in
-      let nil = nil_of is.tail (omega (arith, le, count_tail size blocks is.tail log is.front (one_log size false blocks log small is))) in
+      let nil = nil_from_length is.tail (omega (arith, le, count_tail size blocks is.tail log is.front (one_log size false blocks log small is))) in
       record { spelled = is.front.spelled ∙ ap (λ (t : List (List ℕ)). flat_map (batch_blocks size) log ++ t) nil; batches = is.front.batches };
   back = λ whole. le-ltb _ _ (omega (arith, count_tail size blocks [] log whole (one_log size false blocks log small (whole_log size false blocks log whole))));
   torn = λ some. torn_part is.end (ltb-true (log_size (log_of blocks)) (length blocks) some);

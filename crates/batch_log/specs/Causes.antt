@@ -1,5 +1,6 @@
 -- Why a block is no header block, and the first cause of it.
-use Rattle.std.specs.Prelude.{ℕ, ◌+◌, ◌*◌, ◌^◌, ◌==◌, ◌&&◌, ◌||◌, not, nat_eq, nat_lt, nat_le, if◌then◌else◌, is_none, Bool, false, List, [], ◌∷◌, map, length, drop, Option, Some, None}
+use Rattle.std.specs.Prelude.{ℕ, ◌+◌, ◌*◌, ◌^◌, ◌==◌, ◌&&◌, ◌||◌, not, nat_eq, nat_lt, nat_le, if◌then◌else◌}
+use Rattle.std.specs.Prelude.{is_none, Bool, false, List, [], ◌∷◌, map, length, drop, Option, Some, None}
 use Rattle.std.specs.List.{list_any, list_all, starts_with}
 use Rattle.batch_log.specs.declared.header.Entry.{Entry}
 use Rattle.batch_log.specs.declared.fault.LogFault.{LogFault}

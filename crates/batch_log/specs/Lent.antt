@@ -1,5 +1,6 @@
 -- The batches that an iterator over a zone's bytes lends.
-use Rattle.std.specs.Prelude.{◌≡◌, ℕ, zero, suc, ◌+◌, ◌-◌, ◌*◌, ◌&&◌, nat_le, if◌then◌else◌, Bool, List, [], ◌∷◌, ◌++◌, map, length, take, drop, Option, Some, None, IfNone, Result, Ok, Err}
+use Rattle.std.specs.Prelude.{◌≡◌, ℕ, zero, suc, ◌+◌, ◌-◌, ◌*◌, ◌&&◌, nat_le, if◌then◌else◌, Bool, List, [], ◌∷◌}
+use Rattle.std.specs.Prelude.{◌++◌, map, length, take, drop, Option, Some, None, IfNone, Result, Ok, Err}
 use Rattle.std.specs.List.{flat_map}
 use Rattle.std.specs.Iterator.{YieldsFirstBy}
 use Rattle.batch_log.specs.declared.fault.FaultAt.{FaultAt}
@@ -27,7 +28,9 @@ bytes_of_blocks blocks = flat_map (λ block. block) blocks
 -- the batches of a log that begins at a block
 abbrev pub lent_from : ℕ → List Batch → List LentBatch
 lent_from offset [] = []
-lent_from offset (batch ∷ log) = record { offset = offset; heading = batch.heading; body = bytes_of_blocks batch.body } ∷ lent_from (offset + batch_size batch) log
+lent_from offset (batch ∷ log) =
+    record { offset = offset; heading = batch.heading; body = bytes_of_blocks batch.body }
+    ∷ lent_from (offset + batch_size batch) log
 
 -- a fault is the last item
 abbrev pub fault_items : ℕ → Ending → List Item
@@ -82,7 +85,8 @@ abbrev pub read_from : ℕ → Bool → ℕ → ℕ → List ℕ → Reading
 read_from size is_full offset skip [] = record { batches = []; offset = offset; ending = ended }
 read_from size is_full offset (suc skip) (b ∷ bs) = read_from size is_full offset skip bs
 read_from size is_full offset zero (b ∷ bs) =
-    if begins size (b ∷ bs) then with_batch (batch_at size offset (b ∷ bs)) (read_from size is_full (offset + 1 + need size (b ∷ bs)) (size + need size (b ∷ bs) * size - 1) bs)
+    if begins size (b ∷ bs)
+    then with_batch (batch_at size offset (b ∷ bs)) (read_from size is_full (offset + 1 + need size (b ∷ bs)) (size + need size (b ∷ bs) * size - 1) bs)
     else record { batches = []; offset = offset; ending = ending_at size is_full (b ∷ bs) }
 
 abbrev pub reading : Batches → Reading

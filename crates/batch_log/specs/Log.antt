@@ -1,5 +1,6 @@
 -- The batches that a list of blocks holds, and what may stand after them.
-use Rattle.std.specs.Prelude.{◌≡◌, ◌⊎◌, ℕ, zero, suc, ◌+◌, ◌<◌, ◌==◌, ◌&&◌, nat_lt, nat_le, if◌then◌else◌, Bool, true, false, List, [], ◌∷◌, ◌++◌, length, replicate, take, drop, slice_index}
+use Rattle.std.specs.Prelude.{◌≡◌, ◌⊎◌, ℕ, zero, suc, ◌+◌, ◌<◌, ◌==◌, ◌&&◌, nat_lt, nat_le, if◌then◌else◌, Bool}
+use Rattle.std.specs.Prelude.{true, false, List, [], ◌∷◌, ◌++◌, length, replicate, take, drop, slice_index}
 use Rattle.std.specs.List.{flat_map, AllByRecursion}
 use Rattle.batch_log.specs.declared.header.Entry.{Entry}
 use Rattle.batch_log.specs.Header.{Heading, IsHeading, header_block}
@@ -47,7 +48,8 @@ pub record BeginsWith (block_bytes : ℕ) (blocks : List (List ℕ)) (log : List
 
 -- the blocks begin with no batch
 abbrev pub BeginsWithNoBatch : ℕ → List (List ℕ) → Type 0
-BeginsWithNoBatch block_bytes blocks = (batch : Batch) (others : List (List ℕ)) → IsBatch block_bytes batch → blocks ≡ batch_blocks block_bytes batch ++ others → ⊥
+BeginsWithNoBatch block_bytes blocks =
+    (batch : Batch) (others : List (List ℕ)) → IsBatch block_bytes batch → blocks ≡ batch_blocks block_bytes batch ++ others → ⊥
 
 -- A torn tail: a header block and fewer data blocks than its entries need, as an Append leaves that was stopped on its way. It is no batch, and says nothing.
 pub record IsTorn (block_bytes : ℕ) (tail : List (List ℕ)) : Type 0 where

@@ -7,7 +7,8 @@ use Rattle.batch_log.specs.Log.{Batch, IsBatch, IsLog, IsTorn, IsUntornLog, IsWh
 
 -- a header block is read again
 abbrev pub HeaderAgain : Type 0
-HeaderAgain = (block_bytes : ℕ) (heading : Heading) → block_bytes < 2 ^ 32 → IsHeading block_bytes heading → heading_in (header_block block_bytes heading) ≡ heading
+HeaderAgain = (block_bytes : ℕ) (heading : Heading) → block_bytes < 2 ^ 32 → IsHeading block_bytes heading
+    → heading_in (header_block block_bytes heading) ≡ heading
 
 -- each header has a block of its own
 abbrev pub OneHeader : Type 0
@@ -17,21 +18,25 @@ OneHeader =
 
 -- a header block is a whole block
 abbrev pub HeaderLength : Type 0
-HeaderLength = (block_bytes : ℕ) (heading : Heading) → head_size ≤ block_bytes → IsHeading block_bytes heading → length (header_block block_bytes heading) ≡ block_bytes
+HeaderLength = (block_bytes : ℕ) (heading : Heading) → head_size ≤ block_bytes → IsHeading block_bytes heading
+    → length (header_block block_bytes heading) ≡ block_bytes
 
 -- ---- logs
 
 -- a list of blocks has one log at most, and `log_of` finds it
 abbrev pub OneLog : Type 0
-OneLog = (block_bytes : ℕ) (is_full : Bool) (blocks : List (List ℕ)) (log : List Batch) → block_bytes < 2 ^ 32 → IsLog block_bytes is_full blocks log → log_of blocks ≡ log
+OneLog = (block_bytes : ℕ) (is_full : Bool) (blocks : List (List ℕ)) (log : List Batch) → block_bytes < 2 ^ 32
+    → IsLog block_bytes is_full blocks log → log_of blocks ≡ log
 
 -- it has one tail at most, and `tail_of` finds it
 abbrev pub OneTail : Type 0
-OneTail = (block_bytes : ℕ) (is_full : Bool) (blocks : List (List ℕ)) (log : List Batch) → block_bytes < 2 ^ 32 → (is : IsLog block_bytes is_full blocks log) → is.tail ≡ tail_of blocks
+OneTail = (block_bytes : ℕ) (is_full : Bool) (blocks : List (List ℕ)) (log : List Batch) → block_bytes < 2 ^ 32
+    → (is : IsLog block_bytes is_full blocks log) → is.tail ≡ tail_of blocks
 
 -- batches with nothing after them are a log, of a full zone too
 abbrev pub WholeLog : Type 0
-WholeLog = (block_bytes : ℕ) (is_full : Bool) (blocks : List (List ℕ)) (log : List Batch) → IsWholeLog block_bytes blocks log → IsLog block_bytes is_full blocks log
+WholeLog = (block_bytes : ℕ) (is_full : Bool) (blocks : List (List ℕ)) (log : List Batch) → IsWholeLog block_bytes blocks log
+    → IsLog block_bytes is_full blocks log
 
 -- a log with no torn tail is a log; outside a full zone it is its batches alone
 pub record UntornExactly (block_bytes : ℕ) (is_full : Bool) (blocks : List (List ℕ)) (log : List Batch) : Type 0 where
@@ -50,7 +55,8 @@ pub record WholeExactly (block_bytes : ℕ) (blocks : List (List ℕ)) (log : Li
   pub torn : has_tail blocks ≡ true → IsTorn block_bytes (tail_of blocks)
 
 abbrev pub NoTail : Type 0
-NoTail = (block_bytes : ℕ) (blocks : List (List ℕ)) (log : List Batch) → block_bytes < 2 ^ 32 → IsLog block_bytes false blocks log → WholeExactly block_bytes blocks log
+NoTail = (block_bytes : ℕ) (blocks : List (List ℕ)) (log : List Batch) → block_bytes < 2 ^ 32 → IsLog block_bytes false blocks log
+    → WholeExactly block_bytes blocks log
 
 -- ---- changes
 
@@ -93,4 +99,5 @@ OneReading =
 abbrev pub ReadingSays : Type 0
 ReadingSays =
     (block_bytes : ℕ) (is_full : Bool) (blocks : List (List ℕ)) (log : List Batch) (ending : Ending)
-    → head_size ≤ block_bytes → block_bytes < 2 ^ 32 → AreBlocks block_bytes blocks → ReadsLog block_bytes is_full blocks log ending → SaysOfLog block_bytes is_full blocks log ending
+    → head_size ≤ block_bytes → block_bytes < 2 ^ 32 → AreBlocks block_bytes blocks
+    → ReadsLog block_bytes is_full blocks log ending → SaysOfLog block_bytes is_full blocks log ending

@@ -1,4 +1,5 @@
-ghost use Rattle.std.specs.Prelude.{◌≡◌, ◌≢◌, ◌≤◌, ◌<◌, ◌+◌, ◌*◌, ◌%◌, ◌/◌, ◌^◌, ℕ, List, [], length, take, drop, false, true, Some, None};
+ghost use Rattle.std.specs.Prelude.{◌≡◌, ◌≢◌, ◌≤◌, ◌<◌, ◌+◌, ◌*◌, ◌%◌, ◌/◌, ◌^◌, ℕ, List};
+ghost use Rattle.std.specs.Prelude.{[], length, take, drop, false, true, Some, None};
 ghost use Rattle.batch_log.specs.Header.{head_size};
 ghost use Rattle.batch_log.specs.Causes.{header_fault, is_zero};
 ghost use Rattle.batch_log.specs.Ending.{AreBlocks};
@@ -41,7 +42,8 @@ impl<'a> Batches<'a> {
         requires room { head_size ≤ block_bytes }
         requires whole { length bytes.now % block_bytes ≡ 0 }
         requires few { length bytes.now / block_bytes < 2 ^ 32 }
-        ensures { (blocks : List (List ℕ)) → AreBlocks block_bytes blocks → bytes_of_blocks blocks ≡ bytes.now → AreRead block_bytes is_full blocks (left result) (torn_left result) }
+        ensures { (blocks : List (List ℕ)) → AreBlocks block_bytes blocks → bytes_of_blocks blocks
+            ≡ bytes.now → AreRead block_bytes is_full blocks (left result) (torn_left result) }
     {
         Batches {
             rest: bytes,

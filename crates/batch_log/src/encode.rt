@@ -1,7 +1,8 @@
 ghost use Rattle.std.specs.Prelude.{◌≡◌, ◌⊎◌, ◌≤◌, ◌<◌, ◌*◌, ◌^◌, length};
 ghost use Rattle.std.specs.List.{flat_map, AllByRecursion};
 ghost use Rattle.std.specs.Prelude.{IfSome};
-ghost use Rattle.batch_log.specs.Header.{IsHeading, heading_of, kind_code, version_of, size_word, entry_room, entry_word, entry_word_bytes, head_bytes, head_size, header_block};
+ghost use Rattle.batch_log.specs.Header.{IsHeading, heading_of, kind_code, version_of, size_word, entry_room};
+ghost use Rattle.batch_log.specs.Header.{entry_word, entry_word_bytes, head_bytes, head_size, header_block};
 
 use crate::header::{Entry, Header, Kind};
 use byteorder::{ByteOrder, LittleEndian};
@@ -63,7 +64,8 @@ fn write_head(header: &Header, out: &mut [u8])
     requires count { length header.now.entries.items < 2 ^ 32 }
     requires size { length out.old ≡ head_size }
     ensures { let count = length header.now.entries.items in
-        out.new ≡ head_bytes header.now.kind count header.now.sequence header.now.source header.now.size }
+        out.new ≡ head_bytes header.now.kind count header.now.sequence header.now.source
+        header.now.size }
 {
     out[..8].copy_from_slice(&MAGIC);
     LittleEndian::write_u16(&mut out[8..10], version(header.size));

@@ -1,7 +1,8 @@
 //! What holds of all header blocks and of all logs. Each function carries one law as its contract,
 //! and does nothing.
 
-ghost use Rattle.batch_log.specs.LogLaws.{HeaderAgain, OneHeader, HeaderLength, OneLog, OneTail, WholeLog, NoTail, UntornLog, AppendBatch, AppendFront, Finish, OneReading, ReadingSays};
+ghost use Rattle.batch_log.specs.LogLaws.{HeaderAgain, OneHeader, HeaderLength, OneLog, OneTail, WholeLog, NoTail};
+ghost use Rattle.batch_log.specs.LogLaws.{UntornLog, AppendBatch, AppendFront, Finish, OneReading, ReadingSays};
 
 /// A header block is read again.
 pub fn header_again()

@@ -1,9 +1,11 @@
-ghost use Rattle.std.specs.Prelude.{◌≡◌, ◌≤◌, ◌<◌, ◌+◌, ◌*◌, ◌-◌, ◌^◌, nat_eq, length, take, drop, slice_get, None, Some, IfOk, IfErr, IsTrue, false};
+ghost use Rattle.std.specs.Prelude.{◌≡◌, ◌≤◌, ◌<◌, ◌+◌, ◌*◌, ◌-◌, ◌^◌, nat_eq, length, take, drop};
+ghost use Rattle.std.specs.Prelude.{slice_get, None, Some, IfOk, IfErr, IsTrue, false};
 ghost use Rattle.std.specs.List.{list_any};
 ghost use Rattle.byteorder.specs.Endian.{little_from};
 ghost use Rattle.batch_log.specs.Header.{IsHeaderBlock, IsNoHeader, head_size, entry_room};
 ghost use Rattle.batch_log.specs.Reading.{number_at, entry_of, entries_in, kind_of, said_size, count_in, heading_in};
-ghost use Rattle.batch_log.specs.Causes.{blocks_named, header_fault, has_early_size, has_host_source, has_odd_size, is_kind, is_size, is_version, is_zero, repeats};
+ghost use Rattle.batch_log.specs.Causes.{blocks_named, header_fault, has_early_size, has_host_source, has_odd_size};
+ghost use Rattle.batch_log.specs.Causes.{is_kind, is_size, is_version, is_zero, repeats};
 ghost use Rattle.batch_log.specs.Log.{data_count, one_unless};
 
 use crate::encode::{HEAD_SIZE, MAGIC, TRIM_BIT};
@@ -239,7 +241,8 @@ pub fn read_header(block: &[u8]) -> Result<HeaderView<'_>, LogFault>
     ensures ok { IfOk result (λ view. IsHeaderBlock (length block.now) block.now view) }
     ensures err { IfErr result (λ fault. header_fault block.now ≡ Some fault) }
     ensures none { IfErr result (λ _. IsNoHeader block.now) }
-    ensures read { IfOk result (λ view. (header_fault block.now ≡ None) × (view ≡ heading_in block.now)) }
+    ensures read { IfOk result
+        (λ view. (header_fault block.now ≡ None) × (view ≡ heading_in block.now)) }
 {
     match fault_in(block) {
         Some(fault) => Err(fault),

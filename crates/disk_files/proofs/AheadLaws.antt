@@ -80,7 +80,7 @@ module _ (bytes : List ℕ) (first last start end : ℕ) (begins : first ≤ las
 -- ---- a read after a line
 
 -- the bytes from the end on are those that were read
-pub read_part : (bytes read rest : List ℕ) (end n : ℕ) → end ≤ length bytes → n ≤ length read → slice_range (take end bytes ++ (read ++ rest)) end (end + n) ≡ take n read
+read_part : (bytes read rest : List ℕ) (end n : ℕ) → end ≤ length bytes → n ≤ length read → slice_range (take end bytes ++ (read ++ rest)) end (end + n) ≡ take n read
 read_part bytes read rest end n inside fits =
     let size : length (take end bytes) ≡ end = omega (arith, length-take end bytes) in
     let count : end + n - end ≡ n = omega arith in

@@ -3,7 +3,7 @@ use Rattle.std.proofs.Common.{◌≡◌, ℕ, zero, suc, ◌+◌, ◌-◌, ◌*�
 use Rattle.std.specs.Option.{unwrap_or}
 use Rattle.std.specs.List.{range_with_len}
 use Rattle.std.specs.Simd.Lanes.{Each1, all_below, chunk, mask_l, put_chunk, sel_l, top, zip2}
-use Rattle.std.proofs.lemmas.Bool.{cases_eq, cases_lt, eqb-true}
+use Rattle.std.proofs.lemmas.Bool.{cases_eq, cases_lt, eqb-true, and_parts}
 use Rattle.std.proofs.lemmas.Bool.Decides.{nat_tests}
 use Rattle.std.proofs.lemmas.List.{drop_more, drop_all, get_or_append_left, length-map, length-take, length-drop, take-append-drop}
 use Rattle.std.proofs.lemmas.Simd.{chunk-drop, length-chunk, mask_l-mod, take_more_put_chunk, splat_is_map, tops_compared, zip2_of_maps, zip2_splat, zip2_splat_left}
@@ -50,10 +50,6 @@ letter_below x = cond (ltb (letter x) 245) (letter x) 245
 abbrev value : ℕ → ℕ
 value x = cond (ltb (number x) (more (letter_below x) 10)) (number x) (more (letter_below x) 10)
 
-both : (a b : Bool) → (a && b) ≡ true → (a ≡ true) × (b ≡ true)
-both true b h = (refl, h)
-both false b h = absurd cc
-
 -- whether p holds of the first n numbers
 abbrev every : (ℕ → Bool) → ℕ → Bool
 every p zero = true
@@ -62,8 +58,8 @@ every p (suc n) = p n && every p n
 every-at : (p : ℕ → Bool) (n i : ℕ) → every p n ≡ true → i < n → p i ≡ true
 every-at p zero i h lt = absurd (omega arith)
 every-at p (suc n) i h lt = elim (cases_eq i n) [
-  | inl same ↦ rw same (both (p n) (every p n) h).0
-  | inr other ↦ every-at p n i (both (p n) (every p n) h).1 (omega arith)
+  | inl same ↦ rw same (and_parts (p n) (every p n) h).0
+  | inr other ↦ every-at p n i (and_parts (p n) (every p n) h).1 (omega arith)
 ]
 
 value-is : (x : ℕ) → x < 256 → capped (value x) ≡ value_or_none x
@@ -112,10 +108,10 @@ all_below-capped (v ∷ vs) = elim (cases_lt v 16) [
 pub capped-below : (vs : List ℕ) → all_below 16 vs ≡ true → map capped vs ≡ vs
 capped-below [] good = refl
 capped-below (v ∷ vs) good =
-    let each = both (ltb v 16) (all_below 16 vs) good in
+    let each = and_parts (ltb v 16) (all_below 16 vs) good in
     rw (each.0, capped-below vs each.1) refl
 
-pub all_below-bits : (vs : List ℕ) → (mask_l (map (λ v. ltb 15 v) vs) == 0) ≡ all_below 16 vs
+all_below-bits : (vs : List ℕ) → (mask_l (map (λ v. ltb 15 v) vs) == 0) ≡ all_below 16 vs
 all_below-bits [] = refl
 all_below-bits (v ∷ vs) = elim (cases_lt v 16) [
   | inl below ↦ grind (arith, nat_tests, all_below-bits vs)
@@ -131,8 +127,8 @@ are_digits-is vs long =
 
 below-at : (vs : List ℕ) (i : ℕ) → all_below 16 vs ≡ true → i < length vs → get_or vs i 0 < 16
 below-at [] i h lt = absurd (omega arith)
-below-at (v ∷ vs) zero h lt = let first = (both (ltb v 16) (all_below 16 vs) h).0 in grind (arith, nat_tests)
-below-at (v ∷ vs) (suc i) h lt = below-at vs i (both (ltb v 16) (all_below 16 vs) h).1 (omega arith)
+below-at (v ∷ vs) zero h lt = let first = (and_parts (ltb v 16) (all_below 16 vs) h).0 in grind (arith, nat_tests)
+below-at (v ∷ vs) (suc i) h lt = below-at vs i (and_parts (ltb v 16) (all_below 16 vs) h).1 (omega arith)
 
 -- the bytes of the pairs from the i-th on, as a processor finds them
 pub joined-from : (n i : ℕ) (vs others : List ℕ) → length vs ≡ 2 * (i + n) → all_below 16 vs ≡ true
@@ -155,13 +151,13 @@ pair-joined : (h l : Option ℕ) (bytes : Option (List ℕ)) (rest : List ℕ) �
     → (all_below 16 rest ≡ true → bytes ≡ Some (joined rest))
     → ((h >>= (λ (x : ℕ). l >>= (λ (y : ℕ). Some (x * 16 + y)))) >>= (λ (b : ℕ). bytes >>= (λ (bs : List ℕ). Some (b ∷ bs)))) ≡ Some ((unwrap_or h 16 * 16 + unwrap_or l 16) ∷ joined rest)
 pair-joined None l bytes rest good then = absurd cc
-pair-joined (Some x) None bytes rest good then = absurd (let second = (both true _ good) in grind (arith, nat_tests))
+pair-joined (Some x) None bytes rest good then = absurd (let second = (and_parts true _ good) in grind (arith, nat_tests))
 pair-joined (Some x) (Some y) bytes rest good then =
-    let behind = (both (ltb y 16) (all_below 16 rest) (both (ltb x 16) (ltb y 16 && all_below 16 rest) good).1).1 in
+    let behind = (and_parts (ltb y 16) (all_below 16 rest) (and_parts (ltb x 16) (ltb y 16 && all_below 16 rest) good).1).1 in
     rw (then behind) refl
 
 -- digits that all have values stand for bytes
-pub values-joined : (n : ℕ) (xs : List ℕ) → length xs ≡ 2 * n → all_below 16 (map value_or_none xs) ≡ true → hex_bytes xs ≡ Some (joined (map value_or_none xs))
+values-joined : (n : ℕ) (xs : List ℕ) → length xs ≡ 2 * n → all_below 16 (map value_or_none xs) ≡ true → hex_bytes xs ≡ Some (joined (map value_or_none xs))
 values-joined n [] even good = refl
 values-joined n (a ∷ []) even good = absurd (omega arith)
 values-joined zero (a ∷ b ∷ rest) even good = absurd (omega arith)

@@ -11,7 +11,7 @@ use Rattle.hex.specs.Hex.{IsBytes, encode_lower, encode_with, hex_digit_value, l
 use Rattle.hex.proofs.HexLemmas.{IsDigits-lower_digits}
 use Rattle.disk_files.specs.Words.{byte_of, digits_after, is_space, number_of, words_of, ◌>>=◌}
 
-abbrev pub NoSpace : List ℕ → Type 0
+abbrev NoSpace : List ℕ → Type 0
 NoSpace word = All (λ b. is_space b ≡ false) word
 
 -- ---- numbers
@@ -72,7 +72,7 @@ byte_of-encode_lower b small =
     rw (IsDigits-lower_digits (b / 16) (omega arith), IsDigits-lower_digits (b % 16) (omega arith), whole) refl
 
 -- digits stand above the space and the line feed
-abbrev pub AboveSpaces : List ℕ → Type 0
+abbrev AboveSpaces : List ℕ → Type 0
 AboveSpaces word = All (λ b. 48 ≤ b) word
 
 digit-large : (b d : ℕ) → hex_digit_value b ≡ Some d → 48 ≤ b

@@ -33,7 +33,7 @@ front_second old middle new xs ys first front = record {
 
 -- ---- digits
 
-pub encode_lower-append : (xs ys : List ℕ) → encode_lower (xs ++ ys) ≡ encode_lower xs ++ encode_lower ys
+encode_lower-append : (xs ys : List ℕ) → encode_lower (xs ++ ys) ≡ encode_lower xs ++ encode_lower ys
 unfolding encode_with
 encode_lower-append [] ys = refl
 encode_lower-append (x ∷ xs) ys = rw (encode_lower-append xs ys) refl
@@ -68,7 +68,7 @@ raw_parts completion (b ∷ bs) some =
     let bytes = encode_lower (b ∷ bs) in
     append_assoc digits (32 ∷ bytes) (10 ∷ []) ∙ sym (append_assoc digits (32 ∷ []) (bytes ++ 10 ∷ []))
 
-pub reply-front : (old new : Option (List ℕ)) (completion bytes : List ℕ) → (length bytes == 0) ≡ false → AppendsFront old new (encode_lower completion ++ 32 ∷ []) → AppendsFront old new (raw_reply_text completion bytes)
+reply-front : (old new : Option (List ℕ)) (completion bytes : List ℕ) → (length bytes == 0) ≡ false → AppendsFront old new (encode_lower completion ++ 32 ∷ []) → AppendsFront old new (raw_reply_text completion bytes)
 reply-front old new completion bytes some front = rw (raw_parts completion bytes some) (front_first old new (encode_lower completion ++ 32 ∷ []) (encode_lower bytes ++ 10 ∷ []) front)
 
 pub reply-digits : (old middle new : Option (List ℕ)) (completion bytes : List ℕ) → (length bytes == 0) ≡ false → Appends old middle (encode_lower completion ++ 32 ∷ []) → AppendsFront middle new (encode_lower bytes)

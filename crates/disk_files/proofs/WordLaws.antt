@@ -49,7 +49,7 @@ length-two_words line word digits e =
 -- ---- bytes
 
 -- the byte of decoded bytes, if they are one
-abbrev pub byte_in : Option (List ℕ) → Option ℕ
+abbrev byte_in : Option (List ℕ) → Option ℕ
 byte_in bytes = option_map (λ bs. slice_index bs 0) bytes
 
 -- two digits

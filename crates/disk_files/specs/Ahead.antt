@@ -23,7 +23,8 @@ pub record PutsAfter (before after bytes : List ℕ) : Type 0 where
   pub text : after ≡ before ++ bytes
   pub no_feed : NoFeed bytes
 
--- Bytes of a line go from those that are left to the end of a text, at most `room` of them with their line feed. Nothing is taken only at the end, and by a fault.
+-- Bytes of a line go from those that are left to the end of a text, at most `room` of them with their line feed.
+-- Nothing is taken only at the end, and by a fault.
 abbrev pub ReadsPart : Option (List ℕ) → Option (List ℕ) → ℕ → List ℕ → List ℕ → Result Part LineFault → Type 0
 ReadsPart old new room before after (Ok Front) = (bytes : List ℕ) × PutsAfter before after bytes × Consumes old new bytes × (bytes ≢ []) × (length bytes ≤ room)
 ReadsPart old new room before after (Ok Line) = (bytes : List ℕ) × PutsAfter before after bytes × Consumes old new (bytes ++ feed ∷ []) × (length bytes < room)

@@ -1,4 +1,5 @@
-ghost use Rattle.std.specs.Prelude.{◌≡◌, ◌≢◌, ◌==◌, ◌≤◌, ◌+◌, true, [], Ok, OnOk, IfErr, IfOk, is_some, length, position, slice_range, take};
+ghost use Rattle.std.specs.Prelude.{◌≡◌, ◌≢◌, ◌==◌, ◌≤◌, ◌+◌, true, [], Ok, OnOk, IfErr, IfOk};
+ghost use Rattle.std.specs.Prelude.{is_some, length, position, slice_range, take};
 ghost use Rattle.std.specs.Io.KnownBytes.{Consumes, IsAtEnd, Keeps};
 ghost use Rattle.disk_files.specs.Ahead.{ReadsPart, Refills};
 ghost use Rattle.disk_files.specs.Line.{is_feed};
@@ -48,7 +49,8 @@ impl Model for Ahead {
       bytes = slice_range a.bytes.items a.start a.end;
     } };
 
-    ghost invariant = { λ a. (a.first ≤ a.last) × (a.last ≤ a.start) × (a.start ≤ a.end) × (a.end ≤ length a.bytes.items) };
+    ghost invariant = { λ a. (a.first ≤ a.last) × (a.last ≤ a.start) × (a.start ≤ a.end)
+        × (a.end ≤ length a.bytes.items) };
 }
 
 /// Makes room for a read after the first `end` bytes.
@@ -69,8 +71,12 @@ fn read_to<R: Read>(reader: &mut R, bytes: &mut [u8], end: usize) -> Result<usiz
     requires { end + PIECE ≤ length bytes.old }
     ensures front { take end bytes.new ≡ take end bytes.old }
     ensures length { length bytes.new ≡ length bytes.old }
-    ensures ok { IfOk result (λ n. (end + n ≤ length bytes.new) × Consumes (R.remaining reader.old) (R.remaining reader.new) (slice_range bytes.new end (end + n)) × (n ≡ 0 → IsAtEnd (R.remaining reader.new))) }
-    ensures err { IfErr result (λ fault. Keeps (R.remaining reader.old) (R.remaining reader.new) × (fault ≡ LineFault.Input)) }
+    ensures ok { IfOk result
+        (λ n. (end + n ≤ length bytes.new)
+        × Consumes (R.remaining reader.old) (R.remaining reader.new)
+        (slice_range bytes.new end (end + n)) × (n ≡ 0 → IsAtEnd (R.remaining reader.new))) }
+    ensures err { IfErr result (λ fault. Keeps (R.remaining reader.old) (R.remaining reader.new)
+        × (fault ≡ LineFault.Input)) }
 {
     match reader.read(&mut bytes[end..end + PIECE]) {
         Ok(n) => Ok(n),
@@ -83,8 +89,12 @@ fn read_after<R: Read>(reader: &mut R, bytes: &mut Vec<u8>, end: usize) -> Resul
     requires { end ≤ length bytes.old.items }
     ensures within { end ≤ length bytes.new.items }
     ensures front { take end bytes.new.items ≡ take end bytes.old.items }
-    ensures ok { IfOk result (λ n. (end + n ≤ length bytes.new.items) × Consumes (R.remaining reader.old) (R.remaining reader.new) (slice_range bytes.new.items end (end + n)) × (n ≡ 0 → IsAtEnd (R.remaining reader.new))) }
-    ensures err { IfErr result (λ fault. Keeps (R.remaining reader.old) (R.remaining reader.new) × (fault ≢ LineFault.Long)) }
+    ensures ok { IfOk result
+        (λ n. (end + n ≤ length bytes.new.items)
+        × Consumes (R.remaining reader.old) (R.remaining reader.new)
+        (slice_range bytes.new.items end (end + n)) × (n ≡ 0 → IsAtEnd (R.remaining reader.new))) }
+    ensures err { IfErr result (λ fault. Keeps (R.remaining reader.old) (R.remaining reader.new)
+        × (fault ≢ LineFault.Long)) }
 {
     make_room(bytes, end)?;
     read_to(reader, bytes, end)
@@ -154,7 +164,8 @@ impl Ahead {
     pub fn refill<R: Read>(&mut self, reader: &mut R) -> Result<(), LineFault>
         requires empty { self.old.bytes ≡ [] }
         requires goes_on { self.old.is_open ≡ true }
-        ensures bytes { Refills (R.remaining reader.old) (R.remaining reader.new) result self.new.bytes }
+        ensures bytes { Refills (R.remaining reader.old)
+            (R.remaining reader.new) result self.new.bytes }
         ensures line { self.new.line ≡ self.old.line }
         ensures goes_on { self.new.is_open ≡ true }
     {
@@ -172,7 +183,8 @@ impl Ahead {
     pub fn take(&mut self, room: usize) -> Part
         requires some { 1 ≤ room }
         requires goes_on { self.old.is_open ≡ true }
-        ensures takes { ReadsPart (Some self.old.bytes) (Some self.new.bytes) room self.old.line self.new.line (Ok result) }
+        ensures takes { ReadsPart (Some self.old.bytes)
+            (Some self.new.bytes) room self.old.line self.new.line (Ok result) }
         ensures goes_on { result ≢ Part.Line → self.new.is_open ≡ true }
     {
         let ahead = &self.bytes[self.start..self.end];

@@ -57,7 +57,8 @@ impl<R: Read + Drop> Read for FailAfter<R> {
 
     fn read(&mut self, buf: &mut [u8]) -> io::Result<usize>
         ensures bound { ReadsAtMost result buf.new }
-        ensures bytes { ReadConsumes (R.remaining self.old.inner) (R.remaining self.new.inner) result buf.new }
+        ensures bytes { ReadConsumes (R.remaining self.old.inner)
+            (R.remaining self.new.inner) result buf.new }
         ensures passed { IfOk result (λ n. self.new.left + n ≡ self.old.left) }
         ensures failed { OnErr result (self.new.left ≡ self.old.left) }
         ensures over { self.old.left ≡ 0 → IsErr result }
@@ -77,7 +78,8 @@ impl<W: Write + Drop> Write for FailAfter<W> {
 
     fn write(&mut self, buf: &[u8]) -> io::Result<usize>
         ensures bound { WritesAtMost result buf.now }
-        ensures bytes { WriteAppends (W.contents self.old.inner) (W.contents self.new.inner) result buf.now }
+        ensures bytes { WriteAppends (W.contents self.old.inner)
+            (W.contents self.new.inner) result buf.now }
         ensures passed { IfOk result (λ n. self.new.left + n ≡ self.old.left) }
         ensures failed { OnErr result (self.new.left ≡ self.old.left) }
         ensures over { self.old.left ≡ 0 → IsErr result }

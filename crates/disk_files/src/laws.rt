@@ -24,7 +24,8 @@ pub fn trace_line_again()
         trace_line (codes "fill " ++ decimal first ++ codes " " ++ decimal blocks ++ codes " "
         ++ encode_lower (byte ∷ []))
         ≡ Some (lines.Fill first blocks byte, []) }
-    ensures write { (first : ℕ) (bytes : List ℕ) → first < 2 ^ 64 → IsBytes bytes → 1 ≤ length bytes →
+    ensures write { (first : ℕ) (bytes : List ℕ) → first < 2 ^ 64 → IsBytes bytes
+        → 1 ≤ length bytes →
         trace_line (codes "write " ++ decimal first ++ codes " " ++ encode_lower bytes)
         ≡ Some (lines.Write first, bytes) }
     ensures trim { (first blocks : ℕ) → first < 2 ^ 64 → blocks < 2 ^ 64 →
@@ -48,8 +49,10 @@ pub fn raw_line_again()
 
 /// Blocks of one size that are joined are cut apart again.
 pub fn blocks_again()
-    ensures long { (size : ℕ) (blocks : List (List ℕ)) → AllByRecursion (λ block. length block ≡ size) blocks →
+    ensures long { (size : ℕ) (blocks : List (List ℕ))
+        → AllByRecursion (λ block. length block ≡ size) blocks →
         length (concat blocks) ≡ length blocks * size }
-    ensures blocks { (size : ℕ) (blocks : List (List ℕ)) → AllByRecursion (λ block. length block ≡ size) blocks →
+    ensures blocks { (size : ℕ) (blocks : List (List ℕ))
+        → AllByRecursion (λ block. length block ≡ size) blocks →
         as_blocks size (length blocks) (concat blocks) ≡ blocks }
 {}

@@ -93,7 +93,9 @@ fn take_part<R: Read>(
     requires goes_on { ahead.old.is_open ≡ true }
     requires some { 1 ≤ room }
     ensures reads { reads.new ≤ MOST_READS }
-    ensures takes { ReadsPart (prepend_known ahead.old.bytes (R.remaining reader.old)) (prepend_known ahead.new.bytes (R.remaining reader.new)) room ahead.old.line ahead.new.line result }
+    ensures takes { ReadsPart (prepend_known ahead.old.bytes (R.remaining reader.old))
+        (prepend_known ahead.new.bytes (R.remaining reader.new)) room ahead.old.line ahead.new.line
+        result }
     ensures goes_on { result ≢ Ok Part.Line → ahead.new.is_open ≡ true }
 {
     fill(reader, ahead, reads)?;
@@ -104,7 +106,8 @@ fn take_part<R: Read>(
 fn read_line<R: Read>(reader: &mut R, ahead: &mut Ahead, reads: &mut u64) -> Result<bool, LineFault>
     requires { reads.old ≤ MOST_READS }
     ensures reads { reads.new ≤ MOST_READS }
-    ensures line { ReadsLine (prepend_known ahead.old.bytes (R.remaining reader.old)) (prepend_known ahead.new.bytes (R.remaining reader.new)) ahead.new.line result }
+    ensures line { ReadsLine (prepend_known ahead.old.bytes (R.remaining reader.old))
+        (prepend_known ahead.new.bytes (R.remaining reader.new)) ahead.new.line result }
     ensures long { IsErrOf result LineFault.Long ↔ (LONGEST_LINE < length ahead.new.line) }
 {
     ahead.begin();

@@ -29,8 +29,10 @@ fn head(completion: &[u8; 16], follows: u8) -> [u8; 33]
 
 /// Writes the digits of bytes, in lower case, piece by piece. After a fault a beginning of them is written.
 fn write_digits<W: Write>(writer: &mut W, bytes: &[u8]) -> Result<(), WriteFault>
-    ensures ok { OnOk result (Appends (W.contents writer.old) (W.contents writer.new) (encode_lower bytes.now)) }
-    ensures err { OnErr result (AppendsFront (W.contents writer.old) (W.contents writer.new) (encode_lower bytes.now)) }
+    ensures ok { OnOk result
+        (Appends (W.contents writer.old) (W.contents writer.new) (encode_lower bytes.now)) }
+    ensures err { OnErr result
+        (AppendsFront (W.contents writer.old) (W.contents writer.new) (encode_lower bytes.now)) }
 {
     let mut digits = [0; 2 * PIECE];
     let mut at = 0;
@@ -51,8 +53,10 @@ pub fn write_raw_reply<W: Write>(
     completion: &[u8; 16],
     bytes: &[u8],
 ) -> Result<(), WriteFault>
-    ensures ok { OnOk result (Appends (W.contents writer.old) (W.contents writer.new) (raw_reply_text completion.now bytes.now)) }
-    ensures err { OnErr result (AppendsFront (W.contents writer.old) (W.contents writer.new) (raw_reply_text completion.now bytes.now)) }
+    ensures ok { OnOk result (Appends (W.contents writer.old) (W.contents writer.new)
+        (raw_reply_text completion.now bytes.now)) }
+    ensures err { OnErr result (AppendsFront (W.contents writer.old) (W.contents writer.new)
+        (raw_reply_text completion.now bytes.now)) }
 {
     if bytes.is_empty() {
         return write_out(writer, &head(completion, b'\n'));

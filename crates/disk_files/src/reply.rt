@@ -86,7 +86,8 @@ fn put_digits(bytes: &[u8], out: &mut Vec<u8>)
 pub fn block_line(number: u64, block: &[u8], out: &mut Vec<u8>) -> Result<(), AllocError>
     ensures ok { OnOk result (out.new.items ≡ out.old.items ++ block_line number block.now) }
     ensures err { OnErr result (out.new.items ≡ out.old.items) }
-    ensures full { OnErr result (vec_capacity out.new < vec_len out.new + 2 * length block.now + 45) }
+    ensures full { OnErr result
+        (vec_capacity out.new < vec_len out.new + 2 * length block.now + 45) }
 {
     // A number, a space, the digits of the data, or of a byte, a star and a number, and a line feed.
     let room = block.len().saturating_mul(2).saturating_add(45);

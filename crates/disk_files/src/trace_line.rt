@@ -1,5 +1,6 @@
 ghost use Rattle.std.specs.Prelude.{◌≡◌, ◌*◌, ◌<◌, [], IfOk, IsErrOf, OnErr, length, option_copied, vec_capacity};
-ghost use Rattle.disk_files.specs.TraceLine.{fill_of, is_skipped, line_of, name_of, only_number, plain_of, range_of, trace_line, write_of};
+ghost use Rattle.disk_files.specs.TraceLine.{fill_of, is_skipped, line_of, name_of, only_number};
+ghost use Rattle.disk_files.specs.TraceLine.{plain_of, range_of, trace_line, write_of};
 ghost use Rattle.disk_files.specs.Words.{words_after, words_of};
 
 use crate::data::{ParseFault, decode_data};
@@ -135,7 +136,8 @@ fn plain_line(name: &[u8], rest: Option<&[u8]>) -> Option<TraceLine>
 /// What a `write` says, by the words after its name. Its data is decoded over what `bytes` holds. After a
 /// fault nothing is said of what it holds.
 fn write_line(words: &[u8], bytes: &mut Vec<u8>) -> Result<TraceLine, ParseFault>
-    ensures ok { IfOk result (λ call. write_of (words_of words.now) ≡ Some (call, bytes.new.items)) }
+    ensures ok { IfOk result
+        (λ call. write_of (words_of words.now) ≡ Some (call, bytes.new.items)) }
     ensures grammar { IsErrOf result ParseFault.Grammar → write_of (words_of words.now) ≡ None }
     ensures memory { IsErrOf result ParseFault.Memory →
         2 * vec_capacity bytes.old < length words.now }

@@ -16,7 +16,8 @@ pub fn split_word(line: &[u8]) -> (&[u8], Option<&[u8]>)
 
 /// The only word of a line. None if it has more.
 pub fn only_word(line: &[u8]) -> Option<&[u8]>
-    ensures { MatchOption result (HasMore (words_of line.now)) (λ word. words_of line.now ≡ word.now ∷ []) }
+    ensures { MatchOption result (HasMore (words_of line.now))
+        (λ word. words_of line.now ≡ word.now ∷ []) }
 {
     let (word, rest) = split_word(line);
     match rest {

@@ -140,7 +140,7 @@ cause_of disk Unmounted none cause = cause
 outside : (size first n : ℕ) → true ≡ (nat_lt 0 n && nat_lt size (first + n)) → (0 < n) × (size < first + n)
 outside size first n e = (grind (arith, nat_tests), grind (arith, nat_tests))
 
-pub inside : (size first n : ℕ) → false ≡ (nat_lt 0 n && nat_lt size (first + n)) → 0 < n → first + n ≤ size
+inside : (size first n : ℕ) → false ≡ (nat_lt 0 n && nat_lt size (first + n)) → 0 < n → first + n ≤ size
 inside size first n e some = grind (arith, nat_tests)
 
 -- a range that is not past the end

@@ -179,7 +179,7 @@ run_cause bytes first last (Disk f) can serves r =
 -- ---- a run, from a drive to a drive
 
 -- a disk of these parts
-abbrev pub disk_of : List (List ℕ) → ℕ → DiskStatus → Geometry → FlatDisk
+abbrev disk_of : List (List ℕ) → ℕ → DiskStatus → Geometry → FlatDisk
 disk_of array size status geometry = record { array = array; size = size; status = status; block = geometry.block; most = most_size geometry }
 
 disk-of : (array array' : List (List ℕ)) (size size' : ℕ) (status status' : DiskStatus) (geometry geometry' : Geometry) → array ≡ array' → size ≡ size' → status ≡ status' → geometry ≡ geometry'

@@ -74,7 +74,8 @@ zone_text refusal zone = codes "fault mount " ++ decimal refusal.number ++ codes
 
 -- followed by a zone and a block of it, and the end of such a line, which names the cause
 abbrev pub block_text : Refusal → ℕ → ℕ → List ℕ
-block_text refusal zone offset = codes "fault mount " ++ decimal refusal.number ++ codes " " ++ refusal.name ++ codes " " ++ decimal zone ++ codes " " ++ decimal offset
+block_text refusal zone offset = codes "fault mount " ++ decimal refusal.number ++ codes " " ++ refusal.name ++ codes " "
+    ++ decimal zone ++ codes " " ++ decimal offset
 
 abbrev pub cause_text : Refusal → List ℕ
 cause_text cause = codes " " ++ decimal cause.number ++ codes " " ++ cause.name ++ codes "\n"

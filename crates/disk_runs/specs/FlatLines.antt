@@ -1,5 +1,6 @@
 -- What a conventional disk replies to the lines of a trace. It knows nothing of zones.
-use Rattle.std.specs.Prelude.{◌≡◌, ℕ, zero, suc, ◌+◌, ◌*◌, ◌<◌, ◌/◌, ◌%◌, ◌==◌, ◌||◌, if◌then◌else◌, Bool, List, [], length, Option, Some, None, Result, Ok, Err, is_some, option_and_then}
+use Rattle.std.specs.Prelude.{◌≡◌, ℕ, zero, suc, ◌+◌, ◌*◌, ◌<◌, ◌/◌, ◌%◌, ◌==◌, ◌||◌, if◌then◌else◌, Bool, List}
+use Rattle.std.specs.Prelude.{[], length, Option, Some, None, Result, Ok, Err, is_some, option_and_then}
 use Rattle.zone_states.specs.Zone.{cut_blocks}
 use Rattle.disk_files.specs.Reply.{out_of_range_text, read_text, reserve_text, smaller_text}
 use Rattle.disk_files.specs.TraceLine.{is_skipped, trace_line}

@@ -108,7 +108,8 @@ trace = record {
 
 -- ---- a run
 
--- The disk of this size that a drive keeps which was mounted as n blocks. After a stop inside a growth the array may have more blocks than the size, by which calls are checked.
+-- The disk of this size that a drive keeps which was mounted as n blocks. After a stop inside a growth the array may
+-- have more blocks than the size, by which calls are checked.
 abbrev pub disk_on : ℕ → DriveState → ℕ → DiskStatus → FlatDisk
 disk_on n drive size status = record {
   array = spelled drive n;

@@ -1,6 +1,8 @@
 ghost use Rattle.std.specs.Prelude.{◌≡◌, ◌++◌, IfErr, OnOk, codes};
 ghost use Rattle.std.specs.Io.KnownBytes.{Appends};
-ghost use Rattle.disk_runs.specs.FaultText.{NotWritten, block_text, cause_text, disk_refusal, run_fault_text, geometry_refusal, line_text, log_refusal, mount_refusal, mount_text, numbered, refusal_text, zone_text};
+ghost use Rattle.disk_runs.specs.FaultText.{NotWritten, block_text, cause_text, disk_refusal, run_fault_text};
+ghost use Rattle.disk_runs.specs.FaultText.{geometry_refusal, line_text, log_refusal, mount_refusal, mount_text};
+ghost use Rattle.disk_runs.specs.FaultText.{numbered, refusal_text, zone_text};
 
 use crate::fault::RunFault;
 use batch_log::LogFault;
@@ -136,7 +138,8 @@ fn log_line(
     out: &mut Vec<u8>,
 ) -> Result<(), AllocError>
     ensures { OnOk result (out.new.items ≡ out.old.items
-        ++ block_text (numbered refusal.entry.0 refusal.entry.1.now) zone offset ++ cause_text (log_refusal cause)) }
+        ++ block_text (numbered refusal.entry.0 refusal.entry.1.now) zone offset ++ cause_text
+        (log_refusal cause)) }
 {
     block_line(refusal, zone, offset, out)?;
     cause_line(log_refusal(cause), out)?;
@@ -174,8 +177,10 @@ fn fault_line(fault: RunFault, out: &mut Vec<u8>) -> Result<(), AllocError>
 /// Writes the line of a fault. It is refused by `Output` where the writer fails, with a beginning of the
 /// line written, and by `Memory` with nothing written.
 pub fn write_fault<W: Write>(alloc: Global, fault: RunFault, writer: &mut W) -> Result<(), RunFault>
-    ensures ok { OnOk result (Appends (W.contents writer.old) (W.contents writer.new) (run_fault_text fault)) }
-    ensures err { IfErr result (NotWritten (W.contents writer.old) (W.contents writer.new) (run_fault_text fault)) }
+    ensures ok { OnOk result
+        (Appends (W.contents writer.old) (W.contents writer.new) (run_fault_text fault)) }
+    ensures err { IfErr result
+        (NotWritten (W.contents writer.old) (W.contents writer.new) (run_fault_text fault)) }
 {
     let mut line = Vec::new(alloc);
     fault_line(fault, &mut line)?;

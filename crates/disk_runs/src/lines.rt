@@ -22,13 +22,17 @@ pub(crate) trait Answerer {
 
     /// Answers the line of this number.
     fn answer(&mut self, line: &[u8], number: u64) -> Result<(), RunFault>
-        ensures ok { OnOk result (IsAnswered language (state self.old) line.now (reply self.new) (state self.new)) }
-        ensures err { IfErr result (λ fault. LineStops language number (state self.old) line.now fault (state self.new)) };
+        ensures ok { OnOk result
+            (IsAnswered language (state self.old) line.now (reply self.new) (state self.new)) }
+        ensures err { IfErr result
+            (λ fault. LineStops language number (state self.old) line.now fault (state self.new)) };
 
     /// Writes the reply that is held. After a fault a beginning of it is written.
     fn write_reply<W: Write>(&self, writer: &mut W) -> Result<(), WriteFault>
-        ensures ok { OnOk result (Appends (W.contents writer.old) (W.contents writer.new) (reply self.now)) }
-        ensures err { OnErr result (AppendsFront (W.contents writer.old) (W.contents writer.new) (reply self.now)) };
+        ensures ok { OnOk result
+            (Appends (W.contents writer.old) (W.contents writer.new) (reply self.now)) }
+        ensures err { OnErr result
+            (AppendsFront (W.contents writer.old) (W.contents writer.new) (reply self.now)) };
 
     ghost same: { (x : State) → language.Same x x };
 }
@@ -41,8 +45,10 @@ fn send_reply<R: Read + Drop, W: Write, A: Answerer>(
     writer: &mut W,
     answerer: &A,
 ) -> Result<(), WriteFault>
-    ensures ok { OnOk result (Appends (W.contents writer.old) (W.contents writer.new) (A.reply answerer.now)) }
-    ensures err { OnErr result (AppendsFront (W.contents writer.old) (W.contents writer.new) (A.reply answerer.now)) }
+    ensures ok { OnOk result
+        (Appends (W.contents writer.old) (W.contents writer.new) (A.reply answerer.now)) }
+    ensures err { OnErr result
+        (AppendsFront (W.contents writer.old) (W.contents writer.new) (A.reply answerer.now)) }
 {
     answerer.write_reply(writer)?;
     if !reader.has_line() {
@@ -58,7 +64,8 @@ pub(crate) fn answer_lines<R: Read + Drop, W: Write, A: Answerer>(
     writer: &mut W,
     answerer: &mut A,
 ) -> Result<(), RunFault>
-    ensures { Runs A.language (exchange reader.old.left (W.contents writer.old) (W.contents writer.new))
+    ensures { Runs A.language
+        (exchange reader.old.left (W.contents writer.old) (W.contents writer.new))
         (A.state answerer.old) result (A.state answerer.new) }
 {
     for number in 1..u64::MAX {

@@ -1,4 +1,5 @@
-ghost use Rattle.std.specs.Prelude.{◌≡◌, ◌+◌, ◌^◌, ◌<◌, ◌≤◌, ◌++◌, ◌&&◌, [], IfErr, OnOk, Some, length, nat_lt, vec_capacity, vec_len};
+ghost use Rattle.std.specs.Prelude.{◌≡◌, ◌+◌, ◌^◌, ◌<◌, ◌≤◌, ◌++◌, ◌&&◌, [], IfErr, OnOk};
+ghost use Rattle.std.specs.Prelude.{Some, length, nat_lt, vec_capacity, vec_len};
 ghost use Rattle.disk_files.specs.Reply.{block_lines};
 ghost use Rattle.zone_translator.specs.Flat.{blocks_from, read};
 ghost use Rattle.zone_translator.specs.View.{disk_array, disk_size, flat_of};
@@ -32,9 +33,12 @@ fn show_blocks<D: Device + Drop>(
     requires in_range { 0 < blocks → first + blocks ≤ disk_size disk.old }
     requires array { disk.old.status ≡ Serving → length (disk_array disk.old) ≡ disk_size disk.old }
     requires small { first + blocks ≤ 2 ^ 64 }
-    ensures ok { OnOk result ((flat_of disk.new ≡ flat_of disk.old) × (0 < blocks → disk.old.status ≡ Serving)
-        × (reply.new.items ≡ reply.old.items ++ block_lines first (blocks_from (disk_array disk.old) first blocks))) }
-    ensures err { IfErr result (λ fault. RequestStops (flat_of disk.old) (Some (single (read first blocks)))
+    ensures ok { OnOk result
+        ((flat_of disk.new ≡ flat_of disk.old) × (0 < blocks → disk.old.status ≡ Serving)
+        × (reply.new.items
+        ≡ reply.old.items ++ block_lines first (blocks_from (disk_array disk.old) first blocks))) }
+    ensures err { IfErr result
+        (λ fault. RequestStops (flat_of disk.old) (Some (single (read first blocks)))
         fault (flat_of disk.new)) }
     ensures cause { IfErr result (HasCause (EndCause disk.new)) }
     ensures full { IfErr result (λ fault. fault ≡ Memory →
@@ -65,7 +69,8 @@ pub(crate) fn read_blocks<D: Device + Drop>(
     requires room { SHORT_REPLY ≤ vec_capacity reply.old }
     ensures ok { OnOk result (RepliesTo (flat_of disk.old) (single (read first blocks))
         reply.new.items (flat_of disk.new)) }
-    ensures err { IfErr result (λ fault. RequestStops (flat_of disk.old) (Some (single (read first blocks)))
+    ensures err { IfErr result
+        (λ fault. RequestStops (flat_of disk.old) (Some (single (read first blocks)))
         fault (flat_of disk.new)) }
     ensures cause { IfErr result (HasCause (EndCause disk.new)) }
     ensures full { IfErr result (λ fault. fault ≡ Memory →

@@ -1,8 +1,10 @@
 ghost use Rattle.std.specs.Prelude.{◌≡◌, ◌≢◌, ◌<◌, ◌≤◌, [], IfErr, OnOk, Some, is_some, true, vec_capacity, vec_len};
 ghost use Rattle.zone_translator.specs.View.{DiskCause, flat_of};
-ghost use Rattle.disk_runs.specs.FlatLines.{AnswersRequest, IsFull, IsUntold, RepliesTo, RequestStops, Turns, asked, remount, reply_of};
+ghost use Rattle.disk_runs.specs.FlatLines.{AnswersRequest, IsFull, IsUntold, RepliesTo, RequestStops};
+ghost use Rattle.disk_runs.specs.FlatLines.{Turns, asked, remount, reply_of};
 ghost use Rattle.disk_runs.specs.declared.fault.RunFault.TheVariants.{Memory};
-ghost use Rattle.disk_runs.specs.Trace.{EndCause, HasCause, KeepsFault, KeepsRequest, KeepsServed, MountsAgain, TakesTurns};
+ghost use Rattle.disk_runs.specs.Trace.{EndCause, HasCause, KeepsFault, KeepsRequest};
+ghost use Rattle.disk_runs.specs.Trace.{KeepsServed, MountsAgain, TakesTurns};
 
 use crate::fault::RunFault;
 use crate::reads::read_blocks;
@@ -60,8 +62,10 @@ fn clean<D: Device + Drop>(disk: &mut Disk<D>, turns: u32) -> Result<(), DiskFau
 fn mount_again<D: Device + Drop>(disk: &mut Disk<D>, reply: &mut Vec<u8>) -> Result<(), RunFault>
     requires empty { reply.old.items ≡ [] }
     requires room { SHORT_REPLY ≤ vec_capacity reply.old }
-    ensures ok { OnOk result (RepliesTo (flat_of disk.old) remount reply.new.items (flat_of disk.new)) }
-    ensures err { IfErr result (λ fault. RequestStops (flat_of disk.old) (Some remount) fault (flat_of disk.new)) }
+    ensures ok { OnOk result
+        (RepliesTo (flat_of disk.old) remount reply.new.items (flat_of disk.new)) }
+    ensures err { IfErr result
+        (λ fault. RequestStops (flat_of disk.old) (Some remount) fault (flat_of disk.new)) }
     ensures cause { IfErr result (HasCause (EndCause disk.new)) }
     ensures no_memory { IfErr result (λ fault. fault ≢ Memory) }
     ensures keeps { OnOk result (MountsAgain disk.old disk.new) }
@@ -86,14 +90,17 @@ pub(crate) fn answer_request<D: Device + Drop>(
     requires asks { is_some (asked disk.old.drive.geometry.block line bytes.now) ≡ true }
     requires empty { reply.old.items ≡ [] }
     requires room { SHORT_REPLY ≤ vec_capacity reply.old }
-    ensures ok { OnOk result (AnswersRequest (flat_of disk.old) (asked disk.old.drive.geometry.block line bytes.now)
+    ensures ok { OnOk result
+        (AnswersRequest (flat_of disk.old) (asked disk.old.drive.geometry.block line bytes.now)
         reply.new.items (flat_of disk.new)) }
-    ensures err { IfErr result (λ fault. RequestStops (flat_of disk.old) (asked disk.old.drive.geometry.block line bytes.now)
+    ensures err { IfErr result (λ fault.
+        RequestStops (flat_of disk.old) (asked disk.old.drive.geometry.block line bytes.now)
         fault (flat_of disk.new)) }
     ensures cause { IfErr result (HasCause (EndCause disk.new)) }
     ensures full { IfErr result (λ fault. fault ≡ Memory →
         IsFull (vec_capacity reply.new) (vec_len reply.new) (vec_len block.new)) }
-    ensures keeps { OnOk result (KeepsRequest (asked disk.old.drive.geometry.block line bytes.now) disk.old disk.new) }
+    ensures keeps { OnOk result
+        (KeepsRequest (asked disk.old.drive.geometry.block line bytes.now) disk.old disk.new) }
     ensures leaves { IfErr result (λ fault. KeepsFault fault disk.old disk.new) }
 {
     match line {

@@ -97,10 +97,12 @@ pub fn run_trace<R: Read + Drop, W: Write, D: Device + Drop>(
     blocks: u64,
 ) -> (D, Result<(), RunFault>)
     // The lines are answered as a flat disk answers them, which is the one that the drive keeps.
-    ensures gives { RunGives blocks (exchange reader.old.left (W.contents writer.old) (W.contents writer.new))
+    ensures gives { RunGives blocks
+        (exchange reader.old.left (W.contents writer.old) (W.contents writer.new))
         (D.drive device) result.1 (D.drive result.0) }
     // The drive can be mounted again; what the lines did to it from its mount on, and why it refused the last one.
-    ensures leaves { RunLeaves blocks (exchange reader.old.left (W.contents writer.old) (W.contents writer.new))
+    ensures leaves { RunLeaves blocks
+        (exchange reader.old.left (W.contents writer.old) (W.contents writer.new))
         (D.drive device) result.1 (D.drive result.0) }
 {
     let disk = match Disk::mount(alloc, device, blocks) {

@@ -27,7 +27,8 @@ one_clearing block_bytes n logs (z ∷ zs) (y ∷ ys) is is' =
 
 -- ---- parts
 
-without-same : (logs : List (List Batch)) (zone : ℕ) → log_at (without logs zone) zone ≡ []
+-- a zone that is emptied has no batch
+pub without-same : (logs : List (List Batch)) (zone : ℕ) → log_at (without logs zone) zone ≡ []
 without-same [] zone = refl
 without-same (l ∷ ls) zero = refl
 without-same (l ∷ ls) (suc zone) = without-same ls zone
@@ -53,7 +54,8 @@ clearing-part logs (z ∷ zs) = part-trans logs (without logs z) (cleared (witho
 
 -- ---- the end
 
-no_first : (first : Option ℕ) → IsBefore first None → ⊥
+-- nothing comes before where there is no first sequence
+pub no_first : (first : Option ℕ) → IsBefore first None → ⊥
 no_first None before = before
 no_first (Some a) before = before
 

@@ -37,7 +37,8 @@ entries-zone : (sequence : ℕ) (body : List (List ℕ)) (zone header k : ℕ) (
 entries-zone sequence body zone header k [] = tt
 entries-zone sequence body zone header k (e ∷ es) = (refl, entries-zone sequence body zone header (k + one_unless e.trim) es)
 
-log-zone : (zone offset : ℕ) (log : List Batch) → AllByRecursion (λ (r : Record). r.zone ≡ zone) (log_records zone offset log)
+-- the records of a log lie in its zone
+pub log-zone : (zone offset : ℕ) (log : List Batch) → AllByRecursion (λ (r : Record). r.zone ≡ zone) (log_records zone offset log)
 log-zone zone offset [] = tt
 log-zone zone offset (b ∷ bs) =
     all-append (λ (r : Record). r.zone ≡ zone) (batch_records zone offset b) (log_records zone (offset + batch_size b) bs)

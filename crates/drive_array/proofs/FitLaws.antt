@@ -1,7 +1,7 @@
 -- The live records of a zone are no more than its records.
 use Rattle.std.proofs.Common.{◌≡◌, ◌≢◌, inl, inr, ℕ, zero, suc, ◌+◌, ◌*◌, ◌<◌, ◌≤◌, Bool, true, false, cond, eqb, ◌&&◌, ◌||◌, List, [], ◌∷◌, ◌++◌, length, get_or, Option, Some, None, is_some, refl, sym, ap, subst, ◌∙◌, arith}
 use Rattle.std.specs.List.{AllByRecursion, count_by, range_with_len}
-use Rattle.std.proofs.lemmas.Bool.{cases_eq, ne_eqb, eq-eqb, eqb-true}
+use Rattle.std.proofs.lemmas.Bool.{cases_eq, ne_eqb, eq-eqb, eqb-true, and_parts}
 use Rattle.std.proofs.lemmas.List.Sums.{sum_by-append, sum_by-cons}
 use Rattle.batch_log.specs.declared.header.Entry.{Entry}
 use Rattle.batch_log.specs.Log.{Batch, batch_size, data_count, log_size, one_unless}
@@ -9,16 +9,14 @@ use Rattle.drive_array.specs.Records.{IsNewest, Record, batch_records, entry_con
 use Rattle.std.specs.Prelude.{Contains}
 use Rattle.std.proofs.Math.Nat.{add-mul}
 use Rattle.drive_array.proofs.AllLaws.{all-append, all-at, all-weaker}
-use Rattle.drive_array.proofs.NewestLaws.{newest-is}
+use Rattle.drive_array.proofs.NewestLaws.{newest-is, all-among}
 use Rattle.drive_array.specs.ZoneLogs.{log_at}
 use Rattle.drive_array.specs.Repair.{HasAtMost, is_any, is_data, kept_in, live_records, live_by}
 use Rattle.drive_array.specs.Laws.{FewFit}
 use Rattle.drive_array.proofs.ReserveLaws.{div_ceil-le}
+use Rattle.zone_states.proofs.ListLaws.{count-cons}
 
 -- ---- counting
-
-count-cons : {X : Type 0} (p : X → Bool) (x : X) (xs : List X) → count_by p (x ∷ xs) ≡ cond (p x) 1 0 + count_by p xs
-count-cons p x xs = sum_by-cons (λ y. cond (p y) 1 0) x xs
 
 -- what implies another is counted no more often
 count-le : {X : Type 0} (p q : X → Bool) (xs : List X) → ((x : X) → p x ≡ true → q x ≡ true) → count_by p xs ≤ count_by q xs
@@ -120,13 +118,6 @@ in-zone keep first (suc index) zone (log ∷ logs) e =
     let rs = log_records zone 0 (get_or logs index []) in
     all-append (IsNamed keep zone rs) (log_records first 0 log) (records (suc first) logs) (elsewhere keep first zone rs (log_records first 0 log) (λ same. omega arith) (log-zone first 0 log)) (in-zone keep (suc first) index zone logs (omega arith))
 
-all-among : (P : Record → Type 0) (rs : List Record) (r : Record) → AllByRecursion P rs → Contains rs r → P r
-all-among P rs r all c = subst P c.2 (all-at P rs c.0 r all c.1)
-
-both : (a b : Bool) → (a && b) ≡ true → (a ≡ true) × (b ≡ true)
-both true b e = (refl, e)
-both false b e = absurd (cc)
-
 pub live-le : (keep : Record → Bool) (size zone : ℕ) (logs : List (List Batch)) → live_by keep size logs zone ≤ count_by keep (log_records zone 0 (log_at logs zone))
 live-le keep size zone logs =
     omega (arith, count-le (λ block. kept_in keep zone (newest block rs)) (names keep log) (range_with_len 0 size) (λ block h. found block (newest block rs) (newest-is block rs) h), names-le keep log size)
@@ -140,7 +131,7 @@ live-le keep size zone logs =
     found : (block : ℕ) (o : Option Record) → IsNewest rs block o → kept_in keep zone o ≡ true → names keep log block ≡ true
     found block None is h = absurd (cc)
     found block (Some r) is h =
-        let parts = both (eqb r.zone zone) (keep r) h in
+        let parts = and_parts (eqb r.zone zone) (keep r) h in
         let named = all-among (IsNamed keep zone log) rs r (in-zone keep 0 zone zone logs (omega arith)) is.1.among in
         subst (λ (b : ℕ). names keep log b ≡ true) is.0 (named (eqb-true r.zone zone parts.0) parts.1)
 

@@ -5,6 +5,7 @@ pub mod NewestLaws
 pub mod ReserveLaws
 pub mod ZoneLogLaws
 pub mod AllLaws
+pub mod OffsetLaws
 pub mod SizeLaws
 pub mod ClearingLaws
 pub mod DecideLaws

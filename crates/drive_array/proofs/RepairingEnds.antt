@@ -48,7 +48,8 @@ none-or : (x : Option Record) → (x ≡ None) ⊎ (x ≢ None)
 none-or None = inl refl
 none-or (Some r) = inr (λ e. absurd (cc))
 
-lies-or : (zone : ℕ) (x : Option Record) → LiesIn zone x ⊎ NotIn zone x
+-- a record lies in a zone, or it does not
+pub lies-or : (zone : ℕ) (x : Option Record) → LiesIn zone x ⊎ NotIn zone x
 lies-or zone None = inr tt
 lies-or zone (Some r) = cases_eq r.zone zone
 

@@ -38,7 +38,8 @@ logs-now geometry n torn into base now is = ap (zone_logs geometry) is.zones ∙
 
 -- ---- before the first Move
 
-emptied-nothing : (geometry : Geometry) → zone_log geometry emptied ≡ []
+-- an empty zone has no batch
+pub emptied-nothing : (geometry : Geometry) → zone_log geometry emptied ≡ []
 unfolding zone_log
 emptied-nothing geometry = refl
 

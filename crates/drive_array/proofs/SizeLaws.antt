@@ -208,7 +208,8 @@ next_is_last limit n zone size logs batch lt next = record {
   greatest = next.greatest;
 }
 
-inside-more : (a b : ℕ) (logs : List (List Batch)) → a ≤ b → AllByRecursion (AllByRecursion (IsInside a)) logs → AllByRecursion (AllByRecursion (IsInside b)) logs
+-- what lies inside a size lies inside a greater one
+pub inside-more : (a b : ℕ) (logs : List (List Batch)) → a ≤ b → AllByRecursion (AllByRecursion (IsInside a)) logs → AllByRecursion (AllByRecursion (IsInside b)) logs
 inside-more a b logs le all =
     all-weaker (AllByRecursion (IsInside a)) (AllByRecursion (IsInside b)) logs
     (λ log. all-weaker (IsInside a) (IsInside b) log (λ batch. all-weaker (λ (e : Entry). e.block < a) (λ (e : Entry). e.block < b) batch.heading.entries (λ e lt. omega arith))) all
@@ -251,6 +252,7 @@ without-numbers P (log ∷ logs) (suc zone) all =
     let parts = all-parts P (log_sequences log) (sequences logs) all in
     all-append P (log_sequences log) (sequences (without logs zone)) parts.0 (without-numbers P logs zone parts.1)
 
+-- the rest of distinct numbers is distinct
 pub drop-distinct : (front rest : List ℕ) → IsDistinct nat_eq (front ++ rest) → IsDistinct nat_eq rest
 unfolding IsDistinct
 drop-distinct [] rest d = d

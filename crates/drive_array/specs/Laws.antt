@@ -24,7 +24,8 @@ NewestIsLive = (block : ℕ) (rs : List Record) → IsNewest rs block (newest bl
 abbrev pub GreatestIs : Type 0
 GreatestIs = (logs : List (List Batch)) → IsGreatest logs (greatest logs)
 
--- a batch with the greatest sequence, at the end of a zone's log, counts as if its records came first: each block's newest record, with its place, is the batch's or the old one
+-- a batch with the greatest sequence, at the end of a zone's log, counts as if its records came first: each block's
+-- newest record, with its place, is the batch's or the old one
 abbrev pub AppendFirst : Type 0
 AppendFirst =
     (block zone : ℕ) (logs : List (List Batch)) (batch : Batch) → zone < length logs → AllBelow batch.heading.sequence (records 0 logs)
@@ -32,7 +33,8 @@ AppendFirst =
 
 -- ---- a batch more
 
--- A batch that can be the last: with blocks below the size that the logs have with it, and a sequence above all others. A Move of a repair may have a lesser size than the drive, or none.
+-- A batch that can be the last: with blocks below the size that the logs have with it, and a sequence above all others.
+-- A Move of a repair may have a lesser size than the drive, or none.
 pub record IsLast (limit n : ℕ) (logs : List (List Batch)) (zone size : ℕ) (batch : Batch) : Type 0 where
   pub size_is : encoded_size n (append_log logs zone batch) ≡ size
   pub grows : encoded_size n logs ≤ size
@@ -42,13 +44,16 @@ pub record IsLast (limit n : ℕ) (logs : List (List Batch)) (zone size : ℕ) (
 
 -- it grows the array to that size by zeros, and then changes it by its records alone; the map grows by places of none, and changes likewise
 pub record Writes (block_bytes zone_size limit n : ℕ) (logs : List (List Batch)) (zone size : ℕ) (batch : Batch) : Type 0 where
-  pub array_is : array_of block_bytes n (append_log logs zone batch) ≡ over (shown block_bytes) (new_records logs zone batch) (extended (shown block_bytes None) size (array_of block_bytes n logs))
-  pub map_is : map_of zone_size n (append_log logs zone batch) ≡ over (place zone_size) (new_records logs zone batch) (extended (place zone_size None) size (map_of zone_size n logs))
+  pub array_is : array_of block_bytes n (append_log logs zone batch) ≡ over (shown block_bytes) (new_records logs zone batch)
+      (extended (shown block_bytes None) size (array_of block_bytes n logs))
+  pub map_is : map_of zone_size n (append_log logs zone batch)
+      ≡ over (place zone_size) (new_records logs zone batch) (extended (place zone_size None) size (map_of zone_size n logs))
   pub sound : AreSound limit n (append_log logs zone batch)
 
 abbrev pub AppendWrites : Type 0
 AppendWrites =
-    (block_bytes zone_size limit n zone size : ℕ) (logs : List (List Batch)) (batch : Batch) → zone < length logs → AreSound limit n logs → IsLast limit n logs zone size batch
+    (block_bytes zone_size limit n zone size : ℕ) (logs : List (List Batch)) (batch : Batch) → zone < length logs
+    → AreSound limit n logs → IsLast limit n logs zone size batch
     → Writes block_bytes zone_size limit n logs zone size batch
 
 -- a batch that a disk writes: with a size that is not below the old one, with blocks below it, and a sequence above all others
@@ -60,7 +65,8 @@ pub record IsNext (limit n : ℕ) (logs : List (List Batch)) (size : ℕ) (batch
   pub greatest : AllByRecursion (λ sequence. sequence < batch.heading.sequence) (sequences logs)
 
 abbrev pub NextIsLast : Type 0
-NextIsLast = (limit n zone size : ℕ) (logs : List (List Batch)) (batch : Batch) → zone < length logs → IsNext limit n logs size batch → IsLast limit n logs zone size batch
+NextIsLast = (limit n zone size : ℕ) (logs : List (List Batch)) (batch : Batch) → zone < length logs
+    → IsNext limit n logs size batch → IsLast limit n logs zone size batch
 
 -- a zone that is spare, or half clean, is so after such a batch was appended to another, whatever the size
 pub record KeepsSpare (block_bytes n : ℕ) (logs : List (List Batch)) (zone spare : ℕ) (batch : Batch) : Type 0 where
@@ -69,7 +75,8 @@ pub record KeepsSpare (block_bytes n : ℕ) (logs : List (List Batch)) (zone spa
 
 abbrev pub AppendKeepsSpare : Type 0
 AppendKeepsSpare =
-    (block_bytes limit n zone spare size : ℕ) (logs : List (List Batch)) (batch : Batch) → zone < length logs → zone ≢ spare → AreSound limit n logs → IsNext limit n logs size batch
+    (block_bytes limit n zone spare size : ℕ) (logs : List (List Batch)) (batch : Batch) → zone < length logs → zone ≢ spare
+    → AreSound limit n logs → IsNext limit n logs size batch
     → KeepsSpare block_bytes n logs zone spare batch
 
 -- ---- a zone is emptied
@@ -81,7 +88,8 @@ pub record Emptied (block_bytes limit n : ℕ) (logs : List (List Batch)) (zone 
   pub sound : AreSound limit n (without logs zone)
 
 abbrev pub EmptySpare : Type 0
-EmptySpare = (block_bytes limit n zone : ℕ) (logs : List (List Batch)) → AreSound limit n logs → IsSpare block_bytes n logs zone → Emptied block_bytes limit n logs zone
+EmptySpare = (block_bytes limit n zone : ℕ) (logs : List (List Batch)) → AreSound limit n logs → IsSpare block_bytes n logs zone
+    → Emptied block_bytes limit n logs zone
 
 -- there is exactly one clearing
 pub record IsOneClearing (block_bytes n : ℕ) (logs : List (List Batch)) : Type 0 where
@@ -100,7 +108,8 @@ pub record Clears (block_bytes limit n : ℕ) (logs : List (List Batch)) (zones 
   pub part : IsPart logs (cleared logs zones)
 
 abbrev pub ClearingKeeps : Type 0
-ClearingKeeps = (block_bytes limit n : ℕ) (logs : List (List Batch)) (zones : List ℕ) → AreSound limit n logs → IsClearing block_bytes n logs zones → Clears block_bytes limit n logs zones
+ClearingKeeps = (block_bytes limit n : ℕ) (logs : List (List Batch)) (zones : List ℕ) → AreSound limit n logs
+    → IsClearing block_bytes n logs zones → Clears block_bytes limit n logs zones
 
 -- ---- logs of zones
 
@@ -122,19 +131,22 @@ pub record SameLogs (geometry : Geometry) (old new : List Content) (tails : List
   pub all_logs : AllByRecursion (HasLog geometry) old → AllByRecursion (HasLog geometry) new
   pub tails_are : zone_tails new ≡ tails
 
--- An Append that was stopped after the first j of the batch's blocks, but not all, keeps all logs. Unless j is 0, what it left is a torn tail, and the other zones' tails stay.
+-- An Append that was stopped after the first j of the batch's blocks, but not all, keeps all logs. Unless j is 0, what
+-- it left is a torn tail, and the other zones' tails stay.
 abbrev pub TornLogs : Type 0
 TornLogs =
     (geometry : Geometry) (old new : List Content) (zone j : ℕ) (batch : Batch)
     → geometry.block < 2 ^ 32 → IsBatch geometry.block batch → HasLog geometry (content_at old zone) → has_torn_tail (content_at old zone) ≡ false
     → j < length (batch_blocks geometry.block batch) → length (content_at old zone).blocks + j < geometry.capacity
-    → Appends old new geometry.capacity zone (take j (batch_blocks geometry.block batch)) → SameLogs geometry old new (slice_set (zone_tails old) zone (nat_lt 0 j))
+    → Appends old new geometry.capacity zone (take j (batch_blocks geometry.block batch))
+    → SameLogs geometry old new (slice_set (zone_tails old) zone (nat_lt 0 j))
 
 -- A Finish of a zone that could be written, and has no torn tail, keeps all logs and tails: zero blocks follow the zone's batches now.
 abbrev pub FinishLogs : Type 0
 FinishLogs =
     (geometry : Geometry) (old new : List Content) (zone : ℕ)
-    → geometry.block < 2 ^ 32 → HasLog geometry (content_at old zone) → is_writable (content_at old zone).usage ≡ true → has_torn_tail (content_at old zone) ≡ false
+    → geometry.block < 2 ^ 32 → HasLog geometry (content_at old zone) → is_writable (content_at old zone).usage ≡ true
+    → has_torn_tail (content_at old zone) ≡ false
     → Finishes old new zone → SameLogs geometry old new (zone_tails old)
 
 -- ---- drives that can be mounted
@@ -153,7 +165,8 @@ FewFit =
 abbrev pub TornMounts : Type 0
 TornMounts =
     (geometry : Geometry) (zones : List Content) (n zone : ℕ) → 1 ≤ batch_most geometry → geometry.capacity ≤ 2 ^ 63
-    → AreSound (2 ^ 63 - geometry.capacity) n (zone_logs geometry zones) → AllByRecursion (HasAtMost (batch_most geometry)) (log_at (zone_logs geometry zones) zone)
+    → AreSound (2 ^ 63 - geometry.capacity) n (zone_logs geometry zones)
+    → AllByRecursion (HasAtMost (batch_most geometry)) (log_at (zone_logs geometry zones) zone)
     → log_size (log_at (zone_logs geometry zones) zone) ≤ geometry.capacity → OnlyTorn geometry zones zone
     → HoldDisk geometry zones n → AreMountable geometry zones n
 
@@ -187,7 +200,8 @@ VacantResets =
 
 abbrev pub SpareResets : Type 0
 SpareResets =
-    (geometry : Geometry) (old new : List Content) (n zone : ℕ) → AreMountable geometry old n → IsSpare geometry.block n (zone_logs geometry old) zone → OnlyTorn geometry old zone
+    (geometry : Geometry) (old new : List Content) (n zone : ℕ) → AreMountable geometry old n
+    → IsSpare geometry.block n (zone_logs geometry old) zone → OnlyTorn geometry old zone
     → Resets old new zone → ResetMounts geometry old new n zone
 
 -- ---- the array

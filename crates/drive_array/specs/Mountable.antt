@@ -26,7 +26,8 @@ pub record AreSound (limit n : ℕ) (logs : List (List Batch)) : Type 0 where
   pub inside : AllByRecursion (AllByRecursion (IsInside (encoded_size n logs))) logs
   pub distinct : IsDistinct nat_eq (sequences logs)
 
--- What the zones of a disk hold: none is Read Only or Offline, at most two are partly written, every zone holds a log, the batches are sound, the reserve allows the size, and a zone is vacant or half clean.
+-- What the zones of a disk hold: none is Read Only or Offline, at most two are partly written, every zone holds a log,
+-- the batches are sound, the reserve allows the size, and a zone is vacant or half clean.
 pub record HoldDisk (geometry : Geometry) (zones : List Content) (n : ℕ) : Type 0 where
   pub usable : AllByRecursion (λ (zone : Content). is_usable zone.usage ≡ true) zones
   pub few_partial : count_by is_partly_written zones ≤ 2
@@ -35,7 +36,8 @@ pub record HoldDisk (geometry : Geometry) (zones : List Content) (n : ℕ) : Typ
   pub reserve : FitsReserve geometry (encoded_size n (zone_logs geometry zones))
   pub spare : HasSpare geometry.block n (zone_logs geometry zones)
 
--- They can be mounted: on the cleared drive, which is what the mount's clearing leaves, at most one zone is torn, and that can be repaired. There is exactly one clearing.
+-- They can be mounted: on the cleared drive, which is what the mount's clearing leaves, at most one zone is torn, and
+-- that can be repaired. There is exactly one clearing.
 pub record AreMountable (geometry : Geometry) (zones : List Content) (n : ℕ) : Type 0 where
   pub disk : HoldDisk geometry zones n
   pub repair : (resets : List ℕ) → IsClearing geometry.block n (zone_logs geometry zones) resets

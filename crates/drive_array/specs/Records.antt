@@ -1,12 +1,14 @@
 -- The records of the batches of all zones, the newest of a block, and the array that they encode.
-use Rattle.std.specs.Prelude.{◌≡◌, ℕ, suc, ◌+◌, ◌<◌, ◌≤◌, ◌==◌, nat_lt, if◌then◌else◌, Bool, true, false, List, [], ◌∷◌, ◌++◌, map, replicate, slice_set, slice_index_or, Contains, Option, Some, None, is_some, ◌*◌}
+use Rattle.std.specs.Prelude.{◌≡◌, ℕ, suc, ◌+◌, ◌<◌, ◌≤◌, ◌==◌, nat_lt, if◌then◌else◌, Bool, true, false, List, [], ◌∷◌, ◌++◌}
+use Rattle.std.specs.Prelude.{map, replicate, slice_set, slice_index_or, Contains, Option, Some, None, is_some, ◌*◌}
 use Rattle.std.specs.List.{range_with_len, AllByRecursion}
 use Rattle.logical_map.specs.declared.place.Place.{Place}
 use Rattle.logical_map.specs.declared.place.Place.TheVariants as places
 use Rattle.batch_log.specs.declared.header.Entry.{Entry}
 use Rattle.batch_log.specs.Log.{Batch, batch_size, log_size, one_unless}
 
--- What one entry of one batch says of a block: its data, or none for a trim; and where that lies, the data block or, of a trim, the header block, by zone and by offset in the zone.
+-- What one entry of one batch says of a block: its data, or none for a trim; and where that lies, the data block or, of
+-- a trim, the header block, by zone and by offset in the zone.
 pub record Record : Type 0 where
   pub block : ℕ
   pub sequence : ℕ
@@ -33,7 +35,8 @@ record_of sequence body zone header k e =
 -- the records of these entries, where k blocks of the body belong to the entries before them
 abbrev pub entry_records : ℕ → List (List ℕ) → ℕ → ℕ → ℕ → List Entry → List Record
 entry_records sequence body zone header k [] = []
-entry_records sequence body zone header k (e ∷ es) = record_of sequence body zone header k e ∷ entry_records sequence body zone header (k + one_unless e.trim) es
+entry_records sequence body zone header k (e ∷ es) =
+    record_of sequence body zone header k e ∷ entry_records sequence body zone header (k + one_unless e.trim) es
 
 abbrev pub batch_records : ℕ → ℕ → Batch → List Record
 batch_records zone offset batch = entry_records batch.heading.sequence batch.body zone offset 0 batch.heading.entries

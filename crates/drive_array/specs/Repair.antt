@@ -1,5 +1,6 @@
 -- Which zones a mount has to repair, since an Append was stopped on its way in them, and when it can.
-use Rattle.std.specs.Prelude.{◌≡◌, ◌≢◌, ℕ, ◌+◌, ◌<◌, ◌≤◌, ◌==◌, ◌&&◌, max, Bool, true, false, List, [], length, slice_index_or, Option, Some, None, is_some, count_by}
+use Rattle.std.specs.Prelude.{◌≡◌, ◌≢◌, ℕ, ◌+◌, ◌<◌, ◌≤◌, ◌==◌, ◌&&◌, max, Bool, true, false, List}
+use Rattle.std.specs.Prelude.{[], length, slice_index_or, Option, Some, None, is_some, count_by}
 use Rattle.std.specs.Int.{div_ceil}
 use Rattle.std.specs.List.{AllByRecursion, range_with_len}
 use Rattle.zone_states.specs.declared.geometry.Geometry.{Geometry}

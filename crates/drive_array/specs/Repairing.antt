@@ -1,4 +1,5 @@
--- The repair of a torn zone. On a cleared drive its live records are moved to a vacant zone, and then it is emptied. The Moves say what the torn zone says, and no more: a size above its own would let other zones become half clean.
+-- The repair of a torn zone. On a cleared drive its live records are moved to a vacant zone, and then it is emptied.
+-- The Moves say what the torn zone says, and no more: a size above its own would let other zones become half clean.
 use Rattle.std.specs.Prelude.{◌≡◌, ◌≢◌, ◌⊎◌, ℕ, ◌+◌, ◌<◌, ◌^◌, true, false, List, [], ◌∷◌, ◌++◌, length, take, slice_set, slice_index_or, Option, Some, None}
 use Rattle.std.specs.List.{AllByRecursion}
 use Rattle.zone_states.specs.declared.geometry.Geometry.{Geometry}
@@ -24,7 +25,8 @@ IsCopyFrom zone (Some r) copy = (r.zone ≡ zone) × (copy.content ≡ r.content
 abbrev pub IsWithin : Option ℕ → Option ℕ → Type 0
 IsWithin size most = larger size most ≡ most
 
--- Moves from a torn zone of a cleared drive, in a zone that was vacant. They come after all its batches and say no size above the torn zone's; each block that they name had its newest record in the torn zone; and the array is the same.
+-- Moves from a torn zone of a cleared drive, in a zone that was vacant. They come after all its batches and say no size
+-- above the torn zone's; each block that they name had its newest record in the torn zone; and the array is the same.
 pub record IsRepairing (block_bytes n : ℕ) (logs : List (List Batch)) (torn into : ℕ) (moves : List Batch) : Type 0 where
   pub none_left : NoneBelow block_bytes n logs (length logs)
   pub in_range : into < length logs
@@ -54,7 +56,8 @@ abbrev pub RepairBegins : Type 0
 RepairBegins =
     (geometry : Geometry) (n torn into : ℕ) (zones : List Content)
     → geometry.block < 2 ^ 32 → AreMountable geometry zones n → NoneBelow geometry.block n (zone_logs geometry zones) (length zones)
-    → ((zone : ℕ) → zone ≢ torn → is_partly_written (content_at zones zone) ≡ false) → ((zone : ℕ) → slice_index_or (zone_tails zones) zone false ≡ true → zone ≡ torn)
+    → ((zone : ℕ) → zone ≢ torn → is_partly_written (content_at zones zone) ≡ false)
+    → ((zone : ℕ) → slice_index_or (zone_tails zones) zone false ≡ true → zone ≡ torn)
     → log_at (zone_logs geometry zones) torn ≢ [] → into < length zones → content_at zones into ≡ emptied
     → IsOnRepair geometry n zones zones torn into
 
@@ -112,7 +115,8 @@ abbrev pub RepairEnds : Type 0
 RepairEnds =
     (geometry : Geometry) (n torn into : ℕ) (base now : List Content)
     → geometry.block < 2 ^ 32 → IsOnRepair geometry n base now torn into
-    → ((block : ℕ) → LiesIn torn (newest block (records 0 (zone_logs geometry base))) → newest block (log_records into 0 (zone_log geometry (content_at now into))) ≢ None)
+    → ((block : ℕ) → LiesIn torn (newest block (records 0 (zone_logs geometry base)))
+    → newest block (log_records into 0 (zone_log geometry (content_at now into))) ≢ None)
     → log_greatest (zone_log geometry (content_at now into)) ≡ log_greatest (log_at (zone_logs geometry base) torn)
     → IsSpare geometry.block n (zone_logs geometry now) torn
 
@@ -130,7 +134,9 @@ pub record NeedsItsBlock (block_bytes n : ℕ) (logs : List (List Batch)) (zone 
   pub in_range : block < encoded_size n logs
   pub differs : shown block_bytes (newest block (records 0 (without logs zone))) ≢ shown block_bytes (newest block (records 0 logs))
 
--- Why the torn zone was not half clean on the cleared drive, and what of that holds after some Moves: its batches are not Moves from an older zone; or a block shows something else without it, which no Move names yet; or it alone says the size, and no Move says one yet.
+-- Why the torn zone was not half clean on the cleared drive, and what of that holds after some Moves: its batches are
+-- not Moves from an older zone; or a block shows something else without it, which no Move names yet; or it alone says
+-- the size, and no Move says one yet.
 abbrev pub IsStillNeeded : ℕ → ℕ → List (List Batch) → ℕ → ℕ → List Batch → Type 0
 IsStillNeeded block_bytes n logs torn into moves =
     (IsMoved logs torn → ⊥)

@@ -7,7 +7,8 @@ use Rattle.drive_port.specs.Drive.{DriveState}
 use Rattle.batch_log.specs.Log.{Batch, IsLog, has_tail, log_of, zero_block}
 use Rattle.drive_array.specs.Sizes.{array_of}
 
--- what follows the written blocks of a zone, as a host can tell: in a full zone zero blocks up to the capacity, since a report doesn't tell how far a finished zone was written
+-- what follows the written blocks of a zone, as a host can tell: in a full zone zero blocks up to the capacity, since a
+-- report doesn't tell how far a finished zone was written
 abbrev pub padding : Geometry → Bool → ℕ → List (List ℕ)
 padding geometry true written = replicate (geometry.capacity - written) (zero_block geometry.block)
 padding geometry false written = []

@@ -1,8 +1,12 @@
 //! What holds of all logs and of all drives' contents. Each function carries its laws as its contract,
 //! and does nothing.
 
-ghost use Rattle.drive_array.specs.Laws.{AppendFirst, AppendKeepsSpare, AppendLogs, AppendWrites, ClearingKeeps, EmptySpare, FewFit, FinishLogs, FinishMounts, GreatestIs, LowestResets, NewestIsLive, NextIsLast, OneClearing, RestartMounts, SpareResets, SpelledCount, SpelledWhole, TornLogs, TornMounts, VacantResets};
-ghost use Rattle.drive_array.specs.Repairing.{MoveRepairs, NeededStays, RepairBegins, RepairEnds, RepairMounts, TornMoveRepairs};
+ghost use Rattle.drive_array.specs.Laws.{AppendFirst, AppendKeepsSpare, AppendLogs, AppendWrites, ClearingKeeps};
+ghost use Rattle.drive_array.specs.Laws.{EmptySpare, FewFit, FinishLogs, FinishMounts, GreatestIs, LowestResets};
+ghost use Rattle.drive_array.specs.Laws.{NewestIsLive, NextIsLast, OneClearing, RestartMounts, SpareResets};
+ghost use Rattle.drive_array.specs.Laws.{SpelledCount, SpelledWhole, TornLogs, TornMounts, VacantResets};
+ghost use Rattle.drive_array.specs.Repairing.{MoveRepairs, NeededStays, RepairBegins, RepairEnds};
+ghost use Rattle.drive_array.specs.Repairing.{RepairMounts, TornMoveRepairs};
 
 /// `newest` finds a live record of the block, where there is a record of it.
 pub fn newest_is_live()

@@ -54,7 +54,8 @@ impl<D: Device + Drop> Counter<D> {
     /// Counts the command of an entry that was completed.
     fn count(&mut self, entry: &[u8; 64], bytes: &[u8], completion: &[u8; 16])
         ensures inner { self.new.inner ≡ self.old.inner }
-        ensures counted { self.new.counts ≡ counts_after self.old.counts entry.now bytes.now completion.now }
+        ensures counted { self.new.counts
+            ≡ counts_after self.old.counts entry.now bytes.now completion.now }
     {
         let command = Command::decode(entry);
         self.counts.add_command(command);
@@ -92,10 +93,12 @@ impl<D: Device + Drop> Device for Counter<D> {
         bytes: &[u8],
         into: &mut Vec<u8>,
     ) -> Result<[u8; 16], Halt>
-        ensures gives { SubmitGives self.old.inner entry.now bytes.now result into.new.items self.new.inner }
+        ensures gives { SubmitGives self.old.inner entry.now bytes.now result into.new.items
+            self.new.inner }
         ensures was_lawful { IsLawful self.old.inner }
         ensures lawful { IsLawful self.new.inner }
-        ensures counted { IfOk result (λ completion. self.new.counts ≡ counts_after self.old.counts entry.now bytes.now completion) }
+        ensures counted { IfOk result (λ completion. self.new.counts
+            ≡ counts_after self.old.counts entry.now bytes.now completion) }
         ensures halted { OnErr result (self.new.counts ≡ self.old.counts) }
     {
         let completion = self.device.submit(entry, bytes, into)?;
@@ -104,10 +107,12 @@ impl<D: Device + Drop> Device for Counter<D> {
     }
 
     fn submit_extending(&mut self, entry: &[u8; 64], into: &mut Vec<u8>) -> Result<[u8; 16], Halt>
-        ensures gives { SubmitAdds self.old.inner entry.now [] into.old.items result into.new.items self.new.inner }
+        ensures gives { SubmitAdds self.old.inner entry.now [] into.old.items result into.new.items
+            self.new.inner }
         ensures was_lawful { IsLawful self.old.inner }
         ensures lawful { IsLawful self.new.inner }
-        ensures counted { IfOk result (λ completion. self.new.counts ≡ counts_after self.old.counts entry.now [] completion) }
+        ensures counted { IfOk result
+            (λ completion. self.new.counts ≡ counts_after self.old.counts entry.now [] completion) }
         ensures halted { OnErr result (self.new.counts ≡ self.old.counts) }
     {
         let completion = self.device.submit_extending(entry, into)?;

@@ -1,5 +1,6 @@
 ghost use Rattle.std.specs.Prelude.{◌≡◌};
-ghost use Rattle.drive_counter.specs.Counting.{kind_said, more, no_counts, with_action, counting_batch, with_command, counting_data};
+ghost use Rattle.drive_counter.specs.Counting.{kind_said, more, no_counts, with_action, counting_batch};
+ghost use Rattle.drive_counter.specs.Counting.{with_command, counting_data};
 
 use batch_log::Kind;
 use byteorder::{ByteOrder, LittleEndian};

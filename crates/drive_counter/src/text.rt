@@ -1,5 +1,6 @@
 ghost use Rattle.std.specs.Prelude.{◌≡◌, ◌++◌, IfOk, OnOk, string_bytes};
-ghost use Rattle.drive_counter.specs.StatisticsText.{amplification_line, block_lines, command_lines, line, live_lines, statistics_lines};
+ghost use Rattle.drive_counter.specs.StatisticsText.{amplification_line, block_lines, command_lines};
+ghost use Rattle.drive_counter.specs.StatisticsText.{line, live_lines, statistics_lines};
 
 use crate::counts::Counts;
 use crate::spread::Spread;
@@ -16,7 +17,8 @@ fn write_line(text: &mut String, name: &str, number: u64) -> Result<(), AllocErr
 /// Adds the lines of the blocks and the cleans.
 #[tactic(auto, unfolding(crate::specs::StatisticsText::block_lines))]
 fn write_blocks(text: &mut String, counts: &Counts) -> Result<(), AllocError>
-    ensures { OnOk result (string_bytes text.new ≡ string_bytes text.old ++ block_lines counts.now) }
+    ensures { OnOk result
+        (string_bytes text.new ≡ string_bytes text.old ++ block_lines counts.now) }
 {
     write_line(text, "host blocks", counts.host_blocks)?;
     write_line(text, "all blocks", counts.blocks)?;
@@ -28,7 +30,8 @@ fn write_blocks(text: &mut String, counts: &Counts) -> Result<(), AllocError>
 /// Adds the line of how many blocks were appended for each that the host wrote, in hundredths, rounded down.
 #[tactic(auto, unfolding(crate::specs::StatisticsText::amplification_line))]
 fn write_amplification(text: &mut String, blocks: u64, host_blocks: u64) -> Result<(), AllocError>
-    ensures { OnOk result (string_bytes text.new ≡ string_bytes text.old ++ amplification_line blocks host_blocks) }
+    ensures { OnOk result
+        (string_bytes text.new ≡ string_bytes text.old ++ amplification_line blocks host_blocks) }
 {
     if host_blocks == 0 {
         return writeln!(text, "write amplification -");
@@ -43,7 +46,8 @@ fn write_amplification(text: &mut String, blocks: u64, host_blocks: u64) -> Resu
 /// Adds the lines of the commands.
 #[tactic(auto, unfolding(crate::specs::StatisticsText::command_lines))]
 fn write_commands(text: &mut String, counts: &Counts) -> Result<(), AllocError>
-    ensures { OnOk result (string_bytes text.new ≡ string_bytes text.old ++ command_lines counts.now) }
+    ensures { OnOk result
+        (string_bytes text.new ≡ string_bytes text.old ++ command_lines counts.now) }
 {
     write_line(text, "appends", counts.appends)?;
     write_line(text, "reads", counts.reads)?;

@@ -7,10 +7,10 @@ use Rattle.zone_states.specs.Geometry.{IsInRange}
 use Rattle.zone_states.specs.Stored.{AreWholeBlocks, StoredZone, zone_stored}
 use Rattle.zone_states.specs.Zone.{IsLawfulZone}
 use Rattle.zone_states.specs.declared.geometry.Geometry.{Geometry}
+use Rattle.zone_states.proofs.HoldLaws.{may_hold-most}
 use Rattle.zone_drive.specs.Stored.{zones_of}
 use Rattle.drive_images.specs.Image.{zone_bytes, zone_head_bytes, zones_bytes}
 use Rattle.drive_images.proofs.HeadLaws.{length-zone_head}
-use Rattle.drive_images.proofs.MeaningLaws.{may_hold-most}
 use Rattle.drive_images.proofs.WritingLaws.{zone_text}
 
 length-zone : (block : ℕ) (zone : StoredZone) → AreWholeBlocks block zone.bytes → length (zone_bytes (zone_stored block zone)) ≡ 8 + length zone.bytes

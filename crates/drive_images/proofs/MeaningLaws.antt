@@ -16,6 +16,7 @@ use Rattle.zone_states.specs.Geometry.{IsInRange, is_outside}
 use Rattle.zone_states.specs.Transition.{is_active, is_open}
 use Rattle.zone_states.specs.Zone.{IsLawfulZone, MayHold, Zone, cut_blocks}
 use Rattle.zone_states.specs.declared.geometry.Geometry.{Geometry}
+use Rattle.zone_states.proofs.HoldLaws.{may_hold-most}
 use Rattle.drive_port.specs.Drive.{DriveState}
 use Rattle.zone_drive.specs.Stored.{may_hold}
 use Rattle.zone_drive.proofs.CountLaws.{count-cons}
@@ -123,15 +124,6 @@ may_hold-is Closed capacity written h = lt-ltb written capacity h
 may_hold-is ReadOnly capacity written h = le-leb written capacity h
 may_hold-is Full capacity written h = le-leb written capacity h
 may_hold-is Offline capacity written h = le-leb written capacity h
-
-pub may_hold-most : (state : ZoneState) (capacity written : ℕ) → MayHold state capacity written → written ≤ capacity
-may_hold-most Empty capacity written h = omega arith
-may_hold-most ImplicitlyOpened capacity written h = omega arith
-may_hold-most ExplicitlyOpened capacity written h = omega arith
-may_hold-most Closed capacity written h = omega arith
-may_hold-most ReadOnly capacity written h = h
-may_hold-most Full capacity written h = h
-may_hold-most Offline capacity written h = h
 
 cut-concat : (size : ℕ) (blocks : List (List ℕ)) → AllByRecursion (λ block. length block ≡ size) blocks → cut_blocks size (length blocks) (concat blocks) ≡ blocks
 cut-concat size [] each = refl

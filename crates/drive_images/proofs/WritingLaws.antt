@@ -12,8 +12,8 @@ use Rattle.disk_files.proofs.OutputLaws.{front_first, front_second}
 use Rattle.zone_states.specs.Stored.{AreWholeBlocks, StoredZone, zone_stored}
 use Rattle.zone_states.specs.Zone.{Zone}
 use Rattle.zone_states.specs.declared.geometry.Geometry.{Geometry}
+use Rattle.zone_states.proofs.Cutting.{concat-cut}
 use Rattle.drive_images.specs.Image.{head_bytes, image_bytes, zone_bytes, zone_head_bytes, zones_bytes}
-use Rattle.drive_images.proofs.ZoneLaws.{concat-cut}
 
 pub ok_so : {T E : Type 0} (r : Result T E) (P Q : Type 0) → (P → Q) → OnOk r P → OnOk r Q
 ok_so (Ok x) P Q f p = f p

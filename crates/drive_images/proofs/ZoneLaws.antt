@@ -8,12 +8,13 @@ use Rattle.std.proofs.lemmas.List.{drop_at, length-append, length-drop, take-app
 use Rattle.std.proofs.lemmas.Nat.{div-mul-add}
 use Rattle.nvme_wire.specs.declared.zone_state.ZoneState.{ZoneState}
 use Rattle.nvme_wire.specs.declared.zone_state.ZoneState.TheVariants.{Empty, ImplicitlyOpened, ExplicitlyOpened, Closed, ReadOnly, Full, Offline}
-use Rattle.zone_states.proofs.Cutting.{length-cut}
+use Rattle.zone_states.proofs.Cutting.{length-cut, concat-cut}
 use Rattle.zone_states.specs.Stored.{AreWholeBlocks, zone_stored}
 use Rattle.zone_states.specs.Zone.{IsLawfulZone, MayHold, cut_blocks}
 use Rattle.zone_states.specs.declared.geometry.Geometry.{Geometry}
 use Rattle.zone_drive.specs.Stored.{may_hold}
 use Rattle.zone_drive.proofs.WriteLaws.{cut-whole}
+use Rattle.zone_drive.proofs.ZonesLaws.{may_hold-true}
 use Rattle.drive_images.specs.Image.{zone_bytes, zone_head_bytes}
 use Rattle.drive_images.specs.Reading.{TellsFirst, counts_with, fault_with, is_over_limit, short_of, told_head, zone_fault}
 use Rattle.drive_images.specs.declared.counts.ZoneCounts.{ZoneCounts}
@@ -61,20 +62,6 @@ module _ (geometry : Geometry) (counts : ZoneCounts) where
       tells_short_zone rest fault within t = tells_so _ (zone_fault geometry counts (head ++ rest)) fault (λ short. told-at rest ∙ rw (fits, within) short) t
 
 -- ---- its bytes
-
-may_hold-true : (state : ZoneState) (capacity written : ℕ) → may_hold state capacity written ≡ true → MayHold state capacity written
-may_hold-true Empty capacity written e = eqb-true _ _ e
-may_hold-true ImplicitlyOpened capacity written e = ltb-true _ _ e
-may_hold-true ExplicitlyOpened capacity written e = ltb-true _ _ e
-may_hold-true Closed capacity written e = ltb-true _ _ e
-may_hold-true ReadOnly capacity written e = leb-true _ _ e
-may_hold-true Full capacity written e = leb-true _ _ e
-may_hold-true Offline capacity written e = leb-true _ _ e
-
-pub concat-cut : (size n : ℕ) (bytes : List ℕ) → length bytes ≡ n * size → concat (cut_blocks size n bytes) ≡ bytes
-concat-cut size zero [] long = refl
-concat-cut size zero (x ∷ bytes) long = absurd (omega arith)
-concat-cut size (suc n) bytes long = rw (concat-cut size n (drop size bytes) (omega (arith, length-drop size bytes))) (take-append-drop size bytes)
 
 module _ (block written : ℕ) (bytes : List ℕ) (some : 1 ≤ block) (long : length bytes ≡ written * block) where
   count-whole : length bytes / block ≡ written

@@ -3,7 +3,7 @@ use Rattle.std.proofs.Common.{◌≡◌, ℕ, ◌+◌, ◌<◌, Bool, true, fals
 use Rattle.std.specs.Prelude.{IfSome, nat_lt}
 use Rattle.std.specs.List.{AllByRecursion, count_by}
 use Rattle.std.proofs.KnownBytes.{Consumes-nil, Consumes-trans}
-use Rattle.std.proofs.lemmas.Bool.{le-ltb, ltb-false}
+use Rattle.std.proofs.lemmas.Bool.{le-ltb, ltb-false, or_parts}
 use Rattle.std.proofs.lemmas.List.{flat_map_more, length-map, map-append}
 use Rattle.zone_states.specs.Stored.{AreWholeBlocks, StoredZone, zone_stored}
 use Rattle.zone_states.specs.Transition.{is_active, is_open}
@@ -33,14 +33,10 @@ count-more p (y ∷ xs) x = count-cons p y (xs ++ x ∷ []) ∙ omega (arith, co
 pub counts-more : (zones : List Zone) (zone : Zone) → counts_of (zones ++ zone ∷ []) ≡ counts_with (counts_of zones) zone.state
 counts-more zones zone = rw (count-more (λ (z : Zone). is_active z.state) zones zone, count-more (λ (z : Zone). is_open z.state) zones zone) refl
 
-neither : (a b : Bool) → (a || b) ≡ false → (a ≡ false) × (b ≡ false)
-neither true b e = absurd (cc e)
-neither false b e = (refl, e)
-
-pub begins-more : (geometry : Geometry) (zones : List Zone) (zone : Zone) → MayBegin geometry zones → IsLawfulZone geometry zone → is_over_limit geometry (counts_of (zones ++ zone ∷ [])) ≡ false → MayBegin geometry (zones ++ zone ∷ [])
+begins-more : (geometry : Geometry) (zones : List Zone) (zone : Zone) → MayBegin geometry zones → IsLawfulZone geometry zone → is_over_limit geometry (counts_of (zones ++ zone ∷ [])) ≡ false → MayBegin geometry (zones ++ zone ∷ [])
 begins-more geometry zones zone begins lawful within =
     let all = zones ++ zone ∷ [] in
-    let parts = neither (nat_lt geometry.active (active_count all)) (nat_lt geometry.open (open_count all)) within in
+    let parts = or_parts (nat_lt geometry.active (active_count all)) (nat_lt geometry.open (open_count all)) within in
     record {
       lawful = all-more (IsLawfulZone geometry) zones zone begins.lawful lawful;
       active = ltb-false geometry.active (active_count all) parts.0;

@@ -33,7 +33,8 @@ zones_bytes zones = flat_map zone_bytes zones
 abbrev pub image_bytes : Geometry → List Zone → List ℕ
 image_bytes geometry zones = head_bytes geometry ++ zones_bytes zones
 
--- A drive of this geometry may begin with these zones: each holds as many whole blocks as its state allows, and no more of them are active and open than may be.
+-- A drive of this geometry may begin with these zones: each holds as many whole blocks as its state allows, and no more
+-- of them are active and open than may be.
 pub record MayBegin (geometry : Geometry) (zones : List Zone) : Type 0 where
   pub lawful : AllByRecursion (IsLawfulZone geometry) zones
   pub active : active_count zones ≤ geometry.active

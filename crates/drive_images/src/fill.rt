@@ -7,9 +7,11 @@ use std::io::Read;
 
 /// Reads until the buffer is full. It is `Short` if the reader ends before.
 pub fn fill<R: Read>(reader: &mut R, buffer: &mut [u8]) -> Result<(), ImageFault>
-    ensures ok { OnOk result (Consumes (R.remaining reader.old) (R.remaining reader.new) buffer.new) }
+    ensures ok { OnOk result
+        (Consumes (R.remaining reader.old) (R.remaining reader.new) buffer.new) }
     ensures err { IfErr result (λ fault.
-        IfSome (R.remaining reader.old) (λ bytes. TellsFirst (short_of (length buffer.old) bytes) fault)) }
+        IfSome (R.remaining reader.old)
+        (λ bytes. TellsFirst (short_of (length buffer.old) bytes) fault)) }
 {
     let mut at = 0;
     while at < buffer.len() {

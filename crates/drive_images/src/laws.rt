@@ -35,6 +35,7 @@ pub fn one_image()
 pub fn one_fault()
     ensures none { (bytes : List ℕ) (drive : DriveState) (fault : ImageFault) →
         IsImage bytes drive → IsImageFault bytes fault → is_of_bytes fault ≡ false }
-    ensures first { (bytes : List ℕ) (a b : ImageFault) → is_of_bytes a ≡ true → is_of_bytes b ≡ true →
+    ensures first { (bytes : List ℕ) (a b : ImageFault) → is_of_bytes a ≡ true
+        → is_of_bytes b ≡ true →
         IsImageFault bytes a → IsImageFault bytes b → a ≡ b }
 {}

@@ -63,8 +63,10 @@ fn expect_end<R: Read>(reader: &mut R) -> Result<(), ImageFault>
 /// met. Each zone is read straight into its place.
 pub fn read_image_front<R: Read>(alloc: Global, reader: &mut R) -> Result<SavedZones, ImageFault>
     ensures ok { IfOk result (λ saved.
-        ReadsImage saved.geometry (R.remaining reader.old) (R.remaining reader.new) saved.zones.items) }
-    ensures err { IfErr result (λ fault. IfSome (R.remaining reader.old) (λ bytes. IsFrontFault bytes fault)) }
+        ReadsImage saved.geometry (R.remaining reader.old)
+        (R.remaining reader.new) saved.zones.items) }
+    ensures err { IfErr result
+        (λ fault. IfSome (R.remaining reader.old) (λ bytes. IsFrontFault bytes fault)) }
 {
     let mut head = [0; 64];
     fill(reader, &mut head)?;
@@ -77,9 +79,11 @@ pub fn read_image_front<R: Read>(alloc: Global, reader: &mut R) -> Result<SavedZ
 ///
 /// Other bytes are refused by the first fault that is met. Each zone is read straight into its place.
 pub fn read_image<R: Read>(alloc: Global, reader: &mut R) -> Result<Drive, ImageFault>
-    ensures ok { IfOk result (λ drive. IfSome (R.remaining reader.old) (λ bytes. IsImage bytes drive.state)) }
+    ensures ok { IfOk result
+        (λ drive. IfSome (R.remaining reader.old) (λ bytes. IsImage bytes drive.state)) }
     ensures end { OnOk result (IsAtEnd (R.remaining reader.new)) }
-    ensures err { IfErr result (λ fault. IfSome (R.remaining reader.old) (λ bytes. IsImageFault bytes fault)) }
+    ensures err { IfErr result
+        (λ fault. IfSome (R.remaining reader.old) (λ bytes. IsImageFault bytes fault)) }
 {
     let saved = read_image_front(alloc, reader)?;
     expect_end(reader)?;

@@ -17,8 +17,10 @@ fn write_zone<W: Write>(writer: &mut W, geometry: &Geometry, zone: &Zone) -> Res
     requires small { geometry.now.capacity < 2 ^ 32 }
     requires whole { AreWholeBlocks geometry.now.block zone.now.bytes }
     requires lawful { IsLawfulZone geometry.now (zone_stored geometry.now.block zone.now) }
-    ensures ok { OnOk result (Appends (W.contents writer.old) (W.contents writer.new) (zone_bytes (zone_stored geometry.now.block zone.now))) }
-    ensures err { OnErr result (AppendsFront (W.contents writer.old) (W.contents writer.new) (zone_bytes (zone_stored geometry.now.block zone.now))) }
+    ensures ok { OnOk result (Appends (W.contents writer.old) (W.contents writer.new)
+        (zone_bytes (zone_stored geometry.now.block zone.now))) }
+    ensures err { OnErr result (AppendsFront (W.contents writer.old) (W.contents writer.new)
+        (zone_bytes (zone_stored geometry.now.block zone.now))) }
 {
     let head = ZoneHead {
         state: zone.state(),

@@ -19,7 +19,8 @@ const PIECE: usize = 1 << 18;
 /// Reads that many bytes after those that `bytes` holds.
 fn read_piece<R: Read>(reader: &mut R, bytes: &mut Vec<u8>, count: usize) -> Result<(), ImageFault>
     requires { length bytes.old.items + count < 2 ^ 64 }
-    ensures ok { OnOk result (ReadsMore (R.remaining reader.old) (R.remaining reader.new) bytes.old.items bytes.new.items count) }
+    ensures ok { OnOk result (ReadsMore (R.remaining reader.old)
+        (R.remaining reader.new) bytes.old.items bytes.new.items count) }
     ensures err { IfErr result (λ fault.
         IfSome (R.remaining reader.old) (λ rest. TellsFirst (short_of count rest) fault)) }
 {
@@ -30,7 +31,8 @@ fn read_piece<R: Read>(reader: &mut R, bytes: &mut Vec<u8>, count: usize) -> Res
 
 /// Reads that many bytes.
 fn read_bytes<R: Read>(alloc: Global, reader: &mut R, count: usize) -> Result<Vec<u8>, ImageFault>
-    ensures ok { IfOk result (λ bytes. Consumes (R.remaining reader.old) (R.remaining reader.new) bytes.items) }
+    ensures ok { IfOk result
+        (λ bytes. Consumes (R.remaining reader.old) (R.remaining reader.new) bytes.items) }
     ensures count { IfOk result (λ bytes. length bytes.items ≡ count) }
     ensures err { IfErr result (λ fault.
         IfSome (R.remaining reader.old) (λ rest. TellsFirst (short_of count rest) fault)) }
@@ -54,9 +56,11 @@ pub fn read_zone<R: Read>(
     requires in_range { IsInRange geometry.now }
     requires within { is_over_limit geometry.now counts.old ≡ false }
     ensures ok { IfOk result (λ zone.
-        ReadsZone geometry.now (R.remaining reader.old) (R.remaining reader.new) counts.old zone counts.new) }
+        ReadsZone geometry.now (R.remaining reader.old)
+        (R.remaining reader.new) counts.old zone counts.new) }
     ensures err { IfErr result (λ fault.
-        IfSome (R.remaining reader.old) (λ rest. TellsFirst (zone_fault geometry.now counts.old rest) fault)) }
+        IfSome (R.remaining reader.old)
+        (λ rest. TellsFirst (zone_fault geometry.now counts.old rest) fault)) }
 {
     let mut bytes = [0; 8];
     fill(reader, &mut bytes)?;

@@ -10,6 +10,7 @@ use Rattle.nvme_wire.specs.declared.zone_state.ZoneState.{ZoneState}
 use Rattle.nvme_wire.specs.declared.zone_state.ZoneState.TheVariants.{Empty, ImplicitlyOpened, ExplicitlyOpened, Closed, ReadOnly, Full, Offline}
 use Rattle.zone_states.specs.declared.geometry.Geometry.{Geometry}
 use Rattle.zone_states.specs.Zone.{Zone, cut_blocks, opened_by_write, written_zone}
+use Rattle.zone_states.proofs.Cutting.{length-cut, cut-front}
 use Rattle.drive_port.specs.declared.calls.PortFault.{PortFault}
 use Rattle.drive_port.specs.declared.calls.PortFault.TheVariants.{Refused, Memory, Stopped}
 use Rattle.drive_port.specs.Drive.{ClosesOne, DriveState, IsClosing, IsLawful}
@@ -19,14 +20,10 @@ use Rattle.drive_port.specs.Halting.{LeftBy, TornAppend}
 use Rattle.drive_port.specs.Calls.{Appended, AppendGives, AppendKeeps, AppendLeaves, CanAppend, IsNotRefused, IsWholeBlocks, block_count}
 use Rattle.drive_port.proofs.ClosingLaws.{IsClosing-set_after, content_at-closing, content_of-closes, zone_at-closing}
 use Rattle.drive_port.proofs.StepLaws.{counts-success, outcome-passes, refused-closing, same_contents-closing, same_contents-same, succeeded, succeeds}
-use Rattle.drive_port.proofs.HaltLaws.{cut-front, left-front}
+use Rattle.drive_port.proofs.HaltLaws.{left-front}
 use Rattle.drive_port.proofs.CheckLaws.{AllPass, data-pass, resource-pass, state-pass, state-passed}
 
 -- ---- one zone
-
-pub length-cut : (size n : ℕ) (xs : List ℕ) → length (cut_blocks size n xs) ≡ n
-length-cut size zero xs = refl
-length-cut size (suc n) xs = let rest = length-cut size n (drop size xs) in omega (arith, rest)
 
 usage-written : (reached : Bool) (state : ZoneState) → is_writable (usage_of state) ≡ true → usage_of (cond reached Full (opened_by_write state)) ≡ cond reached full active
 usage-written true state w = refl

@@ -17,6 +17,7 @@ use Rattle.drive_port.specs.Step.{zone_at, nowhere}
 
 -- ---- closings
 
+-- zones that stay as they are close none
 pub IsClosing-refl : (zones : List Zone) → IsClosing zones zones
 IsClosing-refl [] = tt
 IsClosing-refl (z ∷ zs) = (record { blocks = refl; state = inl refl }, IsClosing-refl zs)
@@ -195,6 +196,7 @@ zone_at-closing (x ∷ xs) (y ∷ ys) (suc i) h = zone_at-closing xs ys i h.1
 zone_at-closing [] (y ∷ ys) i h = absurd h
 zone_at-closing (x ∷ xs) [] i h = absurd h
 
+-- the content of a zone is that of the zone at its index
 pub content_at-contents : (zones : List Zone) (i : ℕ) → content_at (contents zones) i ≡ content_of (zone_at zones i)
 content_at-contents zones i = get_or-map content_of zones i nowhere
 

@@ -1,5 +1,5 @@
 -- How many zones a report names, and when that tells that all are Empty.
-use Rattle.std.proofs.Common.{◌≡◌, ℕ, ◌+◌, ◌<◌, ◌≤◌, ◌^◌, Bool, true, false, cond, if◌then◌else◌, List, [], ◌∷◌, length, refl, sym, ap, ◌∙◌, inl, inr, arith}
+use Rattle.std.proofs.Common.{◌≡◌, ℕ, ◌+◌, ◌<◌, ◌≤◌, ◌^◌, ◌↔◌, Bool, true, false, cond, if◌then◌else◌, List, [], ◌∷◌, length, refl, sym, ap, ◌∙◌, inl, inr, arith}
 use Rattle.std.specs.List.{AllByRecursion}
 use Rattle.std.proofs.Math.Nat.{zero-div}
 use Rattle.std.proofs.lemmas.List.{nil_from_length}
@@ -115,15 +115,21 @@ empty_all (z ∷ zs) (y ∷ ys) closing all =
 empty_all [] (y ∷ ys) closing all = absurd closing
 empty_all (z ∷ zs) [] closing all = absurd closing
 
-pub counted-all_empty : (old new : DriveState) (options : ReportingOptions) (number : ℕ) → IsLawful old → Counted old new options number
+counted-all_empty : (old new : DriveState) (options : ReportingOptions) (number : ℕ) → IsLawful old → Counted old new options number
     → options ≡ InState Empty → number ≡ old.geometry.zones → AreEmpty (contents old.zones)
 counted-all_empty old new options number lawful counted only e =
     let number_is = rw only at counted.number_is in
     all_empty old.geometry old.zones counted.zones lawful.zones counted.before
     (omega (arith, number_is, e, lawful.count, length-closing old.zones counted.zones counted.before))
 
-pub counted-empty_all : (old new : DriveState) (options : ReportingOptions) (number : ℕ) → IsLawful old → Counted old new options number
+counted-empty_all : (old new : DriveState) (options : ReportingOptions) (number : ℕ) → IsLawful old → Counted old new options number
     → options ≡ InState Empty → AreEmpty (contents old.zones) → number ≡ old.geometry.zones
 counted-empty_all old new options number lawful counted only all =
     let number_is = rw only at counted.number_is in
     omega (arith, number_is, empty_all old.zones counted.zones counted.before all, lawful.count, length-closing old.zones counted.zones counted.before)
+
+-- as many zones are Empty as there are exactly where all are
+pub counted-empty : (old new : DriveState) (options : ReportingOptions) (number : ℕ) → IsLawful old → Counted old new options number
+    → options ≡ InState Empty → (number ≡ old.geometry.zones) ↔ AreEmpty (contents old.zones)
+counted-empty old new options number lawful counted only =
+    (counted-all_empty old new options number lawful counted only, counted-empty_all old new options number lawful counted only)

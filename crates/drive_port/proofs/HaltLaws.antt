@@ -12,9 +12,9 @@ use Rattle.drive_port.specs.declared.calls.PortFault.TheVariants.{Refused, Memor
 use Rattle.drive_port.specs.Drive.{DriveState, IsClosing}
 use Rattle.drive_port.specs.Step.{Effect, Outcome, is_append, is_success}
 use Rattle.drive_port.specs.Halting.{LeftBy, Torn, TornAppend}
-use Rattle.drive_port.specs.Calls.{CallGives}
+use Rattle.drive_port.specs.Calls.{CallGives, OnlyCloses}
 use Rattle.drive_port.proofs.ClosingLaws.{IsClosing-refl, IsClosing-trans}
-use Rattle.drive_port.proofs.StepLaws.{effect-refused, effect_of, outcome-passes, refused-closing, succeeded}
+use Rattle.drive_port.proofs.StepLaws.{effect-refused, effect_of, outcome-passes, refused-closing, same_contents-closing, succeeded}
 
 -- ---- statuses
 
@@ -78,16 +78,6 @@ left-front geometry old new start blocks bytes some all left =
       | inr (inr torn) ↦ inr torn
     ]
 
--- the first j blocks are cut from the first bytes
-pub cut-front : (size n j : ℕ) (xs : List ℕ) → j ≤ n → cut_blocks size j (take (j * size) xs) ≡ take j (cut_blocks size n xs)
-cut-front size n zero xs le = refl
-cut-front size zero (suc j) xs le = absurd (omega arith)
-cut-front size (suc n) (suc j) xs le =
-    let k : suc j * size ≡ size + j * size = omega arith in
-    let first : take size (take (size + j * size) xs) ≡ take size xs = take-take size (size + j * size) xs (omega arith) in
-    let rest : drop size (take (size + j * size) xs) ≡ take (j * size) (drop size xs) = drop-take size (j * size) xs in
-    rw (k, first, rest, cut-front size n j (drop size xs) (omega arith)) refl
-
 -- ---- a command that changes no zone
 
 abbrev pub is_query : Command → Bool
@@ -121,7 +111,7 @@ done_closing geometry old new command bytes returned value query effect =
     IsClosing-trans old effect.middle new effect.before (rw same at effect.after)
 
 -- whatever its call answers, it does no more to the zones than the controller may by itself
-pub query-closing : (old new : DriveState) (command : Command) (bytes returned : List ℕ) (result : Result ℕ PortFault) → is_query command ≡ true
+query-closing : (old new : DriveState) (command : Command) (bytes returned : List ℕ) (result : Result ℕ PortFault) → is_query command ≡ true
     → CallGives old command bytes result returned new → IsClosing old.zones new.zones
 query-closing old new command bytes returned (Ok value) query gives = done_closing old.geometry old.zones new.zones command bytes returned value query gives.1.effect
 query-closing old new command bytes returned (Err (Refused status)) query gives = refused-closing old new command bytes returned status gives
@@ -131,3 +121,10 @@ query-closing old new command bytes returned (Err Stopped) query gives =
       | inl closing ↦ closing
       | inr done ↦ done_closing old.geometry old.zones new.zones command bytes done.returned done.value query done.effect
     ]
+
+-- a call that only asks closes zones at most, whatever it answers
+pub query-closes : (old new : DriveState) (command : Command) (bytes returned : List ℕ) (result : Result ℕ PortFault) → is_query command ≡ true → new.geometry ≡ old.geometry
+    → CallGives old command bytes result returned new → OnlyCloses old new
+query-closes old new command bytes returned result query geometry gives =
+    let closing = query-closing old new command bytes returned result query gives in
+    record { closing = closing; contents = same_contents-closing old new geometry closing }

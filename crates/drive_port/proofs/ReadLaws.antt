@@ -1,5 +1,5 @@
 -- What a Read that succeeded showed, and which Read a drive can't refuse.
-use Rattle.std.proofs.Common.{◌≡◌, ℕ, zero, suc, ◌+◌, ◌*◌, ◌/◌, ◌%◌, false, List, [], ◌∷◌, length, Result, Ok, Err, refl, ◌∙◌, inl, inr, arith}
+use Rattle.std.proofs.Common.{◌≡◌, ℕ, zero, suc, ◌+◌, ◌*◌, ◌/◌, ◌%◌, false, List, [], ◌∷◌, ◌++◌, length, Result, Ok, Err, refl, ap, ◌∙◌, inl, inr, arith}
 use Rattle.std.specs.List.{AllByRecursion}
 use Rattle.std.proofs.lemmas.Bool.{eq-eqb, le-ltb}
 use Rattle.std.proofs.lemmas.List.{length-append, length-replicate}
@@ -12,8 +12,8 @@ use Rattle.drive_port.specs.declared.calls.PortFault.{PortFault}
 use Rattle.drive_port.specs.declared.calls.PortFault.TheVariants.{Refused, Memory, Stopped}
 use Rattle.drive_port.specs.Drive.{DriveState, ClosesOne, IsClosing, IsLawful}
 use Rattle.drive_port.specs.Step.{Performs, block_in, bytes_from, is_state, read_checks, zone_at}
-use Rattle.drive_port.specs.Contents.{Counts, bytes_at, contents}
-use Rattle.drive_port.specs.Calls.{CanRead, IsNotRefused, ReadGives}
+use Rattle.drive_port.specs.Contents.{bytes_at, contents}
+use Rattle.drive_port.specs.Calls.{CanRead, IsNotRefused, ReadGives, ReadShows}
 use Rattle.drive_port.proofs.ClosingLaws.{content_at-closing, content_at-contents, zone_at-closing}
 use Rattle.drive_port.proofs.StepLaws.{counts-success, succeeded, succeeds}
 use Rattle.drive_port.proofs.CheckLaws.{AllPass}
@@ -38,24 +38,23 @@ whole-at geometry [] i all = tt
 whole-at geometry (z ∷ zs) zero all = all.0.whole
 whole-at geometry (z ∷ zs) (suc i) all = whole-at geometry zs i all.1
 
-pub length-bytes_at : (drive : DriveState) (address count : ℕ) → IsLawful drive → length (bytes_at drive.geometry (contents drive.zones) address count) ≡ count * drive.geometry.block
+length-bytes_at : (drive : DriveState) (address count : ℕ) → IsLawful drive → length (bytes_at drive.geometry (contents drive.zones) address count) ≡ count * drive.geometry.block
 length-bytes_at drive address count lawful =
     let index = address / drive.geometry.size in
     rw (content_at-contents drive.zones index) (length-bytes_from drive.geometry.block (zone_at drive.zones index).blocks (address % drive.geometry.size) count (whole-at drive.geometry drive.zones index lawful.zones))
 
 -- ---- a Read that succeeded
 
--- the bytes of these blocks
-pub record Showed (old new : DriveState) (address blocks : ℕ) (returned : List ℕ) : Type 0 where
-  pub bytes : returned ≡ bytes_at old.geometry (contents old.zones) address blocks
-  pub counts : Counts old new 0
-
-pub read-succeeded : (old new : DriveState) (address blocks : ℕ) (bytes returned : List ℕ) (value : ℕ)
-    → Performs old (Ok (Read address blocks)) bytes Success value returned new → Showed old new address blocks returned
-read-succeeded old new address blocks bytes returned value step =
+-- a Read that succeeded put the bytes of its blocks after those that the buffer held
+pub read-shows : (old new : DriveState) (address blocks : ℕ) (bytes returned held items : List ℕ) (value : ℕ) → IsLawful old
+    → Performs old (Ok (Read address blocks)) bytes Success value returned new → items ≡ held ++ returned → ReadShows old new address blocks held items
+read-shows old new address blocks bytes returned held items value lawful step joined =
     let s = succeeded old.geometry old.zones new.zones (Ok (Read address blocks)) bytes returned value step.effect in
+    let shown = s.returned_is ∙ rw (content_at-closing old.zones step.effect.middle (address / old.geometry.size) step.effect.before) refl in
+    let whole = length-bytes_at old address blocks lawful in
     record {
-      bytes = s.returned_is ∙ rw (content_at-closing old.zones step.effect.middle (address / old.geometry.size) step.effect.before) refl;
+      bytes = joined ∙ ap (λ (bytes : List ℕ). held ++ bytes) shown;
+      length_is = rw (joined, length-append held returned, shown, whole) refl;
       counts = counts-success old new (Ok (Read address blocks)) bytes returned value step;
     }
 

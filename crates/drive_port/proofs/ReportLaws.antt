@@ -19,24 +19,7 @@ use Rattle.drive_port.specs.Step.{Performs, end_of}
 use Rattle.drive_port.specs.Calls.{IsNotRefused, ReportGives, Reported}
 use Rattle.drive_port.proofs.StepLaws.{counts-success, outcome-passes, succeeded, succeeds}
 
--- ---- a report that succeeded
-
-pub report-succeeded : (old new : DriveState) (address : ℕ) (options : ReportingOptions) (partial : Bool) (dwords : ℕ) (bytes returned : List ℕ) (value : ℕ)
-    → Performs old (Ok (Receive address dwords options partial)) bytes Success value returned new → Reported old new address options partial dwords returned
-report-succeeded old new address options partial dwords bytes returned value step =
-    let s = succeeded old.geometry old.zones new.zones (Ok (Receive address dwords options partial)) bytes returned value step.effect in
-    let gives = outcome-passes old.geometry step.effect.middle (Ok (Receive address dwords options partial)) bytes s.passed in
-    record {
-      geometry = step.geometry;
-      counts = counts-success old new (Ok (Receive address dwords options partial)) bytes returned value step;
-      in_range = leb-false _ _ s.passed.0;
-      zones = step.effect.middle;
-      before = step.effect.before;
-      bytes_are = s.returned_is;
-      after = rw gives at step.effect.after;
-    }
-
--- ---- its length
+-- ---- the length of a report
 
 length-parts : (head middle : List ℕ) (size shown : ℕ) → length head ≡ 64 → length middle ≡ 64 * shown → 64 + 64 * shown ≤ size
     → length (head ++ middle ++ replicate (size - 64 - 64 * shown) 0) ≡ size
@@ -44,7 +27,7 @@ length-parts head middle size shown h m fits =
     let zeros = replicate {A = ℕ} (size - 64 - 64 * shown) 0 in
     omega (arith, h, m, fits, length-append (head ++ middle) zeros, length-append head middle, length-replicate {A = ℕ} (size - 64 - 64 * shown) 0)
 
-pub length-report : (geometry : Geometry) (zones : List Zone) (address : ℕ) (options : ReportingOptions) (partial : Bool) (dwords : ℕ) → 16 ≤ dwords
+length-report : (geometry : Geometry) (zones : List Zone) (address : ℕ) (options : ReportingOptions) (partial : Bool) (dwords : ℕ) → 16 ≤ dwords
     → length (report geometry zones address options partial dwords) ≡ 4 * dwords
 length-report geometry zones address options partial dwords low =
     let first = address / geometry.size in
@@ -54,9 +37,23 @@ length-report geometry zones address options partial dwords low =
     length-parts (report_head_bytes (record { zones = if partial then length shown else length named })) (flat_map descriptor_bytes shown) (4 * dwords) (length shown)
     refl (length-descriptors shown) (omega (arith, room, mul-div-le (4 * dwords - 64) 64))
 
-pub length-reported : (old new : DriveState) (address : ℕ) (options : ReportingOptions) (partial : Bool) (dwords : ℕ) (bytes : List ℕ) → 16 ≤ dwords
-    → Reported old new address options partial dwords bytes → length bytes ≡ 4 * dwords
-length-reported old new address options partial dwords bytes low r = ap length r.bytes_are ∙ length-report old.geometry r.zones address options partial dwords low
+-- ---- a report that succeeded
+
+pub report-succeeded : (old new : DriveState) (address : ℕ) (options : ReportingOptions) (partial : Bool) (dwords : ℕ) (bytes returned : List ℕ) (value : ℕ) → 16 ≤ dwords
+    → Performs old (Ok (Receive address dwords options partial)) bytes Success value returned new → Reported old new address options partial dwords returned
+report-succeeded old new address options partial dwords bytes returned value low step =
+    let s = succeeded old.geometry old.zones new.zones (Ok (Receive address dwords options partial)) bytes returned value step.effect in
+    let gives = outcome-passes old.geometry step.effect.middle (Ok (Receive address dwords options partial)) bytes s.passed in
+    record {
+      geometry = step.geometry;
+      counts = counts-success old new (Ok (Receive address dwords options partial)) bytes returned value step;
+      in_range = leb-false _ _ s.passed.0;
+      zones = step.effect.middle;
+      before = step.effect.before;
+      bytes_are = s.returned_is;
+      length_is = ap length s.returned_is ∙ length-report old.geometry step.effect.middle address options partial dwords low;
+      after = rw gives at step.effect.after;
+    }
 
 -- ---- a report that isn't refused
 

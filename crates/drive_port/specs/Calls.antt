@@ -1,5 +1,6 @@
 -- What the typed calls answer: each is one submit of its command.
-use Rattle.std.specs.Prelude.{◌≡◌, ◌≢◌, ◌⊎◌, ℕ, ◌+◌, ◌-◌, ◌/◌, ◌*◌, ◌%◌, ◌≤◌, ◌<◌, Bool, true, false, if◌then◌else◌, List, [], length, take, count_by, slice_set, Result, Ok, Err}
+use Rattle.std.specs.Prelude.{◌≡◌, ◌≢◌, ◌⊎◌, ℕ, ◌+◌, ◌-◌, ◌/◌, ◌*◌, ◌%◌, ◌≤◌, ◌<◌, Bool, true, false, if◌then◌else◌}
+use Rattle.std.specs.Prelude.{List, [], ◌++◌, length, take, count_by, slice_set, Result, Ok, Err}
 use Rattle.std.specs.List.{remove}
 use Rattle.nvme_wire.specs.Completion.{IsEncodable, completion_bytes}
 use Rattle.nvme_wire.specs.declared.command.Action.{Action}
@@ -21,12 +22,14 @@ use Rattle.drive_port.specs.declared.device.Halt.TheVariants as halts
 use Rattle.drive_port.specs.Drive.{DriveState, IsClosing, IsLawful, active_count, open_count}
 use Rattle.drive_port.specs.Step.{Performs, end_of, is_state, is_success, zone_at}
 use Rattle.drive_port.specs.Halting.{Halts}
-use Rattle.drive_port.specs.Contents.{Appends, Counts, Finishes, Resets, SameContents, SameCounts, content_at, contents, is_usable, is_writable, usage_of}
+use Rattle.drive_port.specs.Contents.{Appends, Counts, Finishes, Resets, SameContents, SameCounts, bytes_at}
+use Rattle.drive_port.specs.Contents.{content_at, contents, is_usable, is_writable, usage_of}
 
 -- One submit of this command: it succeeded, or was refused with a status, or the device halted and returned no bytes.
 abbrev pub CallGives : DriveState → Command → List ℕ → Result ℕ PortFault → List ℕ → DriveState → Type 0
 CallGives old command bytes (Ok value) returned new = (old.stopped ≡ false) × Performs old (Ok command) bytes Success value returned new
-CallGives old command bytes (Err (Refused status)) returned new = (old.stopped ≡ false) × (status ≢ Success) × (value : ℕ) × Performs old (Ok command) bytes status value returned new
+CallGives old command bytes (Err (Refused status)) returned new =
+    (old.stopped ≡ false) × (status ≢ Success) × (value : ℕ) × Performs old (Ok command) bytes status value returned new
 CallGives old command bytes (Err Memory) returned new = (returned ≡ []) × Halts old (Ok command) bytes halts.Memory new
 CallGives old command bytes (Err Stopped) returned new = (returned ≡ []) × Halts old (Ok command) bytes halts.Stopped new
 
@@ -45,7 +48,9 @@ abbrev pub fault_of : Halt → PortFault
 fault_of halts.Memory = Memory
 fault_of halts.Stopped = Stopped
 
--- What each call keeps, whatever it answers: the drive stays lawful and has its geometry; a drive that had stopped answers just that and does not change; a drive that answers `Stopped` has stopped, and its counts are the same; and no more than one command is completed.
+-- What each call keeps, whatever it answers: the drive stays lawful and has its geometry; a drive that had stopped
+-- answers just that and does not change; a drive that answers `Stopped` has stopped, and its counts are the same; and
+-- no more than one command is completed.
 pub record Obeys {V : Type 0} (old : DriveState) (result : Result V PortFault) (new : DriveState) : Type 0 where
   pub was_lawful : IsLawful old
   pub lawful : IsLawful new
@@ -135,6 +140,19 @@ pub record ResetZone (old new : DriveState) (start : ℕ) : Type 0 where
   pub counts : Counts old new 0
   pub contents : Resets (contents old.zones) (contents new.zones) (start / old.geometry.size)
 
+-- ---- what a call shows that only asks
+
+-- A call that changes no zone. A controller may have closed zones, and no closing changes contents.
+pub record OnlyCloses (old new : DriveState) : Type 0 where
+  pub closing : IsClosing old.zones new.zones
+  pub contents : SameContents old new
+
+-- A Read that succeeded: a buffer holds the bytes of these blocks, after what it held before.
+pub record ReadShows (old new : DriveState) (address blocks : ℕ) (held items : List ℕ) : Type 0 where
+  pub bytes : items ≡ held ++ bytes_at old.geometry (contents old.zones) address blocks
+  pub length_is : length items ≡ length held + blocks * old.geometry.block
+  pub counts : Counts old new 0
+
 -- These bytes are the report of the zones as they were at a moment of the call: a closing of those before it, which those after it are a closing of.
 pub record Reported (old new : DriveState) (address : ℕ) (options : ReportingOptions) (partial : Bool) (dwords : ℕ) (bytes : List ℕ) : Type 0 where
   pub geometry : new.geometry ≡ old.geometry
@@ -143,6 +161,7 @@ pub record Reported (old new : DriveState) (address : ℕ) (options : ReportingO
   pub zones : List Zone
   pub before : IsClosing old.zones zones
   pub bytes_are : bytes ≡ report old.geometry zones address options partial dwords
+  pub length_is : length bytes ≡ 4 * dwords
   pub after : IsClosing zones new.zones
 
 -- how many zones a report names
@@ -160,7 +179,8 @@ pub record Counted (old new : DriveState) (options : ReportingOptions) (number :
 
 -- ---- when a drive has to take a command
 
--- The drive takes an Append of that many blocks there: the address is that of a zone that can be written and has room for them, and among the other zones fewer are active and open than may be.
+-- The drive takes an Append of that many blocks there: the address is that of a zone that can be written and has room
+-- for them, and among the other zones fewer are active and open than may be.
 pub record CanAppend (drive : DriveState) (start blocks : ℕ) : Type 0 where
   pub aligned : start % drive.geometry.size ≡ 0
   pub in_range : start < end_of drive.geometry
@@ -197,7 +217,9 @@ pub record CanReset (drive : DriveState) (start : ℕ) : Type 0 where
 
 -- ---- what a call leaves of the zones
 
--- A call that changes one zone. Where it succeeded, this zone starts there, and the controller may have closed zones before it and after it; where it was refused, the controller may have closed zones; where the device was out of memory, nothing changed; and where it stopped, either may be.
+-- A call that changes one zone. Where it succeeded, this zone starts there, and the controller may have closed zones
+-- before it and after it; where it was refused, the controller may have closed zones; where the device was out of
+-- memory, nothing changed; and where it stopped, either may be.
 abbrev pub Leaves : {V : Type 0} → DriveState → ℕ → Zone → Result V PortFault → DriveState → Type 0
 Leaves old start zone (Ok value) new = IsClosing (slice_set old.zones (start / old.geometry.size) zone) new.zones
 Leaves old start zone (Err (Refused status)) new = IsClosing old.zones new.zones

@@ -6,7 +6,9 @@ use Rattle.zone_states.specs.declared.geometry.Geometry.{Geometry}
 use Rattle.zone_states.specs.Transition.{is_active, is_open}
 use Rattle.zone_states.specs.Zone.{Zone, IsLawfulZone}
 
--- The state of a drive: its zones, and what the proofs count. `completed` counts the commands completed since the drive was made or restarted, `refused` those of them with a status other than Success, and `appended` the Appends that succeeded.
+-- The state of a drive: its zones, and what the proofs count. `completed` counts the commands completed since the drive
+-- was made or restarted, `refused` those of them with a status other than Success, and `appended` the Appends that
+-- succeeded.
 pub record DriveState : Type 0 where
   pub geometry : Geometry
   pub zones : List Zone
@@ -31,7 +33,8 @@ pub record IsStorable (geometry : Geometry) : Type 0 where
   pub active : geometry.active < 2 ^ 32
   pub open_zones : geometry.open < 2 ^ 32
 
--- There are as many zones as the geometry says, each holds what its state allows, the limits on active and open zones are kept, and a drive that has completed 2^63 commands has stopped.
+-- There are as many zones as the geometry says, each holds what its state allows, the limits on active and open zones
+-- are kept, and a drive that has completed 2^63 commands has stopped.
 pub record IsLawful (drive : DriveState) : Type 0 where
   pub geometry : IsStorable drive.geometry
   pub count : length drive.zones ≡ drive.geometry.zones

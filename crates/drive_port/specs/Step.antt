@@ -1,5 +1,6 @@
 -- What one command does: a closing, then the command, then a closing.
-use Rattle.std.specs.Prelude.{◌≡◌, ℕ, zero, suc, ◌+◌, ◌-◌, ◌*◌, ◌/◌, ◌%◌, ◌==◌, ◌<◌, ◌^◌, nat_lt, nat_le, not, ◌&&◌, ◌||◌, Bool, true, false, if◌then◌else◌, List, [], ◌∷◌, ◌++◌, map, length, replicate, slice_set, slice_index_or, Option, Some, None, Result, Ok, Err}
+use Rattle.std.specs.Prelude.{◌≡◌, ℕ, zero, suc, ◌+◌, ◌-◌, ◌*◌, ◌/◌, ◌%◌, ◌==◌, ◌<◌, ◌^◌, nat_lt, nat_le, not, ◌&&◌, ◌||◌, Bool, true, false, if◌then◌else◌}
+use Rattle.std.specs.Prelude.{List, [], ◌∷◌, ◌++◌, map, length, replicate, slice_set, slice_index_or, Option, Some, None, Result, Ok, Err}
 use Rattle.nvme_wire.specs.Entry.{decode_of, id_of}
 use Rattle.nvme_wire.specs.Completion.{completion_bytes}
 use Rattle.nvme_wire.specs.declared.zone_state.ZoneState.{ZoneState}
@@ -11,7 +12,9 @@ use Rattle.nvme_wire.specs.declared.command.Command.TheVariants.{Flush, Read, Wr
 use Rattle.nvme_wire.specs.declared.command.DecodeFault.{DecodeFault}
 use Rattle.nvme_wire.specs.declared.command.DecodeFault.TheVariants.{Opcode, Namespace, Field}
 use Rattle.nvme_wire.specs.declared.status.Status.{Status}
-use Rattle.nvme_wire.specs.declared.status.Status.TheVariants.{Success, InvalidCommandOpcode, InvalidField, InvalidNamespace, LbaOutOfRange, ZoneBoundaryError, ZoneIsOffline, ZoneInvalidWrite, TooManyActiveZones, TooManyOpenZones, InvalidZoneStateTransition}
+use Rattle.nvme_wire.specs.declared.status.Status.TheVariants.{Success, InvalidCommandOpcode, InvalidField, InvalidNamespace, LbaOutOfRange}
+use Rattle.nvme_wire.specs.declared.status.Status.TheVariants.{ZoneBoundaryError, ZoneIsOffline, ZoneInvalidWrite, TooManyActiveZones}
+use Rattle.nvme_wire.specs.declared.status.Status.TheVariants.{TooManyOpenZones, InvalidZoneStateTransition}
 use Rattle.zone_states.specs.declared.geometry.Geometry.{Geometry}
 use Rattle.zone_states.specs.Checks.{first_failing}
 use Rattle.zone_states.specs.Transition.{state_after}
@@ -124,7 +127,9 @@ write_effect geometry zones index blocks bytes =
 abbrev pub is_selected : Action → ZoneState → Bool
 is_selected actions.Close state = is_state states.ImplicitlyOpened state || is_state states.ExplicitlyOpened state
 is_selected actions.Finish state = is_state states.ImplicitlyOpened state || is_state states.ExplicitlyOpened state || is_state states.Closed state
-is_selected actions.Reset state = is_state states.ImplicitlyOpened state || is_state states.ExplicitlyOpened state || is_state states.Closed state || is_state states.Full state
+is_selected actions.Reset state =
+    is_state states.ImplicitlyOpened state || is_state states.ExplicitlyOpened state
+    || is_state states.Closed state || is_state states.Full state
 is_selected actions.Offline state = is_state states.ReadOnly state
 is_selected actions.Open state = false
 
@@ -177,8 +182,11 @@ abbrev pub is_append : Result Command DecodeFault → Bool
 is_append (Ok (Append zslba blocks)) = true
 is_append command = false
 
--- What a command does to the zones: with this status, this result and these bytes it leaves the old zones as the new ones. The controller may close implicitly opened zones before the command and after it: by the first closing it makes room where the open limit is met, or doesn't.
-pub record Effect (geometry : Geometry) (old : List Zone) (command : Result Command DecodeFault) (bytes : List ℕ) (status : Status) (value : ℕ) (returned : List ℕ) (new : List Zone) : Type 0 where
+-- What a command does to the zones: with this status, this result and these bytes it leaves the old zones as the new
+-- ones. The controller may close implicitly opened zones before the command and after it: by the first closing it makes
+-- room where the open limit is met, or doesn't.
+pub record Effect (geometry : Geometry) (old : List Zone) (command : Result Command DecodeFault) (bytes : List ℕ)
+    (status : Status) (value : ℕ) (returned : List ℕ) (new : List Zone) : Type 0 where
   pub middle : List Zone
   pub before : IsClosing old middle
   pub status_is : status ≡ (outcome geometry middle command bytes).status
@@ -187,7 +195,8 @@ pub record Effect (geometry : Geometry) (old : List Zone) (command : Result Comm
   pub after : IsClosing (outcome geometry middle command bytes).zones new
 
 -- A command that was completed: its effect on the zones, and one more in the counts.
-pub record Performs (old : DriveState) (command : Result Command DecodeFault) (bytes : List ℕ) (status : Status) (value : ℕ) (returned : List ℕ) (new : DriveState) : Type 0 where
+pub record Performs (old : DriveState) (command : Result Command DecodeFault) (bytes : List ℕ) (status : Status) (value : ℕ)
+    (returned : List ℕ) (new : DriveState) : Type 0 where
   pub effect : Effect old.geometry old.zones command bytes status value returned new.zones
   pub geometry : new.geometry ≡ old.geometry
   pub completed : new.completed ≡ old.completed + 1

@@ -1,5 +1,6 @@
 -- A device that lets a number of commands of another complete and has then stopped, or tears an Append and stops.
-use Rattle.std.specs.Prelude.{◌≡◌, ℕ, ◌-◌, ◌*◌, ◌||◌, ◌&&◌, nat_eq, nat_le, nat_lt, Bool, true, false, if◌then◌else◌, List, take, Option, Some, None, Result, Ok, Err}
+use Rattle.std.specs.Prelude.{◌≡◌, ℕ, ◌-◌, ◌*◌, ◌||◌, ◌&&◌, nat_eq, nat_le, nat_lt, Bool, true, false}
+use Rattle.std.specs.Prelude.{if◌then◌else◌, List, take, Option, Some, None, Result, Ok, Err}
 use Rattle.nvme_wire.specs.declared.command.Command.{Command}
 use Rattle.nvme_wire.specs.declared.command.Command.TheVariants.{Append}
 use Rattle.nvme_wire.specs.declared.command.DecodeFault.{DecodeFault}
@@ -12,7 +13,8 @@ use Rattle.drive_port.specs.declared.progress.Progress.TheVariants.{Going, OverA
 use Rattle.drive_port.specs.Drive.{DriveState}
 use Rattle.drive_port.specs.Calls.{CallGives}
 
--- the drive within; how many commands it may complete, and how many it has; and how many blocks the Append after them leaves, 0 where it stops without one more command
+-- the drive within; how many commands it may complete, and how many it has; and how many blocks the Append after them
+-- leaves, 0 where it stops without one more command
 pub record Stopping : Type 0 where
   pub inner : DriveState
   pub limit : ℕ
@@ -44,7 +46,8 @@ drive_of s = record s.inner {
 
 -- ---- the command that stops
 
--- where an Append goes whose first j blocks are to be left: none where the command is another, or has fewer blocks, or where j is 0, or the data are fewer than j blocks
+-- where an Append goes whose first j blocks are to be left: none where the command is another, or has fewer blocks, or
+-- where j is 0, or the data are fewer than j blocks
 abbrev pub torn_at : ℕ → ℕ → Result Command DecodeFault → ℕ → Option ℕ
 torn_at block j (Ok (Append start blocks)) len = if nat_lt 0 j && (nat_le j blocks && nat_le (j * block) len) then Some start else None
 torn_at block j command len = None

@@ -1,11 +1,15 @@
-ghost use Rattle.std.specs.Prelude.{◌≡◌, ◌+◌, ◌*◌, ◌++◌, ◌<◌, ◌≤◌, ◌^◌, true, false, [], length, Err, IfOk, OnOk, OnErr};
+ghost use Rattle.std.specs.Prelude.{◌≡◌, ◌<◌, ◌≤◌, ◌^◌, ◌↔◌, true, false, [], length, Err, IfOk, OnOk, OnErr};
 ghost use Rattle.nvme_wire.specs.Completion.{IsEncodable, completion_bytes};
 ghost use Rattle.nvme_wire.specs.Entry.{IsAdmitted};
-ghost use Rattle.drive_port.specs.Drive.{IsClosing};
 ghost use Rattle.drive_port.specs.Halting.{Adds};
 ghost use Rattle.drive_port.specs.Step.{end_of};
-ghost use Rattle.drive_port.specs.Contents.{AreEmpty, Counts, SameContents, bytes_at, contents};
-ghost use Rattle.drive_port.specs.Calls.{Appended, AppendGives, AppendKeeps, AppendLeaves, CallGives, CanAppend, CanClose, CanFinish, CanRead, CanReset, CloseGives, CloseLeaves, ClosedZone, Counted, Finished, FinishGives, FinishKeeps, FinishLeaves, IsCompletion, IsNotRefused, IsWholeBlocks, Obeys, ReadGives, ReportGives, Reported, ResetGives, ResetKeeps, ResetLeaves, ResetZone, SendGives, answer_of, block_count, fault_of};
+ghost use Rattle.drive_port.specs.Contents.{AreEmpty, SameContents, contents};
+ghost use Rattle.drive_port.specs.Calls.{AppendGives, AppendKeeps, AppendLeaves, Appended, CallGives, CanAppend};
+ghost use Rattle.drive_port.specs.Calls.{CanClose, CanFinish, CanRead, CanReset, CloseGives, CloseLeaves, ClosedZone};
+ghost use Rattle.drive_port.specs.Calls.{Counted, FinishGives, FinishKeeps, FinishLeaves, Finished, IsCompletion};
+ghost use Rattle.drive_port.specs.Calls.{IsNotRefused, IsWholeBlocks, Obeys, OnlyCloses, ReadGives, ReadShows};
+ghost use Rattle.drive_port.specs.Calls.{ReportGives, Reported, ResetGives, ResetKeeps, ResetLeaves, ResetZone};
+ghost use Rattle.drive_port.specs.Calls.{SendGives, answer_of, block_count, fault_of};
 
 use crate::device::{Device, Halt};
 use nvme_wire::{Action, Command, Completion, ReportHead, ReportingOptions, Status, ZoneState};
@@ -61,7 +65,8 @@ pub(crate) fn call<D: Device>(
     into: &mut Vec<u8>,
 ) -> Result<u64, PortFault>
     requires { IsAdmitted command.now }
-    ensures gives { CallGives (D.drive device.old) command.now bytes.now result into.new.items (D.drive device.new) }
+    ensures gives { CallGives (D.drive device.old) command.now bytes.now result into.new.items
+        (D.drive device.new) }
     ensures obeys { Obeys (D.drive device.old) result (D.drive device.new) }
 {
     let entry = command.encode(0);
@@ -77,7 +82,8 @@ fn call_extending<D: Device>(
     into: &mut Vec<u8>,
 ) -> Result<u64, PortFault>
     requires { IsAdmitted command.now }
-    ensures gives { Adds into.old.items (λ returned. CallGives (D.drive device.old) command.now [] result returned (D.drive device.new)) into.new.items }
+    ensures gives { Adds into.old.items (λ returned. CallGives
+        (D.drive device.old) command.now [] result returned (D.drive device.new)) into.new.items }
     ensures obeys { Obeys (D.drive device.old) result (D.drive device.new) }
 {
     let entry = command.encode(0);
@@ -94,11 +100,16 @@ pub fn append<D: Device>(
     bytes: &[u8],
 ) -> Result<u64, PortFault>
     requires whole { IsWholeBlocks (D.drive device.old).geometry.block bytes.now }
-    ensures gives { AppendGives (D.drive device.old) zone_start bytes.now result (D.drive device.new) }
-    ensures appended { IfOk result (λ address. Appended (D.drive device.old) (D.drive device.new) zone_start bytes.now address) }
-    ensures kept { AppendKeeps (D.drive device.old) zone_start bytes.now result (D.drive device.new) }
-    ensures leaves { AppendLeaves (D.drive device.old) zone_start bytes.now result (D.drive device.new) }
-    ensures taken { CanAppend (D.drive device.old) zone_start (block_count (D.drive device.old).geometry bytes.now) → IsNotRefused result }
+    ensures gives { AppendGives (D.drive device.old) zone_start bytes.now result
+        (D.drive device.new) }
+    ensures appended { IfOk result (λ address.
+        Appended (D.drive device.old) (D.drive device.new) zone_start bytes.now address) }
+    ensures kept { AppendKeeps (D.drive device.old) zone_start bytes.now result
+        (D.drive device.new) }
+    ensures leaves { AppendLeaves (D.drive device.old) zone_start bytes.now result
+        (D.drive device.new) }
+    ensures taken { CanAppend (D.drive device.old) zone_start
+        (block_count (D.drive device.old).geometry bytes.now) → IsNotRefused result }
     ensures obeys { Obeys (D.drive device.old) result (D.drive device.new) }
 {
     let blocks = bytes.len() / device.geometry().block as usize;
@@ -120,13 +131,12 @@ pub fn read<D: Device>(
 ) -> Result<(), PortFault>
     requires some { 1 ≤ blocks }
     requires few { blocks ≤ 65536 }
-    ensures gives { ReadGives (D.drive device.old) slba blocks result into.new.items (D.drive device.new) }
-    ensures shown { OnOk result (into.new.items ≡ bytes_at (D.drive device.old).geometry (contents (D.drive device.old).zones) slba blocks) }
-    ensures length { OnOk result (length into.new.items ≡ blocks * (D.drive device.old).geometry.block) }
-    ensures counts { OnOk result (Counts (D.drive device.old) (D.drive device.new) 0) }
+    ensures gives { ReadGives (D.drive device.old) slba blocks result into.new.items
+        (D.drive device.new) }
+    ensures shown { OnOk result
+        (ReadShows (D.drive device.old) (D.drive device.new) slba blocks [] into.new.items) }
     ensures err { OnErr result (into.new.items ≡ []) }
-    ensures kept { SameContents (D.drive device.old) (D.drive device.new) }
-    ensures closing { IsClosing (D.drive device.old).zones (D.drive device.new).zones }
+    ensures kept { OnlyCloses (D.drive device.old) (D.drive device.new) }
     ensures taken { CanRead (D.drive device.old) slba blocks → IsNotRefused result }
     ensures obeys { Obeys (D.drive device.old) result (D.drive device.new) }
 {
@@ -145,13 +155,14 @@ pub fn read_extending<D: Device>(
 ) -> Result<(), PortFault>
     requires some { 1 ≤ blocks }
     requires few { blocks ≤ 65536 }
-    ensures gives { Adds into.old.items (λ returned. ReadGives (D.drive device.old) slba blocks result returned (D.drive device.new)) into.new.items }
-    ensures shown { OnOk result (into.new.items ≡ into.old.items ++ bytes_at (D.drive device.old).geometry (contents (D.drive device.old).zones) slba blocks) }
-    ensures length { OnOk result (length into.new.items ≡ length into.old.items + blocks * (D.drive device.old).geometry.block) }
-    ensures counts { OnOk result (Counts (D.drive device.old) (D.drive device.new) 0) }
+    ensures gives { Adds into.old.items
+        (λ returned. ReadGives (D.drive device.old) slba blocks result returned
+        (D.drive device.new)) into.new.items }
+    ensures shown { OnOk result
+        (ReadShows (D.drive device.old)
+        (D.drive device.new) slba blocks into.old.items into.new.items) }
     ensures err { OnErr result (into.new.items ≡ into.old.items) }
-    ensures kept { SameContents (D.drive device.old) (D.drive device.new) }
-    ensures closing { IsClosing (D.drive device.old).zones (D.drive device.new).zones }
+    ensures kept { OnlyCloses (D.drive device.old) (D.drive device.new) }
     ensures taken { CanRead (D.drive device.old) slba blocks → IsNotRefused result }
     ensures obeys { Obeys (D.drive device.old) result (D.drive device.new) }
 {
@@ -231,12 +242,12 @@ pub fn report<D: Device>(
 ) -> Result<(), PortFault>
     requires head { 16 ≤ dwords }
     requires few { dwords ≤ 2 ^ 32 }
-    ensures gives { ReportGives (D.drive device.old) slba options partial dwords result into.new.items (D.drive device.new) }
-    ensures shown { OnOk result (Reported (D.drive device.old) (D.drive device.new) slba options partial dwords into.new.items) }
-    ensures length { OnOk result (length into.new.items ≡ 4 * dwords) }
+    ensures gives { ReportGives (D.drive device.old) slba options partial dwords result
+        into.new.items (D.drive device.new) }
+    ensures shown { OnOk result (Reported (D.drive device.old)
+        (D.drive device.new) slba options partial dwords into.new.items) }
     ensures err { OnErr result (into.new.items ≡ []) }
-    ensures kept { SameContents (D.drive device.old) (D.drive device.new) }
-    ensures closing { IsClosing (D.drive device.old).zones (D.drive device.new).zones }
+    ensures kept { OnlyCloses (D.drive device.old) (D.drive device.new) }
     ensures taken { slba < end_of (D.drive device.old).geometry → IsNotRefused result }
     ensures obeys { Obeys (D.drive device.old) result (D.drive device.new) }
 {
@@ -257,15 +268,15 @@ pub fn count_zones<D: Device>(
     options: ReportingOptions,
     into: &mut Vec<u8>,
 ) -> Result<u64, PortFault>
-    ensures gives { ReportGives (D.drive device.old) 0 options false 16 result into.new.items (D.drive device.new) }
-    ensures counted { IfOk result (λ number. Counted (D.drive device.old) (D.drive device.new) options number) }
-    ensures all_empty { options ≡ ReportingOptions.InState ZoneState.Empty → IfOk result
-        (λ number. number ≡ (D.drive device.old).geometry.zones → AreEmpty (contents (D.drive device.old).zones)) }
-    ensures empty_all { options ≡ ReportingOptions.InState ZoneState.Empty → IfOk result
-        (λ number. AreEmpty (contents (D.drive device.old).zones) → number ≡ (D.drive device.old).geometry.zones) }
+    ensures gives { ReportGives (D.drive device.old) 0 options false 16 result into.new.items
+        (D.drive device.new) }
+    ensures counted { IfOk result
+        (λ number. Counted (D.drive device.old) (D.drive device.new) options number) }
+    ensures empty { options ≡ ReportingOptions.InState ZoneState.Empty → IfOk result
+        (λ number. (number ≡ (D.drive device.old).geometry.zones)
+        ↔ AreEmpty (contents (D.drive device.old).zones)) }
     ensures err { OnErr result (into.new.items ≡ []) }
-    ensures kept { SameContents (D.drive device.old) (D.drive device.new) }
-    ensures closing { IsClosing (D.drive device.old).zones (D.drive device.new).zones }
+    ensures kept { OnlyCloses (D.drive device.old) (D.drive device.new) }
     ensures taken { 0 < end_of (D.drive device.old).geometry → IsNotRefused result }
     ensures obeys { Obeys (D.drive device.old) result (D.drive device.new) }
 {

@@ -57,14 +57,16 @@ pub trait Device {
         bytes: &[u8],
         into: &mut Vec<u8>,
     ) -> Result<[u8; 16], Halt>
-        ensures gives { SubmitGives (drive self.old) entry.now bytes.now result into.new.items (drive self.new) }
+        ensures gives { SubmitGives (drive self.old) entry.now bytes.now result into.new.items
+            (drive self.new) }
         ensures was_lawful { IsLawful (drive self.old) }
         ensures lawful { IsLawful (drive self.new) };
 
     /// Submits one entry as `submit` does, without data beside it, and extends what `into` holds by what a Read or
     /// a Receive that succeeded returned. In every other case `into` stays as it was.
     fn submit_extending(&mut self, entry: &[u8; 64], into: &mut Vec<u8>) -> Result<[u8; 16], Halt>
-        ensures gives { SubmitAdds (drive self.old) entry.now [] into.old.items result into.new.items (drive self.new) }
+        ensures gives { SubmitAdds
+            (drive self.old) entry.now [] into.old.items result into.new.items (drive self.new) }
         ensures was_lawful { IsLawful (drive self.old) }
         ensures lawful { IsLawful (drive self.new) };
 }

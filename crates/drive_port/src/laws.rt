@@ -12,17 +12,21 @@ pub fn closing_keeps_contents()
 /// Closing no zone is a closing, and two closings one after the other are one.
 pub fn closings_join()
     ensures none { (zones : List Zone) → IsClosing zones zones }
-    ensures both { (old middle new : List Zone) → IsClosing old middle → IsClosing middle new → IsClosing old new }
+    ensures both { (old middle new : List Zone) → IsClosing old middle → IsClosing middle new
+        → IsClosing old new }
 {}
 
 /// A closing keeps the number of active zones, and opens no zone.
 pub fn closing_takes_no_resource()
-    ensures active { (old new : List Zone) → IsClosing old new → active_count new ≡ active_count old }
-    ensures open_zones { (old new : List Zone) → IsClosing old new → open_count new ≤ open_count old }
+    ensures active { (old new : List Zone) → IsClosing old new
+        → active_count new ≡ active_count old }
+    ensures open_zones { (old new : List Zone) → IsClosing old new
+        → open_count new ≤ open_count old }
 {}
 
 /// A restart keeps the contents of a drive, and a lawful drive lawful.
 pub fn restart_keeps_contents()
-    ensures contents { (drive : DriveState) → contents (restarted drive).zones ≡ contents drive.zones }
+    ensures contents { (drive : DriveState)
+        → contents (restarted drive).zones ≡ contents drive.zones }
     ensures lawful { (drive : DriveState) → IsLawful drive → IsLawful (restarted drive) }
 {}

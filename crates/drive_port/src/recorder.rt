@@ -71,7 +71,8 @@ impl<D: Device + Drop> Device for Recorder<D> {
         bytes: &[u8],
         into: &mut Vec<u8>,
     ) -> Result<[u8; 16], Halt>
-        ensures gives { SubmitGives self.old.inner entry.now bytes.now result into.new.items self.new.inner }
+        ensures gives { SubmitGives self.old.inner entry.now bytes.now result into.new.items
+            self.new.inner }
         ensures was_lawful { IsLawful self.old.inner }
         ensures lawful { IsLawful self.new.inner }
         ensures kept { OnOk result (self.new.entries ≡ self.old.entries ++ entry.now ∷ []) }
@@ -90,7 +91,8 @@ impl<D: Device + Drop> Device for Recorder<D> {
     }
 
     fn submit_extending(&mut self, entry: &[u8; 64], into: &mut Vec<u8>) -> Result<[u8; 16], Halt>
-        ensures gives { SubmitAdds self.old.inner entry.now [] into.old.items result into.new.items self.new.inner }
+        ensures gives { SubmitAdds self.old.inner entry.now [] into.old.items result into.new.items
+            self.new.inner }
         ensures was_lawful { IsLawful self.old.inner }
         ensures lawful { IsLawful self.new.inner }
         ensures kept { OnOk result (self.new.entries ≡ self.old.entries ++ entry.now ∷ []) }

@@ -71,7 +71,13 @@ impl<D: Device + Drop> StopAfter<D> {
 
     /// A device that lets `limit` more commands of the device within complete, and counts them from 0.
     pub fn new(device: D, limit: u64) -> Self
-        ensures { result ≡ record { inner = D.drive device; limit = limit; tear = 0; completed = 0; progress = Going } }
+        ensures { result ≡ record {
+          inner = D.drive device;
+          limit = limit;
+          tear = 0;
+          completed = 0;
+          progress = Going;
+        } }
     {
         Self::tearing(device, limit, 0)
     }
@@ -79,7 +85,13 @@ impl<D: Device + Drop> StopAfter<D> {
     /// The same, but it stops inside the command after them: if this is an Append of at least `tear`
     /// blocks, and `tear` is not 0, it writes the first `tear` of them. With 0 it stops as one of `new` does.
     pub fn tearing(device: D, limit: u64, tear: u32) -> Self
-        ensures { result ≡ record { inner = D.drive device; limit = limit; tear = tear; completed = 0; progress = Going } }
+        ensures { result ≡ record {
+          inner = D.drive device;
+          limit = limit;
+          tear = tear;
+          completed = 0;
+          progress = Going;
+        } }
     {
         let uncounted = device.completed();
         StopAfter {
@@ -101,9 +113,13 @@ impl<D: Device + Drop> StopAfter<D> {
     // The command that stops.
     fn stop_at(&mut self, entry: &[u8; 64], bytes: &[u8], into: &mut Vec<u8>) -> Halt
         requires going { (drive_of self.old).stopped ≡ false }
-        ensures within { TearsAt (torn_at self.old.inner.geometry.block self.old.tear (decode_of entry.now) (length bytes.now)) self.old.inner self.old.tear bytes.now result self.new.inner }
-        ensures settings { (self.new.limit ≡ self.old.limit) × (self.new.tear ≡ self.old.tear) × (self.new.completed ≡ self.old.completed) }
-        ensures halts { Halts (drive_of self.old) (decode_of entry.now) bytes.now result (drive_of self.new) }
+        ensures within { TearsAt (torn_at self.old.inner.geometry.block self.old.tear
+            (decode_of entry.now) (length bytes.now)) self.old.inner self.old.tear bytes.now result
+            self.new.inner }
+        ensures settings { (self.new.limit ≡ self.old.limit) × (self.new.tear ≡ self.old.tear)
+            × (self.new.completed ≡ self.old.completed) }
+        ensures halts { Halts (drive_of self.old) (decode_of entry.now) bytes.now result
+            (drive_of self.new) }
         ensures was_lawful { IsLawful (drive_of self.old) }
         ensures lawful { IsLawful (drive_of self.new) }
         ensures returned { into.new.items ≡ [] }
@@ -169,15 +185,20 @@ impl<D: Device + Drop> Device for StopAfter<D> {
         bytes: &[u8],
         into: &mut Vec<u8>,
     ) -> Result<[u8; 16], Halt>
-        ensures gives { SubmitGives (drive_of self.old) entry.now bytes.now result into.new.items (drive_of self.new) }
+        ensures gives { SubmitGives (drive_of self.old) entry.now bytes.now result into.new.items
+            (drive_of self.new) }
         ensures was_lawful { IsLawful (drive_of self.old) }
         ensures lawful { IsLawful (drive_of self.new) }
         ensures settings { (self.new.limit ≡ self.old.limit) × (self.new.tear ≡ self.old.tear) }
-        ensures over { (drive_of self.old).stopped ≡ true → (result ≡ Err Halt.Stopped) × (self.new ≡ self.old) }
+        ensures over { (drive_of self.old).stopped ≡ true
+            → (result ≡ Err Halt.Stopped) × (self.new ≡ self.old) }
         ensures before { (drive_of self.old).stopped ≡ false → self.old.completed < self.old.limit
             → SubmitGives self.old.inner entry.now bytes.now result into.new.items self.new.inner }
         ensures torn { (drive_of self.old).stopped ≡ false → self.old.limit ≤ self.old.completed
-            → HaltsBy result (λ halt. TearsAt (torn_at self.old.inner.geometry.block self.old.tear (decode_of entry.now) (length bytes.now)) self.old.inner self.old.tear bytes.now halt self.new.inner) }
+            → HaltsBy result
+            (λ halt. TearsAt
+            (torn_at self.old.inner.geometry.block self.old.tear (decode_of entry.now)
+            (length bytes.now)) self.old.inner self.old.tear bytes.now halt self.new.inner) }
     {
         if self.stopped() {
             into.clear();
@@ -192,13 +213,16 @@ impl<D: Device + Drop> Device for StopAfter<D> {
     /// Without data beside it no Append is torn: after the last command it just stops.
     #[inline(always)]
     fn submit_extending(&mut self, entry: &[u8; 64], into: &mut Vec<u8>) -> Result<[u8; 16], Halt>
-        ensures gives { SubmitAdds (drive_of self.old) entry.now [] into.old.items result into.new.items (drive_of self.new) }
+        ensures gives { SubmitAdds (drive_of self.old) entry.now [] into.old.items result
+            into.new.items (drive_of self.new) }
         ensures was_lawful { IsLawful (drive_of self.old) }
         ensures lawful { IsLawful (drive_of self.new) }
         ensures settings { (self.new.limit ≡ self.old.limit) × (self.new.tear ≡ self.old.tear) }
-        ensures over { (drive_of self.old).stopped ≡ true → (result ≡ Err Halt.Stopped) × (self.new ≡ self.old) }
+        ensures over { (drive_of self.old).stopped ≡ true
+            → (result ≡ Err Halt.Stopped) × (self.new ≡ self.old) }
         ensures before { (drive_of self.old).stopped ≡ false → self.old.completed < self.old.limit
-            → SubmitAdds self.old.inner entry.now [] into.old.items result into.new.items self.new.inner }
+            → SubmitAdds self.old.inner entry.now [] into.old.items result into.new.items
+            self.new.inner }
         ensures after { (drive_of self.old).stopped ≡ false → self.old.limit ≤ self.old.completed
             → (result ≡ Err Halt.Stopped) × (self.new.inner ≡ self.old.inner) }
     {

@@ -37,6 +37,7 @@ use Rattle.drive_survey.specs.Waiting.{AllWait, AreCandidates, IsNeeded, OthersW
 use Rattle.drive_survey.proofs.HeadRecordLaws.{entries-are, entries_of}
 use Rattle.drive_survey.proofs.MovedLaws.{found-heads, missing-log, there}
 use Rattle.drive_survey.proofs.SpareLaws.{all-same, knows-kept, knows-small, knows-stand, needed-inside, spare-all, spare-at}
+use Rattle.drive_survey.proofs.RecordTableLaws.{at-is}
 
 -- ---- headers are forgotten
 
@@ -94,9 +95,6 @@ finding-first : (first now : DriveState) (n : ℕ) (survey : Survey) (table : Bl
 finding-first first now n survey table zone finding kept tells logs known holds covers = rw (← kept.geometry) (tells logs (knows-kept first now n logs survey kept known) holds covers)
 
 -- ---- sets of zones
-
-pub at-is : (k q : ℕ) → is_at (nat_cmp k) q ≡ eqb k q
-at-is k q = grind (arith, nat_tests)
 
 pub not-above : (k q : ℕ) → is_gt (nat_cmp k q) ≡ false → k ≤ q
 not-above k q = grind (arith, nat_tests)

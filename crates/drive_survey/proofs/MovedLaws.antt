@@ -18,6 +18,7 @@ use Rattle.drive_survey.specs.Known.{HasVacant}
 use Rattle.drive_survey.specs.Clearing.{AreOf, Tells, first_head_sequence, without_heads}
 use Rattle.drive_survey.specs.Heads.{HeadsView, heads_after, heads_of, is_move, no_heads, source_with, with_heading}
 use Rattle.drive_array.specs.Repairing.{IsMoved}
+use Rattle.drive_array.proofs.ClearingLaws.{no_first}
 use Rattle.drive_survey.specs.Survey.{greatest_in}
 use Rattle.drive_survey.proofs.HeadRecordLaws.{heads-are}
 use Rattle.drive_survey.proofs.SurveyLaws.{greatest-heads}
@@ -29,7 +30,8 @@ abbrev all_moves : ℕ → List Batch → Bool
 all_moves source [] = true
 all_moves source (batch ∷ log) = is_move batch.heading.kind && eqb batch.heading.source source && all_moves source log
 
-source-stays : (heads : List Head) (head : Head) (source other : ℕ) → source_with (heads ++ head ∷ []) source other ≡ source
+-- a source that was found stays, whatever heads follow
+pub source-stays : (heads : List Head) (head : Head) (source other : ℕ) → source_with (heads ++ head ∷ []) source other ≡ source
 source-stays [] head source other = refl
 source-stays (h ∷ hs) head source other = refl
 
@@ -115,12 +117,8 @@ missing-log (s ∷ ss) (l ∷ ls) (suc zone) are there = let rest : AreOf ss ls 
 
 -- ---- a zone of Moves
 
-before-none : (x : Option ℕ) → IsBefore x None → ⊥
-before-none None h = h
-before-none (Some a) h = h
-
 pub moved-batch : (logs : List (List Batch)) (zone : ℕ) → IsMoved logs zone → log_at logs zone ≢ []
-moved-batch logs zone is none = before-none (first_sequence (log_at logs is.victim)) (rw none at is.older)
+moved-batch logs zone is none = no_first (first_sequence (log_at logs is.victim)) (rw none at is.older)
 
 -- what its headers tell
 pub record TellsMoved (logs : List (List Batch)) (zone : ℕ) (heads : HeadsView) : Type 0 where
@@ -147,7 +145,7 @@ pub told-moved : (logs : List (List Batch)) (zone : ℕ) (heads : HeadsView) →
 told-moved logs zone heads e told = by (log_at logs zone) refl
   where
     by : (log : List Batch) → log_at logs zone ≡ log → IsMoved logs zone
-    by [] none = absurd (before-none (first_sequence (log_at logs heads.source)) (rw none at told.older))
+    by [] none = absurd (no_first (first_sequence (log_at logs heads.source)) (rw none at told.older))
     by (b ∷ bs) there =
         let source : heads.source ≡ b.heading.source = ap (λ (h : HeadsView). h.source) (e ∙ ap heads_of there) ∙ source-is b bs in
         let moves : all_moves b.heading.source (b ∷ bs) ≡ true = sym (moves-are b bs) ∙ ap (λ (h : HeadsView). h.are_moves) (sym (e ∙ ap heads_of there)) ∙ told.moves in
@@ -190,7 +188,8 @@ victim-missing scanned logs zone source heads e are there told =
     let none : log_at logs heads.source ≡ [] = ap (log_at logs) e ∙ missing-log scanned logs source are there in
     rw none at told.older
 
-none-before : (y : Option ℕ) → IsBefore None y → ⊥
+-- nor is no sequence before any
+pub none-before : (y : Option ℕ) → IsBefore None y → ⊥
 none-before y h = h
 
 pub older-told : (scanned : List ScannedZone) (logs : List (List Batch)) (zone source : ℕ) (found victim : ScannedZone) → found.heads.source ≡ source → AreOf scanned logs → slice_get scanned zone ≡ Some found → slice_get scanned source ≡ Some victim
@@ -221,7 +220,7 @@ first-missing scanned logs zone source found victim e are is from missing told =
   where
     by : (first_head_sequence victim.heads.heads ≡ None) ⊎ (first_head_sequence found.heads.heads ≡ None) → IsBefore (first_head_sequence victim.heads.heads) (first_head_sequence found.heads.heads) → ⊥
     by (inl none) before = none-before (first_head_sequence found.heads.heads) (rw none at before)
-    by (inr none) before = before-none (first_head_sequence victim.heads.heads) (rw none at before)
+    by (inr none) before = no_first (first_head_sequence victim.heads.heads) (rw none at before)
 
 -- none of these zones
 pub none-moved : (scanned : List ScannedZone) (logs : List (List Batch)) (limit : ℕ) → AreOf scanned logs → length scanned ≤ limit → ((zone : ℕ) → zone < limit → IsMoved logs zone → ⊥) → ((zone : ℕ) × IsMoved logs zone) → ⊥

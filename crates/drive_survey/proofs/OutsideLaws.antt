@@ -6,6 +6,7 @@ use Rattle.batch_log.specs.declared.header.Entry.{Entry}
 use Rattle.batch_log.specs.Log.{Batch, batch_size, one_unless}
 use Rattle.drive_array.specs.Records.{Record, batch_records, entry_records, log_records, newer, newest, records, without}
 use Rattle.drive_array.proofs.AllLaws.{all-append, all-weaker}
+use Rattle.drive_array.proofs.DeadLaws.{log-zone}
 
 -- ---- records outside a zone
 
@@ -30,14 +31,6 @@ outside-none zone (r ∷ rs) all = rw (eq-eqb r.zone zone all.0) (outside-none z
 outside-all : (zone : ℕ) (rs : List Record) → AllByRecursion (λ (r : Record). zone < r.zone) rs → outside zone rs ≡ rs
 outside-all zone [] all = refl
 outside-all zone (r ∷ rs) all = rw (ne_eqb r.zone zone (λ e. omega (arith, all.0, e))) (ap (λ (xs : List Record). r ∷ xs) (outside-all zone rs all.1))
-
-entries-zone : (sequence : ℕ) (body : List (List ℕ)) (zone header k : ℕ) (es : List Entry) → AllByRecursion (λ (r : Record). r.zone ≡ zone) (entry_records sequence body zone header k es)
-entries-zone sequence body zone header k [] = tt
-entries-zone sequence body zone header k (e ∷ es) = (refl, entries-zone sequence body zone header (k + one_unless e.trim) es)
-
-pub log-zone : (zone offset : ℕ) (log : List Batch) → AllByRecursion (λ (r : Record). r.zone ≡ zone) (log_records zone offset log)
-log-zone zone offset [] = tt
-log-zone zone offset (b ∷ bs) = all-append (λ (r : Record). r.zone ≡ zone) (batch_records zone offset b) (log_records zone (offset + batch_size b) bs) (entries-zone b.heading.sequence b.body zone offset 0 b.heading.entries) (log-zone zone (offset + batch_size b) bs)
 
 pub records-from : (least first : ℕ) (logs : List (List Batch)) → least ≤ first → AllByRecursion (λ (r : Record). least ≤ r.zone) (records first logs)
 records-from least first [] le = tt

@@ -12,12 +12,13 @@ use Rattle.drive_port.specs.Drive.{DriveState, IsClosing, IsLawful}
 use Rattle.drive_port.specs.Step.{block_in, end_of, is_state, zone_at}
 use Rattle.drive_port.specs.declared.calls.PortFault.{PortFault}
 use Rattle.drive_port.specs.declared.calls.PortFault.TheVariants as port
-use Rattle.drive_port.proofs.ClosingLaws.{IsClosing-refl, IsClosing-trans, contents-closing, length-closing}
+use Rattle.drive_port.proofs.ClosingLaws.{IsClosing-refl, IsClosing-trans, contents-closing, length-closing, content_at-contents}
 use Rattle.batch_log.specs.Log.{zero_block}
 use Rattle.zone_choice.specs.Changes.{IsHalt}
 use Rattle.drive_array.specs.ZoneLogs.{padding, readable}
-use Rattle.zone_choice.proofs.CommandLaws.{content-zone, zone-few}
+use Rattle.zone_choice.proofs.CommandLaws.{zone-few}
 use Rattle.zone_choice.proofs.OpenLaws.{closing-opens}
+use Rattle.zone_choice.proofs.ReadLaws.{length-readable, readable-read, usable-online}
 use Rattle.drive_survey.specs.declared.reported.ReportedZone.{ReportedZone}
 use Rattle.drive_survey.specs.Reported.{IsKnown, KeepsZones}
 use Rattle.drive_survey.specs.Scan.{FailsBy, block_of, readable_at, mount_fault}
@@ -62,36 +63,6 @@ get_or-any [] i d e lt = absurd (omega arith)
 get_or-any (x ∷ xs) zero d e lt = refl
 get_or-any (x ∷ xs) (suc i) d e lt = get_or-any xs i d e (omega arith)
 
-get_or-padded : (blocks : List (List ℕ)) (k i : ℕ) (z : List ℕ) → get_or (blocks ++ replicate k z) i z ≡ get_or blocks i z
-get_or-padded [] zero i z = refl
-get_or-padded [] (suc k) zero z = refl
-get_or-padded [] (suc k) (suc i) z = get_or-padded [] k i z
-get_or-padded (b ∷ bs) k zero z = refl
-get_or-padded (b ∷ bs) k (suc i) z = get_or-padded bs k i z
-
-readable-read : (geometry : Geometry) (content : Content) (i : ℕ) → get_or (readable geometry content) i (zero_block geometry.block) ≡ block_in geometry.block content.blocks i
-readable-read geometry content i = at (is_full content.usage)
-  where
-    at : (b : Bool) → get_or (content.blocks ++ padding geometry b (length content.blocks)) i (zero_block geometry.block) ≡ get_or content.blocks i (replicate geometry.block 0)
-    at true = get_or-padded content.blocks (geometry.capacity - length content.blocks) i (zero_block geometry.block)
-    at false = ap (λ (bs : List (List ℕ)). get_or bs i (zero_block geometry.block)) (append-nil content.blocks)
-
-length-readable : (geometry : Geometry) (content : Content) → length content.blocks ≤ geometry.capacity → length (readable geometry content) ≤ geometry.capacity
-length-readable geometry content le = at (is_full content.usage)
-  where
-    at : (b : Bool) → length (content.blocks ++ padding geometry b (length content.blocks)) ≤ geometry.capacity
-    at true = omega (arith, le, length-append content.blocks (replicate (geometry.capacity - length content.blocks) (zero_block geometry.block)), length-replicate (geometry.capacity - length content.blocks) (zero_block geometry.block))
-    at false = omega (arith, le, ap length (append-nil content.blocks))
-
-usable-online : (state : ZoneState) → is_usable (usage_of state) ≡ true → is_state states.Offline state ≡ false
-usable-online states.Empty h = refl
-usable-online states.ImplicitlyOpened h = refl
-usable-online states.ExplicitlyOpened h = refl
-usable-online states.Closed h = refl
-usable-online states.ReadOnly h = refl
-usable-online states.Full h = refl
-usable-online states.Offline h = absurd (cc)
-
 pub known-few : (drive : DriveState) (zone : ℕ) (reported : ReportedZone) → IsKnown drive zone reported → reported.blocks ≤ drive.geometry.capacity
 known-few drive zone reported known =
     let few = length-readable drive.geometry (content_at (contents drive.zones) zone) (zone-few drive zone known.lawful known.in_range) in
@@ -109,7 +80,7 @@ known-read drive zone offset address reported known lt is =
     let short : offset < g.size = omega (arith, lt, few, known.geometry.capacity) in
     let index : address / g.size ≡ zone = rw is (div-mul-add zone g.size offset short) in
     let place : address % g.size ≡ offset = rw is (mod-mul-add zone g.size offset short) in
-    let content = content-zone drive.zones zone in
+    let content = content_at-contents drive.zones zone in
     let below : address + 1 ≤ end_of g = omega (arith, is, short, known.lawful.count, known.in_range, mul-le (zone + 1) g.size g.zones g.size (omega (arith, known.lawful.count, known.in_range)) (omega arith), add-mul zone 1 g.size) in
     let same : address + 1 - 1 ≡ address = omega arith in
     let usage : usage_of reported.state ≡ usage_of (zone_at drive.zones zone).state = sym known.usage ∙ ap (λ (c : Content). c.usage) content in

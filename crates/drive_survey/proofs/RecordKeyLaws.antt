@@ -12,6 +12,7 @@ use Rattle.drive_array.specs.Records.{Record, batch_records, entry_records, log_
 use Rattle.drive_array.proofs.AllLaws.{all-append, all-at, all-parts, all-weaker}
 use Rattle.drive_array.proofs.NewestLaws.{all-among}
 use Rattle.drive_array.proofs.ZoneLogLaws.{log_at-zone}
+use Rattle.drive_array.proofs.SizeLaws.{drop-distinct}
 use Rattle.drive_survey.specs.declared.survey.Survey.{Survey}
 use Rattle.drive_survey.specs.Known.{Knows}
 
@@ -98,15 +99,10 @@ log-apart zone offset first (b ∷ bs) logs once distinct others =
     subst AreApart (sym (append_assoc own rest behind))
     (apart-append own (rest ++ behind) (entries-apart s zone offset 0 b.body b.heading.entries once.0) (log-apart zone (offset + batch_size b) first bs logs once.1 distinct.1 others) cross)
 
-distinct-behind : (front rest : List ℕ) → IsDistinct nat_eq (front ++ rest) → IsDistinct nat_eq rest
-unfolding IsDistinct
-distinct-behind [] rest d = d
-distinct-behind (x ∷ xs) rest d = distinct-behind xs rest d.1
-
 records-apart : (first : ℕ) (logs : List (List Batch)) → AllByRecursion (AllByRecursion NamesOnce) logs → IsDistinct nat_eq (sequences logs) → AreApart (records first logs)
 records-apart first [] once distinct = tt
 records-apart first (log ∷ logs) once distinct =
-    log-apart first 0 (suc first) log logs once.0 distinct (records-apart (suc first) logs once.1 (distinct-behind (log_sequences log) (sequences logs) distinct))
+    log-apart first 0 (suc first) log logs once.0 distinct (records-apart (suc first) logs once.1 (drop-distinct (log_sequences log) (sequences logs) distinct))
 
 -- ---- those of a drive
 

@@ -11,11 +11,12 @@ use Rattle.drive_array.specs.Records.{Record, log_records, records, without}
 use Rattle.drive_array.specs.ZoneLogs.{log_at}
 use Rattle.drive_array.proofs.AllLaws.{all-append, all-weaker}
 use Rattle.drive_array.proofs.NewestLaws.{all-among}
+use Rattle.drive_array.proofs.DeadLaws.{log-zone}
 use Rattle.drive_survey.specs.declared.records.KeptRecord.{KeptRecord}
 use Rattle.drive_survey.specs.declared.clearing.block_records.BlockRecords.{BlockRecords}
 use Rattle.drive_survey.specs.BlockRecords.{AreRecords, HasNoRecord, HoldsRecords, forgets, held_of, notes, slot_after, slot_of}
 use Rattle.drive_survey.specs.KeptRecords.{kept_record}
-use Rattle.drive_survey.proofs.OutsideLaws.{is_outside, log-zone, outside, outside-is, records-from}
+use Rattle.drive_survey.proofs.OutsideLaws.{is_outside, outside, outside-is, records-from}
 use Rattle.drive_survey.proofs.RecordKeyLaws.{AreApart, same-record}
 use Rattle.drive_survey.proofs.RecordTableLaws.{Changes}
 

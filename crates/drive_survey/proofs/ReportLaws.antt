@@ -141,10 +141,12 @@ none-left geometry zones reported rest short left = at left.others refl
 
 -- ---- the command
 
-whole-room : (zones dwords : ℕ) → dwords ≡ 16 * (1 + zones) → descriptor_room dwords ≡ zones
+-- room for all of them
+pub whole-room : (zones dwords : ℕ) → dwords ≡ 16 * (1 + zones) → descriptor_room dwords ≡ zones
 whole-room zones dwords is = omega (arith, is)
 
-length-matching : (geometry : Geometry) (number : ℕ) (zones : List Zone) → length (matching geometry AnyState number zones) ≡ length zones
+-- a report of all zones names as many as there are
+pub length-matching : (geometry : Geometry) (number : ℕ) (zones : List Zone) → length (matching geometry AnyState number zones) ≡ length zones
 length-matching geometry number [] = refl
 length-matching geometry number (zone ∷ zones) = ap suc (length-matching geometry (number + 1) zones)
 
@@ -193,7 +195,8 @@ pub reports-zones : (old new : DriveState) (dwords capacity : ℕ) (bytes rest :
 reports-zones old new dwords capacity bytes rest reported range lawful is cap at told are =
     record { zones = told.zones; before = told.before; after = told.after; are = are old.geometry told.zones (tells-zones old new dwords capacity bytes rest range lawful is cap at told) }
 
-can-report : (drive : DriveState) → IsInRange drive.geometry → 0 < end_of drive.geometry
+-- a drive whose geometry is in range has an address 0
+pub can-report : (drive : DriveState) → IsInRange drive.geometry → 0 < end_of drive.geometry
 can-report drive range = let one : 1 * 1 ≤ drive.geometry.zones * drive.geometry.size = mul-le 1 1 drive.geometry.zones drive.geometry.size (omega (arith, range.zones)) (omega (arith, range.size)) in omega (arith, one)
 
 pub report-halts : (old new : DriveState) (dwords : ℕ) (returned : List ℕ) (fault : PortFault) → IsInRange old.geometry → IsLawful old → ReportGives {V = Unit {0}} old 0 AnyState false dwords (Err fault) returned new → IsClosing old.zones new.zones

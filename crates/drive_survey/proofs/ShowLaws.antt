@@ -24,10 +24,10 @@ use Rattle.drive_survey.specs.KeptRecords.{block_of_kept, kept_record}
 use Rattle.drive_survey.specs.Reported.{IsKnown, KeepsZones}
 use Rattle.drive_survey.specs.BlockRecords.{HoldsBlocks, HoldsRecords, held_of}
 use Rattle.drive_survey.specs.Scan.{block_of, readable_at}
-use Rattle.drive_survey.proofs.FindLaws.{at-is}
 use Rattle.drive_survey.proofs.OutsideLaws.{is_outside, outside, outside-is}
 use Rattle.drive_survey.proofs.ReadLaws.{kept-blocks}
 use Rattle.drive_survey.proofs.SpareLaws.{same-none, same-other}
+use Rattle.drive_survey.proofs.RecordTableLaws.{at-is}
 
 -- ---- the drive stays as it is
 
@@ -52,7 +52,8 @@ newest-stands drive logs block rs all = by (newest block rs) (newest-is block rs
     by None is = tt
     by (Some r) is = all-among (StandsAt drive) rs r all is.1.among
 
-outside-stands : (P : Record → Type 0) (zone : ℕ) (rs : List Record) → AllByRecursion P rs → AllByRecursion P (outside zone rs)
+-- what all records have, those outside a zone have
+pub outside-stands : (P : Record → Type 0) (zone : ℕ) (rs : List Record) → AllByRecursion P rs → AllByRecursion P (outside zone rs)
 outside-stands P zone [] all = tt
 outside-stands P zone (r ∷ rs) all = by (is_outside zone r) (outside-stands P zone rs all.1)
   where

@@ -6,7 +6,7 @@ use Rattle.std.specs.Ordering.{nat_cmp, match_ordering}
 use Rattle.std.specs.declared.cmp.Ordering.TheVariants.{Less, Equal, Greater}
 use Rattle.std.specs.BTreeSet.{insert_key}
 use Rattle.std.specs.BTreeMap.{is_at}
-use Rattle.std.proofs.lemmas.Bool.{leb-false, lt-leb, eqb-true}
+use Rattle.std.proofs.lemmas.Bool.{leb-false, lt-leb, eqb-true, or_parts}
 use Rattle.std.proofs.lemmas.Bool.Decides.{nat_tests}
 use Rattle.batch_log.specs.Log.{Batch}
 use Rattle.drive_array.specs.ZoneLogs.{log_sequences, sequences}
@@ -100,15 +100,11 @@ logs-new seen (log ∷ logs) none =
       new = all-new-append seen (log_sequences log) (sequences logs) one.new (rw (seen-into seen log) at rest.new);
     }
 
-or-false : (a b : Bool) → (a || b) ≡ false → (a ≡ false) × (b ≡ false)
-or-false true b e = absurd (cc)
-or-false false b e = (refl, e)
-
 apart : (seen : List ℕ) (s : ℕ) (ss : List ℕ) → AllByRecursion (λ x. member (insert_key nat_cmp seen s) x ≡ false) ss
     → AllByRecursion (λ x. eqb s x ≡ false) ss × AllByRecursion (λ x. member seen x ≡ false) ss
 apart seen s [] h = (tt, tt)
 apart seen s (x ∷ xs) h =
-    let both = or-false (eqb s x) (member seen x) (sym (member-insert seen s x) ∙ h.0) in
+    let both = or_parts (eqb s x) (member seen x) (sym (member-insert seen s x) ∙ h.0) in
     let rest = apart seen s xs h.1 in
     ((both.0, rest.0), (both.1, rest.1))
 

@@ -19,6 +19,7 @@ use Rattle.drive_array.proofs.NewestLaws.{all-among, map_same, newest-is}
 use Rattle.zone_choice.proofs.ReadLaws.{StandsIn, zone_stands}
 use Rattle.drive_array.proofs.SizeLaws.{inside-records}
 use Rattle.drive_array.proofs.ZoneLogLaws.{log_at-zone}
+use Rattle.drive_array.proofs.DeadLaws.{log-zone}
 use Rattle.drive_survey.specs.declared.survey.Survey.{Survey}
 use Rattle.drive_survey.specs.Clearing.{AllStand, ShowsSame, StandsAt}
 use Rattle.drive_survey.specs.Heads.{kept_entry}
@@ -26,7 +27,7 @@ use Rattle.drive_survey.specs.KeptRecords.{block_of_kept}
 use Rattle.drive_survey.specs.Known.{Knows}
 use Rattle.drive_survey.specs.Reported.{KeepsZones}
 use Rattle.drive_survey.proofs.HeadRecordLaws.{entries-named, entries_of}
-use Rattle.drive_survey.proofs.OutsideLaws.{log-zone, none-outside, outside-is, records-from, stays-outside}
+use Rattle.drive_survey.proofs.OutsideLaws.{none-outside, outside-is, records-from, stays-outside}
 use Rattle.drive_survey.proofs.ReadLaws.{kept-contents}
 use Rattle.drive_survey.proofs.SurveyLaws.{known-kept}
 

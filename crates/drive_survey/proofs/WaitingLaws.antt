@@ -19,6 +19,7 @@ use Rattle.drive_array.specs.ZoneLogs.{log_at}
 use Rattle.drive_array.proofs.AllLaws.{all-at, all-weaker}
 use Rattle.drive_array.proofs.NewestLaws.{all-among, newest-is}
 use Rattle.drive_array.proofs.SizeLaws.{same-size}
+use Rattle.drive_array.proofs.ClearingLaws.{without-same}
 use Rattle.drive_survey.specs.declared.clearing.block_records.BlockRecords.{BlockRecords}
 use Rattle.drive_survey.specs.declared.clearing.Candidates.{Candidates}
 use Rattle.drive_survey.specs.declared.records.KeptRecord.{KeptRecord}
@@ -35,13 +36,16 @@ use Rattle.drive_survey.specs.SizeCounts.{IsSized, says_some, size_counts}
 use Rattle.drive_survey.specs.Survey.{greatest_in}
 use Rattle.drive_survey.specs.Waiting.{AllWait, AreCandidates, HolderWaits, HoldersWait, IsNeeded, LastWaits, OthersWait}
 use Rattle.drive_survey.proofs.ClearLaws.{Forgets, knows-less}
-use Rattle.drive_survey.proofs.FindLaws.{at-is, half-moved}
+use Rattle.drive_survey.proofs.FindLaws.{half-moved}
 use Rattle.drive_survey.proofs.HeadRecordLaws.{entries-are, entries_of}
-use Rattle.drive_survey.proofs.MovedLaws.{forgotten-are, found-heads, moved-batch, not-found, not-there, size-forgotten}
+use Rattle.drive_survey.proofs.MovedLaws.{forgotten-are, found-heads, moved-batch, not-found, not-there, size-forgotten, none-before}
 use Rattle.drive_survey.proofs.OutsideLaws.{is_outside, none-outside, outside, outside-is, stays-outside}
 use Rattle.drive_survey.proofs.SizeCountLaws.{size-needs}
 use Rattle.drive_survey.proofs.SurveyLaws.{greatest-heads}
 use Rattle.drive_survey.proofs.SpareLaws.{knows-small, same-none, same-other, zone-named}
+use Rattle.drive_survey.proofs.ShowLaws.{outside-stands}
+use Rattle.drive_survey.proofs.RecordHoldLaws.{blocks-more}
+use Rattle.drive_survey.proofs.RecordTableLaws.{at-is}
 
 -- ---- sets of zones
 
@@ -60,21 +64,12 @@ holders-more logs old new entries more all = all-weaker (λ entry. HolderWaits l
 
 -- ---- a zone of Moves
 
--- a log that is gone
-gone-is : (logs : List (List Batch)) (gone : ℕ) → log_at (without logs gone) gone ≡ []
-gone-is [] gone = refl
-gone-is (l ∷ ls) zero = refl
-gone-is (l ∷ ls) (suc gone) = gone-is ls gone
-
-before-some : (y : Option ℕ) → IsBefore None y → ⊥
-before-some y h = h
-
 -- a zone of Moves was one before
 moved-less : (logs : List (List Batch)) (gone zone : ℕ) → zone ≢ gone → IsMoved (without logs gone) zone → IsMoved logs zone
 moved-less logs gone zone apart is =
     let own : log_at (without logs gone) zone ≡ log_at logs zone = get_or-set_other logs gone zone [] [] apart in
     elim (cases_eq is.victim gone) as (λ _. IsMoved logs zone) [
-      | inl same ↦ absurd (before-some (first_sequence (log_at (without logs gone) zone)) (rw (same, gone-is logs gone) at is.older))
+      | inl same ↦ absurd (none-before (first_sequence (log_at (without logs gone) zone)) (rw (same, without-same logs gone) at is.older))
       | inr other ↦ record { victim = is.victim; apart = is.apart; moves = rw own at is.moves; older = rw (own, get_or-set_other logs gone is.victim [] [] other) at is.older }
     ]
 
@@ -82,14 +77,6 @@ moved-less logs gone zone apart is =
 
 abbrev AllWoken : List (List Batch) → ℕ → BTreeSet ℕ → Type 0
 AllWoken logs gone waiting = AllByRecursion (λ (r : Record). r.zone ≡ gone → HolderWaits (without logs gone) waiting r.block) (records 0 logs)
-
-all-outside : (P : Record → Type 0) (zone : ℕ) (rs : List Record) → AllByRecursion P rs → AllByRecursion P (outside zone rs)
-all-outside P zone [] all = tt
-all-outside P zone (r ∷ rs) all = by (is_outside zone r) (all-outside P zone rs all.1)
-  where
-    by : (t : Bool) → AllByRecursion P (outside zone rs) → AllByRecursion P (cond t (r ∷ outside zone rs) (outside zone rs))
-    by true rest = (all.0, rest)
-    by false rest = rest
 
 without-is : (zone : ℕ) (logs : List (List Batch)) → outside zone (records 0 logs) ≡ records 0 (without logs zone)
 without-is zone logs = outside-is 0 zone zone logs (omega arith)
@@ -122,7 +109,7 @@ block-needs block_bytes n logs gone zone block waiting apart size woken needs = 
     next r is here other (Some q) some found = elim (cases_eq q.zone gone) as (λ _. Goal) [
       | inl same ↦ (
           let P : Record → Type 0 = λ x. x.zone ≡ gone → HolderWaits (without logs gone) waiting x.block in
-          let all : AllByRecursion P (records 0 (without logs zone)) = subst (AllByRecursion P) (without-is zone logs) (all-outside P zone (records 0 logs) woken) in
+          let all : AllByRecursion P (records 0 (without logs zone)) = subst (AllByRecursion P) (without-is zone logs) (outside-stands P zone (records 0 logs) woken) in
           let waits = all-among P (records 0 (without logs zone)) q all found.1.among same in
           let waits' = subst (HolderWaits (without logs gone) waiting) found.0 waits in
           inl (subst (λ (z : ℕ). IsTrue (contains nat_cmp waiting z)) here (waits' r (shows r is other)))
@@ -173,17 +160,13 @@ pub record Wakes (before after : Survey) (old new : Candidates) (woken : BTreeSe
   pub then : IsSubset nat_cmp woken new.waiting
   pub last : new.sizes.any ≡ 1 → old.sizes.any ≢ 1 → LastWaits (heads_in after.scanned.items) new.waiting
 
-blocks-held : (old new : BlockRecords) (entries : List ℕ) → HoldsMore old new → HoldsBlocks old entries → HoldsBlocks new entries
-blocks-held old new [] more holds = tt
-blocks-held old new (e ∷ es) more holds = (more (block_of_kept e) holds.0, blocks-held old new es more holds.1)
-
 -- the blocks of zones of Moves are held still
 covers-less : (logs : List (List Batch)) (before after : Survey) (old new : BlockRecords) (gone : ℕ) → heads_in before.scanned.items ≡ map heads_of logs → heads_in after.scanned.items ≡ without_heads (heads_in before.scanned.items) gone → HoldsMore old new
     → CoversMoved logs before.scanned.items old → CoversMoved (without logs gone) after.scanned.items new
 covers-less logs before after old new gone are forgets more covers zone moved found there_is = by (slice_get before.scanned.items zone) refl
   where
     apart : zone ≢ gone
-    apart same = moved-batch (without logs gone) zone moved (rw same (gone-is logs gone))
+    apart same = moved-batch (without logs gone) zone moved (rw same (without-same logs gone))
 
     was : IsMoved logs zone
     was = moved-less logs gone zone apart moved
@@ -195,7 +178,7 @@ covers-less logs before after old new gone are forgets more covers zone moved fo
         let now = found-heads after.scanned.items (without logs gone) zone found (forgets ∙ forgotten-are logs (heads_in before.scanned.items) gone are) there_is in
         let then = found-heads before.scanned.items logs zone old_found are is in
         let same : old_found.heads ≡ found.heads = then ∙ ap heads_of (sym own) ∙ sym now in
-        subst (λ (h : HeadsView). HoldsBlocks new h.entries) same (blocks-held old new old_found.heads.entries more (covers zone was old_found is))
+        subst (λ (h : HeadsView). HoldsBlocks new h.entries) same (blocks-more old new old_found.heads.entries more (covers zone was old_found is))
 
 pub given-are : (before after : Survey) (old new : Candidates) (woken : BTreeSet ℕ) (gone : ℕ) → Wakes before after old new woken gone
     → (drive : DriveState) (n : ℕ) (logs : List (List Batch)) → AreCandidates drive n logs before old → IsHalfClean drive.geometry.block n logs gone → AreCandidates drive n (without logs gone) after new
@@ -217,7 +200,7 @@ all-woken drive n logs before after old new woken gone wakes are moved = by (sli
     by : (x : Option ScannedZone) → slice_get before.scanned.items gone ≡ x → AllWoken logs gone new.waiting
     by None is = absurd (not-found before.scanned.items logs gone are.known.heads is moved)
     by (Some found) is =
-        let held = blocks-held old.records new.records found.heads.entries wakes.more (are.covers gone moved found is) in
+        let held = blocks-more old.records new.records found.heads.entries wakes.more (are.covers gone moved found is) in
         let wait = wakes.holders (without logs gone) found is (wakes.holds drive n logs are.known are.records) held in
         let entries : found.heads.entries ≡ entries_of (log_at logs gone) = ap (λ (h : HeadsView). h.entries) (found-heads before.scanned.items logs gone found are.known.heads is) ∙ entries-are (log_at logs gone) in
         let all : AllByRecursion (λ x. P (block_of_kept x)) (entries_of (log_at logs gone)) = subst (HoldersWait (without logs gone) new.waiting) entries (holders-more (without logs gone) woken new.waiting found.heads.entries wakes.then wait) in
@@ -226,7 +209,7 @@ all-woken drive n logs before after old new woken gone wakes are moved = by (sli
 pub given-wait : (before after : Survey) (old new : Candidates) (woken : BTreeSet ℕ) (gone : ℕ) → Wakes before after old new woken gone
     → (drive : DriveState) (n : ℕ) (logs : List (List Batch)) → AreCandidates drive n logs before old → IsHalfClean drive.geometry.block n logs gone → OthersWait drive n logs old gone → AllWait drive n (without logs gone) new
 given-wait before after old new woken gone wakes drive n logs are half others zone lt = elim (cases_eq zone gone) as (λ _. IsTrue (contains nat_cmp new.waiting zone) ⊎ IsNeeded b n (without logs gone) zone) [
-  | inl here ↦ inr (inl (λ moved. moved-batch (without logs gone) zone moved (rw here (gone-is logs gone))))
+  | inl here ↦ inr (inl (λ moved. moved-batch (without logs gone) zone moved (rw here (without-same logs gone))))
   | inr apart ↦ (elim (others zone (omega (arith, lt, length-set logs gone [])) apart) as (λ _. IsTrue (contains nat_cmp new.waiting zone) ⊎ IsNeeded b n (without logs gone) zone) [
     | inl waits ↦ inl (wakes.then zone (wakes.first zone waits))
     | inr needed ↦ needed-still b n logs (heads_in before.scanned.items) gone zone new.waiting are.known.heads apart (same-size b n (without logs gone) logs half.spare)

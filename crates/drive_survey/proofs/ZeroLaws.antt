@@ -3,6 +3,7 @@ use Rattle.std.proofs.Common.{◌≡◌, ℕ, zero, suc, ◌+◌, ◌-◌, ◌<�
 use Rattle.std.proofs.lemmas.List.{drop_more, drop_all}
 use Rattle.std.specs.List.{AllByRecursion, list_all}
 use Rattle.std.proofs.lemmas.List.{length-replicate}
+use Rattle.std.proofs.lemmas.Bool.{and_parts}
 use Rattle.zone_states.specs.declared.geometry.Geometry.{Geometry}
 use Rattle.zone_states.specs.Zone.{IsLawfulZone}
 use Rattle.batch_log.specs.Causes.{is_zero}
@@ -11,9 +12,9 @@ use Rattle.batch_log.proofs.CauseLaws.{all_zeros}
 use Rattle.drive_port.specs.Contents.{Content, content_at, contents, is_full, usage_of}
 use Rattle.drive_port.specs.Step.{nowhere}
 use Rattle.drive_array.specs.ZoneLogs.{padding, readable}
-use Rattle.drive_array.proofs.AllLaws.{all-append, all-at}
-use Rattle.zone_choice.proofs.CommandLaws.{content-zone}
+use Rattle.drive_array.proofs.AllLaws.{all-append, all-at, all-drop}
 use Rattle.drive_port.specs.Drive.{DriveState}
+use Rattle.drive_port.proofs.ClosingLaws.{content_at-contents}
 use Rattle.drive_survey.specs.declared.reported.ReportedZone.{ReportedZone}
 use Rattle.drive_survey.specs.Reported.{IsKnown, KeepsZones}
 use Rattle.drive_survey.specs.Scan.{block_of, readable_at}
@@ -50,19 +51,10 @@ all-long geometry content long = all-append (λ (b : List ℕ). length b ≡ geo
     at true = zeros (geometry.capacity - length content.blocks)
     at false = tt
 
-all-drop : {X : Type 0} (P : X → Type 0) (n : ℕ) (xs : List X) → AllByRecursion P xs → AllByRecursion P (drop n xs)
-all-drop P zero xs all = all
-all-drop P (suc n) [] all = tt
-all-drop P (suc n) (x ∷ xs) all = all-drop P n xs all.1
-
-and-both : (a b : Bool) → (a && b) ≡ true → (a ≡ true) × (b ≡ true)
-and-both true b is = (refl, is)
-and-both false b is = absurd (cc)
-
 zeros-are : (size : ℕ) (blocks : List (List ℕ)) → AllByRecursion (λ (b : List ℕ). length b ≡ size) blocks → list_all is_zero blocks ≡ true → blocks ≡ replicate (length blocks) (zero_block size)
 zeros-are size [] long is = refl
 zeros-are size (b ∷ bs) long is =
-    let both = and-both (is_zero b) (list_all is_zero bs) is in
+    let both = and_parts (is_zero b) (list_all is_zero bs) is in
     let here : b ≡ zero_block size = all_zeros b both.0 ∙ ap (λ (n : ℕ). replicate n 0) long.0 in
     ap (λ (x : List ℕ). x ∷ bs) here ∙ ap (λ (xs : List (List ℕ)). zero_block size ∷ xs) (zeros-are size bs long.1 both.1)
 
@@ -73,7 +65,7 @@ pub zero-tail : (drive : DriveState) (zone offset : ℕ) (reported : ReportedZon
 zero-tail drive zone offset reported block known lt is full nought zeros =
     let usage : is_full (content_at (contents drive.zones) zone).usage ≡ true = ap is_full known.usage ∙ full in
     let all : list_all is_zero (drop offset (readable_at drive zone)) ≡ true = zeros-next (readable_at drive zone) offset block (omega (arith, lt, known.blocks)) is ∙ rw (nought, zeros) refl in
-    let content = content-zone drive.zones zone in
+    let content = content_at-contents drive.zones zone in
     let lawful = all-at (IsLawfulZone drive.geometry) drive.zones zone nowhere known.lawful.zones known.in_range in
     let long : AllByRecursion (λ (b : List ℕ). length b ≡ drive.geometry.block) (content_at (contents drive.zones) zone).blocks = rw content lawful.whole in
     let tails = zeros-are drive.geometry.block (drop offset (readable_at drive zone)) (all-drop (λ (b : List ℕ). length b ≡ drive.geometry.block) offset (readable_at drive zone) (all-long drive.geometry (content_at (contents drive.zones) zone) long)) all in

@@ -25,7 +25,8 @@ HasNoRecord table = (block : ℕ) (held : BTreeMap ℕ KeptRecord) → held_of t
 -- what is held of a block are all its records in these logs, each by its sequence
 pub record AreRecords (logs : List (List Batch)) (block : ℕ) (held : BTreeMap ℕ KeptRecord) : Type 0 where
   pub all_held : (r : Record) → Contains (records 0 logs) r → r.block ≡ block → get nat_cmp held r.sequence ≡ Some (kept_record r)
-  pub no_other : (sequence : ℕ) (found : KeptRecord) → get nat_cmp held sequence ≡ Some found → (r : Record) × Contains (records 0 logs) r × (r.block ≡ block) × (r.sequence ≡ sequence) × (kept_record r ≡ found)
+  pub no_other : (sequence : ℕ) (found : KeptRecord) → get nat_cmp held sequence ≡ Some found
+      → (r : Record) × Contains (records 0 logs) r × (r.block ≡ block) × (r.sequence ≡ sequence) × (kept_record r ≡ found)
 
 -- and so of all blocks that a table holds
 abbrev pub HoldsRecords : List (List Batch) → BlockRecords → Type 0
@@ -66,4 +67,5 @@ pub record OthersIn (held : BTreeMap ℕ KeptRecord) (zone : ℕ) (rest : List (
 -- the last one outside a zone, or that all lie in it
 abbrev pub IsLastOutside : BTreeMap ℕ KeptRecord → ℕ → Option KeptRecord → Type 0
 IsLastOutside held zone None = OthersIn held zone []
-IsLastOutside held zone (Some found) = (front : List (ℕ × KeptRecord)) × (sequence : ℕ) × (found.zone ≢ zone) × OthersIn held zone (front ++ (sequence, found) ∷ [])
+IsLastOutside held zone (Some found) =
+    (front : List (ℕ × KeptRecord)) × (sequence : ℕ) × (found.zone ≢ zone) × OthersIn held zone (front ++ (sequence, found) ∷ [])

@@ -29,7 +29,8 @@ AreOf scanned logs = heads_in scanned ≡ map heads_of logs
 
 -- a record's data, if it has some, stands at its place
 abbrev pub StandsAt : DriveState → Record → Type 0
-StandsAt drive r = (bytes : List ℕ) → r.content ≡ Some bytes → (r.zone < length drive.zones) × (r.offset < length (readable_at drive r.zone)) × (block_of drive r.zone r.offset ≡ bytes)
+StandsAt drive r = (bytes : List ℕ) → r.content ≡ Some bytes
+    → (r.zone < length drive.zones) × (r.offset < length (readable_at drive r.zone)) × (block_of drive r.zone r.offset ≡ bytes)
 
 -- and so does that of the record, if there is one
 abbrev pub IfStands : DriveState → Option Record → Type 0
@@ -57,13 +58,15 @@ FindsNeeded block_bytes logs zone entries None = AllByRecursion (λ entry. Shows
 -- whether the two show the same
 abbrev pub TellsRivals : DriveState → Rivals → Bool → Type 0
 TellsRivals drive rivals same =
-    (new old : Option Record) → Some rivals.newest ≡ option_map kept_record new → rivals.other ≡ option_map kept_record old → IfStands drive new → IfStands drive old
+    (new old : Option Record) → Some rivals.newest ≡ option_map kept_record new → rivals.other ≡ option_map kept_record old
+    → IfStands drive new → IfStands drive old
     → Tells same (shown drive.geometry.block old ≡ shown drive.geometry.block new)
 
 -- a block of these entries that shows something else without the zone, by a table that holds their blocks
 abbrev pub LooksFor : DriveState → BlockRecords → ℕ → List ℕ → Option ℕ → Type 0
 LooksFor drive table zone entries found =
-    (logs : List (List Batch)) → HoldsRecords logs table → AllStand drive logs → HoldsBlocks table entries → FindsNeeded drive.geometry.block logs zone entries found
+    (logs : List (List Batch)) → HoldsRecords logs table → AllStand drive logs → HoldsBlocks table entries
+    → FindsNeeded drive.geometry.block logs zone entries found
 
 -- ---- zones
 

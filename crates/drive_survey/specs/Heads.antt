@@ -1,5 +1,6 @@
 -- The headers of a zone's batches, as a mount keeps them.
-use Rattle.std.specs.Prelude.{ℕ, ◌+◌, ◌^◌, ◌==◌, nat_le, nat_lt, ◌&&◌, max, if◌then◌else◌, Bool, true, false, List, [], ◌∷◌, ◌++◌, map, length, Option, Some, None}
+use Rattle.std.specs.Prelude.{ℕ, ◌+◌, ◌^◌, ◌==◌, nat_le, nat_lt, ◌&&◌, max, if◌then◌else◌, Bool, true}
+use Rattle.std.specs.Prelude.{false, List, [], ◌∷◌, ◌++◌, map, length, Option, Some, None}
 use Rattle.std.specs.List.{flat_map}
 use Rattle.batch_log.specs.declared.header.Entry.{Entry}
 use Rattle.batch_log.specs.declared.header.Kind.{Kind}
@@ -25,7 +26,10 @@ abbrev pub highest_of : ℕ → List Entry → ℕ
 highest_of n [] = n
 highest_of n (e ∷ es) = highest_of (max n e.block) es
 
--- The headers of the first batches of a zone: the sequence and the place of each; the entries of all, one after the other; how many blocks the batches take; whether all are Moves from one zone, that of the first; the greatest size that they say; the greatest number of entries that one has; and the greatest block that they name, 0 where they name none.
+-- The headers of the first batches of a zone: the sequence and the place of each; the entries of all, one after the
+-- other; how many blocks the batches take; whether all are Moves from one zone, that of the first; the greatest size
+-- that they say; the greatest number of entries that one has; and the greatest block that they name, 0 where they name
+-- none.
 pub record HeadsView : Type 0 where
   pub heads : List Head
   pub entries : List ℕ

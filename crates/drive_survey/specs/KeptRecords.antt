@@ -20,7 +20,8 @@ entry_record sequence zone header k entry =
 -- of these entries of a batch, where k data blocks belong to the entries before them
 abbrev pub kept_entries : ℕ → ℕ → ℕ → ℕ → List ℕ → List KeptRecord
 kept_entries sequence zone header k [] = []
-kept_entries sequence zone header k (entry ∷ entries) = entry_record sequence zone header k entry ∷ kept_entries sequence zone header (k + one_unless (is_kept_trim entry)) entries
+kept_entries sequence zone header k (entry ∷ entries) =
+    entry_record sequence zone header k entry ∷ kept_entries sequence zone header (k + one_unless (is_kept_trim entry)) entries
 
 -- of these batches of a zone, whose entries follow the first ones, as many as `from`
 abbrev pub kept_batches : ℕ → ℕ → List Head → List ℕ → List KeptRecord

@@ -17,7 +17,9 @@ use Rattle.drive_survey.specs.declared.clearing.Finding.TheVariants.{HalfClean, 
 use Rattle.drive_survey.specs.Heads.{heads_of}
 use Rattle.drive_survey.specs.Scan.{AreKnown, heads_in, tails_in}
 
--- The drive is lawful, and its zones hold logs. Those of its logs that are looked at, of which each is a zone's whole log or is left out, are sound, and the reserve allows the size that they say. The headers of these are kept, and how far each zone is used, and whether it has a torn tail.
+-- The drive is lawful, and its zones hold logs. Those of its logs that are looked at, of which each is a zone's whole
+-- log or is left out, are sound, and the reserve allows the size that they say. The headers of these are kept, and how
+-- far each zone is used, and whether it has a torn tail.
 pub record Knows (drive : DriveState) (n : ℕ) (logs : List (List Batch)) (survey : Survey) : Type 0 where
   pub all_logs : AllByRecursion (HasLog drive.geometry) (contents drive.zones)
   pub count : length logs ≡ length drive.zones
@@ -38,7 +40,8 @@ pub record HasVacant (logs : List (List Batch)) : Type 0 where
 
 -- ---- what is found of a zone
 
--- Whether a zone is half clean, and if not, why: its batches are not Moves from an older zone; or a block shows something else without it; or it alone says the size.
+-- Whether a zone is half clean, and if not, why: its batches are not Moves from an older zone; or a block shows
+-- something else without it; or it alone says the size.
 abbrev pub Finds : ℕ → ℕ → List (List Batch) → ℕ → Finding → Type 0
 Finds block_bytes n logs zone HalfClean = IsHalfClean block_bytes n logs zone
 Finds block_bytes n logs zone NotMoves = IsMoved logs zone → ⊥

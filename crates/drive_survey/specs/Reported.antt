@@ -56,7 +56,8 @@ pub record ReportsZones (old : DriveState) (reported : List ReportedZone) (new :
   pub after : IsClosing zones new.zones
   pub are : AreReported old.geometry zones reported
 
--- A zone of a lawful drive, with a geometry in range, that can be used: how far it is used, and the number of its readable blocks are known. Unless it was reported open, it is not.
+-- A zone of a lawful drive, with a geometry in range, that can be used: how far it is used, and the number of its
+-- readable blocks are known. Unless it was reported open, it is not.
 pub record IsKnown (drive : DriveState) (zone : ℕ) (reported : ReportedZone) : Type 0 where
   pub geometry : IsInRange drive.geometry
   pub lawful : IsLawful drive

@@ -1,5 +1,6 @@
 -- What a mount reads of a drive, zone by zone and batch by batch, and the first fault that it meets.
-use Rattle.std.specs.Prelude.{◌≡◌, ◌⊎◌, ℕ, ◌+◌, ◌<◌, ◌≤◌, ◌^◌, nat_le, if◌then◌else◌, true, List, [], ◌∷◌, length, map, take, drop, slice_get, slice_index_or, Bool, false, Option, Some, None, Result, Ok, Err}
+use Rattle.std.specs.Prelude.{◌≡◌, ◌⊎◌, ℕ, ◌+◌, ◌<◌, ◌≤◌, ◌^◌, nat_le, if◌then◌else◌, true, List, [], ◌∷◌, length, map, take}
+use Rattle.std.specs.Prelude.{drop, slice_get, slice_index_or, Bool, false, Option, Some, None, Result, Ok, Err}
 use Rattle.std.specs.List.{AllByRecursion, list_any}
 use Rattle.std.specs.Ordering.{nat_cmp}
 use Rattle.std.specs.BTreeSet.{insert_key}
@@ -67,7 +68,8 @@ pub record FailsIn (geometry : Geometry) (content : Content) (zone : ℕ) (seen 
   pub rest : List (List ℕ)
   pub front : BeginsWith geometry.block (readable geometry content) log rest
   pub first : (log_fault seen log ≡ Some fault)
-      ⊎ ((log_fault seen log ≡ None) × BeginsWithNoBatch geometry.block rest × (ending_fault zone (log_size log) (ending_of (is_full content.usage) rest) ≡ Some fault))
+      ⊎ ((log_fault seen log ≡ None) × BeginsWithNoBatch geometry.block rest
+      × (ending_fault zone (log_size log) (ending_of (is_full content.usage) rest) ≡ Some fault))
 
 -- The first fault of a drive: that of a zone, after zones that hold logs without one.
 pub record FailsFirst (geometry : Geometry) (zones : List Content) (fault : MountFault) : Type 0 where
@@ -127,12 +129,16 @@ abbrev pub TakesNext : Geometry → Content → List ℕ → HeadsView → Optio
 TakesNext geometry content before old None heads seen = Takes geometry content before heads seen × (old.blocks < heads.blocks)
 TakesNext geometry content before old (Some is_torn) heads seen = Scans geometry content before heads is_torn seen
 
--- What a header block leads to, at the place after the headers taken before it. It is taken if as many readable blocks follow as its entries need, and it has no fault. In a zone that is not full, where fewer follow, they are a torn tail.
+-- What a header block leads to, at the place after the headers taken before it. It is taken if as many readable blocks
+-- follow as its entries need, and it has no fault. In a zone that is not full, where fewer follow, they are a torn
+-- tail.
 abbrev pub MeetsHeader : ℕ → ReportedZone → HeadsView → List ℕ → Heading → Result (Option Bool) MountFault → HeadsView → List ℕ → Type 0
 MeetsHeader zone reported old before heading (Ok None) new seen =
-    (old.blocks + 1 + data_count heading.entries ≤ reported.blocks) × (heading_fault before heading ≡ None) × (new ≡ with_heading old heading) × (seen ≡ insert_key nat_cmp before heading.sequence)
+    (old.blocks + 1 + data_count heading.entries ≤ reported.blocks) × (heading_fault before heading ≡ None)
+    × (new ≡ with_heading old heading) × (seen ≡ insert_key nat_cmp before heading.sequence)
 MeetsHeader zone reported old before heading (Ok (Some is_torn)) new seen =
-    (reported.blocks < old.blocks + 1 + data_count heading.entries) × (is_full (usage_of reported.state) ≡ false) × (is_torn ≡ true) × (new ≡ old) × (seen ≡ before)
+    (reported.blocks < old.blocks + 1 + data_count heading.entries) × (is_full (usage_of reported.state) ≡ false)
+    × (is_torn ≡ true) × (new ≡ old) × (seen ≡ before)
 MeetsHeader zone reported old before heading (Err fault) new seen =
     (fault ≡ OutOfMemory) ⊎ ((old.blocks + 1 + data_count heading.entries ≤ reported.blocks) × (heading_fault before heading ≡ Some fault))
     ⊎ ((reported.blocks < old.blocks + 1 + data_count heading.entries) × (is_full (usage_of reported.state) ≡ true) × (fault ≡ Log zone old.blocks Torn))

@@ -10,7 +10,8 @@ use Rattle.drive_array.specs.Reserve.{FitsReserve}
 use Rattle.drive_array.specs.Sizes.{encoded_size, larger}
 use Rattle.drive_array.specs.ZoneLogs.{HasLog, zone_logs}
 use Rattle.drive_survey.specs.declared.fault.MountFault.{MountFault}
-use Rattle.drive_survey.specs.declared.fault.MountFault.TheVariants.{Reserve, Limits, ZoneUnusable, BlockOutOfRange, TooManyPartial, NoSpare, Halted, OutOfMemory, TornZone}
+use Rattle.drive_survey.specs.declared.fault.MountFault.TheVariants.{Reserve, Limits, ZoneUnusable, BlockOutOfRange, TooManyPartial}
+use Rattle.drive_survey.specs.declared.fault.MountFault.TheVariants.{NoSpare, Halted, OutOfMemory, TornZone}
 use Rattle.drive_survey.specs.declared.reported.ReportedZone.{ReportedZone}
 use Rattle.drive_survey.specs.declared.scan.ScannedZone.{ScannedZone}
 use Rattle.drive_survey.specs.declared.survey.Survey.{Survey}
@@ -31,7 +32,8 @@ pub record MayAsk (drive : DriveState) (n : ℕ) : Type 0 where
   pub geometry : IsInRange drive.geometry
   pub reserve : FitsReserve drive.geometry n
 
--- The headers of a drive are read, as n logical blocks where no header says how many: the geometry and n are in range, no zone is Read Only or Offline, and at most two are partly written.
+-- The headers of a drive are read, as n logical blocks where no header says how many: the geometry and n are in range,
+-- no zone is Read Only or Offline, and at most two are partly written.
 pub record CanScan (drive : DriveState) (n : ℕ) : Type 0 where
   pub geometry : IsInRange drive.geometry
   pub reserve : FitsReserve drive.geometry n
@@ -56,9 +58,11 @@ abbrev pub SurveyFails : DriveState → ℕ → MountFault → Type 0
 SurveyFails drive n Limits = IsInRange drive.geometry → ⊥
 SurveyFails drive n Reserve =
     IsInRange drive.geometry
-    × ((FitsReserve drive.geometry n → ⊥) ⊎ (CanScan drive n × HoldLogs drive.geometry (contents drive.zones) × (FitsReserve drive.geometry (drive_size drive n) → ⊥)))
+    × ((FitsReserve drive.geometry n → ⊥)
+    ⊎ (CanScan drive n × HoldLogs drive.geometry (contents drive.zones) × (FitsReserve drive.geometry (drive_size drive n) → ⊥)))
 SurveyFails drive n (ZoneUnusable zone) = IsInRange drive.geometry × FitsReserve drive.geometry n × IsLowestUnusable (contents drive.zones) zone
-SurveyFails drive n TooManyPartial = IsInRange drive.geometry × FitsReserve drive.geometry n × AreUsable (contents drive.zones) × (2 < count_by is_partly_written (contents drive.zones))
+SurveyFails drive n TooManyPartial = IsInRange drive.geometry × FitsReserve drive.geometry n × AreUsable (contents drive.zones)
+    × (2 < count_by is_partly_written (contents drive.zones))
 SurveyFails drive n BlockOutOfRange =
     CanScan drive n × HoldLogs drive.geometry (contents drive.zones) × FitsReserve drive.geometry (drive_size drive n) × (AreInside drive n → ⊥)
 SurveyFails drive n NoSpare = ⊥

@@ -21,7 +21,8 @@ impl Model for LiveIndex {
 
     ghost view = { λ i. i.counts.items };
 
-    ghost invariant = { λ i. IsOrdered i.counts.items i.order.zones.items × AreInverse i.order.zones.items i.order.positions.items };
+    ghost invariant = { λ i. IsOrdered i.counts.items i.order.zones.items
+        × AreInverse i.order.zones.items i.order.positions.items };
 }
 
 impl LiveIndex {

@@ -46,8 +46,10 @@ impl Order {
         requires inverse { AreInverse self.old.zones.items self.old.positions.items }
         requires zone { zone < length self.old.positions.items }
         requires position { position < length self.old.zones.items }
-        ensures zones { self.new.zones.items ≡ swap self.old.zones.items (slice_index self.old.positions.items zone) position }
-        ensures positions { self.new.positions.items ≡ swap self.old.positions.items zone (slice_index self.old.zones.items position) }
+        ensures zones { self.new.zones.items
+            ≡ swap self.old.zones.items (slice_index self.old.positions.items zone) position }
+        ensures positions { self.new.positions.items
+            ≡ swap self.old.positions.items zone (slice_index self.old.zones.items position) }
     {
         let other = self.zones[position];
         if other == zone {

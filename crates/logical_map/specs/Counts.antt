@@ -15,7 +15,8 @@ abbrev pub raised : Option ℕ → List ℕ → List ℕ
 raised None counts = counts
 raised (Some zone) counts = slice_set counts zone (slice_index counts zone + 1)
 
--- Blocks past the end have no place, and each zone's count is that of the blocks that lie in it. Once a page is there, each zone has a count; a count that is missing is 0.
+-- Blocks past the end have no place, and each zone's count is that of the blocks that lie in it. Once a page is there,
+-- each zone has a count; a count that is missing is 0.
 pub record IsKept (page : ℕ → Option (List Place)) (n zones zone_size : ℕ) (counts : List ℕ) : Type 0 where
   pub past : HasNoneFrom page n
   pub counted : (zone : ℕ) → zone < zones → slice_index counts zone ≡ count_by (lies_in zone_size zone) (paged_places page n)

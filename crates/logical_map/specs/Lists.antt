@@ -55,7 +55,8 @@ pub record Shortens (page : ℕ → Option (List Place)) (zone_size : ℕ) (old 
 
 -- while the list of a zone is whole, it has each block that lies there
 abbrev pub AreListed : (ℕ → Option (List Place)) → ℕ → List ListView → Type 0
-AreListed page zone_size lists = (zone block : ℕ) → (listed lists zone).whole ≡ true → lies_in zone_size zone (place_in page block) ≡ true → Contains (listed lists zone).blocks block
+AreListed page zone_size lists = (zone block : ℕ) → (listed lists zone).whole ≡ true
+    → lies_in zone_size zone (place_in page block) ≡ true → Contains (listed lists zone).blocks block
 
 -- of the blocks from one position to before another, none lies in a zone
 abbrev pub NoneLies : (ℕ → Option (List Place)) → ℕ → ℕ → List ℕ → ℕ → ℕ → Type 0

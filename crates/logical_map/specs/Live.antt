@@ -1,5 +1,6 @@
 -- Which blocks lie in a zone.
-use Rattle.std.specs.Prelude.{ℕ, ◌+◌, ◌/◌, ◌==◌, if◌then◌else◌, Bool, false, nat_lt, List, [], ◌∷◌, drop, count_by, slice_get, slice_index_or, Option, Some, None}
+use Rattle.std.specs.Prelude.{ℕ, ◌+◌, ◌/◌, ◌==◌, if◌then◌else◌, Bool, false, nat_lt, List, [], ◌∷◌}
+use Rattle.std.specs.Prelude.{drop, count_by, slice_get, slice_index_or, Option, Some, None}
 use Rattle.std.specs.Option.{option_map}
 use Rattle.logical_map.specs.declared.place.Place.{Place}
 use Rattle.logical_map.specs.declared.place.Place.TheVariants as places

@@ -1,6 +1,7 @@
 ghost use Rattle.std.specs.Prelude.{◌≡◌, ◌≤◌, OnOk, length, true, if◌then◌else◌};
 ghost use Rattle.std.specs.List.Sorted.{IsNonDecreasing};
-ghost use Rattle.logical_map.specs.Lists.{NotesMove, IsFirstFrom, KeepsListed, KeepsThere, Notes, Shortens, fresh_list, listed, missing};
+ghost use Rattle.logical_map.specs.Lists.{NotesMove, IsFirstFrom, KeepsListed, KeepsThere};
+ghost use Rattle.logical_map.specs.Lists.{Notes, Shortens, fresh_list, listed, missing};
 ghost use Rattle.logical_map.specs.Pages.{page_of};
 
 use crate::pages::{Pages, word_at};
@@ -119,7 +120,8 @@ impl ZoneList {
     /// no memory.
     pub fn tidy(&mut self, pages: &Pages, zone_size: u32, zone: u64)
         ensures whole { self.new.whole ≡ self.old.whole }
-        ensures kept { KeepsThere (page_of pages.now.items) zone_size zone self.old.blocks self.new.blocks }
+        ensures kept { KeepsThere
+            (page_of pages.now.items) zone_size zone self.old.blocks self.new.blocks }
     {
         let words = ZoneWords::of(zone_size, zone);
         self.sorted = false;
@@ -189,8 +191,8 @@ pub fn note(lists: &mut Vec<ZoneList>, was: Option<u64>, zone: Option<u64>, bloc
     lists[zone as usize].note(block);
 }
 
-/// Tidies the list of a zone that a block was moved out of, where it is longer than the zone and has more than twice the
-/// blocks that lie there.
+/// Tidies the list of a zone that a block was moved out of, where it is longer than the zone and has more than twice
+/// the blocks that lie there.
 pub fn shorten(
     lists: &mut Vec<ZoneList>,
     pages: &Pages,

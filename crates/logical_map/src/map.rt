@@ -1,4 +1,5 @@
-ghost use Rattle.std.specs.Prelude.{◌≡◌, ◌≢◌, ◌<◌, ◌≤◌, ◌+◌, ◌/◌, ◌^◌, length, map, slice_get, slice_index, slice_index_or, slice_set, replicate, false, IfSome, OnOk, OnErr};
+ghost use Rattle.std.specs.Prelude.{◌≡◌, ◌≢◌, ◌<◌, ◌≤◌, ◌+◌, ◌/◌, ◌^◌, length, map, slice_get, slice_index};
+ghost use Rattle.std.specs.Prelude.{slice_index_or, slice_set, replicate, false, IfSome, OnOk, OnErr};
 ghost use Rattle.logical_map.specs.Counts.{lowered, raised};
 ghost use Rattle.logical_map.specs.Lists.{FindsBlock, FindsThere, NoneLies};
 ghost use Rattle.logical_map.specs.Live.{first_record, lies_in, live, records_of, zone_below, zone_in, zone_of};
@@ -59,9 +60,15 @@ impl Model for Map {
 
     ghost Value = { MapView };
 
-    ghost view = { λ m. record { places = paged_places (page_of m.pages.items) m.count; ready = ready (page_of m.pages.items) m.count; zones = m.zones; zone_size = m.zone_size } };
+    ghost view = { λ m. record {
+      places = paged_places (page_of m.pages.items) m.count;
+      ready = ready (page_of m.pages.items) m.count;
+      zones = m.zones;
+      zone_size = m.zone_size;
+    } };
 
-    ghost invariant = { λ m. IsKept (page_of m.pages.items) m.count m.zones m.zone_size m.counts.items × AreListed (page_of m.pages.items) m.zone_size m.lists.items };
+    ghost invariant = { λ m. IsKept (page_of m.pages.items) m.count m.zones m.zone_size
+        m.counts.items × AreListed (page_of m.pages.items) m.zone_size m.lists.items };
 }
 
 impl Map {
@@ -145,8 +152,10 @@ impl Map {
         requires in_range { block < length self.old.places }
         requires ready { IsReady self.old block }
         requires fits { place_address place + 1 < 2 ^ 63 }
-        ensures set { self.new ≡ record self.old { places = slice_set self.old.places block place } }
-        ensures from { result.from ≡ zone_in self.old (slice_index_or self.old.places block places.None) }
+        ensures set { self.new ≡
+            record self.old { places = slice_set self.old.places block place } }
+        ensures from { result.from
+            ≡ zone_in self.old (slice_index_or self.old.places block places.None) }
         ensures to { result.to ≡ zone_in self.old place }
     {
         let Some(old) = change(&mut self.pages, block, place) else {
@@ -222,7 +231,8 @@ const RUN: usize = 32;
 /// places, whatever it finds, so that the processor fetches them together.
 fn any_there(pages: &Pages, words: &ZoneWords, blocks: &[u32], first: usize, end: usize) -> bool
     requires { end ≤ length blocks.now }
-    ensures { result ≡ false → NoneLies (page_of pages.now.items) words.now.zone_size words.now.zone blocks.now first end }
+    ensures { result ≡ false → NoneLies
+        (page_of pages.now.items) words.now.zone_size words.now.zone blocks.now first end }
 {
     let mut any = false;
     for position in first..end {
@@ -231,10 +241,11 @@ fn any_there(pages: &Pages, words: &ZoneWords, blocks: &[u32], first: usize, end
     any
 }
 
-/// The position of the first of some blocks, from a position on, that lies in the zone of these words. Where a run begins,
-/// it is passed over if none of its blocks lies there.
+/// The position of the first of some blocks, from a position on, that lies in the zone of these words. Where a run
+/// begins, it is passed over if none of its blocks lies there.
 fn first_listed(pages: &Pages, words: &ZoneWords, blocks: &[u32], first: usize) -> Option<usize>
-    ensures { FindsThere (page_of pages.now.items) words.now.zone_size words.now.zone blocks.now first result }
+    ensures { FindsThere
+        (page_of pages.now.items) words.now.zone_size words.now.zone blocks.now first result }
 {
     let mut position = first;
     while position < blocks.len() {
@@ -252,7 +263,8 @@ fn first_listed(pages: &Pages, words: &ZoneWords, blocks: &[u32], first: usize) 
 
 /// The first block from `from` to before `count` that lies in the zone of these words.
 fn first_placed(pages: &Pages, words: &ZoneWords, from: u32, count: u32) -> Option<u32>
-    ensures { FindsBlock (page_of pages.now.items) words.now.zone_size words.now.zone from count result }
+    ensures { FindsBlock
+        (page_of pages.now.items) words.now.zone_size words.now.zone from count result }
 {
     for block in from..count {
         if words.hold(word_at(pages, block)) {

@@ -1,4 +1,5 @@
-ghost use Rattle.std.specs.Prelude.{◌≡◌, ◌≤◌, ◌<◌, ◌+◌, ◌/◌, ◌^◌, length, map, slice_index_or, slice_set, is_some, OnOk, OnErr};
+ghost use Rattle.std.specs.Prelude.{◌≡◌, ◌≤◌, ◌<◌, ◌+◌, ◌/◌, ◌^◌, length, map, slice_index_or};
+ghost use Rattle.std.specs.Prelude.{slice_set, is_some, OnOk, OnErr};
 ghost use Rattle.logical_map.specs.Live.{zone_of};
 ghost use Rattle.logical_map.specs.Pages.{Changes, MakesPage, page_of, place_in, place_of};
 ghost use Rattle.logical_map.specs.Places.{place_address};
@@ -60,7 +61,8 @@ fn widen(pages: &mut Pages, count: usize) -> Result<(), AllocError>
 
 /// Makes a page in which no block has a place. Where an allocation fails, nothing changes.
 pub fn make_page(alloc: Global, pages: &mut Pages, number: u32) -> Result<(), AllocError>
-    ensures ok { OnOk result (MakesPage (page_of pages.old.items) number (page_of pages.new.items)) }
+    ensures ok { OnOk result
+        (MakesPage (page_of pages.old.items) number (page_of pages.new.items)) }
     ensures err { OnErr result (pages.new.items ≡ pages.old.items) }
 {
     let page = Box::new(alloc, [0; 256])?;

@@ -25,7 +25,8 @@ impl Model for ZoneWords {
     ghost invariant = { λ w. AreWordsOf w.zone_size w.zone w.first w.count };
 }
 
-/// The first of the words of a zone, and how many there are. A zone that has no addresses takes all, if it is the first.
+/// The first of the words of a zone, and how many there are. A zone that has no addresses takes all, if it is the
+/// first.
 fn words_of(zone_size: u32, zone: u64) -> (u64, u64)
     ensures { AreWordsOf zone_size zone result.0 result.1 }
 {

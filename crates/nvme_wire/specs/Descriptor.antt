@@ -52,7 +52,8 @@ pub record IsDescriptor (d : Descriptor) : Type 0 where
 -- the encoding: type 2h (sequential write required), the state in bits 7:4 of byte 1, no attributes
 abbrev pub descriptor_bytes : Descriptor → List ℕ
 descriptor_bytes d =
-    2 ∷ 16 * state_code d.state ∷ replicate 6 0 ++ little_bytes 8 d.capacity ++ little_bytes 8 d.start ++ little_bytes 8 (pointer_word d.pointer) ++ replicate 32 0
+    2 ∷ 16 * state_code d.state ∷ replicate 6 0
+    ++ little_bytes 8 d.capacity ++ little_bytes 8 d.start ++ little_bytes 8 (pointer_word d.pointer) ++ replicate 32 0
 
 -- the encoding of a report's head: the number of zones
 abbrev pub report_head_bytes : ReportHead → List ℕ

@@ -1,5 +1,6 @@
 -- The 64 bytes of a submission queue entry (Base Specification 2.0, section 3.3.3.1), for the six commands of this profile.
-use Rattle.std.specs.Prelude.{◌≡◌, ℕ, ◌+◌, ◌-◌, ◌<◌, ◌≤◌, ◌^◌, ◌%◌, ◌==◌, nat_lt, if◌then◌else◌, Bool, true, false, List, [], ◌∷◌, ◌++◌, replicate, slice_index, Option, Some, None, Result, Ok, Err}
+use Rattle.std.specs.Prelude.{◌≡◌, ℕ, ◌+◌, ◌-◌, ◌<◌, ◌≤◌, ◌^◌, ◌%◌, ◌==◌, nat_lt, if◌then◌else◌, Bool, true, false}
+use Rattle.std.specs.Prelude.{List, [], ◌∷◌, ◌++◌, replicate, slice_index, Option, Some, None, Result, Ok, Err}
 use Rattle.byteorder.specs.Endian.{little_from, little_bytes}
 use Rattle.nvme_wire.specs.declared.zone_state.ZoneState.TheVariants as states
 use Rattle.nvme_wire.specs.declared.command.Action.{Action}
@@ -80,7 +81,8 @@ bit false = 0
 
 -- ---- encoding
 
--- An entry from its opcode, its identifier, its address, and dwords 12 and 13 as four bytes each. The namespace is 1; byte 1 (fused operation, data pointer kind) and all bytes that no field of this profile fills are zero.
+-- An entry from its opcode, its identifier, its address, and dwords 12 and 13 as four bytes each. The namespace is 1;
+-- byte 1 (fused operation, data pointer kind) and all bytes that no field of this profile fills are zero.
 abbrev pub entry_with : Opcode → ℕ → ℕ → List ℕ → List ℕ → List ℕ
 entry_with opcode id address dword12 dword13 =
     opcode_code opcode ∷ 0 ∷ little_bytes 2 id ++ little_bytes 4 1 ++ replicate 32 0 ++ little_bytes 8 address ++ dword12 ++ dword13 ++ replicate 8 0
@@ -99,7 +101,8 @@ entry_bytes (Read slba blocks) id = entry_with opcodes.Read id slba (block_numbe
 entry_bytes (Write slba blocks) id = entry_with opcodes.Write id slba (block_number blocks) none
 entry_bytes (Append zslba blocks) id = entry_with opcodes.Append id zslba (block_number blocks) none
 entry_bytes (Send slba action all) id = entry_with opcodes.Send id slba none (action_code action ∷ bit all ∷ replicate 2 0)
-entry_bytes (Receive slba dwords options partial) id = entry_with opcodes.Receive id slba (little_bytes 4 (dwords - 1)) (0 ∷ options_code options ∷ bit partial ∷ 0 ∷ [])
+entry_bytes (Receive slba dwords options partial) id =
+    entry_with opcodes.Receive id slba (little_bytes 4 (dwords - 1)) (0 ∷ options_code options ∷ bit partial ∷ 0 ∷ [])
 
 -- the commands that fit in an entry and that the profile admits
 abbrev pub IsAdmitted : Command → Type 0

@@ -1,7 +1,10 @@
--- The status word of a completion: status code and status code type in bits 31:16 of dword 3, whose bit 16, the phase tag, is 0 here (Base Specification 2.0, sections 3.3.3.2 and 3.3.3.2.1).
+-- The status word of a completion: status code and status code type in bits 31:16 of dword 3, whose bit 16, the phase
+-- tag, is 0 here (Base Specification 2.0, sections 3.3.3.2 and 3.3.3.2.1).
 use Rattle.std.specs.Prelude.{ℕ, ◌==◌, if◌then◌else◌, Option, Some, None}
 use Rattle.nvme_wire.specs.declared.status.Status.{Status}
-use Rattle.nvme_wire.specs.declared.status.Status.TheVariants.{Success, InvalidCommandOpcode, InvalidField, InvalidNamespace, LbaOutOfRange, ZoneBoundaryError, ZoneIsFull, ZoneIsReadOnly, ZoneIsOffline, ZoneInvalidWrite, TooManyActiveZones, TooManyOpenZones, InvalidZoneStateTransition}
+use Rattle.nvme_wire.specs.declared.status.Status.TheVariants.{Success, InvalidCommandOpcode, InvalidField, InvalidNamespace, LbaOutOfRange}
+use Rattle.nvme_wire.specs.declared.status.Status.TheVariants.{ZoneBoundaryError, ZoneIsFull, ZoneIsReadOnly, ZoneIsOffline, ZoneInvalidWrite}
+use Rattle.nvme_wire.specs.declared.status.Status.TheVariants.{TooManyActiveZones, TooManyOpenZones, InvalidZoneStateTransition}
 
 abbrev pub status_code : Status → ℕ
 status_code Success = 0

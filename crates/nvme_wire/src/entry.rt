@@ -1,5 +1,6 @@
 ghost use Rattle.std.specs.Prelude.{◌≡◌, ◌≤◌, ◌^◌, true, Some, Ok, IfOk};
-ghost use Rattle.nvme_wire.specs.Entry.{IsAdmitted, address_of, block_number, blocks_field, decode_of, decoded, dwords_of, entry_bytes, entry_with, id_of, namespace_of, none};
+ghost use Rattle.nvme_wire.specs.Entry.{IsAdmitted, address_of, block_number, blocks_field, decode_of, decoded};
+ghost use Rattle.nvme_wire.specs.Entry.{dwords_of, entry_bytes, entry_with, id_of, namespace_of, none};
 
 use crate::command::{Action, Command, DecodeFault, Opcode, ReportingOptions};
 use crate::number::u64_at;

@@ -10,16 +10,15 @@ use Rattle.zone_states.specs.Zone.{IsLawfulZone}
 use Rattle.drive_port.specs.Contents.{Content, content_at, content_of, contents, empty, emptied, nothing, usage_of}
 use Rattle.drive_port.specs.Drive.{DriveState, IsLawful}
 use Rattle.drive_port.specs.Step.{nowhere, zone_at}
+use Rattle.drive_port.proofs.ClosingLaws.{content_at-contents}
 use Rattle.batch_log.specs.Log.{Batch}
 use Rattle.zone_choice.specs.Agreement.{IsShut}
 use Rattle.drive_array.specs.ZoneLogs.{drive_logs, has_torn_tail, log_at, zone_log, zone_tails}
 use Rattle.drive_array.specs.Mountable.{IsMountable, is_partly_written}
 use Rattle.drive_array.specs.Spare.{IsHalfClean, IsVacant, NoneBelow}
 use Rattle.zone_choice.specs.Tables.{TablesView}
-use Rattle.zone_choice.proofs.AgreementLaws.{zone_log-emptied}
 use Rattle.drive_array.proofs.AllLaws.{all-at}
-use Rattle.zone_choice.proofs.CommandLaws.{content-zone}
-use Rattle.drive_array.proofs.RepairingMounts.{repair_begins}
+use Rattle.drive_array.proofs.RepairingMounts.{repair_begins, emptied-nothing}
 use Rattle.drive_array.proofs.ZoneLogLaws.{tail-at}
 use Rattle.remount.specs.declared.repair.moves.MovePlan.{MovePlan}
 use Rattle.remount.specs.declared.repair.Repair.{Repair}
@@ -53,7 +52,7 @@ pub reported-emptied : (drive : DriveState) (reported : List ReportedZone) (zone
 reported-emptied drive reported zone r known is state =
     let k = known.each zone r is in
     let z = zone_at drive.zones zone in
-    let content = content-zone drive.zones zone in
+    let content = content_at-contents drive.zones zone in
     let lawful : IsLawfulZone drive.geometry z = all-at (IsLawfulZone drive.geometry) drive.zones zone nowhere known.lawful.zones k.in_range in
     let usage : usage_of z.state ≡ empty = sym (ap (λ (c : Content). c.usage) content) ∙ k.usage ∙ ap usage_of state in
     content ∙ empty-content drive.geometry z.state z.blocks lawful usage
@@ -99,7 +98,7 @@ begins n drive survey torn into mountable none_left known vacant only settled th
       count = refl;
       repair = repair_begins g n torn into zones known.zones.lawful.geometry.block mountable.holds (λ zone below half. none_left zone (omega (arith, below, length-map drive.zones content_of)) half) (λ zone ne. settled-alone drive torn zone settled ne)
           (λ zone tail. tails-only drive survey.zones.items torn zone known.zones vacant only tail) only.torn.batch (omega (arith, lt, length-map drive.zones content_of)) there;
-      log = ap (zone_log g) there ∙ zone_log-emptied g;
+      log = ap (zone_log g) there ∙ emptied-nothing g;
       written = ap (λ (c : Content). length c.blocks) there;
       usage = ap (λ (c : Content). c.usage) there;
       whole = ap has_torn_tail there ∙ untorn-emptied;

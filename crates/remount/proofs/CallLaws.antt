@@ -17,13 +17,14 @@ use Rattle.drive_port.specs.Drive.{DriveState, IsLawful}
 use Rattle.drive_port.specs.Step.{nowhere, zone_at}
 use Rattle.drive_port.specs.declared.calls.PortFault.{PortFault}
 use Rattle.drive_port.specs.declared.calls.PortFault.TheVariants as port
+use Rattle.drive_port.proofs.ClosingLaws.{content_at-contents}
 use Rattle.batch_log.specs.Log.{zero_block}
 use Rattle.zone_choice.specs.Agreement.{IsShut}
 use Rattle.drive_array.specs.ZoneLogs.{HasLog, drive_logs, has_torn_tail, log_at, readable, spelled, spelled_array, zone_tails}
 use Rattle.zone_choice.specs.Changes.{IsHalt}
 use Rattle.zone_choice.proofs.AgreementLaws.{spelled_same}
 use Rattle.drive_array.proofs.AllLaws.{all-at}
-use Rattle.zone_choice.proofs.CommandLaws.{content-zone, start-below, zone-few, zone-start}
+use Rattle.zone_choice.proofs.CommandLaws.{start-below, zone-few, zone-start}
 use Rattle.drive_array.proofs.MountLaws.{finish_mounts}
 use Rattle.zone_choice.proofs.OpenLaws.{close-opens, closing-opens, settled-shut}
 use Rattle.drive_array.proofs.ZoneLogLaws.{finish_logs, tail-at}
@@ -167,7 +168,7 @@ pub can-reset : (drive : DriveState) (zone start : ℕ) → StartsAt drive zone 
 can-reset drive zone start at usable = record {
   aligned = at.aligned;
   in_range = at.below;
-  usable = rw (at.index, ← ap (λ (c : Content). c.usage) (content-zone drive.zones zone)) usable;
+  usable = rw (at.index, ← ap (λ (c : Content). c.usage) (content_at-contents drive.zones zone)) usable;
 }
 
 pub active-writable : (content : Content) → is_active_usage content.usage ≡ true → (is_writable content.usage ≡ true) × (is_usable content.usage ≡ true)
@@ -368,7 +369,7 @@ pub record CanSendClose (drive : DriveState) (zone start : ℕ) : Type 0 where
 pub can-close : (drive : DriveState) (zone start : ℕ) (reported : ReportedZone) → IsKnown drive zone reported → is_open reported.state ≡ true → start ≡ zone * drive.geometry.size → CanSendClose drive zone start
 can-close drive zone start reported known opened is =
     let at = starts-at drive zone start known.geometry known.lawful known.in_range is in
-    let content = content-zone drive.zones zone in
+    let content = content_at-contents drive.zones zone in
     let usage : usage_of (zone_at drive.zones zone).state ≡ usage_of reported.state = sym (ap (λ (c : Content). c.usage) content) ∙ known.usage in
     record {
       at = at;

@@ -1,7 +1,7 @@
 -- Where the newest records of blocks lie, and what is said there.
 use Rattle.std.proofs.Common.{◌≡◌, inl, inr, ℕ, suc, ◌+◌, ◌-◌, ◌*◌, ◌/◌, ◌<◌, ◌≤◌, Bool, true, false, cond, eqb, ◌&&◌, List, [], ◌∷◌, map, length, get_or, Option, Some, None, is_some, refl, sym, ap, subst, ◌∙◌, arith}
 use Rattle.std.specs.List.{AllByRecursion, count_by, flat_map, range_with_len}
-use Rattle.std.proofs.lemmas.Bool.{cases_lt, eq-eqb, eqb-true}
+use Rattle.std.proofs.lemmas.Bool.{cases_lt, eq-eqb, eqb-true, and_parts}
 use Rattle.std.proofs.lemmas.List.{get_or_default, get_or_past, length-append, length-map}
 use Rattle.std.proofs.lemmas.List.FromFn.{get_or-map-range_with_len, length-range_with_len}
 use Rattle.std.proofs.lemmas.List.Sums.{sum_by-cons}
@@ -24,6 +24,7 @@ use Rattle.drive_array.specs.Repairing.{LiesIn}
 use Rattle.drive_array.specs.Sizes.{encoded_size, map_of}
 use Rattle.drive_array.proofs.AllLaws.{all-append, all-at, all-weaker}
 use Rattle.drive_array.proofs.NewestLaws.{all-among, newest-is}
+use Rattle.drive_array.proofs.OffsetLaws.{log-below, records-below}
 use Rattle.zone_choice.proofs.ReadLaws.{StandsOn, records_stand}
 use Rattle.drive_survey.specs.declared.reported.ReportedZone.{ReportedZone}
 use Rattle.drive_survey.specs.declared.survey.Survey.{Survey}
@@ -35,31 +36,11 @@ use Rattle.remount.proofs.OrderedLaws.{total}
 
 -- ---- records lie within their zone
 
-entries-below : (limit sequence zone header k : ℕ) (body : List (List ℕ)) (es : List Entry) → header + 1 + k + data_count es ≤ limit → AllByRecursion (λ (r : Record). r.offset < limit) (entry_records sequence body zone header k es)
-entries-below limit sequence zone header k body [] le = tt
-entries-below limit sequence zone header k body (e ∷ es) le = (one e.trim le, entries-below limit sequence zone header (k + one_unless e.trim) body es (omega (arith, le)))
-  where
-    one : (t : Bool) → header + 1 + k + (one_unless t + data_count es) ≤ limit → entry_offset t header k < limit
-    one true le = omega (arith, le)
-    one false le = omega (arith, le)
-
-log-below : (limit zone offset : ℕ) (log : List Batch) → offset + log_size log ≤ limit → AllByRecursion (λ (r : Record). r.offset < limit) (log_records zone offset log)
-log-below limit zone offset [] le = tt
-log-below limit zone offset (b ∷ bs) le =
-    all-append (λ (r : Record). r.offset < limit) (batch_records zone offset b) (log_records zone (offset + batch_size b) bs)
-    (entries-below limit b.heading.sequence zone offset 0 b.body b.heading.entries (omega (arith, le)))
-    (log-below limit zone (offset + batch_size b) bs (omega (arith, le)))
-
-records-below : (limit first : ℕ) (logs : List (List Batch)) → ((zone : ℕ) → log_size (log_at logs zone) ≤ limit) → AllByRecursion (λ (r : Record). r.offset < limit) (records first logs)
-records-below limit first [] few = tt
-records-below limit first (log ∷ logs) few =
-    all-append (λ (r : Record). r.offset < limit) (log_records first 0 log) (records (suc first) logs) (log-below limit first 0 log (omega (arith, few 0))) (records-below limit (suc first) logs (λ zone. few (suc zone)))
-
 abbrev none_reported : ReportedZone
 none_reported = record { state = states.Empty; blocks = 0 }
 
 -- a log takes no more than its zone's capacity
-drive-few : (drive : DriveState) (n : ℕ) (logs : List (List Batch)) (survey : Survey) (zone : ℕ) → Knows drive n logs survey → zone < length drive.zones → log_size (log_at (drive_logs drive) zone) ≤ drive.geometry.capacity
+pub drive-few : (drive : DriveState) (n : ℕ) (logs : List (List Batch)) (survey : Survey) (zone : ℕ) → Knows drive n logs survey → zone < length drive.zones → log_size (log_at (drive_logs drive) zone) ≤ drive.geometry.capacity
 unfolding zone_log
 drive-few drive n logs survey zone known lt =
     let g = drive.geometry in
@@ -72,7 +53,8 @@ drive-few drive n logs survey zone known lt =
     let total : length (readable g content) ≡ log_size (zone_log g content) + length has.tail = ap length has.front.spelled ∙ omega (arith, length-append (flat_map (batch_blocks g.block) (zone_log g content)) has.tail, spelled_length g.block (zone_log g content) has.front.batches) in
     omega (arith, total, few, one.blocks, ap log_size same)
 
-known-below : (drive : DriveState) (n : ℕ) (logs : List (List Batch)) (survey : Survey) → Knows drive n logs survey → AllByRecursion (λ (r : Record). r.offset < drive.geometry.size) (records 0 logs)
+-- the records that are known lie within their zones
+pub known-below : (drive : DriveState) (n : ℕ) (logs : List (List Batch)) (survey : Survey) → Knows drive n logs survey → AllByRecursion (λ (r : Record). r.offset < drive.geometry.size) (records 0 logs)
 known-below drive n logs survey known =
     all-weaker (λ (r : Record). r.offset < drive.geometry.capacity) (λ (r : Record). r.offset < drive.geometry.size) (records 0 logs) (λ r lt. omega (arith, lt, known.zones.geometry.capacity)) (records-below drive.geometry.capacity 0 logs few)
   where
@@ -87,15 +69,18 @@ known-below drive n logs survey known =
 
 -- ---- live records, by their places
 
-abbrev Within : ℕ → Option Record → Type 0
+-- a record, if there is one, lies within its zone
+abbrev pub Within : ℕ → Option Record → Type 0
 Within size None = Unit {0}
 Within size (Some r) = r.offset < size
 
-newest-within : (size block : ℕ) (rs : List Record) (o : Option Record) → AllByRecursion (λ (r : Record). r.offset < size) rs → IsNewest rs block o → Within size o
+-- so does the newest one
+pub newest-within : (size block : ℕ) (rs : List Record) (o : Option Record) → AllByRecursion (λ (r : Record). r.offset < size) rs → IsNewest rs block o → Within size o
 newest-within size block rs None all is = tt
 newest-within size block rs (Some r) all is = all-among (λ (x : Record). x.offset < size) rs r all is.1.among
 
-lies-kept : (size zone : ℕ) (o : Option Record) → Within size o → lies_in size zone (place size o) ≡ kept_in is_any zone o
+-- by its place it lies in the zone where it is kept
+pub lies-kept : (size zone : ℕ) (o : Option Record) → Within size o → lies_in size zone (place size o) ≡ kept_in is_any zone o
 lies-kept size zone None within = refl
 lies-kept size zone (Some r) within = by (is_some r.content)
   where
@@ -185,13 +170,9 @@ place-at size n block logs lt = get_or-map-range_with_len (λ (l : ℕ). place s
 pub map-length : (size n : ℕ) (logs : List (List Batch)) → length (map_of size n logs) ≡ encoded_size n logs
 map-length size n logs = omega (arith, length-map (range_with_len 0 (encoded_size n logs)) (λ block. place size (newest block (records 0 logs))), length-range_with_len 0 (encoded_size n logs))
 
-both-and : (a b : Bool) → (a && b) ≡ true → (a ≡ true) × (b ≡ true)
-both-and true b e = (refl, e)
-both-and false b e = absurd (cc)
-
 kept-lies : (zone : ℕ) (o : Option Record) → kept_in is_any zone o ≡ true → LiesIn zone o
 kept-lies zone None e = absurd (cc)
-kept-lies zone (Some r) e = eqb-true r.zone zone (both-and (eqb r.zone zone) true e).0
+kept-lies zone (Some r) e = eqb-true r.zone zone (and_parts (eqb r.zone zone) true e).0
 
 lies-any : (zone : ℕ) (o : Option Record) → LiesIn zone o → kept_in is_any zone o ≡ true
 lies-any zone None is = absurd is

@@ -12,6 +12,7 @@ use Rattle.zone_states.specs.Zone.{IsLawfulZone}
 use Rattle.drive_port.specs.Contents.{Content, Usage, active, empty, full, unusable, content_at, content_of, contents, emptied, is_active_usage, is_full, is_usable, is_writable, nothing, usage_of}
 use Rattle.drive_port.specs.Drive.{DriveState, IsLawful}
 use Rattle.drive_port.specs.Step.{nowhere, zone_at}
+use Rattle.drive_port.proofs.ClosingLaws.{content_at-contents}
 use Rattle.batch_log.specs.Log.{Batch, batch_blocks, log_size}
 use Rattle.batch_log.proofs.LogLaws.{spelled_length}
 use Rattle.logical_map.specs.Places.{MapView}
@@ -27,7 +28,6 @@ use Rattle.drive_array.specs.Sizes.{encoded_size, map_of}
 use Rattle.zone_choice.specs.Tables.{TablesView}
 use Rattle.zone_choice.proofs.AgreementLaws.{tables_with}
 use Rattle.drive_array.proofs.AllLaws.{all-at}
-use Rattle.zone_choice.proofs.CommandLaws.{content-zone}
 use Rattle.drive_array.proofs.SizeLaws.{told-length}
 use Rattle.drive_array.proofs.ZoneLogLaws.{log_at-zone, readable-not_full, tail-at, whole-blocks, zone_log-read}
 use Rattle.drive_survey.specs.declared.reported.ReportedZone.{ReportedZone}
@@ -88,7 +88,7 @@ partly-same drive zone r known = by (usage_of r.state) refl
 -- a zone with an empty usage is as a Reset leaves it
 content-emptied : (drive : DriveState) (zone : ℕ) → IsLawful drive → zone < length drive.zones → (content_at (contents drive.zones) zone).usage ≡ empty → content_at (contents drive.zones) zone ≡ emptied
 content-emptied drive zone lawful lt is =
-    let here = content-zone drive.zones zone in
+    let here = content_at-contents drive.zones zone in
     let state : (zone_at drive.zones zone).state ≡ states.Empty = usage-empty (zone_at drive.zones zone).state (sym (ap (λ (c : Content). c.usage) here) ∙ is) in
     let one = all-at (IsLawfulZone drive.geometry) drive.zones zone nowhere lawful.zones lt in
     let none : length (zone_at drive.zones zone).blocks ≡ 0 = rw state at one.written in

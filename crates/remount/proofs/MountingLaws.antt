@@ -3,7 +3,7 @@ use Rattle.std.proofs.Common.{◌≡◌, ◌≢◌, ◌⊎◌, inl, inr, ℕ, ze
 use Rattle.std.specs.Prelude.{count_by, slice_get}
 use Rattle.std.specs.List.{AllByRecursion}
 use Rattle.std.specs.Option.{option_map}
-use Rattle.std.proofs.lemmas.Bool.{cases_lt, eq-eqb}
+use Rattle.std.proofs.lemmas.Bool.{cases_lt, eq-eqb, and_parts}
 use Rattle.std.proofs.lemmas.List.{get_or_past}
 use Rattle.std.proofs.lemmas.List.FromFn.{get_or-map-range_with_len, length-map-range_with_len}
 use Rattle.std.proofs.lemmas.List.Sums.{sum_by-cons}
@@ -18,16 +18,13 @@ use Rattle.drive_survey.specs.declared.reported.ReportedZone.{ReportedZone}
 use Rattle.remount.specs.Mount.{AreInOrder}
 use Rattle.remount.specs.Mounting.{FindsNext, FindsPartly, IsLowestPartly, empties, is_empty_reported, is_partly_at}
 use Rattle.drive_survey.specs.Survey.{is_partly_reported}
+use Rattle.drive_array.proofs.AllLaws.{count-cons}
 
 -- ---- states
 
-both : (a b : Bool) → (a && b) ≡ true → (a ≡ true) × (b ≡ true)
-both true b e = (refl, e)
-both false b e = absurd (cc)
-
 pub partly-active : (r : ReportedZone) → is_partly_reported r ≡ true → (is_active_usage (usage_of r.state) ≡ true) × (r.blocks ≢ 0)
 partly-active r partly =
-    let parts = both (is_active_usage (usage_of r.state)) (not (eqb r.blocks 0)) partly in
+    let parts = and_parts (is_active_usage (usage_of r.state)) (not (eqb r.blocks 0)) partly in
     (parts.0, λ none. (let same : not (eqb r.blocks 0) ≡ false = rw (eq-eqb r.blocks 0 none) refl in absurd (cc)))
 
 active-not_empty : (s : ZoneState) → is_active_usage (usage_of s) ≡ true → is_state s states.Empty ≡ false
@@ -105,9 +102,6 @@ order-mounted reported zones (Some h) None first second = tt
 order-mounted reported zones (Some h) (Some n) first second = omega (arith, second.after)
 
 -- ---- counts
-
-count-cons : {X : Type 0} (p : X → Bool) (x : X) (xs : List X) → count_by p (x ∷ xs) ≡ cond (p x) 1 0 + count_by p xs
-count-cons p x xs = sum_by-cons (λ y. cond {A = ℕ} (p y) 1 0) x xs
 
 count-here : {X : Type 0} (p : X → Bool) (x : X) (xs : List X) → p x ≡ true → count_by p (x ∷ xs) ≡ suc (count_by p xs)
 count-here p x xs is = let one : cond {A = ℕ} (p x) 1 0 ≡ 1 = rw is refl in omega (arith, count-cons p x xs, one)

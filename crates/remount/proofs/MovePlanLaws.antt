@@ -10,6 +10,7 @@ use Rattle.batch_log.specs.declared.header.Entry.{Entry}
 use Rattle.batch_log.specs.declared.header.Kind.TheVariants.{Host, Move}
 use Rattle.batch_log.specs.Header.{IsHeading, IsSize}
 use Rattle.batch_log.specs.Log.{Batch, IsBatch, batch_size, log_size}
+use Rattle.batch_log.proofs.LentLaws.{data-few}
 use Rattle.logical_map.specs.declared.place.Place.{Place}
 use Rattle.logical_map.specs.declared.place.Place.TheVariants as places
 use Rattle.drive_array.specs.Records.{Record, entry_records, newest, records}
@@ -17,7 +18,6 @@ use Rattle.drive_array.specs.Repairing.{IsCopyFrom, IsRepairMove, IsWithin}
 use Rattle.drive_array.specs.Sizes.{encoded_size, larger, log_greatest}
 use Rattle.drive_array.specs.ZoneLogs.{log_at, log_sequences, sequences}
 use Rattle.drive_array.proofs.AllLaws.{all-append, all-parts, all-weaker}
-use Rattle.zone_choice.proofs.BuilderLaws.{data_count-few}
 use Rattle.drive_array.proofs.AppendLaws.{log_size-append}
 use Rattle.remount.specs.declared.repair.moves.MovePlan.{MovePlan}
 use Rattle.drive_survey.specs.Heads.{HeadsView, heads_after, heads_of, no_heads, with_heading}
@@ -196,7 +196,7 @@ move-room geometry n k logs source plan can lt = omega (arith, can.room, size-mo
 
 pub move-few : (geometry : Geometry) (n k : ℕ) (logs : List (List Batch)) (source : Source) (plan : MovePlan) → IsInRange geometry → CanRepairBy geometry n logs source plan → batch_size (move_by source plan k) ≤ geometry.transfer
 move-few geometry n k logs source plan range can =
-    omega (arith, data_count-few (moved_entries source.places (named_by plan k)), length-map (named_by plan k) (λ b. placed_entry b (slice_index_or source.places b places.None)), few-named plan k, can.most, range.transfer)
+    omega (arith, data-few (moved_entries source.places (named_by plan k)), length-map (named_by plan k) (λ b. placed_entry b (slice_index_or source.places b places.None)), few-named plan k, can.most, range.transfer)
 
 -- ---- headers
 

@@ -12,6 +12,7 @@ use Rattle.drive_port.specs.Calls.{CanAppend}
 use Rattle.drive_port.specs.Contents.{Appends, Content, content_at, content_of, contents, filled, is_active_usage, is_writable, nothing, usage_of}
 use Rattle.drive_port.specs.Drive.{DriveState, IsLawful, active_count, open_count}
 use Rattle.drive_port.specs.Step.{nowhere, zone_at}
+use Rattle.drive_port.proofs.ClosingLaws.{content_at-contents}
 use Rattle.batch_log.specs.Header.{IsHeading}
 use Rattle.batch_log.specs.Log.{Batch, IsBatch, batch_blocks, batch_size, log_size}
 use Rattle.zone_choice.specs.declared.roles.Filling.{Filling}
@@ -21,7 +22,7 @@ use Rattle.zone_choice.specs.Roles.{is_at}
 use Rattle.drive_array.specs.Spare.{IsHalfClean}
 use Rattle.zone_choice.specs.Tables.{TablesView}
 use Rattle.drive_array.proofs.AllLaws.{all-at}
-use Rattle.zone_choice.proofs.CommandLaws.{content-zone, count-others, count-remove, inactive-shut}
+use Rattle.zone_choice.proofs.CommandLaws.{count-others, count-remove, inactive-shut}
 use Rattle.drive_array.proofs.CountLaws.{count-zero}
 use Rattle.drive_array.proofs.AppendLaws.{log_size-append}
 use Rattle.drive_array.proofs.RepairingEnds.{needed_stays}
@@ -120,7 +121,7 @@ inactive-state states.Offline h = refl
 
 other-inactive : (n : ℕ) (start now : DriveState) (torn into : ℕ) (made : List Batch) (zone : ℕ) → IsMoving n start now torn into made → zone ≢ torn → zone ≢ into → zone < length now.zones → is_active (zone_at now.zones zone).state ≡ false
 other-inactive n start now torn into made zone m ne other lt =
-    inactive-state (zone_at now.zones zone).state (ap (λ (c : Content). is_active_usage c.usage) (sym (content-zone now.zones zone) ∙ moving-other n start now torn into made zone m other) ∙ m.settled zone (omega (arith, lt, m.count)) ne)
+    inactive-state (zone_at now.zones zone).state (ap (λ (c : Content). is_active_usage c.usage) (sym (content_at-contents now.zones zone) ∙ moving-other n start now torn into made zone m other) ∙ m.settled zone (omega (arith, lt, m.count)) ne)
 
 abbrev two : ℕ → ℕ → List Filling
 two torn into = record { zone = torn; written = 0; may_open = false } ∷ record { zone = into; written = 0; may_open = false } ∷ []
@@ -173,7 +174,7 @@ moving-can : (n : ℕ) (start now : DriveState) (torn into count : ℕ) (made : 
 moving-can n start now torn into count made m some few room =
     let lt = into-in n start now torn into made m in
     let at = starts-at now into (into * now.geometry.size) (rw m.geometry m.range) m.lawful lt refl in
-    let content = content-zone now.zones into in
+    let content = content_at-contents now.zones into in
     let g = m.geometry in
     record {
       aligned = at.aligned;

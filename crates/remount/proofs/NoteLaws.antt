@@ -11,8 +11,8 @@ use Rattle.drive_port.specs.Contents.{Content, Usage, active, content_at, conten
 use Rattle.drive_port.specs.Drive.{DriveState}
 use Rattle.batch_log.specs.Log.{Batch, log_size, zero_block}
 use Rattle.drive_array.specs.ZoneLogs.{drive_logs, has_torn_tail, log_at, padding, readable, zone_log, zone_tails}
-use Rattle.zone_choice.proofs.AgreementLaws.{zone_log-emptied}
 use Rattle.drive_array.proofs.WholeLaws.{length-spelled}
+use Rattle.drive_array.proofs.RepairingMounts.{emptied-nothing}
 use Rattle.zone_choice.proofs.OpenLaws.{emptied-shut, settled-shut}
 use Rattle.remount.specs.declared.repair.moves.MovePlan.{MovePlan}
 use Rattle.drive_survey.specs.declared.reported.ReportedZone.{ReportedZone}
@@ -46,7 +46,7 @@ logs-emptied n start new plan made e =
     (map-set (zone_log g) (set (contents start.zones) plan.into e.there) plan.torn emptied
     ∙ ap (λ (logs : List (List Batch)). set logs plan.torn (zone_log g emptied)) (map-set (zone_log g) (contents start.zones) plan.into e.there)
     ∙ ap (λ (log : List Batch). set (set (drive_logs start) plan.into log) plan.torn (zone_log g emptied)) e.log
-    ∙ ap (λ (log : List Batch). set (set (drive_logs start) plan.into made) plan.torn log) (zone_log-emptied g))
+    ∙ ap (λ (log : List Batch). set (set (drive_logs start) plan.into made) plan.torn log) (emptied-nothing g))
 
 pub tails-emptied : (n : ℕ) (start new : DriveState) (plan : MovePlan) (made : List Batch) → EmptiesTorn n start new plan made → zone_tails (contents new.zones) ≡ set (set (zone_tails (contents start.zones)) plan.into false) plan.torn false
 tails-emptied n start new plan made e =

@@ -15,6 +15,7 @@ use Rattle.drive_survey.specs.Heads.{HeadsView, heads_after, heads_of, no_heads,
 use Rattle.drive_survey.specs.declared.survey.Survey.{Survey}
 use Rattle.drive_survey.specs.Known.{Knows}
 use Rattle.drive_survey.specs.Scan.{heads_in}
+use Rattle.drive_survey.proofs.MovedLaws.{source-stays}
 
 -- ---- the headers of one zone
 
@@ -26,10 +27,6 @@ found-heads scanned logs zone found are lt is =
     let view : get_or (heads_in scanned) zone found.heads ≡ found.heads = get_or-map (λ (z : ScannedZone). z.heads) scanned zone found ∙ ap (λ (z : ScannedZone). z.heads) (sym is) in
     let long : zone < length (map heads_of logs) = omega (arith, lt, ap length are, length-map scanned (λ (z : ScannedZone). z.heads)) in
     sym view ∙ ap (λ (hs : List HeadsView). get_or hs zone found.heads) are ∙ get_or_default (map heads_of logs) zone found.heads no_heads long ∙ get_or-map heads_of logs zone []
-
-source-stays : (heads : List Head) (head : Head) (source other : ℕ) → source_with (heads ++ head ∷ []) source other ≡ source
-source-stays [] head source other = refl
-source-stays (h ∷ hs) head source other = refl
 
 after-moves : (view : HeadsView) (log : List Batch) (victim : ℕ) → view.are_moves ≡ true → ((other : ℕ) → other ≡ victim → source_with view.heads view.source other ≡ victim) → AllByRecursion (IsMoveFrom victim) log → (heads_after view log).are_moves ≡ true
 after-moves view [] victim moves source all = moves

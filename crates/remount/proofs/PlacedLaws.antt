@@ -17,7 +17,7 @@ use Rattle.drive_array.specs.Mountable.{IsInside}
 use Rattle.drive_array.specs.Records.{records}
 use Rattle.drive_array.specs.Sizes.{encoded_size, map_of}
 use Rattle.drive_array.proofs.AllLaws.{all-at, all-weaker}
-use Rattle.drive_array.proofs.SizeLaws.{inside-records}
+use Rattle.drive_array.proofs.SizeLaws.{inside-records, inside-more}
 use Rattle.drive_array.proofs.ZoneLogLaws.{log_at-zone}
 use Rattle.drive_survey.specs.declared.reported.ReportedZone.{ReportedZone}
 use Rattle.drive_survey.specs.declared.survey.Survey.{Survey}
@@ -61,11 +61,6 @@ part-short drive n logs survey zone knows = by (knows.part zone)
     by (inr none) = rw none (omega arith)
 
 -- ---- the records are placed
-
-inside-more : (size more : ℕ) (logs : List (List Batch)) → size ≤ more → AllByRecursion (AllByRecursion (IsInside size)) logs → AllByRecursion (AllByRecursion (IsInside more)) logs
-inside-more size more logs le all =
-    all-weaker (AllByRecursion (IsInside size)) (AllByRecursion (IsInside more)) logs
-    (λ log. all-weaker (IsInside size) (IsInside more) log (λ batch. all-weaker (λ (e : Entry). e.block < size) (λ (e : Entry). e.block < more) batch.heading.entries (λ e lt. omega (arith, lt, le)))) all
 
 pub places-are : (drive : DriveState) (n zone : ℕ) (logs : List (List Batch)) (survey : Survey) (size : ℕ) (table : List Place) → Knows drive n logs survey → size ≡ min survey.size (2 ^ 31) → drive.geometry.zones ≤ zone
     → (AreAscending (heads_in survey.scanned.items) → placed_all drive.geometry.size (heads_in survey.scanned.items) table (kept_records zone (drop zone (heads_in survey.scanned.items))) ≡ placed_all drive.geometry.size (heads_in survey.scanned.items) (replicate size places.None) (kept_records 0 (heads_in survey.scanned.items)))

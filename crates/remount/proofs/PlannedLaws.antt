@@ -28,6 +28,7 @@ use Rattle.drive_array.proofs.DeadLaws.{NotIn, newest-without}
 use Rattle.drive_array.proofs.NewestLaws.{all-among, log_records-append, newest-is}
 use Rattle.drive_array.proofs.ReserveLaws.{div_ceil-enough, positive-most}
 use Rattle.drive_array.proofs.SizeLaws.{inside-records, log_greatest-more}
+use Rattle.drive_array.proofs.RepairingEnds.{lies-or}
 use Rattle.drive_survey.specs.declared.clearing.Finding.{Finding}
 use Rattle.drive_survey.specs.declared.clearing.Finding.TheVariants.{HalfClean, NotMoves, NeedsBlock, NeedsSize}
 use Rattle.remount.specs.declared.repair.moves.MovePlan.{MovePlan}
@@ -187,10 +188,6 @@ lies-below drive n survey zone b known lies = at (newest b (records 0 (drive_log
         omega (arith, below, is.0)
 
 -- ---- it can be made
-
-lies-or : (zone : ℕ) (x : Option Record) → LiesIn zone x ⊎ NotIn zone x
-lies-or zone None = inr tt
-lies-or zone (Some r) = cases_eq r.zone zone
 
 needed-lies : (drive : DriveState) (n : ℕ) (zone b : ℕ) → zone < length (drive_logs drive) → NeedsItsBlock drive.geometry.block n (drive_logs drive) zone b → IsLiveIn drive n zone b
 needed-lies drive n zone b lt needs = (needs.in_range, by (lies-or zone (newest b (records 0 (drive_logs drive)))))

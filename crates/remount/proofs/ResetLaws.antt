@@ -11,12 +11,13 @@ use Rattle.drive_port.specs.Drive.{DriveState, IsLawful}
 use Rattle.drive_port.specs.Step.{end_of, zone_at}
 use Rattle.drive_port.specs.declared.calls.PortFault.{PortFault}
 use Rattle.drive_port.specs.declared.calls.PortFault.TheVariants as port
+use Rattle.drive_port.proofs.ClosingLaws.{content_at-contents}
 use Rattle.batch_log.specs.Log.{zero_block}
 use Rattle.zone_choice.specs.Changes.{IsHalt}
 use Rattle.drive_array.specs.ZoneLogs.{readable}
 use Rattle.zone_choice.proofs.OpenLaws.{OpensNone, finish-opens, reset-opens, settled-shut}
 use Rattle.zone_choice.proofs.ContentLaws.{IsSettled}
-use Rattle.zone_choice.proofs.CommandLaws.{content-zone, start-below, zone-few, zone-start}
+use Rattle.zone_choice.proofs.CommandLaws.{start-below, zone-few, zone-start}
 use Rattle.drive_survey.specs.declared.reported.ReportedZone.{ReportedZone}
 use Rattle.drive_survey.specs.declared.scan.ScannedZone.{ScannedZone}
 use Rattle.drive_survey.specs.declared.survey.Survey.{Survey}
@@ -40,7 +41,7 @@ starts-there drive reported zone start known lt is =
     let below : zone < length drive.zones = omega (arith, lt, known.count) in
     let r = get_or reported zone reported_empty in
     let one = known.each zone r (slice_get-get_or reported zone reported_empty lt) in
-    let usable : is_usable (usage_of (zone_at drive.zones (start / size)).state) ≡ true = rw index (ap (λ (c : Content). is_usable c.usage) (sym (content-zone drive.zones zone)) ∙ ap is_usable one.usage ∙ one.usable) in
+    let usable : is_usable (usage_of (zone_at drive.zones (start / size)).state) ≡ true = rw index (ap (λ (c : Content). is_usable c.usage) (sym (content_at-contents drive.zones zone)) ∙ ap is_usable one.usage ∙ one.usable) in
     let aligned : start % size ≡ 0 = rw is at.1 in
     let in_range : start < end_of drive.geometry = rw (is, ← known.lawful.count) (start-below zone (length drive.zones) size some below) in
     record {

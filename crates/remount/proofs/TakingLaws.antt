@@ -2,6 +2,7 @@
 use Rattle.std.proofs.Common.{◌≡◌, ◌⊎◌, inl, inr, ℕ, zero, suc, ◌*◌, ◌/◌, ◌≤◌, List, length, take, drop, Ok, Err, refl, sym, ap, ◌∙◌, arith}
 use Rattle.std.proofs.lemmas.List.{take_all}
 use Rattle.zone_states.specs.Zone.{cut_blocks}
+use Rattle.zone_states.proofs.Cutting.{length-cut}
 use Rattle.drive_port.specs.Calls.{Appended, AppendedFront, AppendKeeps, AppendLeaves, CanAppend, IsNotRefused, IsWholeBlocks, Obeys, block_count}
 use Rattle.drive_port.specs.Contents.{SameContents}
 use Rattle.drive_port.specs.Drive.{DriveState, IsLawful}
@@ -14,10 +15,6 @@ use Rattle.zone_choice.proofs.CommandLaws.{zone-start}
 use Rattle.zone_choice.proofs.OpenLaws.{append-opens}
 use Rattle.remount.specs.Moving.{CanTake, TakesFirst, TakesSome}
 use Rattle.remount.proofs.CallLaws.{mountable-same}
-
-length-cut : (size count : ℕ) (bytes : List ℕ) → length (cut_blocks size count bytes) ≡ count
-length-cut size zero bytes = refl
-length-cut size (suc count) bytes = ap suc (length-cut size count (drop size bytes))
 
 pub size-blocks : (block : ℕ) (builder : BuilderView) → length (batch_blocks block (built block builder)) ≡ batch_size (built block builder)
 size-blocks block builder = ap suc (length-cut block (data_count builder.heading.entries) (drop block builder.bytes))

@@ -28,6 +28,7 @@ use Rattle.drive_array.specs.Sizes.{encoded_size, map_of}
 use Rattle.zone_choice.specs.Tables.{TablesView, size_of}
 use Rattle.drive_array.proofs.AllLaws.{all-append, all-at, all-weaker}
 use Rattle.drive_array.proofs.NewestLaws.{all-among, newest-is}
+use Rattle.drive_array.proofs.OffsetLaws.{log-below, records-below}
 use Rattle.drive_survey.specs.declared.heads.Head.{Head}
 use Rattle.drive_survey.specs.declared.scan.ScannedZone.{ScannedZone}
 use Rattle.drive_survey.specs.declared.survey.Survey.{Survey}
@@ -42,6 +43,7 @@ use Rattle.drive_survey.proofs.ReadLaws.{known-few}
 use Rattle.drive_survey.proofs.TakeLaws.{blocks-are}
 use Rattle.remount.proofs.FinishLaws.{and-both}
 use Rattle.remount.proofs.TornLaws.{has_data}
+use Rattle.remount.proofs.LiveLaws.{drive-few, known-below, Within, newest-within, lies-kept}
 
 -- ---- torn zones
 
@@ -128,79 +130,7 @@ two-torn drive n size logs survey zone other known next second = record {
   why = inl (other, omega (arith, second.after), torn-at drive n logs survey other known second.in_range second.torn);
 }
 
--- ---- records lie within their zone
-
-entries-below : (limit sequence zone header k : ℕ) (body : List (List ℕ)) (es : List Entry) → header + 1 + k + data_count es ≤ limit → AllByRecursion (λ (r : Record). r.offset < limit) (entry_records sequence body zone header k es)
-entries-below limit sequence zone header k body [] le = tt
-entries-below limit sequence zone header k body (e ∷ es) le = (one e.trim le, entries-below limit sequence zone header (k + one_unless e.trim) body es (omega (arith, le)))
-  where
-    one : (t : Bool) → header + 1 + k + (one_unless t + data_count es) ≤ limit → entry_offset t header k < limit
-    one true le = omega (arith, le)
-    one false le = omega (arith, le)
-
-log-below : (limit zone offset : ℕ) (log : List Batch) → offset + log_size log ≤ limit → AllByRecursion (λ (r : Record). r.offset < limit) (log_records zone offset log)
-log-below limit zone offset [] le = tt
-log-below limit zone offset (b ∷ bs) le =
-    all-append (λ (r : Record). r.offset < limit) (batch_records zone offset b) (log_records zone (offset + batch_size b) bs)
-    (entries-below limit b.heading.sequence zone offset 0 b.body b.heading.entries (omega (arith, le)))
-    (log-below limit zone (offset + batch_size b) bs (omega (arith, le)))
-
-records-below : (limit first : ℕ) (logs : List (List Batch)) → ((zone : ℕ) → log_size (log_at logs zone) ≤ limit) → AllByRecursion (λ (r : Record). r.offset < limit) (records first logs)
-records-below limit first [] few = tt
-records-below limit first (log ∷ logs) few =
-    all-append (λ (r : Record). r.offset < limit) (log_records first 0 log) (records (suc first) logs) (log-below limit first 0 log (omega (arith, few 0))) (records-below limit (suc first) logs (λ zone. few (suc zone)))
-
--- a log takes no more than its zone's capacity
-drive-few : (drive : DriveState) (n : ℕ) (logs : List (List Batch)) (survey : Survey) (zone : ℕ) → Knows drive n logs survey → zone < length drive.zones → log_size (log_at (drive_logs drive) zone) ≤ drive.geometry.capacity
-unfolding zone_log
-drive-few drive n logs survey zone known lt =
-    let g = drive.geometry in
-    let content = content_at (contents drive.zones) zone in
-    let has = all-at (HasLog g) (contents drive.zones) zone nothing known.all_logs (omega (arith, lt, length-map drive.zones content_of)) in
-    let r = get_or survey.zones.items zone reported_empty in
-    let one = known.zones.each zone r (slice_get-get_or survey.zones.items zone reported_empty (omega (arith, lt, known.zones.count))) in
-    let few = known-few drive zone r one in
-    let same : log_at (drive_logs drive) zone ≡ zone_log g content = get_or-map (zone_log g) (contents drive.zones) zone nothing in
-    let total : length (readable g content) ≡ log_size (zone_log g content) + length has.tail = ap length has.front.spelled ∙ omega (arith, length-append (flat_map (batch_blocks g.block) (zone_log g content)) has.tail, spelled_length g.block (zone_log g content) has.front.batches) in
-    omega (arith, total, few, one.blocks, ap log_size same)
-
-known-below : (drive : DriveState) (n : ℕ) (logs : List (List Batch)) (survey : Survey) → Knows drive n logs survey → AllByRecursion (λ (r : Record). r.offset < drive.geometry.size) (records 0 logs)
-known-below drive n logs survey known =
-    all-weaker (λ (r : Record). r.offset < drive.geometry.capacity) (λ (r : Record). r.offset < drive.geometry.size) (records 0 logs) (λ r lt. omega (arith, lt, known.zones.geometry.capacity)) (records-below drive.geometry.capacity 0 logs few)
-  where
-    few : (zone : ℕ) → log_size (log_at logs zone) ≤ drive.geometry.capacity
-    few zone = elim (cases_lt zone (length drive.zones)) as (λ _. log_size (log_at logs zone) ≤ drive.geometry.capacity) [
-      | inl lt ↦ (elim (known.part zone) as (λ _. log_size (log_at logs zone) ≤ drive.geometry.capacity) [
-        | inl same ↦ omega (arith, ap log_size same, drive-few drive n logs survey zone known lt)
-        | inr gone ↦ omega (arith, ap log_size gone)
-      ])
-      | inr past ↦ omega (arith, ap log_size (get_or_past logs zone [] (omega (arith, past, known.count))))
-    ]
-
 -- ---- live records, by their places
-
-abbrev Within : ℕ → Option Record → Type 0
-Within size None = Unit {0}
-Within size (Some r) = r.offset < size
-
-newest-within : (size block : ℕ) (rs : List Record) (o : Option Record) → AllByRecursion (λ (r : Record). r.offset < size) rs → IsNewest rs block o → Within size o
-newest-within size block rs None all is = tt
-newest-within size block rs (Some r) all is = all-among (λ (x : Record). x.offset < size) rs r all is.1.among
-
-lies-kept : (size zone : ℕ) (o : Option Record) → Within size o → lies_in size zone (place size o) ≡ kept_in is_any zone o
-lies-kept size zone None within = refl
-lies-kept size zone (Some r) within = by (is_some r.content)
-  where
-    at : (r.zone * size + r.offset) / size ≡ r.zone
-    at = div-mul-add r.zone size r.offset within
-
-    and-true : (b : Bool) → b ≡ (b && true)
-    and-true true = refl
-    and-true false = refl
-
-    by : (b : Bool) → lies_in size zone (cond b (places.At (r.zone * size + r.offset)) (places.Trimmed (r.zone * size + r.offset))) ≡ (eqb r.zone zone && true)
-    by true = ap (λ (k : ℕ). eqb k zone) at ∙ and-true (eqb r.zone zone)
-    by false = ap (λ (k : ℕ). eqb k zone) at ∙ and-true (eqb r.zone zone)
 
 data-kept : (size zone : ℕ) (o : Option Record) → Within size o → has_data size zone (place size o) ≡ kept_in is_data zone o
 data-kept size zone None within = refl

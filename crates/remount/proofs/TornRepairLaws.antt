@@ -14,9 +14,9 @@ use Rattle.drive_array.specs.Records.{without}
 use Rattle.drive_array.specs.Repair.{HasAtMost}
 use Rattle.drive_array.specs.Sizes.{log_greatest}
 use Rattle.drive_array.specs.Spare.{IsMoveFrom, IsVacant}
-use Rattle.zone_choice.proofs.AgreementLaws.{zone_log-emptied}
 use Rattle.drive_array.proofs.AllLaws.{all-append}
 use Rattle.drive_array.proofs.ZoneLogLaws.{log_at-zone}
+use Rattle.drive_array.proofs.RepairingMounts.{emptied-nothing}
 use Rattle.remount.specs.declared.repair.moves.MovePlan.{MovePlan}
 use Rattle.drive_survey.specs.declared.reported.ReportedZone.{ReportedZone}
 use Rattle.drive_survey.specs.declared.survey.Survey.{Survey}
@@ -103,7 +103,7 @@ pub torn-repaired : (n : ℕ) (start new : DriveState) (survey : Survey) (source
 torn-repaired n start new survey source plan torn into p torn_is into_is none can e = record {
   into = into;
   in_range = omega (arith, p.in_range, length-map (contents start.zones) (zone_log start.geometry), length-map start.zones content_of);
-  vacant = log_at-zone start.geometry (contents start.zones) into ∙ ap (zone_log start.geometry) p.there ∙ zone_log-emptied start.geometry;
+  vacant = log_at-zone start.geometry (contents start.zones) into ∙ ap (zone_log start.geometry) p.there ∙ emptied-nothing start.geometry;
   lowest = none-vacant n start survey torn into p none;
   made = moves_before source plan (move_count plan);
   are = subst (λ (z : ℕ). AreRepairMoves start.geometry n (drive_logs start) z (moves_before source plan (move_count plan))) torn_is (are-moves start.geometry n (drive_logs start) source plan can);

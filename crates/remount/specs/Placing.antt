@@ -1,5 +1,6 @@
 -- How a mount finds the place of each block's newest record from the headers that are kept.
-use Rattle.std.specs.Prelude.{◌≡◌, ℕ, ◌+◌, ◌-◌, ◌*◌, ◌/◌, ◌%◌, ◌^◌, ◌==◌, nat_lt, min, if◌then◌else◌, Bool, true, List, [], ◌∷◌, slice_index_or, slice_set, Option, Some, None}
+use Rattle.std.specs.Prelude.{◌≡◌, ℕ, ◌+◌, ◌-◌, ◌*◌, ◌/◌, ◌%◌, ◌^◌, ◌==◌, nat_lt, min, if◌then◌else◌, Bool}
+use Rattle.std.specs.Prelude.{true, List, [], ◌∷◌, slice_index_or, slice_set, Option, Some, None}
 use Rattle.std.specs.List.{AllByRecursion}
 use Rattle.std.specs.List.Sorted.{IsNonDecreasingBy}
 use Rattle.logical_map.specs.declared.place.Place.{Place}
@@ -44,7 +45,8 @@ is_later (Some old) sequence = nat_lt old sequence
 -- a record is placed, unless its block has a place by one that is no older
 abbrev pub placed_one : ℕ → List HeadsView → List Place → KeptRecord → List Place
 placed_one zone_size views table r =
-    if is_later (sequence_of zone_size views (slice_index_or table r.block places.None)) r.sequence then slice_set table r.block (kept_place zone_size r) else table
+    if is_later (sequence_of zone_size views (slice_index_or table r.block places.None)) r.sequence
+    then slice_set table r.block (kept_place zone_size r) else table
 
 abbrev pub placed_all : ℕ → List HeadsView → List Place → List KeptRecord → List Place
 placed_all zone_size views table [] = table

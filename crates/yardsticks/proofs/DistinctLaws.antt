@@ -5,7 +5,7 @@ use Rattle.std.proofs.lemmas.List.{drop_more, drop_all, take_rest}
 use Rattle.batch_log.specs.declared.header.Entry.{Entry}
 
 -- the entries name no block twice
-abbrev pub AreDistinct : List Entry → Type 0
+abbrev AreDistinct : List Entry → Type 0
 AreDistinct es = IsDistinct eqb (map (λ (e : Entry). e.block) es)
 
 abbrev Differ : ℕ → List Entry → Type 0

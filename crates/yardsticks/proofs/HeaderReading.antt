@@ -7,10 +7,7 @@ use Rattle.batch_log.specs.declared.header.Kind.{Kind}
 use Rattle.batch_log.specs.Header.{Heading, IsHeading, IsHeaderBlock, IsNoHeader, entry_room, header_block}
 use Rattle.batch_log.specs.Reading.{kind_of, said_size, entry_of, entries_in, heading_in}
 use Rattle.batch_log.proofs.HeaderLaws.{same_heading, header_again}
-
-pub length-entries_in : (count : ℕ) (bytes : List ℕ) → length (entries_in count bytes) ≡ count
-length-entries_in zero bytes = refl
-length-entries_in (suc n) bytes = let rest = length-entries_in n (drop 8 bytes) in omega (arith, rest)
+use Rattle.batch_log.proofs.EntryLaws.{entries_length}
 
 pub one_more_read : (count i : ℕ) (bytes : List ℕ) (done now whole : List Entry) (e : Entry) → i < count
     → done ++ entries_in (count - i) (drop (8 * i) bytes) ≡ whole
@@ -24,7 +21,7 @@ one_more_read count i bytes done now whole e lt so_far is after =
     rw (after, append_assoc) (ap (λ (es : List Entry). done ++ es) (sym split) ∙ so_far)
 
 -- what `&bytes[n..]` holds
-abbrev pub from_place : ℕ → List ℕ → List ℕ
+abbrev from_place : ℕ → List ℕ → List ℕ
 from_place n bytes = take (length bytes - n) (drop n bytes)
 
 pub heading_read : (block : List ℕ) (kind : Kind) (count sequence source : ℕ) (size : Option ℕ) (entries : List Entry)
@@ -48,10 +45,10 @@ heading_read block kind count sequence source size entries e1 e2 e3 e4 e5 e6 =
 
 pub count_read : (block : List ℕ) (count : ℕ) → count ≡ little_from 0 4 (from_place 12 block) → length (heading_in block).entries ≡ count
 unfolding heading_in
-count_read block count is = length-entries_in (little_from 0 4 (drop 12 block)) (drop 32 block) ∙ sym (is ∙ ap (λ (xs : List ℕ). little_from 0 4 xs) (take_rest block 12))
+count_read block count is = entries_length (little_from 0 4 (drop 12 block)) (drop 32 block) ∙ sym (is ∙ ap (λ (xs : List ℕ). little_from 0 4 xs) (take_rest block 12))
 
 -- a header block is the one of the heading that is read in it
-pub header_in : (block : List ℕ) (h : Heading) → (length block ≡ 512) ⊎ (length block ≡ 4096) → IsHeaderBlock (length block) block h → heading_in block ≡ h
+header_in : (block : List ℕ) (h : Heading) → (length block ≡ 512) ⊎ (length block ≡ 4096) → IsHeaderBlock (length block) block h → heading_in block ≡ h
 header_in block h size is = ap heading_in is.spelled ∙ header_again (length block) h (omega arith) is.says
 
 pub no_room : (block : List ℕ) → (length block ≡ 512) ⊎ (length block ≡ 4096) → entry_room (length block) < length (heading_in block).entries → IsNoHeader block

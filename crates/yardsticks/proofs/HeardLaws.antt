@@ -15,7 +15,7 @@ use Rattle.yardsticks.specs.Zones.{Saying, logs_but, heard, is_data_in, is_said_
 use Rattle.drive_array.specs.ZoneLogs.{log_at}
 use Rattle.drive_array.proofs.NewestLaws.{newer-assoc, newer-none}
 
-pub heard-append : (block : ℕ) (found : Option Saying) (xs ys : List Record) → heard block found (xs ++ ys) ≡ heard block (heard block found xs) ys
+heard-append : (block : ℕ) (found : Option Saying) (xs ys : List Record) → heard block found (xs ++ ys) ≡ heard block (heard block found xs) ys
 heard-append block found [] ys = refl
 heard-append block found (x ∷ xs) ys = heard-append block (cond (eqb x.block block) (later found (saying x)) found) xs ys
 

@@ -3,6 +3,7 @@ use Rattle.std.proofs.Common.{◌≡◌, ℕ, ◌≤◌, ◌^◌, Bool, true, Li
 use Rattle.std.specs.declared.alloc.Global.{Global}
 use Rattle.std.specs.List.{AllByRecursion, count_by}
 use Rattle.zone_states.specs.declared.geometry.Geometry.{Geometry}
+use Rattle.zone_states.proofs.ListLaws.{all-map, all-unmap}
 use Rattle.drive_port.specs.Contents.{Content, is_usable}
 use Rattle.batch_log.specs.Log.{Batch}
 use Rattle.yardsticks.specs.declared.batches.Batch as yardstick
@@ -13,7 +14,6 @@ use Rattle.drive_array.specs.Repair.{CanRepair}
 use Rattle.drive_array.specs.Sizes.{encoded_size}
 use Rattle.drive_array.proofs.ClearingLaws.{one_clearing}
 use Rattle.yardsticks.specs.Zones.{AreOfDisk, AreZoneLogs, HasClearing, image_content, image_contents, held_logs}
-use Rattle.yardsticks.proofs.SpareLaws.{all-map, all-unmap}
 
 pub images-all : (P : Content → Type 0) (images : List ZoneImage) → AllByRecursion (λ image. P (image_content image)) images → AllByRecursion P (image_contents images)
 images-all P [] all = tt

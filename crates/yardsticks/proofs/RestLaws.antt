@@ -15,7 +15,7 @@ use Rattle.yardsticks.specs.declared.batches.ZoneLog.{ZoneLog}
 use Rattle.yardsticks.specs.Batches.{held_blocks, batch_of, BeginsWithBatch, IsFound}
 use Rattle.yardsticks.proofs.BatchReading.{BeginWithHeader, begin_with}
 
-abbrev pub HaveSize : ℕ → List (Vec ℕ Global) → Type 0
+abbrev HaveSize : ℕ → List (Vec ℕ Global) → Type 0
 HaveSize size blocks = AllByRecursion (λ (block : Vec ℕ Global). vec_len block ≡ size) blocks
 
 abbrev AreZero : List (Vec ℕ Global) → Type 0
@@ -95,7 +95,7 @@ tail_torn size (b ∷ bs) none some is (inr torn) = torn
 
 -- ---- a batch that was read
 
-pub batch_fits : (size : ℕ) (blocks : List (Vec ℕ Global)) (b : Batch) → BeginsWithBatch size (held_blocks blocks) b → suc (length b.body) ≤ length blocks
+batch_fits : (size : ℕ) (blocks : List (Vec ℕ Global)) (b : Batch) → BeginsWithBatch size (held_blocks blocks) b → suc (length b.body) ≤ length blocks
 batch_fits size blocks b begin =
     let all : length (held_blocks blocks) ≡ length (batch_blocks size b ++ drop (suc (length b.body)) (held_blocks blocks)) = ap length begin.spelled in
     omega (arith, all, length-append (batch_blocks size b) (drop (suc (length b.body)) (held_blocks blocks)), length-map blocks (λ (block : Vec ℕ Global). block.items))

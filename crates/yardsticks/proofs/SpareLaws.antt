@@ -10,14 +10,7 @@ use Rattle.drive_array.specs.Spare.{IsBefore, IsHalfClean, IsLowest, IsMoveFrom,
 use Rattle.drive_array.specs.ZoneLogs.{log_at}
 use Rattle.drive_array.proofs.ClearingLaws.{fewer, has_batch, with_batch}
 use Rattle.yardsticks.specs.Zones.{HasClearing, held_log, held_logs}
-
-pub all-map : {X Y : Type 0} (P : Y → Type 0) (f : X → Y) (xs : List X) → AllByRecursion (λ x. P (f x)) xs → AllByRecursion P (map f xs)
-all-map P f [] all = tt
-all-map P f (x ∷ xs) all = (all.0, all-map P f xs all.1)
-
-pub all-unmap : {X Y : Type 0} (P : Y → Type 0) (f : X → Y) (xs : List X) → AllByRecursion P (map f xs) → AllByRecursion (λ x. P (f x)) xs
-all-unmap P f [] all = tt
-all-unmap P f (x ∷ xs) all = (all.0, all-unmap P f xs all.1)
+use Rattle.zone_states.proofs.ListLaws.{all-map, all-unmap}
 
 -- ---- blocks that are the same
 

@@ -1,5 +1,6 @@
 -- What the values of the yardsticks stand for, and what they find on the way.
-use Rattle.std.specs.Prelude.{◌≡◌, ◌<◌, ◌≤◌, ◌^◌, ℕ, ◌==◌, ◌&&◌, nat_lt, if◌then◌else◌, is_some, Bool, false, List, [], ◌∷◌, map, length, replicate, Option, Some, None, Vec, vec_len}
+use Rattle.std.specs.Prelude.{◌≡◌, ◌<◌, ◌≤◌, ◌^◌, ℕ, ◌==◌, ◌&&◌, nat_lt, if◌then◌else◌, is_some, Bool, false}
+use Rattle.std.specs.Prelude.{List, [], ◌∷◌, map, length, replicate, Option, Some, None, Vec, vec_len}
 use Rattle.std.specs.List.{AllByRecursion}
 use Rattle.std.specs.Option.{option_map}
 use Rattle.std.specs.declared.alloc.Global.{Global}

@@ -9,7 +9,8 @@ ghost use Rattle.yardsticks.specs.Batches.{batch_of, held_blocks};
 ghost use Rattle.drive_array.specs.Records.{batch_records, entry_content, log_records, newest, record_of, records};
 ghost use Rattle.drive_array.specs.Sizes.{array_of};
 ghost use Rattle.drive_array.specs.ZoneLogs.{HasLog, log_at, spelled_array};
-ghost use Rattle.yardsticks.specs.Zones.{HasWholeBlocks, heard, image_contents, later, held_log, logs_but, held_logs, saying, saying_of, said_block};
+ghost use Rattle.yardsticks.specs.Zones.{HasWholeBlocks, heard, image_contents, later, held_log};
+ghost use Rattle.yardsticks.specs.Zones.{logs_but, held_logs, saying, saying_of, said_block};
 
 use crate::batches::Batch;
 use crate::logs::{ZoneImage, zone_logs};
@@ -108,7 +109,8 @@ fn heard_in_batch<'a>(
     batch: &'a Batch,
 ) -> Option<Said<'a>>
     ensures { (header : ℕ) → option_map saying_of result
-        ≡ heard block (option_map saying_of found.entry) (batch_records zone header (batch_of batch.now)) }
+        ≡ heard block (option_map saying_of found.entry)
+        (batch_records zone header (batch_of batch.now)) }
 {
     let mut latest = found;
     let mut number = 0;

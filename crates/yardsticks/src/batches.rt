@@ -1,10 +1,12 @@
 //! The log that the written blocks of a zone spell, computed as it is defined.
 
-ghost use Rattle.std.specs.Prelude.{◌≡◌, ◌==◌, ◌&&◌, ◌⊎◌, not, ◌≤◌, ◌<◌, ◌*◌, ◌^◌, ◌↔◌, [], drop, length, map, nat_eq, vec_len, IsTrue, IfOk, IfSome, IfNone};
+ghost use Rattle.std.specs.Prelude.{◌≡◌, ◌==◌, ◌&&◌, ◌⊎◌, not, ◌≤◌, ◌<◌, ◌*◌, ◌^◌, ◌↔◌, [], drop};
+ghost use Rattle.std.specs.Prelude.{length, map, nat_eq, vec_len, IsTrue, IfOk, IfSome, IfNone};
 ghost use Rattle.batch_log.specs.declared.header.Kind.TheVariants.{Host};
 ghost use Rattle.std.specs.List.{AllByRecursion, IsDistinct, list_any};
 ghost use Rattle.byteorder.specs.Endian.{little_from};
-ghost use Rattle.batch_log.specs.Header.{IsHeading, IsHeaderBlock, IsNoHeader, IsSize, heading_of, header_block, head_size, entry_room};
+ghost use Rattle.batch_log.specs.Header.{IsHeading, IsHeaderBlock, IsNoHeader, IsSize, heading_of};
+ghost use Rattle.batch_log.specs.Header.{header_block, head_size, entry_room};
 ghost use Rattle.batch_log.specs.Reading.{entry_of, entries_in, kind_of, said_size, heading_in};
 ghost use Rattle.batch_log.specs.Log.{BeginsWithNoBatch, HaveNoLog, IsTail, IsTorn, data_count, zero_block};
 ghost use Rattle.yardsticks.specs.Batches.{held_blocks, batch_of, BeginsWithBatch, IsFound};
@@ -90,7 +92,8 @@ fn size_at(version: &[u8], word: &[u8]) -> Option<u32>
 // The only header that the block can encode, unless its entries do not fit the block.
 fn claimed_header(alloc: Global, block: &[u8]) -> Result<Option<Header>, AllocError>
     requires { head_size ≤ length block.now }
-    ensures some { IfOk result (λ found. IfSome found (λ header. heading_of header ≡ heading_in block.now)) }
+    ensures some { IfOk result
+        (λ found. IfSome found (λ header. heading_of header ≡ heading_in block.now)) }
     ensures none { let room = entry_room (length block.now) in
         IfOk result (λ found. IfNone found (room < length (heading_in block.now).entries)) }
 {
@@ -172,7 +175,8 @@ pub fn is_heading(header: &Header, block_bytes: usize) -> bool
 fn spelling(alloc: Global, header: &Header, block_bytes: usize) -> Result<Vec<u8>, AllocError>
     requires heading { IsHeading block_bytes (heading_of header.now) }
     requires size { (block_bytes ≡ 512) ⊎ (block_bytes ≡ 4096) }
-    ensures { IfOk result (λ block. block.items ≡ header_block block_bytes (heading_of header.now)) }
+    ensures { IfOk result
+        (λ block. block.items ≡ header_block block_bytes (heading_of header.now)) }
 {
     let mut block = vec![in alloc; 0; block_bytes]?;
     header_bytes(header, &mut block);
@@ -193,7 +197,8 @@ fn is_spelling(alloc: Global, header: &Header, block: &[u8]) -> Result<bool, All
 fn read_header(alloc: Global, block: &[u8]) -> Result<Option<Header>, AllocError>
     requires { (length block.now ≡ 512) ⊎ (length block.now ≡ 4096) }
     ensures some { let size = length block.now in
-        IfOk result (λ found. IfSome found (λ header. IsHeaderBlock size block.now (heading_of header))) }
+        IfOk result (λ found.
+        IfSome found (λ header. IsHeaderBlock size block.now (heading_of header))) }
     ensures none { IfOk result (λ found. IfNone found (IsNoHeader block.now)) }
 {
     let Some(header) = claimed_header(alloc, block)? else {
@@ -240,8 +245,10 @@ fn first_batch(
     requires size { (block_bytes ≡ 512) ⊎ (block_bytes ≡ 4096) }
     requires sizes { AllByRecursion (λ block. vec_len block ≡ block_bytes) blocks.now }
     ensures some { let all = held_blocks blocks.now in
-        IfOk result (λ found. IfSome found (λ batch. BeginsWithBatch block_bytes all (batch_of batch))) }
-    ensures none { IfOk result (λ found. IfNone found (BeginsWithNoBatch block_bytes (held_blocks blocks.now))) }
+        IfOk result (λ found.
+        IfSome found (λ batch. BeginsWithBatch block_bytes all (batch_of batch))) }
+    ensures none { IfOk result
+        (λ found. IfNone found (BeginsWithNoBatch block_bytes (held_blocks blocks.now))) }
 {
     let Some((block, after)) = blocks.split_first() else {
         return Ok(None);
@@ -264,7 +271,8 @@ fn is_zero(block: &[u8]) -> bool
 }
 
 fn are_zero(blocks: &[Vec<u8>]) -> bool
-    ensures { IsTrue result ↔ AllByRecursion (λ block. block.items ≡ zero_block (vec_len block)) blocks.now }
+    ensures { IsTrue result
+        ↔ AllByRecursion (λ block. block.items ≡ zero_block (vec_len block)) blocks.now }
 {
     blocks.iter().all(|block| is_zero(block))
 }
@@ -327,7 +335,8 @@ pub fn log(
     requires sizes { AllByRecursion (λ block. vec_len block ≡ block_bytes) blocks.now }
     ensures some { let all = held_blocks blocks.now in
         IfOk result (λ found. IfSome found (λ log. IsFound block_bytes is_full all log)) }
-    ensures none { IfOk result (λ found. IfNone found (HaveNoLog block_bytes is_full (held_blocks blocks.now))) }
+    ensures none { IfOk result
+        (λ found. IfNone found (HaveNoLog block_bytes is_full (held_blocks blocks.now))) }
 {
     let mut batches = Vec::new(alloc);
     let mut rest = blocks;

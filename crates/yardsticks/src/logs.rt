@@ -6,7 +6,8 @@ ghost use Rattle.zone_states.specs.Geometry.{IsInRange};
 ghost use Rattle.drive_port.specs.Contents.{usage_of, is_full};
 ghost use Rattle.yardsticks.specs.Batches.{held_blocks};
 ghost use Rattle.drive_array.specs.ZoneLogs.{HasLog, padding, readable};
-ghost use Rattle.yardsticks.specs.Zones.{AreZoneLogs, HasWholeBlocks, IsZoneLog, image_content, image_contents, held_log, held_logs};
+ghost use Rattle.yardsticks.specs.Zones.{AreZoneLogs, HasWholeBlocks, IsZoneLog, image_content};
+ghost use Rattle.yardsticks.specs.Zones.{image_contents, held_log, held_logs};
 
 use crate::batches::{Batch, ZoneLog, copied, log};
 use nvme_wire::ZoneState;

@@ -30,7 +30,8 @@ fn is_usable(state: ZoneState) -> bool
 }
 
 fn are_usable(zones: &[ZoneImage]) -> bool
-    ensures { IsTrue result ↔ AllByRecursion (λ zone. is_usable (usage_of zone.state) ≡ true) zones.now }
+    ensures { IsTrue result
+        ↔ AllByRecursion (λ zone. is_usable (usage_of zone.state) ≡ true) zones.now }
 {
     zones.iter().all(|zone| is_usable(zone.state))
 }
@@ -78,7 +79,8 @@ fn is_log_inside(log: &[Batch], size: u32) -> bool
 
 fn are_inside(logs: &[Vec<Batch>], size: u32) -> bool
     ensures { IsTrue result
-        ↔ AllByRecursion (λ log. AllByRecursion (λ batch. IsInside size (batch_of batch)) log.items) logs.now }
+        ↔ AllByRecursion
+        (λ log. AllByRecursion (λ batch. IsInside size (batch_of batch)) log.items) logs.now }
 {
     logs.iter().all(|log| is_log_inside(log, size))
 }

@@ -10,7 +10,8 @@ use std::alloc::{AllocError, Global};
 
 // Puts the sequences of a log after these numbers.
 fn add_sequences(numbers: &mut Vec<u64>, log: &[Batch]) -> Result<(), AllocError>
-    ensures { OnOk result (numbers.new.items ≡ numbers.old.items ++ log_sequences (held_log log.now)) }
+    ensures { OnOk result
+        (numbers.new.items ≡ numbers.old.items ++ log_sequences (held_log log.now)) }
 {
     for batch in log {
         numbers.push(batch.header.sequence)?;

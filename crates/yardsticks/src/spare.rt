@@ -4,7 +4,8 @@ ghost use Rattle.std.specs.Prelude.{◌≡◌, ◌⊎◌, ◌↔◌, ◌<◌, �
 ghost use Rattle.std.specs.List.{AllByRecursion};
 ghost use Rattle.yardsticks.specs.Batches.{batch_of, held_blocks};
 ghost use Rattle.drive_array.specs.Records.{without};
-ghost use Rattle.drive_array.specs.Spare.{HasSpare, IsBefore, IsHalfClean, IsLowest, IsMoveFrom, IsSpare, IsVacant, NoneBelow, first_sequence};
+ghost use Rattle.drive_array.specs.Spare.{HasSpare, IsBefore, IsHalfClean, IsLowest, IsMoveFrom};
+ghost use Rattle.drive_array.specs.Spare.{IsSpare, IsVacant, NoneBelow, first_sequence};
 ghost use Rattle.drive_array.specs.ZoneLogs.{log_at};
 ghost use Rattle.yardsticks.specs.Zones.{HasClearing, held_logs};
 
@@ -184,7 +185,8 @@ pub(crate) fn clear(
     n: u32,
     logs: &mut Vec<Vec<Batch>>,
 ) -> Result<(), AllocError>
-    ensures { OnOk result (HasClearing block_bytes n (held_logs logs.old.items) (held_logs logs.new.items)) }
+    ensures { OnOk result
+        (HasClearing block_bytes n (held_logs logs.old.items) (held_logs logs.new.items)) }
 {
     loop {
         let Some(zone) = lowest_half_clean(alloc, block_bytes, n, logs)? else {

@@ -24,7 +24,7 @@ use Rattle.drive_array.specs.ZoneLogs.{HasLog, drive_logs, has_torn_tail, log_at
 use Rattle.drive_array.specs.Mountable.{AreSound, IsMountable, is_partly_written}
 use Rattle.zone_choice.specs.Roles.{RolesView, closed_unless, empty_count, fillings, is_empty_at, is_filling_at, taken, wrote}
 use Rattle.zone_choice.specs.Tables.{SameButReady, TablesView, size_of}
-use Rattle.zone_choice.specs.Agreement.{Agrees, HoldsFilling, MountedView, RolesAgree, mounted}
+use Rattle.zone_choice.specs.Agreement.{Agrees, HoldsFilling, MountedView, RolesAgree, TellsOpen, mounted}
 use Rattle.drive_array.specs.Laws.{IsNext, Writes}
 use Rattle.drive_array.proofs.AllLaws.{all-at, all-weaker}
 use Rattle.zone_choice.proofs.ContentLaws.{all-usable, count-fillings, few-write, filling-log, roles-close, roles-finish, roles-seal, roles-settled, roles-take, roles-write, settled-whole}
@@ -33,6 +33,7 @@ use Rattle.zone_choice.proofs.OpenLaws.{OpensNone, OpensOnly, ShutBeside, all-te
 use Rattle.zone_choice.proofs.RolesLaws.{all-filling, all-with, closed-zone, few-fillings, filling-occupied, roles_with, second_list}
 use Rattle.drive_array.proofs.SizeLaws.{append_writes, array_length, next_is_last, told-length}
 use Rattle.drive_array.proofs.ZoneLogLaws.{append_logs, finish_logs, full-untorn, log_at-zone, readable-not_full, tail-at, zone_log-read}
+use Rattle.drive_array.proofs.RepairingMounts.{emptied-nothing}
 
 abbrev pub tables_with : MapView → RolesView → ℕ → ℕ → TablesView
 tables_with places roles next given = record { map = places; roles = roles; next = next; given = given }
@@ -288,10 +289,12 @@ agrees_finish old new map empties host second next given agrees some room geomet
     host-writable old map empties host second next given agrees room =
         elim agrees.roles.fillings_are.0.usage as (λ _. is_writable (content_at (contents old.zones) host.zone).usage ≡ true) [ inl w ↦ w | inr h ↦ absurd (omega (arith, h.1, room)) ]
 
-pub agrees_seal : (drive : DriveState) (map : MapView) (empties : List Bool) (host : Filling) (second : Option Second) (next given : ℕ)
-    → Agrees (mounted drive (tables_with map (roles_with empties (Some host) second) next given)) → 1 ≤ host.written → (content_at (contents drive.zones) host.zone).usage ≡ full
-    → Agrees (mounted drive (tables_with map (roles_with empties None second) next given))
-agrees_seal drive map empties host second next given agrees some is_full = record {
+-- other roles, of which the same can be said
+pub agrees-roles : (drive : DriveState) (tables : TablesView) (roles : RolesView) → Agrees (mounted drive tables)
+    → RolesAgree drive.geometry.capacity (contents drive.zones) (drive_logs drive) roles
+    → AllByRecursion (λ (filling : Filling). AllByRecursion (HasAtMost (batch_most drive.geometry)) (log_at (drive_logs drive) filling.zone)) (fillings roles)
+    → AllByRecursion (TellsOpen drive.zones) (fillings roles) → Agrees (mounted drive (record tables { roles = roles }))
+agrees-roles drive tables roles agrees there few open_zones = record {
   geometry = agrees.geometry;
   reserve = agrees.reserve;
   lawful = agrees.lawful;
@@ -301,35 +304,29 @@ agrees_seal drive map empties host second next given agrees some is_full = recor
   zones = agrees.zones;
   zone_size = agrees.zone_size;
   places = agrees.places;
-  roles = roles-seal drive.geometry.capacity (contents drive.zones) (drive_logs drive) empties host second agrees.roles is_full some;
-  few = agrees.few.1;
-  open_zones = agrees.open_zones.1;
+  roles = there;
+  few = few;
+  open_zones = open_zones;
 }
 
-pub zone_log-emptied : (geometry : Geometry) → zone_log geometry emptied ≡ []
-unfolding zone_log
-zone_log-emptied geometry = refl
+pub agrees_seal : (drive : DriveState) (map : MapView) (empties : List Bool) (host : Filling) (second : Option Second) (next given : ℕ)
+    → Agrees (mounted drive (tables_with map (roles_with empties (Some host) second) next given)) → 1 ≤ host.written → (content_at (contents drive.zones) host.zone).usage ≡ full
+    → Agrees (mounted drive (tables_with map (roles_with empties None second) next given))
+agrees_seal drive map empties host second next given agrees some is_full =
+    agrees-roles drive (tables_with map (roles_with empties (Some host) second) next given) (roles_with empties None second) agrees
+    (roles-seal drive.geometry.capacity (contents drive.zones) (drive_logs drive) empties host second agrees.roles is_full some) agrees.few.1 agrees.open_zones.1
 
 pub vacant-emptied : (geometry : Geometry) (zones : List Content) (zone : ℕ) → content_at zones zone ≡ emptied → log_at (zone_logs geometry zones) zone ≡ []
-vacant-emptied geometry zones zone e = log_at-zone geometry zones zone ∙ ap (zone_log geometry) e ∙ zone_log-emptied geometry
+vacant-emptied geometry zones zone e = log_at-zone geometry zones zone ∙ ap (zone_log geometry) e ∙ emptied-nothing geometry
 
 pub agrees_take : (drive : DriveState) (map : MapView) (empties : List Bool) (second : Option Second) (zone next given : ℕ)
     → Agrees (mounted drive (tables_with map (roles_with empties None second) next given)) → zone < length empties → get_or empties zone false ≡ true
     → Agrees (mounted drive (tables_with map (taken (roles_with empties None second) zone) next given))
-agrees_take drive map empties second zone next given agrees lt here = record {
-  geometry = agrees.geometry;
-  reserve = agrees.reserve;
-  lawful = agrees.lawful;
-  logs = agrees.logs;
-  sound = agrees.sound;
-  next = agrees.next;
-  zones = agrees.zones;
-  zone_size = agrees.zone_size;
-  places = agrees.places;
-  roles = roles-take drive.geometry.capacity (contents drive.zones) (drive_logs drive) empties second zone agrees.roles lt here (vacant-emptied drive.geometry (contents drive.zones) zone (agrees.roles.empty zone here));
-  few = (rw (vacant-emptied drive.geometry (contents drive.zones) zone (agrees.roles.empty zone here)) tt, agrees.few);
-  open_zones = ((λ no. emptied-shut drive.zones zone (agrees.roles.empty zone here)), agrees.open_zones);
-}
+agrees_take drive map empties second zone next given agrees lt here =
+    let there = agrees.roles.empty zone here in
+    let none = vacant-emptied drive.geometry (contents drive.zones) zone there in
+    agrees-roles drive (tables_with map (roles_with empties None second) next given) (taken (roles_with empties None second) zone) agrees
+    (roles-take drive.geometry.capacity (contents drive.zones) (drive_logs drive) empties second zone agrees.roles lt here none) (rw none tt, agrees.few) ((λ no. emptied-shut drive.zones zone there), agrees.open_zones)
 
 -- of two empty zones one is left
 pub spare-taken : (roles : RolesView) (zone : ℕ) → zone < length roles.empty → get_or roles.empty zone false ≡ true → 2 ≤ empty_count roles → 1 ≤ empty_count (taken roles zone)

@@ -6,6 +6,7 @@ use Rattle.std.proofs.lemmas.Bool.{eq-eqb}
 use Rattle.std.proofs.lemmas.List.{drop_more, length-set, set_comm}
 use Rattle.batch_log.specs.declared.header.Entry.{Entry}
 use Rattle.batch_log.specs.Log.{data_count, one_unless}
+use Rattle.batch_log.proofs.EntryLaws.{few-data}
 use Rattle.logical_map.specs.declared.place.Place.{Place}
 use Rattle.logical_map.specs.Places.{place_address}
 use Rattle.zone_choice.specs.Builder.{entries_from, entry_place, placed}
@@ -102,11 +103,3 @@ placed-over size sequence zone offset k header address body (x ∷ xs) all h e =
     one false is = rw (is, e) refl
 
 -- ---- how many data blocks there are
-
-pub one-at_most : (t : Bool) → one_unless t ≤ 1
-one-at_most true = omega arith
-one-at_most false = omega arith
-
-pub data_count-few : (es : List Entry) → data_count es ≤ length es
-data_count-few [] = omega arith
-data_count-few (e ∷ es) = omega (arith, data_count-few es, one-at_most e.trim)

@@ -9,6 +9,7 @@ use Rattle.std.proofs.Math.Nat.{add-mul}
 use Rattle.zone_states.specs.declared.geometry.Geometry.{Geometry}
 use Rattle.zone_states.specs.Geometry.{IsInRange}
 use Rattle.zone_states.specs.Zone.{cut_blocks}
+use Rattle.zone_states.proofs.Cutting.{length-cut}
 use Rattle.drive_port.specs.Calls.{Appended, AppendedFront, AppendGives, AppendKeeps, CanAppend, IsNotRefused, IsWholeBlocks, Obeys, block_count}
 use Rattle.drive_port.specs.Calls.{AppendLeaves as PortLeaves}
 use Rattle.drive_port.specs.Contents.{Appends, Counts, SameContents, content_at, contents}
@@ -212,10 +213,6 @@ few-entries old tables zone builder can =
     elim can.agrees.geometry.block as (λ _. length builder.heading.entries < 2 ^ 31) [ inl e ↦ (let few = rw e at room in omega arith) | inr e ↦ (let few = rw e at room in omega arith) ]
 
 -- ---- the batch is appended
-
-length-cut : (size n : ℕ) (xs : List ℕ) → length (cut_blocks size n xs) ≡ n
-length-cut size zero xs = refl
-length-cut size (suc n) xs = let rest = length-cut size n (drop size xs) in omega (arith, rest)
 
 built-batch : (old : DriveState) (tables : TablesView) (zone : ℕ) (builder : BuilderView) → CanPlace (mounted old tables) zone (built old.geometry.block builder) → IsBatch old.geometry.block (built old.geometry.block builder)
 built-batch old tables zone builder can = record { heading = can.heading; body = length-cut old.geometry.block (data_count builder.heading.entries) (drop old.geometry.block builder.bytes) }

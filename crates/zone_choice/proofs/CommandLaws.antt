@@ -11,10 +11,12 @@ use Rattle.nvme_wire.specs.declared.zone_state.ZoneState.{ZoneState}
 use Rattle.nvme_wire.specs.declared.zone_state.ZoneState.TheVariants as states
 use Rattle.zone_states.specs.Transition.{is_active, is_open}
 use Rattle.zone_states.specs.Zone.{IsLawfulZone, MayHold, Zone}
+use Rattle.zone_states.proofs.HoldLaws.{may_hold-most}
 use Rattle.drive_port.specs.Calls.{CanAppend, CanClose, CanFinish}
 use Rattle.drive_port.specs.Drive.{DriveState, IsLawful, active_count, open_count}
 use Rattle.drive_port.specs.Contents.{Content, full, content_at, content_of, contents, is_usable, is_writable, nothing, usage_of}
 use Rattle.drive_port.specs.Step.{nowhere, zone_at}
+use Rattle.drive_port.proofs.ClosingLaws.{content_at-contents}
 use Rattle.batch_log.specs.Log.{Batch}
 use Rattle.zone_choice.specs.declared.roles.Filling.{Filling}
 use Rattle.zone_choice.specs.Agreement.{Agrees, HoldsFilling, RolesAgree, mounted}
@@ -27,10 +29,6 @@ use Rattle.zone_choice.proofs.ContentLaws.{IsSettled, all-usable, count-fillings
 use Rattle.drive_array.proofs.CountLaws.{count-zero}
 use Rattle.zone_choice.proofs.OpenLaws.{all-shut, noted-shut}
 use Rattle.zone_choice.proofs.RolesLaws.{few-fillings, filling-occupied}
-
--- the content of a zone, by its place in the list of zones
-pub content-zone : (zones : List Zone) (zone : ℕ) → content_at (contents zones) zone ≡ content_of (zone_at zones zone)
-content-zone zones zone = get_or-map content_of zones zone nowhere
 
 pub settled-closed : (state : ZoneState) → IsSettled (usage_of state) → is_active state ≡ false
 settled-closed states.Empty h = refl
@@ -98,7 +96,7 @@ count-others p xs (f ∷ g ∷ h ∷ fs) i d off lt here few none = absurd (omeg
 -- a zone that isn't being filled isn't active
 pub others-inactive : (capacity : ℕ) (zones : List Zone) (logs : List (List Batch)) (roles : RolesView) (k : ℕ) → RolesAgree capacity (contents zones) logs roles → k < length zones → is_filling_at roles k ≡ false → is_active (zone_at zones k).state ≡ false
 others-inactive capacity zones logs roles k agree lt out =
-    settled-closed (zone_at zones k).state (rw content-zone at (roles-settled capacity (contents zones) logs roles k agree (omega (arith, length-map zones content_of)) out))
+    settled-closed (zone_at zones k).state (rw content_at-contents at (roles-settled capacity (contents zones) logs roles k agree (omega (arith, length-map zones content_of)) out))
 
 -- where no zone is being filled, none is active
 pub none-active : (drive : DriveState) (tables : TablesView) → Agrees (mounted drive tables) → fillings tables.roles ≡ [] → active_count drive.zones ≡ 0
@@ -156,7 +154,7 @@ can_append drive tables zone start count agrees here alone start-is some few roo
     let at = zone-start zone size agrees.geometry.size.0 in
     let index : start / size ≡ zone = rw start-is at.0 in
     let lt = filling-in_range drive tables zone agrees here in
-    let content = content-zone drive.zones zone in
+    let content = content_at-contents drive.zones zone in
     let two = few-fillings tables.roles in
     record {
       aligned = rw start-is at.1;
@@ -178,7 +176,7 @@ can_finish drive tables zone start agrees here start-is =
     let size = drive.geometry.size in
     let at = zone-start zone size agrees.geometry.size.0 in
     let index : start / size ≡ zone = rw start-is at.0 in
-    let content = content-zone drive.zones zone in
+    let content = content_at-contents drive.zones zone in
     let lt = filling-in_range drive tables zone agrees here in
     let usable = all-usable drive.geometry.capacity (contents drive.zones) (drive_logs drive) tables.roles agrees.roles in
     record {
@@ -203,7 +201,7 @@ can_close drive tables f start agrees lt is may other start-is =
     let size = drive.geometry.size in
     let at = zone-start f.zone size agrees.geometry.size.0 in
     let index : start / size ≡ f.zone = rw start-is at.0 in
-    let here = content-zone drive.zones f.zone in
+    let here = content_at-contents drive.zones f.zone in
     let one = all-at (IsLawfulZone drive.geometry) drive.zones f.zone nowhere agrees.lawful.zones lt in
     let writable : is_writable (content_at (contents drive.zones) f.zone).usage ≡ true = elim is.usage as (λ _. is_writable (content_at (contents drive.zones) f.zone).usage ≡ true) [ inl w ↦ w | inr h ↦ absurd (other h.1) ] in
     let long : length (zone_at drive.zones f.zone).blocks ≡ f.written = rw here at is.written in
@@ -224,20 +222,11 @@ short-of states.ReadOnly capacity written h w some = absurd (cc)
 short-of states.Full capacity written h w some = absurd (cc)
 short-of states.Offline capacity written h w some = absurd (cc)
 
-may-hold : (state : ZoneState) (capacity written : ℕ) → MayHold state capacity written → written ≤ capacity
-may-hold states.Empty capacity written h = omega arith
-may-hold states.ImplicitlyOpened capacity written h = omega arith
-may-hold states.ExplicitlyOpened capacity written h = omega arith
-may-hold states.Closed capacity written h = omega arith
-may-hold states.ReadOnly capacity written h = h
-may-hold states.Full capacity written h = h
-may-hold states.Offline capacity written h = h
-
 -- a zone of a lawful drive has at most its capacity written
 pub zone-few : (drive : DriveState) (zone : ℕ) → IsLawful drive → zone < length drive.zones → length (content_at (contents drive.zones) zone).blocks ≤ drive.geometry.capacity
 zone-few drive zone lawful lt =
     let one = all-at (IsLawfulZone drive.geometry) drive.zones zone nowhere lawful.zones lt in
-    rw (content-zone drive.zones zone) (may-hold (zone_at drive.zones zone).state drive.geometry.capacity (length (zone_at drive.zones zone).blocks) one.written)
+    rw (content_at-contents drive.zones zone) (may_hold-most (zone_at drive.zones zone).state drive.geometry.capacity (length (zone_at drive.zones zone).blocks) one.written)
 
 pub filling-few : (drive : DriveState) (tables : TablesView) (f : Filling) → Agrees (mounted drive tables) → f.zone < length drive.zones → HoldsFilling drive.geometry.capacity (contents drive.zones) (drive_logs drive) f → f.written ≤ drive.geometry.capacity
 filling-few drive tables f agrees lt is = omega (arith, zone-few drive f.zone agrees.lawful lt, is.written)
@@ -247,7 +236,7 @@ pub filling-full : (drive : DriveState) (tables : TablesView) (f : Filling) → 
     → (content_at (contents drive.zones) f.zone).usage ≡ full
 filling-full drive tables f agrees lt is e =
     let one = all-at (IsLawfulZone drive.geometry) drive.zones f.zone nowhere agrees.lawful.zones lt in
-    let here = content-zone drive.zones f.zone in
+    let here = content_at-contents drive.zones f.zone in
     let long : length (zone_at drive.zones f.zone).blocks ≡ f.written = rw here at is.written in
     elim is.usage as (λ _. (content_at (contents drive.zones) f.zone).usage ≡ full) [
       | inl w ↦ (let bad = short-of (zone_at drive.zones f.zone).state drive.geometry.capacity (length (zone_at drive.zones f.zone).blocks) one.written (rw here at w) (omega (arith, agrees.geometry.capacity)) in absurd (omega arith))

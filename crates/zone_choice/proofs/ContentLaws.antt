@@ -15,9 +15,10 @@ use Rattle.zone_choice.specs.Roles.{Differ, RolesView, closed, closed_beside, cl
 use Rattle.drive_array.specs.ZoneLogs.{log_at}
 use Rattle.drive_array.specs.Repair.{HasAtMost}
 use Rattle.drive_array.proofs.AllLaws.{all-append, all-from, all-weaker}
-use Rattle.zone_choice.proofs.RolesLaws.{all-filling, all-map, all-with, apart-seal, apart-take, apart-with, closed-zone, filling-occupied, filling_at-with, fillings-with, grown-zone, roles_with, second_list}
+use Rattle.zone_choice.proofs.RolesLaws.{all-filling, all-with, apart-seal, apart-take, apart-with, closed-zone, filling-occupied, filling_at-with, fillings-with, grown-zone, roles_with, second_list}
 use Rattle.drive_array.proofs.AppendLaws.{log_size-some, log_size-append, log_at-other, log_at-same}
 use Rattle.drive_array.proofs.CountLaws.{count-set, count-zero}
+use Rattle.zone_states.proofs.ListLaws.{all-map}
 
 -- ---- blocks are written to a zone that is being filled
 

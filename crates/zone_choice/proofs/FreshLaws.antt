@@ -18,8 +18,8 @@ use Rattle.drive_array.specs.Mountable.{IsInside}
 use Rattle.drive_array.specs.Sizes.{encoded_size, greatest}
 use Rattle.drive_array.specs.Reserve.{FitsReserve}
 use Rattle.zone_choice.specs.Agreement.{Agrees, RolesAgree, mounted}
-use Rattle.zone_choice.proofs.AgreementLaws.{zone_log-emptied}
 use Rattle.drive_array.proofs.MountLaws.{emptied-log}
+use Rattle.drive_array.proofs.RepairingMounts.{emptied-nothing}
 
 abbrev pub AllEmptied : List Content → Type 0
 AllEmptied zones = AllByRecursion (λ zone. zone ≡ emptied) zones
@@ -30,20 +30,20 @@ fresh-logs geometry (z ∷ zs) all = (rw all.0 (emptied-log geometry), fresh-log
 
 fresh-batches : (geometry : Geometry) (size : ℕ) (zones : List Content) → AllEmptied zones → AllByRecursion (AllByRecursion (IsInside size)) (zone_logs geometry zones)
 fresh-batches geometry size [] all = tt
-fresh-batches geometry size (z ∷ zs) all = (rw (all.0, zone_log-emptied) tt, fresh-batches geometry size zs all.1)
+fresh-batches geometry size (z ∷ zs) all = (rw (all.0, emptied-nothing) tt, fresh-batches geometry size zs all.1)
 
 -- no header has a size
 fresh-greatest : (geometry : Geometry) (zones : List Content) → AllEmptied zones → greatest (zone_logs geometry zones) ≡ None
 fresh-greatest geometry [] all = refl
-fresh-greatest geometry (z ∷ zs) all = rw (all.0, zone_log-emptied) (fresh-greatest geometry zs all.1)
+fresh-greatest geometry (z ∷ zs) all = rw (all.0, emptied-nothing) (fresh-greatest geometry zs all.1)
 
 fresh-sequences : (geometry : Geometry) (zones : List Content) → AllEmptied zones → sequences (zone_logs geometry zones) ≡ []
 fresh-sequences geometry [] all = refl
-fresh-sequences geometry (z ∷ zs) all = rw (all.0, zone_log-emptied) (fresh-sequences geometry zs all.1)
+fresh-sequences geometry (z ∷ zs) all = rw (all.0, emptied-nothing) (fresh-sequences geometry zs all.1)
 
 fresh-records : (geometry : Geometry) (first : ℕ) (zones : List Content) → AllEmptied zones → records first (zone_logs geometry zones) ≡ []
 fresh-records geometry first [] all = refl
-fresh-records geometry first (z ∷ zs) all = rw (all.0, zone_log-emptied) (fresh-records geometry (suc first) zs all.1)
+fresh-records geometry first (z ∷ zs) all = rw (all.0, emptied-nothing) (fresh-records geometry (suc first) zs all.1)
 
 -- where there is no record, the same is told of all blocks
 pub told-none : {X : Type 0} (f : Option Record → X) (a n : ℕ) → map (λ (block : ℕ). f None) (range_with_len a n) ≡ replicate n (f None)

@@ -12,6 +12,7 @@ use Rattle.logical_map.specs.declared.place.Place.{Place}
 use Rattle.logical_map.specs.declared.place.Place.TheVariants as places
 use Rattle.logical_map.proofs.Counting.{counts-set, length-lowered, length-raised, live-grow, live-none, lowered-live}
 use Rattle.zone_choice.specs.Tables.{AreLive}
+use Rattle.zone_states.proofs.ListLaws.{get_or-zeros}
 
 -- ---- a block is placed
 
@@ -79,15 +80,10 @@ live-placed map counts block place are lt =
 
 -- ---- no block has a place, and more blocks
 
-zeros : (n i : ℕ) → get_or (replicate {A = ℕ} n 0) i 0 ≡ 0
-zeros ℕ.zero i = refl
-zeros (ℕ.suc n) ℕ.zero = refl
-zeros (ℕ.suc n) (ℕ.suc i) = zeros n i
-
 pub live-new : (map : MapView) (blocks : ℕ) → map.places ≡ replicate blocks places.None → AreLive map (replicate map.zones 0)
 live-new map blocks none = record {
   long = length-replicate map.zones 0;
-  each = λ zone below. zeros map.zones zone ∙ sym (ap (λ (all : List Place). count_by (lies_in map.zone_size zone) all) none ∙ live-none map.zone_size blocks zone);
+  each = λ zone below. get_or-zeros map.zones zone ∙ sym (ap (λ (all : List Place). count_by (lies_in map.zone_size zone) all) none ∙ live-none map.zone_size blocks zone);
 }
 
 pub live-kept : (old new : MapView) (counts : List ℕ) → AreLive old counts → new.places ≡ old.places → new.zones ≡ old.zones → new.zone_size ≡ old.zone_size → AreLive new counts

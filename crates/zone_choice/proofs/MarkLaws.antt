@@ -2,7 +2,7 @@
 use Rattle.std.proofs.Common.{◌≡◌, ◌≢◌, ◌⊎◌, ℕ, zero, suc, ◌<◌, ◌≤◌, Bool, true, false, not, ◌||◌, ◌&&◌, ltb, eqb, List, [], ◌∷◌, ◌++◌, length, map, set, get_or, Option, Some, None, refl, sym, ap, subst, ◌∙◌, inl, inr, arith}
 use Rattle.std.specs.List.{AllByRecursion, list_any}
 use Rattle.std.specs.Option.{IfSome, option_map}
-use Rattle.std.proofs.lemmas.Bool.{cases_eq, cases_lt, eq-eqb, le-ltb, lt-ltb, ltb-true, ne_eqb}
+use Rattle.std.proofs.lemmas.Bool.{cases_eq, cases_lt, eq-eqb, le-ltb, lt-ltb, ltb-true, ne_eqb, and_parts}
 use Rattle.std.proofs.lemmas.List.{get_or-set_same, get_or-set_other, get_or_past, length-map, length-set}
 use Rattle.zone_choice.specs.declared.roles.Filling.{Filling}
 use Rattle.zone_choice.specs.declared.roles.Second.{Second}
@@ -16,10 +16,6 @@ no_and : (b : Bool) → (b && false) ≡ false
 no_and true = refl
 no_and false = refl
 
-both : (a b : Bool) → (a && b) ≡ true → (a ≡ true) × (b ≡ true)
-both true b e = (refl, e)
-both false b e = absurd (cc)
-
 denied : (b : Bool) → not b ≡ true → b ≡ false
 denied true e = absurd (cc)
 denied false e = refl
@@ -32,8 +28,8 @@ pub record IsSealedZone (roles : RolesView) (zone : ℕ) : Type 0 where
 
 pub sealed-parts : (roles : RolesView) (zone : ℕ) → is_sealed_at roles zone ≡ true → IsSealedZone roles zone
 sealed-parts roles zone is =
-    let here = both (ltb zone (length roles.empty)) (not (is_empty_at roles zone) && not (is_filling_at roles zone)) is in
-    let rest = both (not (is_empty_at roles zone)) (not (is_filling_at roles zone)) here.1 in
+    let here = and_parts (ltb zone (length roles.empty)) (not (is_empty_at roles zone) && not (is_filling_at roles zone)) is in
+    let rest = and_parts (not (is_empty_at roles zone)) (not (is_filling_at roles zone)) here.1 in
     record { in_range = ltb-true zone (length roles.empty) here.0; not_empty = denied (is_empty_at roles zone) rest.0; not_filling = denied (is_filling_at roles zone) rest.1 }
 
 pub sealed-made : (roles : RolesView) (zone : ℕ) → zone < length roles.empty → is_empty_at roles zone ≡ false → is_filling_at roles zone ≡ false → is_sealed_at roles zone ≡ true
@@ -122,7 +118,8 @@ occupied-ended empties victim (f ∷ fs) none all = by (eqb f.zone victim) refl 
         let other : f.zone ≢ victim = λ same. (let bad = eq-eqb f.zone victim same in absurd (cc)) in
         (record { in_range = omega (arith, all.0.in_range, length-set empties victim true); not_empty = get_or-set_other empties victim f.zone true false other ∙ all.0.not_empty }, rest h)
 
-differ-ended : (host : Option Filling) (second : Option Second) → Differ host second → Differ host (option_map ended second)
+-- the end of a clean leaves the host zone and the second one apart
+pub differ-ended : (host : Option Filling) (second : Option Second) → Differ host second → Differ host (option_map ended second)
 differ-ended None None h = tt
 differ-ended None (Some s) h = tt
 differ-ended (Some f) None h = tt

@@ -9,6 +9,7 @@ use Rattle.nvme_wire.specs.declared.zone_state.ZoneState.{ZoneState}
 use Rattle.nvme_wire.specs.declared.zone_state.ZoneState.TheVariants as states
 use Rattle.zone_states.specs.Transition.{is_open}
 use Rattle.zone_states.specs.Zone.{Zone}
+use Rattle.zone_states.proofs.ListLaws.{all-map}
 use Rattle.drive_port.specs.Calls.{AppendLeaves, CloseLeaves, FinishLeaves, Leaves, ResetLeaves}
 use Rattle.drive_port.specs.Contents.{Content, content_at, content_of, contents, emptied, usage_of}
 use Rattle.drive_port.specs.Drive.{ClosesOne, DriveState, IsClosing}
@@ -21,7 +22,7 @@ use Rattle.zone_choice.specs.Agreement.{IsShut, TellsOpen}
 use Rattle.zone_choice.specs.Roles.{RolesView, closed, closed_beside, closed_unless, fillings, grown, is_at, is_open_beside, wrote}
 use Rattle.drive_array.proofs.AllLaws.{all-weaker}
 use Rattle.zone_choice.proofs.ContentLaws.{IsSettled}
-use Rattle.zone_choice.proofs.RolesLaws.{all-filling, all-map, fillings-with}
+use Rattle.zone_choice.proofs.RolesLaws.{all-filling, fillings-with}
 
 -- ---- commands
 

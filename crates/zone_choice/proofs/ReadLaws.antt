@@ -13,6 +13,7 @@ use Rattle.drive_port.specs.Drive.{DriveState}
 use Rattle.drive_port.specs.Contents.{Content, block_at, content_at, content_of, contents, is_usable, nothing, usage_of, is_full}
 use Rattle.drive_port.specs.Calls.{CanRead}
 use Rattle.drive_port.specs.Step.{block_in, end_of, is_state, zone_at}
+use Rattle.drive_port.proofs.ClosingLaws.{content_at-contents}
 use Rattle.batch_log.specs.declared.header.Entry.{Entry}
 use Rattle.batch_log.specs.Header.{header_block}
 use Rattle.batch_log.specs.Log.{Batch, IsBatch, IsLog, batch_blocks, batch_size, data_count, one_unless, zero_block}
@@ -25,7 +26,7 @@ use Rattle.zone_choice.specs.Agreement.{Agrees, mounted}
 use Rattle.zone_choice.specs.Tables.{TablesView, size_of}
 use Rattle.zone_choice.proofs.AgreementLaws.{size-encoded}
 use Rattle.drive_array.proofs.AllLaws.{all-append, all-at, all-weaker}
-use Rattle.zone_choice.proofs.CommandLaws.{content-zone, zone-few}
+use Rattle.zone_choice.proofs.CommandLaws.{zone-few}
 use Rattle.zone_choice.proofs.ContentLaws.{all-usable}
 use Rattle.drive_array.proofs.NewestLaws.{all-among, newest-is}
 
@@ -112,21 +113,24 @@ get_or-padded [] (suc k) (suc i) z = get_or-padded [] k i z
 get_or-padded (b ∷ bs) k zero z = refl
 get_or-padded (b ∷ bs) k (suc i) z = get_or-padded bs k i z
 
-readable-read : (geometry : Geometry) (content : Content) (i : ℕ) → get_or (readable geometry content) i (zero_block geometry.block) ≡ block_in geometry.block content.blocks i
+-- a readable block is what a Read shows of it
+pub readable-read : (geometry : Geometry) (content : Content) (i : ℕ) → get_or (readable geometry content) i (zero_block geometry.block) ≡ block_in geometry.block content.blocks i
 readable-read geometry content i = at (is_full content.usage)
   where
     at : (b : Bool) → get_or (content.blocks ++ padding geometry b (length content.blocks)) i (zero_block geometry.block) ≡ get_or content.blocks i (replicate geometry.block 0)
     at true = get_or-padded content.blocks (geometry.capacity - length content.blocks) i (zero_block geometry.block)
     at false = ap (λ (bs : List (List ℕ)). get_or bs i (zero_block geometry.block)) (append-nil content.blocks)
 
-length-readable : (geometry : Geometry) (content : Content) → length content.blocks ≤ geometry.capacity → length (readable geometry content) ≤ geometry.capacity
+-- no more blocks can be read than the zone has capacity
+pub length-readable : (geometry : Geometry) (content : Content) → length content.blocks ≤ geometry.capacity → length (readable geometry content) ≤ geometry.capacity
 length-readable geometry content le = at (is_full content.usage)
   where
     at : (b : Bool) → length (content.blocks ++ padding geometry b (length content.blocks)) ≤ geometry.capacity
     at true = omega (arith, le, length-append content.blocks (replicate (geometry.capacity - length content.blocks) (zero_block geometry.block)), length-replicate (geometry.capacity - length content.blocks) (zero_block geometry.block))
     at false = omega (arith, le, ap length (append-nil content.blocks))
 
-usable-online : (state : ZoneState) → is_usable (usage_of state) ≡ true → is_state states.Offline state ≡ false
+-- a zone that is usable is not Offline
+pub usable-online : (state : ZoneState) → is_usable (usage_of state) ≡ true → is_state states.Offline state ≡ false
 usable-online states.Empty h = refl
 usable-online states.ImplicitlyOpened h = refl
 usable-online states.ExplicitlyOpened h = refl
@@ -155,7 +159,7 @@ record_holds drive tables array block r bytes agrees some says on =
     let here : r.zone - 0 ≡ r.zone = omega arith in
     let stands = rw here at (on.stands bytes some) in
     let lt : r.zone < length drive.zones = omega (arith, on.in_range, length-map drive.zones content_of) in
-    let content = content-zone drive.zones r.zone in
+    let content = content_at-contents drive.zones r.zone in
     let few : length (content_at zones r.zone).blocks ≤ g.capacity = zone-few drive r.zone agrees.lawful lt in
     let short : r.offset < g.size = omega (arith, stands.0, length-readable g (content_at zones r.zone) few, agrees.geometry.capacity) in
     let index : (r.zone * g.size + r.offset) / g.size ≡ r.zone = div-mul-add r.zone g.size r.offset short in

@@ -9,10 +9,7 @@ use Rattle.zone_choice.specs.declared.roles.Second.{Second}
 use Rattle.zone_choice.specs.declared.roles.Second.TheVariants.{Next, Destination}
 use Rattle.zone_choice.specs.Roles.{AreApart, Differ, IsOccupied, RolesView, closed, closed_beside, closed_unless, filling_of, fillings, grown, is_at, is_filling_at, is_open_beside, filling_list, open_beside, sealed, second_with, taken, with_fillings}
 use Rattle.drive_array.proofs.AllLaws.{all-parts, all-weaker}
-
-pub all-map : {X Y : Type 0} (P : Y → Type 0) (f : X → Y) (xs : List X) → AllByRecursion (λ x. P (f x)) xs → AllByRecursion P (map f xs)
-all-map P f [] all = tt
-all-map P f (x ∷ xs) all = (all.0, all-map P f xs all.1)
+use Rattle.zone_states.proofs.ListLaws.{all-map}
 
 -- ---- the zones that are being filled
 

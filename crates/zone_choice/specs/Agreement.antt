@@ -77,5 +77,6 @@ pub record Agrees (disk : MountedView) : Type 0 where
   pub zone_size : disk.tables.map.zone_size ≡ disk.drive.geometry.size
   pub places : disk.tables.map.places ≡ map_of disk.drive.geometry.size disk.tables.given (drive_logs disk.drive)
   pub roles : RolesAgree disk.drive.geometry.capacity (contents disk.drive.zones) (drive_logs disk.drive) disk.tables.roles
-  pub few : AllByRecursion (λ (filling : Filling). AllByRecursion (HasAtMost (batch_most disk.drive.geometry)) (log_at (drive_logs disk.drive) filling.zone)) (fillings disk.tables.roles)
+  pub few : AllByRecursion (λ (filling : Filling). AllByRecursion (HasAtMost (batch_most disk.drive.geometry))
+      (log_at (drive_logs disk.drive) filling.zone)) (fillings disk.tables.roles)
   pub open_zones : AllByRecursion (TellsOpen disk.drive.zones) (fillings disk.tables.roles)

@@ -175,7 +175,8 @@ pub record StopsInside (before after : MountedView) (zone : ℕ) (batch : Batch)
   pub stopped : after.drive.stopped ≡ true
   pub tables : (after.tables ≡ before.tables) ⊎ ((before.drive.geometry.open < 2) × (after.tables ≡ tables_closed before.tables zone))
   pub left : Encodes after.drive before.tables.given (drive_logs before.drive) (mounted_array before)
-      ⊎ Encodes after.drive before.tables.given (append_log (drive_logs before.drive) zone batch) (told_over before.drive.geometry.block batch (mounted_array before))
+      ⊎ Encodes after.drive before.tables.given (append_log (drive_logs before.drive) zone batch)
+      (told_over before.drive.geometry.block batch (mounted_array before))
   pub mountable : HasSpare before.drive.geometry.block before.tables.given (drive_logs after.drive) → IsMountable after.drive before.tables.given
   pub geometry : after.drive.geometry ≡ before.drive.geometry
   pub refused : after.drive.refused ≡ before.drive.refused

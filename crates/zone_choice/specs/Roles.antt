@@ -1,5 +1,6 @@
 -- What the zones of a drive are for.
-use Rattle.std.specs.Prelude.{◌≡◌, ◌≢◌, ℕ, ◌+◌, ◌^◌, ◌<◌, ◌≤◌, ◌==◌, if◌then◌else◌, Bool, true, false, not, ◌&&◌, nat_lt, List, [], ◌∷◌, ◌++◌, length, count_by, replicate, slice_index_or, slice_set, Option, Some, None}
+use Rattle.std.specs.Prelude.{◌≡◌, ◌≢◌, ℕ, ◌+◌, ◌^◌, ◌<◌, ◌≤◌, ◌==◌, if◌then◌else◌, Bool, true, false, not, ◌&&◌, nat_lt, List}
+use Rattle.std.specs.Prelude.{[], ◌∷◌, ◌++◌, length, count_by, replicate, slice_index_or, slice_set, Option, Some, None}
 use Rattle.std.specs.List.{find, list_any, AllByRecursion}
 use Rattle.std.specs.Option.{option_map}
 use Rattle.zone_choice.specs.declared.roles.Filling.{Filling}
@@ -65,7 +66,11 @@ IsLowestEmpty roles zone = IsLowestIn roles.empty zone
 
 -- the zone is the host zone now, with nothing written
 abbrev pub taken : RolesView → ℕ → RolesView
-taken roles zone = record { empty = slice_set roles.empty zone false; host = Some (record { zone = zone; written = 0; may_open = false }); second = roles.second }
+taken roles zone = record {
+  empty = slice_set roles.empty zone false;
+  host = Some (record { zone = zone; written = 0; may_open = false });
+  second = roles.second;
+}
 
 -- the host zone is sealed
 abbrev pub sealed : RolesView → RolesView
@@ -73,7 +78,11 @@ sealed roles = record { empty = roles.empty; host = None; second = roles.second 
 
 -- the zone is the destination now, with nothing written
 abbrev pub with_destination : RolesView → ℕ → RolesView
-with_destination roles zone = record { empty = slice_set roles.empty zone false; host = roles.host; second = Some (Destination (record { zone = zone; written = 0; may_open = false })) }
+with_destination roles zone = record {
+  empty = slice_set roles.empty zone false;
+  host = roles.host;
+  second = Some (Destination (record { zone = zone; written = 0; may_open = false }));
+}
 
 -- the second zone, once a clean has ended
 abbrev pub ended : Second → Second

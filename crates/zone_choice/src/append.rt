@@ -4,7 +4,8 @@ ghost use Rattle.batch_log.specs.Log.{data_count, one_unless};
 ghost use Rattle.logical_map.specs.Places.{IsReady};
 ghost use Rattle.zone_choice.specs.Agreement.{Agrees};
 ghost use Rattle.zone_choice.specs.Builder.{IsBuilt, entry_place, placed};
-ghost use Rattle.zone_choice.specs.Changes.{AloneLeaves, BatchLeaves, CanPlace, CloseBesideLeaves, IsHalt, built_for, closes_before, closes_beside, fault_halt, roles_alone};
+ghost use Rattle.zone_choice.specs.Changes.{AloneLeaves, BatchLeaves, CanPlace, CloseBesideLeaves, IsHalt, built_for};
+ghost use Rattle.zone_choice.specs.Changes.{closes_before, closes_beside, fault_halt, roles_alone};
 ghost use Rattle.zone_choice.specs.Roles.{is_filling_at};
 ghost use Rattle.drive_array.specs.Sizes.{size_or};
 ghost use Rattle.zone_choice.specs.Tables.{GrowsTo, size_of, with_places};
@@ -85,7 +86,8 @@ fn send_close<D: Device>(disk: &mut Mounted<D>, zone: u32) -> Result<(), Halt>
     requires filling { is_filling_at disk.old.tables.roles zone ≡ true }
     ensures leaves { CloseBesideLeaves disk.old.drive disk.old.tables zone disk.new.drive result }
     ensures kept { disk.new.tables ≡ disk.old.tables }
-    ensures completed { disk.new.drive.completed ≤ disk.old.drive.completed + closes_beside disk.old zone }
+    ensures completed { disk.new.drive.completed
+        ≤ disk.old.drive.completed + closes_beside disk.old zone }
 {
     let Some(other) = disk.tables.open_beside(zone) else {
         return Ok(());
@@ -106,7 +108,8 @@ fn close_beside<D: Device>(disk: &mut Mounted<D>, zone: u32) -> Result<(), Halt>
     requires agrees { Agrees disk.old }
     requires filling { is_filling_at disk.old.tables.roles zone ≡ true }
     ensures leaves { AloneLeaves disk.old disk.new zone result }
-    ensures completed { disk.new.drive.completed ≤ disk.old.drive.completed + closes_before disk.old zone }
+    ensures completed { disk.new.drive.completed
+        ≤ disk.old.drive.completed + closes_before disk.old zone }
 {
     if disk.geometry().open > 1 {
         return Ok(());
@@ -124,7 +127,8 @@ fn append_alone<D: Device>(
 ) -> Result<(), Halt>
     requires built { IsBuilt disk.old.drive.geometry.block batch.now }
     requires can { CanPlace disk.old zone (built_for disk.old batch.now) }
-    requires alone { roles_alone disk.old.drive.geometry disk.old.tables.roles zone ≡ disk.old.tables.roles }
+    requires alone { roles_alone disk.old.drive.geometry disk.old.tables.roles zone
+        ≡ disk.old.tables.roles }
     ensures leaves { BatchLeaves disk.old disk.new zone (built_for disk.old batch.now) result }
     ensures completed { disk.new.drive.completed ≤ disk.old.drive.completed + 1 }
 {
@@ -153,7 +157,8 @@ pub fn append_batch<D: Device>(
     requires built { IsBuilt disk.old.drive.geometry.block batch.now }
     requires can { CanPlace disk.old zone (built_for disk.old batch.now) }
     ensures leaves { BatchLeaves disk.old disk.new zone (built_for disk.old batch.now) result }
-    ensures completed { disk.new.drive.completed ≤ disk.old.drive.completed + closes_before disk.old zone + 1 }
+    ensures completed { disk.new.drive.completed
+        ≤ disk.old.drive.completed + closes_before disk.old zone + 1 }
 {
     close_beside(disk, zone)?;
     append_alone(disk, zone, batch)

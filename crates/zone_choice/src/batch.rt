@@ -1,7 +1,6 @@
 ghost use Rattle.std.specs.Prelude.{◌≡◌, ◌⊎◌, ◌++◌, ◌+◌, ◌≤◌, ◌<◌, ◌^◌, [], OnOk, OnErr, drop, length, replicate, take};
 ghost use Rattle.batch_log.specs.Header.{IsHeading, header_block, heading_of};
-ghost use Rattle.drive_port.specs.Calls.{ReadGives};
-ghost use Rattle.drive_port.specs.Contents.{bytes_at, contents};
+ghost use Rattle.drive_port.specs.Calls.{ReadGives, ReadShows};
 ghost use Rattle.drive_port.specs.Halting.{Adds};
 ghost use Rattle.zone_choice.specs.Builder.{ReadLeaves, data_entries, entries_from, naming, trim_entries};
 
@@ -10,8 +9,9 @@ use drive_port::{Device, PortFault, read_extending};
 use std::alloc::{AllocError, Global};
 use std::marker::Model;
 
-/// How many bytes stand before those of a batch. Long pieces of memory begin at the same offset of a page each, that of a
-/// batch as that of a zone. From one to another at the same offset the GNU C library copies backward, which is slower.
+/// How many bytes stand before those of a batch. Long pieces of memory begin at the same offset of a page each, that
+/// of a batch as that of a zone. From one to another at the same offset the GNU C library copies backward, which is
+/// slower.
 const FRONT: usize = 576;
 
 /// The batch that is about to be appended: its header, and the bytes of its blocks. Both keep their room
@@ -63,7 +63,13 @@ impl BatchBuilder {
     /// `size` is the number of logical blocks that the header says: it has version 2, or version 1 if it
     /// says none.
     pub fn start(&mut self, kind: Kind, sequence: u64, source: u32, size: Option<u32>)
-        ensures heading { self.new.heading ≡ record { kind = kind; sequence = sequence; source = source; size = size; entries = [] } }
+        ensures heading { self.new.heading ≡ record {
+          kind = kind;
+          sequence = sequence;
+          source = source;
+          size = size;
+          entries = [];
+        } }
         ensures bytes { self.new.bytes ≡ self.old.bytes }
     {
         self.header.kind = kind;
@@ -76,7 +82,8 @@ impl BatchBuilder {
     /// Names `count` blocks more, from `first` on, that the batch has data of.
     pub fn name_data(&mut self, first: u32, count: u32) -> Result<(), AllocError>
         requires { first + count < 2 ^ 32 }
-        ensures heading { OnOk result (self.new.heading ≡ naming self.old.heading (data_entries first count)) }
+        ensures heading { OnOk result
+            (self.new.heading ≡ naming self.old.heading (data_entries first count)) }
         ensures bytes { self.new.bytes ≡ self.old.bytes }
     {
         self.name(first, count, false)
@@ -85,7 +92,8 @@ impl BatchBuilder {
     /// Names `count` blocks more, from `first` on, that the batch trims.
     pub fn name_trims(&mut self, first: u32, count: u32) -> Result<(), AllocError>
         requires { first + count < 2 ^ 32 }
-        ensures heading { OnOk result (self.new.heading ≡ naming self.old.heading (trim_entries first count)) }
+        ensures heading { OnOk result
+            (self.new.heading ≡ naming self.old.heading (trim_entries first count)) }
         ensures bytes { self.new.bytes ≡ self.old.bytes }
     {
         self.name(first, count, true)
@@ -122,7 +130,8 @@ impl BatchBuilder {
         requires room { block_bytes ≤ length self.old.bytes }
         requires heading { IsHeading block_bytes self.old.heading }
         ensures heading { self.new.heading ≡ self.old.heading }
-        ensures bytes { self.new.bytes ≡ header_block block_bytes self.old.heading ++ drop block_bytes self.old.bytes }
+        ensures bytes { self.new.bytes
+            ≡ header_block block_bytes self.old.heading ++ drop block_bytes self.old.bytes }
     {
         write_header(
             &self.header,
@@ -136,11 +145,12 @@ impl BatchBuilder {
     #[inline]
     pub fn read<D: Device>(&mut self, device: &mut D, address: u64) -> Result<(), PortFault>
         ensures heading { self.new.heading ≡ self.old.heading }
-        ensures gives { Adds self.old.bytes (λ returned. ReadGives (D.drive device.old) address 1 result returned
+        ensures gives { Adds self.old.bytes
+            (λ returned. ReadGives (D.drive device.old) address 1 result returned
             (D.drive device.new)) self.new.bytes }
-        ensures shown { OnOk result (self.new.bytes ≡ self.old.bytes ++ bytes_at (D.drive device.old).geometry
-            (contents (D.drive device.old).zones) address 1) }
-        ensures length { OnOk result (length self.new.bytes ≡ length self.old.bytes + (D.drive device.old).geometry.block) }
+        ensures shown { OnOk result
+            (ReadShows (D.drive device.old)
+            (D.drive device.new) address 1 self.old.bytes self.new.bytes) }
         ensures err { OnErr result (self.new.bytes ≡ self.old.bytes) }
         ensures leaves { ReadLeaves (D.drive device.old) address result (D.drive device.new) }
     {
@@ -177,7 +187,8 @@ impl BatchBuilder {
 
     fn name(&mut self, first: u32, count: u32, trim: bool) -> Result<(), AllocError>
         requires { first + count < 2 ^ 32 }
-        ensures heading { OnOk result (self.new.heading ≡ naming self.old.heading (entries_from trim first count)) }
+        ensures heading { OnOk result
+            (self.new.heading ≡ naming self.old.heading (entries_from trim first count)) }
         ensures bytes { self.new.bytes ≡ self.old.bytes }
     {
         for i in 0..count {
@@ -213,7 +224,8 @@ fn write_header(header: &Header, bytes: &mut [u8], front: usize, block_bytes: us
     requires block { (block_bytes ≡ 512) ⊎ (block_bytes ≡ 4096) }
     requires room { front + block_bytes ≤ length bytes.old }
     requires heading { IsHeading block_bytes (heading_of header.now) }
-    ensures bytes { drop front bytes.new ≡ header_block block_bytes (heading_of header.now) ++ drop block_bytes
+    ensures bytes { drop front bytes.new
+        ≡ header_block block_bytes (heading_of header.now) ++ drop block_bytes
         (drop front bytes.old) }
     ensures length { length bytes.new ≡ length bytes.old }
 {

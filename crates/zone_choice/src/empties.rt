@@ -1,4 +1,5 @@
-ghost use Rattle.std.specs.Prelude.{◌≡◌, ◌<◌, ◌≤◌, ◌^◌, IfNone, IfOk, IfSome, count_by, false, length, replicate, slice_index_or, slice_set, true};
+ghost use Rattle.std.specs.Prelude.{◌≡◌, ◌<◌, ◌≤◌, ◌^◌, IfNone, IfOk, IfSome, count_by, false};
+ghost use Rattle.std.specs.Prelude.{length, replicate, slice_index_or, slice_set, true};
 ghost use Rattle.zone_choice.specs.Roles.{IsLowestIn};
 
 use std::alloc::{AllocError, Global};
@@ -64,7 +65,8 @@ impl EmptyZones {
 
     /// Takes the lowest empty zone.
     pub fn take_lowest(&mut self) -> Option<u32>
-        ensures some { IfSome result (λ zone. IsLowestIn self.old zone × (self.new ≡ slice_set self.old zone false)) }
+        ensures some { IfSome result
+            (λ zone. IsLowestIn self.old zone × (self.new ≡ slice_set self.old zone false)) }
         ensures none { IfNone result ((count_by (λ b. b) self.old ≡ 0) × (self.new ≡ self.old)) }
     {
         let Some(zone) = self.lowest() else {

@@ -1,6 +1,11 @@
-ghost use Rattle.std.specs.Prelude.{◌≡◌, ◌≤◌, ◌<◌, ◌+◌, ◌^◌, ℕ, IfOk, IfSome, IfNone, None, Some, false, length, replicate, slice_index_or, true};
+ghost use Rattle.std.specs.Prelude.{◌≡◌, ◌≤◌, ◌<◌, ◌+◌, ◌^◌, ℕ, IfOk, IfSome, IfNone, None};
+ghost use Rattle.std.specs.Prelude.{Some, false, length, replicate, slice_index_or, true};
 ghost use Rattle.std.specs.List.{AllByRecursion};
-ghost use Rattle.zone_choice.specs.Roles.{AreApart, AreMarked, IsLowestEmpty, clean_ended, closed_beside, closed_unless, empty_count, filling_of, fillings, grown, is_open_beside, is_sealed_at, filling_list, marked, mounted_as, ended, next_of, open_beside, promoted, sealed, second_with, taken, unmarked, unused_roles, with_destination, wrote};
+ghost use Rattle.zone_choice.specs.Roles.{AreApart, AreMarked, IsLowestEmpty, clean_ended, closed_beside};
+ghost use Rattle.zone_choice.specs.Roles.{closed_unless, empty_count, filling_of, fillings, grown, is_open_beside};
+ghost use Rattle.zone_choice.specs.Roles.{is_sealed_at, filling_list, marked, mounted_as, ended, next_of, open_beside};
+ghost use Rattle.zone_choice.specs.Roles.{promoted, sealed, second_with, taken, unmarked, unused_roles};
+ghost use Rattle.zone_choice.specs.Roles.{with_destination, wrote};
 ghost use Rattle.std.specs.Option.{option_map};
 
 use crate::empties::EmptyZones;
@@ -45,7 +50,8 @@ impl Model for Roles {
 
     ghost view = { λ r. record { empty = r.empty; host = r.host; second = r.second } };
 
-    ghost invariant = { λ r. AreApart (record { empty = r.empty; host = r.host; second = r.second }) × AreMarked (record { empty = r.empty; host = r.host; second = r.second }) r.sealed.items };
+    ghost invariant = { λ r. AreApart (record { empty = r.empty; host = r.host; second = r.second })
+        × AreMarked (record { empty = r.empty; host = r.host; second = r.second }) r.sealed.items };
 }
 
 impl Filling {
@@ -167,7 +173,8 @@ impl Roles {
 
     /// Makes the lowest empty zone the host zone, unless it is the last empty one.
     pub fn take_empty(&mut self) -> Option<u32>
-        ensures some { IfSome result (λ zone. IsLowestEmpty self.old zone × (2 ≤ empty_count self.old)
+        ensures some { IfSome result
+            (λ zone. IsLowestEmpty self.old zone × (2 ≤ empty_count self.old)
             × (self.new ≡ taken self.old zone)) }
         ensures none { IfNone result ((empty_count self.old < 2) × (self.new ≡ self.old)) }
     {
@@ -230,7 +237,8 @@ impl Roles {
 
     /// Counts blocks that were written to a zone that is being filled.
     pub fn wrote(&mut self, zone: u32, blocks: u32)
-        requires { AllByRecursion (λ filling. filling.written + blocks < 2 ^ 32) (fillings self.old) }
+        requires { AllByRecursion (λ filling. filling.written + blocks < 2 ^ 32)
+            (fillings self.old) }
         ensures { self.new ≡ wrote self.old zone blocks }
     {
         grow(&mut self.host, zone, blocks);
@@ -302,7 +310,8 @@ fn make_next(second: &mut Option<Second>)
 }
 
 fn grow(filling: &mut Option<Filling>, zone: u32, blocks: u32)
-    requires { AllByRecursion (λ filling. filling.written + blocks < 2 ^ 32) (filling_list filling.old) }
+    requires { AllByRecursion (λ filling. filling.written + blocks < 2 ^ 32)
+        (filling_list filling.old) }
     ensures { filling.new ≡ option_map (grown zone blocks) filling.old }
 {
     if let Some(filling) = filling {

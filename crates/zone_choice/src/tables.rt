@@ -1,10 +1,13 @@
-ghost use Rattle.std.specs.Prelude.{◌≡◌, ◌≢◌, ◌≤◌, ◌<◌, ◌+◌, ◌^◌, ℕ, IfNone, IfOk, IfSome, false, length, None, OnOk, replicate, slice_index, slice_index_or, slice_set, true};
+ghost use Rattle.std.specs.Prelude.{◌≡◌, ◌≢◌, ◌≤◌, ◌<◌, ◌+◌, ◌^◌, ℕ, IfNone, IfOk, IfSome, false, length, None};
+ghost use Rattle.std.specs.Prelude.{OnOk, replicate, slice_index, slice_index_or, slice_set, true};
 ghost use Rattle.std.specs.List.{AllByRecursion};
 ghost use Rattle.logical_map.specs.Counts.{lowered, raised};
 ghost use Rattle.logical_map.specs.Live.{first_record, live};
 ghost use Rattle.logical_map.specs.Places.{ArePlacedReady, IsReady, Reserves, place_address};
 ghost use Rattle.logical_map.specs.declared.place.Place.TheVariants as places;
-ghost use Rattle.zone_choice.specs.Roles.{IsLowestEmpty, clean_ended, closed_beside, empty_count, fillings, is_sealed_at, next_of, open_beside, promoted, sealed, taken, unused_roles, with_destination, wrote};
+ghost use Rattle.zone_choice.specs.Roles.{IsLowestEmpty, clean_ended, closed_beside, empty_count, fillings};
+ghost use Rattle.zone_choice.specs.Roles.{is_sealed_at, next_of, open_beside, promoted, sealed, taken};
+ghost use Rattle.zone_choice.specs.Roles.{unused_roles, with_destination, wrote};
 ghost use Rattle.zone_choice.specs.Tables.{AreReserved, GrowsTo, IsLeastSealed, SameButReady, size_of, with_places};
 
 use crate::roles::{Filling, Roles, Second};
@@ -173,7 +176,8 @@ impl Tables {
     /// Makes the lowest empty zone the host zone, unless it is the last empty one.
     pub fn take_empty(&mut self) -> Option<u32>
         ensures some { IfSome result (λ zone. IsLowestEmpty self.old.roles zone
-            × (2 ≤ empty_count self.old.roles) × (self.new ≡ record self.old { roles = taken self.old.roles zone })) }
+            × (2 ≤ empty_count self.old.roles)
+            × (self.new ≡ record self.old { roles = taken self.old.roles zone })) }
         ensures none { IfNone result ((empty_count self.old.roles < 2) × (self.new ≡ self.old)) }
     {
         self.roles.take_empty()
@@ -251,9 +255,11 @@ impl Tables {
 
     /// Counts a batch of `blocks` blocks that was appended to a zone.
     pub(crate) fn appended(&mut self, zone: u32, blocks: u32)
-        requires fits { AllByRecursion (λ filling. filling.written + blocks < 2 ^ 32) (fillings self.old.roles) }
+        requires fits { AllByRecursion (λ filling. filling.written + blocks < 2 ^ 32)
+            (fillings self.old.roles) }
         requires next { self.old.next < 2 ^ 63 }
-        ensures { self.new ≡ record self.old { roles = wrote self.old.roles zone blocks; next = self.old.next + 1 } }
+        ensures { self.new ≡
+            record self.old { roles = wrote self.old.roles zone blocks; next = self.old.next + 1 } }
     {
         self.roles.wrote(zone, blocks);
         self.next += 1;
@@ -272,7 +278,8 @@ fn lower(index: &mut LiveIndex, zone: Option<u32>)
 
 /// One live record more in a zone, if there is a zone.
 fn raise(index: &mut LiveIndex, zone: Option<u32>)
-    requires { IfSome zone (λ zone. (zone < length index.old) × (slice_index index.old zone < 2 ^ 31)) }
+    requires { IfSome zone
+        (λ zone. (zone < length index.old) × (slice_index index.old zone < 2 ^ 31)) }
     ensures { index.new ≡ raised zone index.old }
 {
     if let Some(zone) = zone {

@@ -67,7 +67,7 @@ host-apart host second h f differ host-is second-is = let here = rw (host-is, se
 
 -- ---- a batch of the host
 
-pub host_cleaned : (before after : MountedView) (clean : Option CleanView) (host : Filling) (b : Batch) → AgreesWithClean before clean → before.tables.roles.host ≡ Some host → CanPlace before host.zone b → Places before after host.zone b → AgreesWithClean after (option_map (forgotten b.heading.entries) clean)
+host_cleaned : (before after : MountedView) (clean : Option CleanView) (host : Filling) (b : Batch) → AgreesWithClean before clean → before.tables.roles.host ≡ Some host → CanPlace before host.zone b → Places before after host.zone b → AgreesWithClean after (option_map (forgotten b.heading.entries) clean)
 host_cleaned before after None host b is host-is can done =
     (done.agrees, (rw (done.roles, alone-empty before.drive.geometry before.tables.roles host.zone) is.1.0, rw (done.roles, done.geometry) (alone-beside before.drive.geometry before.tables.roles host (batch_size b) (rw host-is at is.0.roles.apart.differ) is.1.1)))
 host_cleaned before after (Some c) host b is host-is can done =
@@ -75,7 +75,7 @@ host_cleaned before after (Some c) host b is host-is can done =
     (done.agrees, (host_gives before after c host.zone b is.1 can apart done).clean)
 
 -- as many turns are left as before, or fewer
-pub host_turns : (before after : MountedView) (clean : Option CleanView) (host : Filling) (b : Batch) → AgreesWithClean before clean → before.tables.roles.host ≡ Some host → CanPlace before host.zone b → Places before after host.zone b
+host_turns : (before after : MountedView) (clean : Option CleanView) (host : Filling) (b : Batch) → AgreesWithClean before clean → before.tables.roles.host ≡ Some host → CanPlace before host.zone b → Places before after host.zone b
     → turns_left (batch_most before.drive.geometry) after.tables (option_map (forgotten b.heading.entries) clean) ≤ turns_left (batch_most before.drive.geometry) before.tables clean
 host_turns before after None host b is host-is can done = omega arith
 host_turns before after (Some c) host b is host-is can done =
@@ -99,7 +99,7 @@ spare-beside before (Some c) host b is host-is can =
     moves_have_spare before.drive.geometry.block before.tables.given c.victim f.zone (append_log logs host.zone b) (sealed-apart before.tables.roles c.victim f.zone is.1.victim filling)
     (omega (arith, below, length-set logs host.zone (log_at logs host.zone ++ b ∷ []))) moves
 
-pub host_stops : (before after : MountedView) (clean : Option CleanView) (host : Filling) (b : Batch) → AgreesWithClean before clean → before.tables.roles.host ≡ Some host → CanPlace before host.zone b → StopsInside before after host.zone b → IsMountable after.drive after.tables.given
+host_stops : (before after : MountedView) (clean : Option CleanView) (host : Filling) (b : Batch) → AgreesWithClean before clean → before.tables.roles.host ≡ Some host → CanPlace before host.zone b → StopsInside before after host.zone b → IsMountable after.drive after.tables.given
 host_stops before after clean host b is host-is can stops =
     let spare : HasSpare before.drive.geometry.block before.tables.given (drive_logs after.drive) = elim stops.left [
       | inl same ↦ rw same.logs_are (cleans-spare before clean is)

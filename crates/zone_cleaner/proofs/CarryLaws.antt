@@ -8,6 +8,7 @@ use Rattle.drive_port.specs.Drive.{DriveState}
 use Rattle.drive_port.specs.Contents.{contents}
 use Rattle.batch_log.specs.declared.header.Entry.{Entry}
 use Rattle.batch_log.specs.Log.{data_count, zero_block}
+use Rattle.batch_log.proofs.LentLaws.{data-few}
 use Rattle.logical_map.specs.declared.place.Place.{Place}
 use Rattle.logical_map.specs.declared.place.Place.TheVariants as places
 use Rattle.zone_choice.specs.declared.roles.Filling.{Filling}
@@ -21,7 +22,7 @@ use Rattle.zone_choice.specs.Roles.{grown}
 use Rattle.zone_choice.specs.Tables.{size_of}
 use Rattle.zone_choice.proofs.AgreementLaws.{extended-same, size-encoded}
 use Rattle.drive_array.proofs.WholeLaws.{length-spelled}
-use Rattle.zone_choice.proofs.BuilderLaws.{blocks_named, data_count-few}
+use Rattle.zone_choice.proofs.BuilderLaws.{blocks_named}
 use Rattle.zone_choice.proofs.ReadLaws.{HoldsPlace, holds_place}
 use Rattle.drive_array.proofs.ReserveLaws.{positive-most}
 use Rattle.zone_cleaner.specs.Clean.{CleanView, HasRoomFor, IsClean, destination_written, untaken}
@@ -94,11 +95,7 @@ pub grown-self : (f : Filling) (zone n : ℕ) → f.zone ≡ zone → grown zone
 grown-self f zone n e = ap (λ (b : Bool). cond b (record { zone = f.zone; written = f.written + n; may_open = true }) f) (eq-eqb f.zone zone e)
 
 pub data-entries : (rs : List LiveRecord) → data_count (gathered_entries rs) ≤ length rs
-data-entries rs = omega (arith, data_count-few (gathered_entries rs), length-map rs (λ (r : LiveRecord). gathered_entry r.block r.content))
-
-nil-of : {X : Type 0} (xs : List X) → length xs ≡ 0 → xs ≡ []
-nil-of [] e = refl
-nil-of (x ∷ xs) e = absurd (omega arith)
+data-entries rs = omega (arith, data-few (gathered_entries rs), length-map rs (λ (r : LiveRecord). gathered_entry r.block r.content))
 
 -- the batch takes no more blocks than the budget has for it
 pub record FitsMove (disk : MountedView) (c : CleanView) (destination : Filling) : Type 0 where

@@ -10,6 +10,7 @@ use Rattle.drive_port.specs.declared.calls.PortFault.{PortFault}
 use Rattle.drive_port.specs.declared.calls.PortFault.TheVariants as port
 use Rattle.drive_port.specs.declared.device.Halt.{Halt}
 use Rattle.drive_port.specs.declared.device.Halt.TheVariants as halt
+use Rattle.drive_port.proofs.ClosingLaws.{content_at-contents}
 use Rattle.batch_log.specs.Log.{Batch}
 use Rattle.zone_choice.specs.declared.roles.Filling.{Filling}
 use Rattle.zone_choice.specs.declared.roles.Second.TheVariants.{Destination}
@@ -26,7 +27,7 @@ use Rattle.zone_choice.specs.Tables.{TablesView, size_of}
 use Rattle.zone_choice.proofs.AgreementLaws.{size-encoded}
 use Rattle.zone_choice.proofs.AloneLaws.{memory-keeps, stops-tables}
 use Rattle.zone_choice.proofs.ChangeLaws.{keeps-halt, keeps-same}
-use Rattle.zone_choice.proofs.CommandLaws.{content-zone, filling-in_range, start-below, zone-start}
+use Rattle.zone_choice.proofs.CommandLaws.{filling-in_range, start-below, zone-start}
 use Rattle.zone_choice.proofs.OpenLaws.{OpensNone, reset-opens}
 use Rattle.drive_array.proofs.ReserveLaws.{positive-most}
 use Rattle.zone_cleaner.specs.declared.step.Step.TheVariants.{Move, Reset}
@@ -43,7 +44,7 @@ use Rattle.zone_cleaner.proofs.StepLaws.{MoveDue, ResetDue, move-due}
 use Rattle.zone_cleaner.proofs.BuildLaws.{MoveBuilt, move-can, move_built}
 use Rattle.zone_cleaner.proofs.CloseLaws.{memory-closes, stops-close}
 use Rattle.zone_cleaner.proofs.FailLaws.{stops_kept}
-use Rattle.zone_cleaner.proofs.MovedLaws.{move_gives}
+use Rattle.zone_cleaner.proofs.MovedLaws.{move_gives, encoded}
 use Rattle.batch_log.specs.Header.{header_block}
 use Rattle.logical_map.specs.Places.{ArePlacedReady}
 
@@ -51,16 +52,11 @@ use Rattle.logical_map.specs.Places.{ArePlacedReady}
 
 -- ---- a Move stops
 
--- the logs encode the array
-encoded : (disk : MountedView) → array_of disk.drive.geometry.block disk.tables.given (drive_logs disk.drive) ≡ mounted_array disk
-unfolding spelled_array
-encoded disk = refl
-
 logs-array : (drive : DriveState) (n : ℕ) (g : Geometry) (logs : List (List Batch)) → drive_logs drive ≡ logs → drive.geometry ≡ g → array_of g.block n logs ≡ spelled drive n
 unfolding spelled_array
 logs-array drive n g logs e same = rw (← e, ← same) refl
 
-pub carry_stops : (before after : MountedView) (c : CleanView) → Agrees before → (is : IsClean before c) → StopsInside before after is.destination.zone (gathered_move (size_of before.tables) before.tables.next c.victim c.gathered) → StopsClean before after
+carry_stops : (before after : MountedView) (c : CleanView) → Agrees before → (is : IsClean before c) → StopsInside before after is.destination.zone (gathered_move (size_of before.tables) before.tables.next c.victim c.gathered) → StopsClean before after
 carry_stops before after c agrees is stops =
     let kept = stops-tables before after is.destination.zone (gathered_move (size_of before.tables) before.tables.next c.victim c.gathered) stops in
     record {
@@ -122,7 +118,7 @@ carry_stops before after c agrees is stops =
             moves_have_spare g.block before.tables.given c.victim f.zone (append_log logs f.zone b) apart (omega (arith, below, length-set logs f.zone (log_at logs f.zone ++ b ∷ []))) moved
 
 -- a Move that was not appended
-pub carry_fails : (before after : MountedView) (c : CleanView) (fault : Halt) → Agrees before → (is : IsClean before c) → BatchLeaves before after is.destination.zone (gathered_move (size_of before.tables) before.tables.next c.victim c.gathered) (Err fault) → StepFails Move (clean_fault fault) before after
+carry_fails : (before after : MountedView) (c : CleanView) (fault : Halt) → Agrees before → (is : IsClean before c) → BatchLeaves before after is.destination.zone (gathered_move (size_of before.tables) before.tables.next c.victim c.gathered) (Err fault) → StepFails Move (clean_fault fault) before after
 carry_fails before after c halt.Memory agrees is leaves =
     let b = gathered_move (size_of before.tables) before.tables.next c.victim c.gathered in
     (memory-keeps before after is.destination.zone b agrees leaves, memory-closes before after is.destination.zone b leaves)
@@ -130,12 +126,12 @@ carry_fails before after c halt.Stopped agrees is leaves = carry_stops before af
 
 -- ---- the Reset
 
-pub can_reset : (drive : DriveState) (tables : TablesView) (c : CleanView) (start : ℕ) → Agrees (mounted drive tables) → IsClean (mounted drive tables) c → start ≡ c.victim * drive.geometry.size → CanReset drive start
+can_reset : (drive : DriveState) (tables : TablesView) (c : CleanView) (start : ℕ) → Agrees (mounted drive tables) → IsClean (mounted drive tables) c → start ≡ c.victim * drive.geometry.size → CanReset drive start
 can_reset drive tables c start agrees is start-is =
     let size = drive.geometry.size in
     let at = zone-start c.victim size agrees.geometry.size.0 in
     let index : start / size ≡ c.victim = rw start-is at.0 in
-    let content = content-zone drive.zones c.victim in
+    let content = content_at-contents drive.zones c.victim in
     let lt = sealed-in_range (mounted drive tables) c.victim agrees is.victim in
     let usage = (sealed-holds (mounted drive tables) c.victim agrees is.victim).usage in
     record {

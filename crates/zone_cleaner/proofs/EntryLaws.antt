@@ -21,7 +21,7 @@ Blocks = List (ℕ × Option ℕ)
 abbrev one_shown : ℕ → List ℕ → ℕ × Option ℕ → LiveRecord
 one_shown n bytes b = record { block = b.0; content = option_map (block_from n bytes) b.1 }
 
-pub length-shown : (n : ℕ) (bytes : List ℕ) (bs : Blocks) → length (gathered_records n bytes bs) ≡ length bs
+length-shown : (n : ℕ) (bytes : List ℕ) (bs : Blocks) → length (gathered_records n bytes bs) ≡ length bs
 length-shown n bytes bs = length-map bs (one_shown n bytes)
 
 -- ---- a record fewer

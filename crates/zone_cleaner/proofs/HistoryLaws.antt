@@ -81,7 +81,7 @@ moves-beside block_bytes limit n zone victim destination size logs b lt away apa
 -- ---- a stop at any moment
 
 -- the destination is vacant, or half clean
-pub moves-spare : (block_bytes n victim destination : ℕ) (logs : List (List Batch)) → victim ≢ destination → AreMoves block_bytes n logs victim destination → (x : Batch) (log : List Batch) → log_at logs destination ≡ x ∷ log → IsHalfClean block_bytes n logs destination
+moves-spare : (block_bytes n victim destination : ℕ) (logs : List (List Batch)) → victim ≢ destination → AreMoves block_bytes n logs victim destination → (x : Batch) (log : List Batch) → log_at logs destination ≡ x ∷ log → IsHalfClean block_bytes n logs destination
 moves-spare block_bytes n victim destination logs apart is x log e = record {
   victim = victim;
   apart = apart;

@@ -50,7 +50,7 @@ move-same array bytes sequence rs says = over-same array bytes sequence 0 0 0 []
 
 -- ---- no gathered block lies in the victim after it
 
-pub without-none : (es : List Entry) → without_all es [] ≡ []
+without-none : (es : List Entry) → without_all es [] ≡ []
 without-none [] = refl
 without-none (e ∷ es) = without-none es
 

@@ -33,7 +33,7 @@ pub record MoveGives (before after : MountedView) (c : CleanView) : Type 0 where
   pub fewer : turns_left (batch_most before.drive.geometry) after.tables (Some (after_move c)) < turns_left (batch_most before.drive.geometry) before.tables (Some c)
 
 -- the logs encode the array, before and after
-encoded : (disk : MountedView) → array_of disk.drive.geometry.block disk.tables.given (drive_logs disk.drive) ≡ mounted_array disk
+pub encoded : (disk : MountedView) → array_of disk.drive.geometry.block disk.tables.given (drive_logs disk.drive) ≡ mounted_array disk
 unfolding spelled_array
 encoded disk = refl
 

@@ -86,7 +86,7 @@ no-second capacity None alone none = refl
 no-second capacity (Some (Next filling)) alone none = absurd (cc)
 no-second capacity (Some (Destination filling)) alone none = absurd alone
 
-pub is-in_use : (disk : MountedView) → AgreesWithClean disk None → disk.tables.roles.host ≡ None → next_of disk.tables.roles.second ≡ None → empty_count disk.tables.roles < 2 → IsInUse disk
+is-in_use : (disk : MountedView) → AgreesWithClean disk None → disk.tables.roles.host ≡ None → next_of disk.tables.roles.second ≡ None → empty_count disk.tables.roles < 2 → IsInUse disk
 is-in_use disk is host next few = record { agrees = is.0; host = host; second = no-second disk.drive.geometry.capacity disk.tables.roles.second is.1.1 next; empty = omega (arith, few, is.1.0) }
 
 is-due : (disk : MountedView) → IsInUse disk → (victim : ℕ) × IsDue disk.drive.geometry disk.tables victim
@@ -96,14 +96,14 @@ is-due disk in_use =
     (victim.0, record { alone = in_use.second; some = omega (arith, in_use.empty); few = omega (arith, in_use.empty); least = victim.1; fits = least_can_move disk victim.0 in_use victim.1 })
 
 -- so it starts
-pub must-start : (disk : MountedView) (new : TablesView) (clean : Option CleanView) → IsInUse disk → StartLeaves disk.drive.geometry disk.tables new clean → is_some clean ≡ true
+must-start : (disk : MountedView) (new : TablesView) (clean : Option CleanView) → IsInUse disk → StartLeaves disk.drive.geometry disk.tables new clean → is_some clean ≡ true
 must-start disk new (Some c) in_use leaves = refl
 must-start disk new None in_use leaves = let due = is-due disk in_use in absurd (leaves.0 due.0 due.1)
 
 -- ---- how many turns are left of it
 
 -- fewer than a zone has blocks
-pub turns-few : (disk : MountedView) (c : CleanView) → AgreesWithClean disk (Some c) → turns_left (batch_most disk.drive.geometry) disk.tables (Some c) + 1 ≤ disk.drive.geometry.capacity
+turns-few : (disk : MountedView) (c : CleanView) → AgreesWithClean disk (Some c) → turns_left (batch_most disk.drive.geometry) disk.tables (Some c) + 1 ≤ disk.drive.geometry.capacity
 turns-few disk c is =
     let most = batch_most disk.drive.geometry in
     let moved : moves_due (destination_written disk.tables.roles.second) ≡ moves_due is.1.destination.written = ap moves_due (ap destination_written is.1.second) in

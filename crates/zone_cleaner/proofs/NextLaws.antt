@@ -11,7 +11,7 @@ use Rattle.drive_array.specs.ZoneLogs.{drive_logs}
 use Rattle.zone_choice.specs.Changes.{KeepsArray}
 use Rattle.zone_choice.specs.Roles.{closed, next_of, promoted, second_with, with_next}
 use Rattle.zone_choice.specs.Tables.{TablesView}
-use Rattle.zone_choice.proofs.AgreementLaws.{tables_with}
+use Rattle.zone_choice.proofs.AgreementLaws.{agrees-roles, tables_with}
 use Rattle.zone_choice.proofs.RolesLaws.{roles_with}
 use Rattle.zone_cleaner.specs.Clean.{CleanView, HasNoDestination}
 use Rattle.zone_cleaner.specs.Start.{AgreesWithClean, KeepsByCleaning, trims}
@@ -57,26 +57,16 @@ cleaning_kept before after clean is kept = record {
 -- ---- the next zone becomes the host zone
 
 agrees-promoted : (drive : DriveState) (map : MapView) (empties : List Bool) (f : Filling) (next given : ℕ) → Agrees (mounted drive (tables_with map (roles_with empties None (Some (Next f))) next given)) → Agrees (mounted drive (tables_with map (roles_with empties (Some f) None) next given))
-agrees-promoted drive map empties f next given agrees = record {
-  geometry = agrees.geometry;
-  reserve = agrees.reserve;
-  lawful = agrees.lawful;
-  logs = agrees.logs;
-  sound = agrees.sound;
-  next = agrees.next;
-  zones = agrees.zones;
-  zone_size = agrees.zone_size;
-  places = agrees.places;
-  roles = record {
-    count = agrees.roles.count;
-    apart = record { occupied = agrees.roles.apart.occupied; differ = tt };
-    fillings_are = agrees.roles.fillings_are;
-    empty = agrees.roles.empty;
-    sealed_are = agrees.roles.sealed_are;
-  };
-  few = agrees.few;
-  open_zones = agrees.open_zones;
-}
+agrees-promoted drive map empties f next given agrees =
+    agrees-roles drive (tables_with map (roles_with empties None (Some (Next f))) next given) (roles_with empties (Some f) None) agrees
+    (record {
+      count = agrees.roles.count;
+      apart = record { occupied = agrees.roles.apart.occupied; differ = tt };
+      fillings_are = agrees.roles.fillings_are;
+      empty = agrees.roles.empty;
+      sealed_are = agrees.roles.sealed_are;
+    })
+    agrees.few agrees.open_zones
 
 next-parts : (second : Option Second) (f : Filling) → next_of second ≡ Some f → second ≡ Some (Next f)
 next-parts None f e = absurd (cc)

@@ -11,6 +11,7 @@ use Rattle.drive_port.specs.Drive.{DriveState}
 use Rattle.drive_port.specs.Contents.{Content, content_of, contents, is_full, nothing}
 use Rattle.batch_log.specs.declared.header.Entry.{Entry}
 use Rattle.batch_log.specs.Log.{Batch, IsBatch, batch_blocks, batch_size, data_count, log_size, one_unless, zero_block}
+use Rattle.batch_log.proofs.LogLaws.{spelled_length}
 use Rattle.logical_map.specs.Live.{lies_in, live}
 use Rattle.logical_map.specs.declared.place.Place.TheVariants as places
 use Rattle.zone_choice.specs.Agreement.{Agrees, mounted}
@@ -21,41 +22,17 @@ use Rattle.zone_choice.specs.Tables.{TablesView}
 use Rattle.zone_choice.proofs.AgreementLaws.{size-encoded}
 use Rattle.drive_array.proofs.AllLaws.{all-append, all-from, all-weaker}
 use Rattle.zone_choice.proofs.CommandLaws.{zone-few}
+use Rattle.zone_choice.proofs.ReadLaws.{length-readable}
 use Rattle.drive_array.proofs.DeadLaws.{NotIn, OnRecord, on-newest}
+use Rattle.drive_array.proofs.OffsetLaws.{log-below}
 
 -- ---- records lie within their zone
 
-entries-within : (limit sequence zone header k : ℕ) (body : List (List ℕ)) (es : List Entry) → header + 1 + k + data_count es ≤ limit → AllByRecursion (λ (r : Record). r.offset < limit) (entry_records sequence body zone header k es)
-entries-within limit sequence zone header k body [] le = tt
-entries-within limit sequence zone header k body (e ∷ es) le = (one e.trim le, entries-within limit sequence zone header (k + one_unless e.trim) body es (omega (arith, le)))
-  where
-    one : (t : Bool) → header + 1 + k + (one_unless t + data_count es) ≤ limit → entry_offset t header k < limit
-    one true le = omega (arith, le)
-    one false le = omega (arith, le)
-
-log-within : (limit zone offset : ℕ) (log : List Batch) → offset + log_size log ≤ limit → AllByRecursion (λ (r : Record). r.offset < limit) (log_records zone offset log)
-log-within limit zone offset [] le = tt
-log-within limit zone offset (b ∷ bs) le =
-    all-append (λ (r : Record). r.offset < limit) (batch_records zone offset b) (log_records zone (offset + batch_size b) bs)
-    (entries-within limit b.heading.sequence zone offset 0 b.body b.heading.entries (omega (arith, le)))
-    (log-within limit zone (offset + batch_size b) bs (omega (arith, le)))
-
-length-log : (size : ℕ) (log : List Batch) → AllByRecursion (IsBatch size) log → length (flat_map (batch_blocks size) log) ≡ log_size log
-length-log size [] all = refl
-length-log size (b ∷ bs) all = omega (arith, length-append (batch_blocks size b) (flat_map (batch_blocks size) bs), length-log size bs all.1, all.0.body)
-
-length-readable : (geometry : Geometry) (content : Content) → length content.blocks ≤ geometry.capacity → length (readable geometry content) ≤ geometry.capacity
-length-readable geometry content le = at (is_full content.usage)
-  where
-    at : (b : Bool) → length (content.blocks ++ padding geometry b (length content.blocks)) ≤ geometry.capacity
-    at true = omega (arith, le, length-append content.blocks (replicate (geometry.capacity - length content.blocks) (zero_block geometry.block)), length-replicate (geometry.capacity - length content.blocks) (zero_block geometry.block))
-    at false = omega (arith, le, ap length (append-nil content.blocks))
-
 -- a zone's batches take no more than its capacity
-pub log-few : (geometry : Geometry) (content : Content) → HasLog geometry content → length content.blocks ≤ geometry.capacity → log_size (zone_log geometry content) ≤ geometry.capacity
+log-few : (geometry : Geometry) (content : Content) → HasLog geometry content → length content.blocks ≤ geometry.capacity → log_size (zone_log geometry content) ≤ geometry.capacity
 log-few geometry content has le =
     let log = zone_log geometry content in
-    let total : length (readable geometry content) ≡ log_size log + length has.tail = ap length has.front.spelled ∙ omega (arith, length-append (flat_map (batch_blocks geometry.block) log) has.tail, length-log geometry.block log has.front.batches) in
+    let total : length (readable geometry content) ≡ log_size log + length has.tail = ap length has.front.spelled ∙ omega (arith, length-append (flat_map (batch_blocks geometry.block) log) has.tail, spelled_length geometry.block log has.front.batches) in
     omega (arith, total, length-readable geometry content le)
 
 records-within : (geometry : Geometry) (first : ℕ) (zones : List Content) → AllByRecursion (HasLog geometry) zones → AllByRecursion (λ (c : Content). length c.blocks ≤ geometry.capacity) zones
@@ -63,7 +40,7 @@ records-within : (geometry : Geometry) (first : ℕ) (zones : List Content) → 
 records-within geometry first [] has few = tt
 records-within geometry first (c ∷ cs) has few =
     all-append (λ (r : Record). r.offset < geometry.capacity) (log_records first 0 (zone_log geometry c)) (records (suc first) (zone_logs geometry cs))
-    (log-within geometry.capacity first 0 (zone_log geometry c) (omega (arith, log-few geometry c has.0 few.0))) (records-within geometry (suc first) cs has.1 few.1)
+    (log-below geometry.capacity first 0 (zone_log geometry c) (omega (arith, log-few geometry c has.0 few.0))) (records-within geometry (suc first) cs has.1 few.1)
 
 drive-within : (drive : DriveState) (tables : TablesView) → Agrees (mounted drive tables) → AllByRecursion (λ (r : Record). r.offset < drive.geometry.size) (records 0 (drive_logs drive))
 drive-within drive tables agrees =
@@ -83,7 +60,7 @@ lies-record size zone r lt = by (is_some r.content)
     by true = ap (λ (k : ℕ). eqb k zone) at
     by false = ap (λ (k : ℕ). eqb k zone) at
 
-pub count-none : {X : Type 0} (p : X → Bool) (xs : List X) (i : ℕ) (d : X) → count_by p xs ≡ 0 → i < length xs → p (get_or xs i d) ≡ false
+count-none : {X : Type 0} (p : X → Bool) (xs : List X) (i : ℕ) (d : X) → count_by p xs ≡ 0 → i < length xs → p (get_or xs i d) ≡ false
 count-none {X} p xs i d none lt = by (p (get_or xs i d)) refl
   where
     by : (b : Bool) → p (get_or xs i d) ≡ b → b ≡ false

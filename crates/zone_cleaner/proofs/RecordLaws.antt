@@ -162,7 +162,7 @@ between array size zone first high (p ∷ ps) le = by (lies_in size zone p) (low
     by true all = ((omega arith, omega (arith, le)), all)
     by false all = all
 
-pub apart : (low high block : ℕ) (rs : List LiveRecord) → block < low → AreBetween low high rs → AllByRecursion (λ (y : ℕ). eqb block y ≡ false) (map (λ (r : LiveRecord). r.block) rs)
+apart : (low high block : ℕ) (rs : List LiveRecord) → block < low → AreBetween low high rs → AllByRecursion (λ (y : ℕ). eqb block y ≡ false) (map (λ (r : LiveRecord). r.block) rs)
 apart low high block [] lt all = tt
 apart low high block (r ∷ rs) lt all = (ne_eqb block r.block (λ same. omega (arith, same, all.0.0, lt)), apart low high block rs lt all.1)
 

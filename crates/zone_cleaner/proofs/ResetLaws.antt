@@ -32,6 +32,7 @@ use Rattle.zone_choice.proofs.RolesLaws.{second_list}
 use Rattle.drive_array.proofs.SizeLaws.{empty_spare}
 use Rattle.zone_cleaner.specs.Clean.{CleanView, Follows, IsClean, destination_written}
 use Rattle.zone_choice.specs.Roles.{clean_ended, ended, is_sealed_at}
+use Rattle.zone_choice.proofs.MarkLaws.{differ-ended}
 use Rattle.drive_array.proofs.DeadLaws.{greatest-without, told-without}
 use Rattle.zone_cleaner.proofs.CleanLaws.{clean_spare, live-parts}
 use Rattle.zone_cleaner.proofs.PlaceLaws.{dead-zone}
@@ -48,13 +49,6 @@ fillings_ended host (Some (Destination f)) = refl
 fillings-ended : (roles : RolesView) (victim : ℕ) → fillings (clean_ended roles victim) ≡ fillings roles
 fillings-ended roles victim = fillings_ended roles.host roles.second
 
-differ-ended : (host : Option Filling) (second : Option Second) → Differ host second → Differ host (option_map ended second)
-differ-ended None None h = h
-differ-ended None (Some second) h = h
-differ-ended (Some host) None h = h
-differ-ended (Some host) (Some (Next f)) h = h
-differ-ended (Some host) (Some (Destination f)) h = h
-
 away-all : (zone : ℕ) (fs : List Filling) → list_any (is_at zone) fs ≡ false → AllByRecursion (λ (f : Filling). f.zone ≢ zone) fs
 away-all zone [] none = tt
 away-all zone (f ∷ fs) none = by (eqb f.zone zone) refl none (away-all zone fs)
@@ -67,7 +61,7 @@ all-both : {X : Type 0} (P Q R : X → Type 0) (xs : List X) → ((x : X) → P 
 all-both P Q R [] f p q = tt
 all-both P Q R (x ∷ xs) f p q = (f x p.0 q.0, all-both P Q R xs f p.1 q.1)
 
-pub roles-reset : (capacity : ℕ) (old new : List Content) (logs : List (List Batch)) (roles : RolesView) (victim : ℕ) → RolesAgree capacity old logs roles → is_sealed_at roles victim ≡ true → Resets old new victim → length logs ≡ length old
+roles-reset : (capacity : ℕ) (old new : List Content) (logs : List (List Batch)) (roles : RolesView) (victim : ℕ) → RolesAgree capacity old logs roles → is_sealed_at roles victim ≡ true → Resets old new victim → length logs ≡ length old
     → RolesAgree capacity new (without logs victim) (clean_ended roles victim)
 roles-reset capacity old new logs roles victim agree is resets long =
     let was = sealed-zone roles victim is in

@@ -32,11 +32,11 @@ sealed-zone roles zone is = parts (ltb zone (length roles.empty)) refl (is_empty
     parts true e true f c g h = absurd (cc)
     parts false e b f c g h = absurd (cc)
 
-pub zone-sealed : (roles : RolesView) (zone : ℕ) → SealedZone roles zone → is_sealed_at roles zone ≡ true
+zone-sealed : (roles : RolesView) (zone : ℕ) → SealedZone roles zone → is_sealed_at roles zone ≡ true
 zone-sealed roles zone is = rw (lt-ltb zone (length roles.empty) is.in_range, is.not_empty, is.not_filling) refl
 
 -- blocks are written to a zone that is being filled
-pub sealed-wrote : (roles : RolesView) (zone blocks victim : ℕ) → is_sealed_at roles victim ≡ true → is_sealed_at (wrote roles zone blocks) victim ≡ true
+sealed-wrote : (roles : RolesView) (zone blocks victim : ℕ) → is_sealed_at roles victim ≡ true → is_sealed_at (wrote roles zone blocks) victim ≡ true
 sealed-wrote roles zone blocks victim is =
     let was = sealed-zone roles victim is in
     zone-sealed (wrote roles zone blocks) victim (record { in_range = was.in_range; not_empty = was.not_empty; not_filling = filling_at-with (grown zone blocks) (grown-zone zone blocks) roles victim ∙ was.not_filling })

@@ -18,7 +18,7 @@ use Rattle.drive_array.specs.Reserve.{batch_most, move_blocks}
 use Rattle.zone_choice.specs.Roles.{IsLowestEmpty, IsLowestIn, is_at, is_sealed_at, filling_list, with_destination}
 use Rattle.drive_array.specs.Sizes.{array_of}
 use Rattle.zone_choice.specs.Tables.{IsLeastSealed, TablesView}
-use Rattle.zone_choice.proofs.AgreementLaws.{vacant-emptied}
+use Rattle.zone_choice.proofs.AgreementLaws.{agrees-roles, vacant-emptied}
 use Rattle.zone_choice.proofs.MarkLaws.{apart-destination, sealed-made, sealed-parts}
 use Rattle.zone_choice.proofs.OpenLaws.{emptied-shut}
 use Rattle.drive_array.proofs.ReserveLaws.{positive-most}
@@ -89,20 +89,10 @@ start_gives drive tables new victim zone agrees due lowest new-is =
     let ne : victim ≢ zone = λ same. (let yes = rw (← same) at lowest.is_empty in let no = was.not_empty in absurd (cc)) in
     rw new-is (record {
       cleaned = (
-        record {
-          geometry = agrees.geometry;
-          reserve = agrees.reserve;
-          lawful = agrees.lawful;
-          logs = agrees.logs;
-          sound = agrees.sound;
-          next = agrees.next;
-          zones = agrees.zones;
-          zone_size = agrees.zone_size;
-          places = agrees.places;
-          roles = roles-destination g.capacity zones logs tables.roles.empty tables.roles.host zone plain.roles lowest no_log;
-          few = all-fillings (λ f. AllByRecursion (HasAtMost k) (log_at logs f.zone)) tables.roles.host zone plain.few (rw no_log tt);
-          open_zones = all-fillings (TellsOpen drive.zones) tables.roles.host zone plain.open_zones (λ no. emptied-shut drive.zones zone (agrees.roles.empty zone lowest.is_empty));
-        },
+        agrees-roles drive tables (with_destination tables.roles zone) agrees
+        (roles-destination g.capacity zones logs tables.roles.empty tables.roles.host zone plain.roles lowest no_log)
+        (all-fillings (λ f. AllByRecursion (HasAtMost k) (log_at logs f.zone)) tables.roles.host zone plain.few (rw no_log tt))
+        (all-fillings (TellsOpen drive.zones) tables.roles.host zone plain.open_zones (λ no. emptied-shut drive.zones zone (agrees.roles.empty zone lowest.is_empty))),
         record {
           destination = fresh zone;
           second = refl;
@@ -135,7 +125,7 @@ none-of None e = refl
 none-of (Some x) e = absurd (cc)
 
 -- a second zone, or too few or too many empty ones
-pub second-not_due : (geometry : Geometry) (tables : TablesView) → is_some tables.roles.second ≡ true → NoneIsDue geometry tables
+second-not_due : (geometry : Geometry) (tables : TablesView) → is_some tables.roles.second ≡ true → NoneIsDue geometry tables
 second-not_due geometry tables some victim due = let none : is_some tables.roles.second ≡ false = ap is_some due.alone in absurd (cc)
 
 -- too many live records
@@ -147,5 +137,5 @@ full-not_due geometry tables zone least more victim due =
     absurd (omega (arith, due.fits, ap (move_blocks (batch_most geometry)) same, more))
 
 -- no sealed zone
-pub none-not_due : (geometry : Geometry) (tables : TablesView) → ((zone : ℕ) → is_sealed_at tables.roles zone ≡ false) → NoneIsDue geometry tables
+none-not_due : (geometry : Geometry) (tables : TablesView) → ((zone : ℕ) → is_sealed_at tables.roles zone ≡ false) → NoneIsDue geometry tables
 none-not_due geometry tables none victim due = absurd (let no = none victim in let yes = due.least.sealed_is in cc)

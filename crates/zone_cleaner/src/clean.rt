@@ -67,7 +67,8 @@ impl Clean {
         place: Place,
     ) -> Result<(), CleanFault>
         requires { IsAtStep (Step.Gather block place) disk.old self.old }
-        ensures leaves { StepLeaves (Step.Gather block place) disk.old self.old result disk.new (Some self.new) }
+        ensures leaves { StepLeaves (Step.Gather block place) disk.old self.old result disk.new
+            (Some self.new) }
         ensures completed { disk.new.drive.completed ≤ disk.old.drive.completed + 1 }
     {
         if let Err(fault) = self.gathered.gather(disk, block, place) {
@@ -144,7 +145,8 @@ impl Clean {
 
 /// What a clean does next whose records are all taken, by the second zone and the number of gathered records.
 fn last_step(second: Option<Second>, gathered: usize) -> Step
-    ensures { (rs : List LiveRecord) → length rs ≡ gathered → result ≡ last_step (destination_written second) rs }
+    ensures { (rs : List LiveRecord) → length rs ≡ gathered
+        → result ≡ last_step (destination_written second) rs }
 {
     if gathered > 0 {
         return Step::Move;

@@ -5,7 +5,8 @@ ghost use Rattle.zone_choice.specs.Builder.{IsBuilt};
 ghost use Rattle.zone_choice.specs.Changes.{CanPlace, built_for};
 ghost use Rattle.zone_cleaner.specs.Clean.{forgotten, started, turns_of};
 ghost use Rattle.zone_cleaner.specs.Host.{HostLeaves};
-ghost use Rattle.zone_cleaner.specs.Start.{AgreesWithClean, CleanDone, CleanLeaves, CleaningLeaves, EndLeaves, FindsDue, HasNextZone, KeepsTurns, LacksZones, TurnDone, TurnLeaves};
+ghost use Rattle.zone_cleaner.specs.Start.{AgreesWithClean, CleanDone, CleanLeaves, CleaningLeaves, EndLeaves};
+ghost use Rattle.zone_cleaner.specs.Start.{FindsDue, HasNextZone, KeepsTurns, LacksZones, TurnDone, TurnLeaves};
 ghost use Rattle.zone_states.specs.Geometry.{IsInRange};
 
 use crate::clean::Clean;
@@ -189,7 +190,8 @@ impl Cleaner {
         ensures leaves { EndLeaves disk.old self.old result disk.new self.new }
         ensures cleaning { CleaningLeaves disk.old result disk.new self.new }
         ensures done { OnOk result (CleanDone disk.old disk.new self.old self.new) }
-        ensures completed { disk.new.drive.completed ≤ disk.old.drive.completed + 2 * turns_of disk.old self.old }
+        ensures completed { disk.new.drive.completed
+            ≤ disk.old.drive.completed + 2 * turns_of disk.old self.old }
     {
         while self.running() {
             if let Err(fault) = self.turn(disk) {

@@ -1,4 +1,5 @@
-ghost use Rattle.std.specs.Prelude.{◌≡◌, ◌⊎◌, ◌≤◌, ◌<◌, ◌+◌, ◌++◌, ◌∷◌, ◌^◌, false, [], drop, length, None, Some, IfErr, IfSome, OnOk, OnErr, slice_index_or};
+ghost use Rattle.std.specs.Prelude.{◌≡◌, ◌⊎◌, ◌≤◌, ◌<◌, ◌+◌, ◌++◌, ◌∷◌, ◌^◌, false, [], drop, length};
+ghost use Rattle.std.specs.Prelude.{None, Some, IfErr, IfSome, OnOk, OnErr, slice_index_or};
 ghost use Rattle.std.specs.List.{AllByRecursion, concat};
 ghost use Rattle.std.specs.Option.{option_map};
 ghost use Rattle.batch_log.specs.Header.{IsHeading};
@@ -50,7 +51,8 @@ impl Model for Gathered {
     ghost invariant = { λ g.
         (g.block_bytes ≤ length g.batch.bytes)
         × AreWithin g.block_bytes (length g.batch.bytes) g.records.entries
-        × (g.gaps ≡ false → data_bytes g.block_bytes g.batch.bytes g.records.entries ≡ drop g.block_bytes g.batch.bytes) };
+        × (g.gaps ≡ false
+        → data_bytes g.block_bytes g.batch.bytes g.records.entries ≡ drop g.block_bytes g.batch.bytes) };
 }
 
 /// What the header block of a Move says besides its entries, and how long it is.
@@ -84,8 +86,10 @@ fn fetch<D: Device>(
     requires { IsStoredAt disk.old block (Place.At address) }
     ensures reads { OnlyReads disk.old disk.new }
     ensures heading { batch.new.heading ≡ batch.old.heading }
-    ensures ok { OnOk result (batch.new.bytes ≡ batch.old.bytes ++ slice_index_or (mounted_array disk.old) block []) }
-    ensures length { OnOk result (length batch.new.bytes ≡ length batch.old.bytes + disk.old.drive.geometry.block) }
+    ensures ok { OnOk result
+        (batch.new.bytes ≡ batch.old.bytes ++ slice_index_or (mounted_array disk.old) block []) }
+    ensures length { OnOk result
+        (length batch.new.bytes ≡ length batch.old.bytes + disk.old.drive.geometry.block) }
     ensures failed { OnErr result (batch.new.bytes ≡ batch.old.bytes) }
     ensures err { IfErr result (IsGatherFault disk.new.drive) }
 {
@@ -150,7 +154,8 @@ impl Gathered {
     ) -> Result<(), CleanFault>
         requires { CanGather disk.old block (Place.At address) self.old.records }
         ensures reads { OnlyReads disk.old disk.new }
-        ensures ok { OnOk result (self.new.records ≡ self.old.records ++ data_record disk.old block ∷ []) }
+        ensures ok { OnOk result
+            (self.new.records ≡ self.old.records ++ data_record disk.old block ∷ []) }
         ensures failed { OnErr result (self.new.records ≡ self.old.records) }
         ensures err { IfErr result (IsGatherFault disk.new.drive) }
     {
@@ -173,7 +178,8 @@ impl Gathered {
     ) -> Result<(), CleanFault>
         requires { CanGather disk.old block place self.old.records }
         ensures reads { OnlyReads disk.old disk.new }
-        ensures ok { OnOk result (self.new.records ≡ self.old.records ++ live_record disk.old block place ∷ []) }
+        ensures ok { OnOk result
+            (self.new.records ≡ self.old.records ++ live_record disk.old block place ∷ []) }
         ensures failed { OnErr result (self.new.records ≡ self.old.records) }
         ensures err { IfErr result (IsGatherFault disk.new.drive) }
     {
@@ -216,11 +222,13 @@ impl Gathered {
     /// Builds the Move of the records. All is allocated then that its Append needs of them.
     pub fn build(&mut self, header: MoveHeader) -> Result<(), AllocError>
         requires block { (header.block_bytes ≡ 512) ⊎ (header.block_bytes ≡ 4096) }
-        requires heading { IsHeading header.block_bytes (move_with header self.old.records).heading }
+        requires heading { IsHeading header.block_bytes
+            (move_with header self.old.records).heading }
         requires few { AllByRecursion (λ r. r.block + 1 < 2 ^ 32) self.old.records }
         requires whole { AreOfLength header.block_bytes (gathered_data self.old.records) }
         ensures records { self.new.records ≡ self.old.records }
-        ensures built { OnOk result (HoldsMove self.new.batch header.block_bytes (move_with header self.old.records)) }
+        ensures built { OnOk result
+            (HoldsMove self.new.batch header.block_bytes (move_with header self.old.records)) }
     {
         self.make_room(header.block_bytes)?;
         if self.gaps {
@@ -251,7 +259,8 @@ fn pack(
 ) -> Result<(), AllocError>
     requires { AreWithin block_bytes (length bytes.now) records.now.entries }
     ensures long { OnOk result (block_bytes ≤ length packed.new.bytes) }
-    ensures bytes { OnOk result (drop block_bytes packed.new.bytes ≡ data_bytes block_bytes bytes.now records.now.entries) }
+    ensures bytes { OnOk result
+        (drop block_bytes packed.new.bytes ≡ data_bytes block_bytes bytes.now records.now.entries) }
 {
     packed.make_room(block_bytes)?;
     copy_all(records, bytes, block_bytes as usize, packed)
@@ -265,7 +274,8 @@ fn copy_all(
     packed: &mut BatchBuilder,
 ) -> Result<(), AllocError>
     requires { AreWithin block_bytes (length bytes.now) records.now.entries }
-    ensures { OnOk result (packed.new.bytes ≡ packed.old.bytes ++ data_bytes block_bytes bytes.now records.now.entries) }
+    ensures { OnOk result (packed.new.bytes
+        ≡ packed.old.bytes ++ data_bytes block_bytes bytes.now records.now.entries) }
 {
     for position in records.values() {
         copy_block(bytes, block_bytes, *position, packed)?;
@@ -281,7 +291,8 @@ fn copy_block(
     packed: &mut BatchBuilder,
 ) -> Result<(), AllocError>
     requires { IfSome position (λ position. position + block_bytes ≤ length bytes.now) }
-    ensures { OnOk result (packed.new.bytes ≡ packed.old.bytes ++ stored_bytes block_bytes bytes.now position) }
+    ensures { OnOk result
+        (packed.new.bytes ≡ packed.old.bytes ++ stored_bytes block_bytes bytes.now position) }
 {
     match position {
         Some(position) => packed.copy(&bytes[position..][..block_bytes]),
@@ -297,11 +308,15 @@ fn head_move(
 ) -> Result<(), AllocError>
     requires block { (header.block_bytes ≡ 512) ⊎ (header.block_bytes ≡ 4096) }
     requires room { header.block_bytes ≤ length batch.old.bytes }
-    requires heading { IsHeading header.block_bytes (heading_for header (entries_for records.now.entries)) }
+    requires heading { IsHeading header.block_bytes
+        (heading_for header (entries_for records.now.entries)) }
     requires few { AllByRecursion (λ b. b.0 + 1 < 2 ^ 32) records.now.entries }
-    ensures heading { OnOk result (batch.new.heading ≡ heading_for header (entries_for records.now.entries)) }
-    ensures bytes { OnOk result (batch.new.bytes ≡ headed_bytes header.block_bytes batch.new.heading batch.old.bytes) }
-    ensures kept { drop header.block_bytes batch.new.bytes ≡ drop header.block_bytes batch.old.bytes }
+    ensures heading { OnOk result
+        (batch.new.heading ≡ heading_for header (entries_for records.now.entries)) }
+    ensures bytes { OnOk result
+        (batch.new.bytes ≡ headed_bytes header.block_bytes batch.new.heading batch.old.bytes) }
+    ensures kept { drop header.block_bytes batch.new.bytes
+        ≡ drop header.block_bytes batch.old.bytes }
     ensures length { length batch.new.bytes ≡ length batch.old.bytes }
 {
     batch.start(
@@ -321,7 +336,8 @@ fn name_all(
     batch: &mut BatchBuilder,
 ) -> Result<(), AllocError>
     requires { AllByRecursion (λ b. b.0 + 1 < 2 ^ 32) records.now.entries }
-    ensures heading { OnOk result (batch.new.heading ≡ naming batch.old.heading (entries_for records.now.entries)) }
+    ensures heading { OnOk result
+        (batch.new.heading ≡ naming batch.old.heading (entries_for records.now.entries)) }
     ensures bytes { batch.new.bytes ≡ batch.old.bytes }
 {
     for (block, position) in records.iter() {
@@ -337,7 +353,8 @@ fn name_record(
     position: Option<usize>,
 ) -> Result<(), AllocError>
     requires { block + 1 < 2 ^ 32 }
-    ensures heading { OnOk result (batch.new.heading ≡ naming batch.old.heading (entry_for block position ∷ [])) }
+    ensures heading { OnOk result
+        (batch.new.heading ≡ naming batch.old.heading (entry_for block position ∷ [])) }
     ensures bytes { batch.new.bytes ≡ batch.old.bytes }
 {
     match position {

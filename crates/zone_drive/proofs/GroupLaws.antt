@@ -8,8 +8,10 @@ use Rattle.std.proofs.lemmas.List.Sums.{fails_before_first, position_or_len_is}
 use Rattle.nvme_wire.specs.declared.zone_state.ZoneState.TheVariants.{Empty}
 use Rattle.drive_port.specs.Step.{one_if}
 use Rattle.zone_states.specs.Stored.{StoredZone}
+use Rattle.zone_states.proofs.ListLaws.{get_or-zeros}
 use Rattle.zone_drive.specs.Groups.{IsGrouped, implicit_below, is_implicit}
 use Rattle.zone_drive.proofs.CountLaws.{count-cons}
+use Rattle.zone_drive.proofs.RoomLaws.{none_found}
 
 -- ---- how many of the first elements pass a test
 
@@ -107,11 +109,6 @@ grouped-set zones counts index d new grouped low = record {
 
 -- ---- the zones counted one after the other
 
-get_or-zeros : (n i : ℕ) → get_or (replicate {A = ℕ} n 0) i 0 ≡ 0
-get_or-zeros zero i = refl
-get_or-zeros (suc n) zero = refl
-get_or-zeros (suc n) (suc i) = get_or-zeros n i
-
 count-empty : (n k : ℕ) → count_by is_implicit (take k (replicate n empty_stored)) ≡ 0
 count-empty n zero = refl
 count-empty zero (suc k) = refl
@@ -134,10 +131,6 @@ zeros-below zones counts grouped (suc group) le zeros =
     let next : 256 * suc group ≡ 256 * group + 256 = omega arith in
     let rest = zeros-below zones counts grouped group (omega arith) (λ k lt. zeros k (omega arith)) in
     rw next (omega (arith, rest, grouped.each group (omega arith), zeros group (omega arith)))
-
-no_position : (b : Bool) (n : ℕ) → None ≡ cond b (Some n) None → b ≡ false
-no_position true n h = absurd (cc h)
-no_position false n h = refl
 
 -- where no zone passes, the search finds none
 finds-none : (zones : List StoredZone) → ((k : ℕ) → k < length zones → is_implicit (get_or zones k empty_stored) ≡ false) → None ≡ position is_implicit zones
@@ -184,7 +177,7 @@ pub lowest-none : (zones : List StoredZone) (counts : List ℕ) (group : ℕ) �
 lowest-none zones counts group grouped lt zeros e =
     let start = 256 * group in
     let none = zeros-below zones counts grouped group (omega arith) zeros in
-    let past : length (drop start zones) ≤ position_or_len is_implicit (drop start zones) = ltb-false _ _ (no_position (ltb (position_or_len is_implicit (drop start zones)) (length (drop start zones))) _ e) in
+    let past : length (drop start zones) ≤ position_or_len is_implicit (drop start zones) = ltb-false _ _ (none_found (ltb (position_or_len is_implicit (drop start zones)) (length (drop start zones))) _ e) in
     finds-none zones (λ k low.
     elim (cases_lt k start) [
       | inl below ↦ none-passes is_implicit zones start k empty_stored none below low
@@ -216,5 +209,5 @@ found-group counts group groups e =
 
 pub no-group : (counts : List ℕ) → length counts ≡ 256 → None ≡ position (λ (count : ℕ). ltb 0 count) counts → (k : ℕ) → k < 256 → get_or counts k 0 ≡ 0
 no-group counts groups e k lt =
-    let past : length counts ≤ position_or_len (λ (count : ℕ). ltb 0 count) counts = ltb-false _ _ (no_position (ltb (position_or_len (λ (count : ℕ). ltb 0 count) counts) (length counts)) _ e) in
+    let past : length counts ≤ position_or_len (λ (count : ℕ). ltb 0 count) counts = ltb-false _ _ (none_found (ltb (position_or_len (λ (count : ℕ). ltb 0 count) counts) (length counts)) _ e) in
     not_counted _ (fails_before_first (λ (count : ℕ). ltb 0 count) counts k 0 (omega (arith, past, groups, lt)))

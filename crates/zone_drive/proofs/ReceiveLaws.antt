@@ -11,13 +11,14 @@ use Rattle.zone_states.specs.Checks.{first_failing}
 use Rattle.zone_states.specs.Geometry.{IsInRange}
 use Rattle.zone_states.specs.Stored.{StoredZone, zone_stored}
 use Rattle.zone_states.specs.Zone.{Zone}
+use Rattle.zone_states.proofs.HoldLaws.{may_hold-most}
 use Rattle.zone_report.specs.Report.{report}
 use Rattle.drive_port.specs.Step.{done, end_of, outcome, receive_checks, unless_refused}
 use Rattle.zone_drive.specs.Choice.{Gives}
 use Rattle.zone_drive.specs.Habits.{MemoryDrive}
 use Rattle.zone_drive.specs.Stored.{AreZones, zones_of}
 use Rattle.zone_drive.proofs.OutcomeLaws.{gives-same, performed-plain}
-use Rattle.zone_drive.proofs.WriteLaws.{lawful-at, may_hold-le, zone_at-stored}
+use Rattle.zone_drive.proofs.WriteLaws.{lawful-at, zone_at-stored}
 
 -- ---- zones
 
@@ -28,7 +29,7 @@ written-fits geometry zones index zone in_range are below read =
     let lt : index < length zones = omega (arith, below, length-map zones (zone_stored geometry.block)) in
     let lawful = lawful-at geometry zones index are lt in
     let here = ap (λ (z : Zone). length z.blocks) (zone_at-stored geometry.block zones index zone lt ∙ ap (zone_stored geometry.block) (sym read)) in
-    omega (arith, here, may_hold-le _ geometry.capacity _ lawful.written, in_range.capacity.1, in_range.size.1)
+    omega (arith, here, may_hold-most _ geometry.capacity _ lawful.written, in_range.capacity.1, in_range.size.1)
 
 -- ---- the command
 

@@ -45,6 +45,7 @@ some_found : (b : Bool) (n low : ℕ) → Some low ≡ cond b (Some n) None → 
 some_found true n low e = cc
 some_found false n low e = absurd (cc e)
 
+-- where a test finds nothing, it failed
 pub none_found : (b : Bool) (n : ℕ) → None ≡ cond b (Some n) None → b ≡ false
 none_found true n e = absurd (cc e)
 none_found false n e = refl

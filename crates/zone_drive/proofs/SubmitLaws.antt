@@ -8,6 +8,7 @@ use Rattle.zone_states.specs.Transition.{is_state}
 use Rattle.zone_states.specs.Zone.{Zone}
 use Rattle.drive_port.specs.Drive.{ClosesOne, DriveState, IsClosing}
 use Rattle.drive_port.specs.Step.{Completes, Outcome, is_append, is_success, one_if, outcome}
+use Rattle.drive_port.proofs.ClosingLaws.{IsClosing-refl}
 use Rattle.zone_drive.specs.declared.reply.Reply.{Reply}
 use Rattle.zone_drive.specs.declared.habit.Habit.{Habit}
 use Rattle.zone_drive.specs.declared.habit.Habit.TheVariants as habits
@@ -16,10 +17,6 @@ use Rattle.zone_drive.specs.Counts.{counted}
 use Rattle.zone_drive.specs.Habits.{MemoryDrive, close_implicit, closed_zone, makes_room, settled, with_zones}
 
 -- ---- the choice is a closing
-
-same_zones : (zones : List Zone) → IsClosing zones zones
-same_zones [] = tt
-same_zones (zone ∷ zones) = (record { blocks = refl; state = inl refl }, same_zones zones)
 
 closes-one : (zone : Zone) → is_state ImplicitlyOpened zone.state ≡ true → ClosesOne zone (closed_zone zone)
 closes-one zone opened = record { blocks = refl; state = inr (implicit zone.state opened, refl) }
@@ -38,12 +35,12 @@ closes-lowest [] = tt
 closes-lowest (zone ∷ zones) = either (is_state ImplicitlyOpened zone.state) refl (closes-lowest zones)
   where
     either : (implicit : Bool) → is_state ImplicitlyOpened zone.state ≡ implicit → IsClosing zones (close_lowest zones) → IsClosing (zone ∷ zones) (cond implicit (closed_zone zone ∷ zones) (zone ∷ close_lowest zones))
-    either true e rest = (closes-one zone e, same_zones zones)
+    either true e rest = (closes-one zone e, IsClosing-refl zones)
     either false e rest = (record { blocks = refl; state = inl refl }, rest)
 
 closes-chosen : (wants : Bool) (zones : List Zone) → IsClosing zones (cond wants (close_lowest zones) zones)
 closes-chosen true zones = closes-lowest zones
-closes-chosen false zones = same_zones zones
+closes-chosen false zones = IsClosing-refl zones
 
 closes-implicit : (zones : List Zone) → IsClosing zones (close_implicit zones)
 closes-implicit [] = tt
@@ -54,9 +51,9 @@ closes-implicit (zone ∷ zones) = (either (is_state ImplicitlyOpened zone.state
     either false e = record { blocks = refl; state = inl refl }
 
 closes-settled : (habit : Habit) (zones : List Zone) → IsClosing zones (settled habit zones)
-closes-settled habits.Lazy zones = same_zones zones
+closes-settled habits.Lazy zones = IsClosing-refl zones
 closes-settled habits.Closing zones = closes-implicit zones
-closes-settled habits.Strict zones = same_zones zones
+closes-settled habits.Strict zones = IsClosing-refl zones
 
 -- ---- the step
 

@@ -1,7 +1,7 @@
 -- What a Write or an Append keeps and leaves of what is stored.
 use Rattle.std.proofs.Common.{◌≡◌, ◌≢◌, ℕ, zero, suc, ◌+◌, ◌*◌, ◌/◌, ◌<◌, ◌≤◌, Bool, true, false, cond, not, eqb, List, [], ◌∷◌, ◌++◌, length, drop, set, get_or, None, refl, ap, ◌∙◌, arith}
 use Rattle.std.specs.List.{AllByRecursion}
-use Rattle.std.proofs.lemmas.Bool.{eqb-false, eqb-true, ltb-false}
+use Rattle.std.proofs.lemmas.Bool.{eqb-false, eqb-true, ltb-false, not-false}
 use Rattle.std.proofs.lemmas.List.{get_or-map, length-append, length-drop, length-map, length-take-le, length-set, map-set}
 use Rattle.nvme_wire.specs.declared.zone_state.ZoneState.{ZoneState}
 use Rattle.nvme_wire.specs.declared.zone_state.ZoneState.TheVariants.{Empty, ImplicitlyOpened, ExplicitlyOpened, Closed, ReadOnly, Full, Offline}
@@ -16,19 +16,10 @@ use Rattle.drive_port.specs.Step.{nowhere, one_if, zone_at}
 use Rattle.zone_drive.specs.Stored.{AreZones, zones_of}
 use Rattle.zone_drive.specs.Table.{stored_at}
 use Rattle.zone_states.proofs.Cutting.{length-cut}
+use Rattle.zone_states.proofs.ListLaws.{all-set, all-at, all-append}
 use Rattle.zone_drive.proofs.CountLaws.{active-set, open-set}
 
 -- ---- lists
-
-all-set : {X : Type 0} (P : X → Type 0) (xs : List X) (i : ℕ) (y : X) → AllByRecursion P xs → P y → AllByRecursion P (set xs i y)
-all-set P [] i y all p = tt
-all-set P (x ∷ xs) zero y all p = (p, all.1)
-all-set P (x ∷ xs) (suc i) y all p = (all.0, all-set P xs i y all.1 p)
-
-pub all-at : {X : Type 0} (P : X → Type 0) (xs : List X) (i : ℕ) (d : X) → AllByRecursion P xs → i < length xs → P (get_or xs i d)
-all-at P [] i d all lt = absurd (omega arith)
-all-at P (x ∷ xs) zero d all lt = all.0
-all-at P (x ∷ xs) (suc i) d all lt = all-at P xs i d all.1 (omega arith)
 
 -- a stored zone in blocks
 pub zone_at-stored : (block : ℕ) (zones : List StoredZone) (index : ℕ) (d : StoredZone) → index < length zones → zone_at (zones_of block zones) index ≡ zone_stored block (get_or zones index d)
@@ -82,10 +73,6 @@ all-passed ((false, f) ∷ checks) e = (refl, all-passed checks e)
 
 -- ---- lawful zones
 
-all-append : {X : Type 0} (P : X → Type 0) (xs ys : List X) → AllByRecursion P xs → AllByRecursion P ys → AllByRecursion P (xs ++ ys)
-all-append P [] ys all p = p
-all-append P (x ∷ xs) ys all p = (all.0, all-append P xs ys all.1 p)
-
 pub cut-whole : (size n : ℕ) (bytes : List ℕ) → length bytes ≡ n * size → AllByRecursion (λ (block : List ℕ). length block ≡ size) (cut_blocks size n bytes)
 cut-whole size zero bytes e = tt
 cut-whole size (suc n) bytes e =
@@ -116,10 +103,6 @@ lawful-written geometry zone bytes lawful whole checks =
       whole = all-append _ zone.blocks (cut_blocks geometry.block n bytes) lawful.whole (cut-whole geometry.block n bytes whole);
     }
 
-not-false : (b : Bool) → not b ≡ false → b ≡ true
-not-false true e = refl
-not-false false e = absurd (cc e)
-
 -- data that passes its checks is whole blocks
 pub whole-checked : (geometry : Geometry) (zone : Zone) (bytes : List ℕ) → None ≡ first_failing (append_bytes_checks geometry zone bytes) → AreWholeBlocks geometry.block bytes
 whole-checked geometry zone bytes checks =
@@ -127,12 +110,3 @@ whole-checked geometry zone bytes checks =
     eqb-true _ _ (not-false _ passed.1.0)
 
 -- ---- how much is written
-
-pub may_hold-le : (state : ZoneState) (capacity n : ℕ) → MayHold state capacity n → n ≤ capacity
-may_hold-le Empty capacity n h = omega arith
-may_hold-le ImplicitlyOpened capacity n h = omega arith
-may_hold-le ExplicitlyOpened capacity n h = omega arith
-may_hold-le Closed capacity n h = omega arith
-may_hold-le ReadOnly capacity n h = h
-may_hold-le Full capacity n h = h
-may_hold-le Offline capacity n h = h

@@ -1,7 +1,7 @@
 -- Zones that a drive can have, and the tests of them.
 use Rattle.std.proofs.Common.{◌≡◌, ℕ, ◌/◌, ◌%◌, ◌≤◌, Bool, true, false, eqb, ◌&&◌, List, [], ◌∷◌, length, refl, inl, inr, arith}
 use Rattle.std.specs.List.{AllByRecursion, count_by, list_all}
-use Rattle.std.proofs.lemmas.Bool.{eq-eqb, eqb-false, eqb-true, leb-false, leb-true, ltb-false, ltb-true}
+use Rattle.std.proofs.lemmas.Bool.{eq-eqb, eqb-false, eqb-true, leb-false, leb-true, ltb-false, ltb-true, and_parts}
 use Rattle.nvme_wire.specs.declared.zone_state.ZoneState.{ZoneState}
 use Rattle.nvme_wire.specs.declared.zone_state.ZoneState.TheVariants.{Empty, ImplicitlyOpened, ExplicitlyOpened, Closed, ReadOnly, Full, Offline}
 use Rattle.zone_states.specs.declared.geometry.Geometry.{Geometry}
@@ -14,7 +14,8 @@ use Rattle.zone_drive.specs.Stored.{AreZones, is_lawful, may_hold, zones_of}
 use Rattle.zone_drive.proofs.CountLaws.{count-stored}
 use Rattle.zone_drive.proofs.WriteLaws.{cut-whole}
 
-may_hold-true : (state : ZoneState) (capacity written : ℕ) → may_hold state capacity written ≡ true → MayHold state capacity written
+-- the test of how many blocks a zone may hold is exact
+pub may_hold-true : (state : ZoneState) (capacity written : ℕ) → may_hold state capacity written ≡ true → MayHold state capacity written
 may_hold-true Empty capacity written e = eqb-true _ _ e
 may_hold-true ImplicitlyOpened capacity written e = ltb-true _ _ e
 may_hold-true ExplicitlyOpened capacity written e = ltb-true _ _ e
@@ -32,16 +33,12 @@ may_hold-false ReadOnly capacity written e = λ h. let lt = leb-false _ _ e in a
 may_hold-false Full capacity written e = λ h. let lt = leb-false _ _ e in absurd (omega arith)
 may_hold-false Offline capacity written e = λ h. let lt = leb-false _ _ e in absurd (omega arith)
 
-both : (a b : Bool) → (a && b) ≡ true → (a ≡ true) × (b ≡ true)
-both true b e = (refl, e)
-both false b e = absurd (cc e)
-
 -- what the test of one zone says
 zone-true : (geometry : Geometry) (zone : StoredZone) → 1 ≤ geometry.block → is_lawful geometry zone ≡ true → AreWholeBlocks geometry.block zone.bytes × IsLawfulZone geometry (zone_stored geometry.block zone)
 zone-true geometry zone some e =
     let b = geometry.block in
     let n = length zone.bytes / b in
-    let parts = both (eqb (length zone.bytes % b) 0) (may_hold zone.state geometry.capacity n) e in
+    let parts = and_parts (eqb (length zone.bytes % b) 0) (may_hold zone.state geometry.capacity n) e in
     let rest = eqb-true (length zone.bytes % b) 0 parts.0 in
     let whole : AreWholeBlocks b zone.bytes = omega (arith, rest, some) in
     (whole, record { written = rw (length-cut b n zone.bytes) (may_hold-true zone.state geometry.capacity n parts.1); whole = cut-whole b n zone.bytes whole })
@@ -59,7 +56,7 @@ zones-true : (geometry : Geometry) (zones : List StoredZone) → 1 ≤ geometry.
     → AllByRecursion (λ (zone : StoredZone). AreWholeBlocks geometry.block zone.bytes) zones × AllByRecursion (IsLawfulZone geometry) (zones_of geometry.block zones)
 zones-true geometry [] some e = (tt, tt)
 zones-true geometry (zone ∷ zones) some e =
-    let parts = both (is_lawful geometry zone) (list_all (is_lawful geometry) zones) e in
+    let parts = and_parts (is_lawful geometry zone) (list_all (is_lawful geometry) zones) e in
     let here = zone-true geometry zone some parts.0 in
     let rest = zones-true geometry zones some parts.1 in
     ((here.0, rest.0), (here.1, rest.1))
@@ -73,7 +70,8 @@ zones-false geometry (zone ∷ zones) some e whole lawful = either (is_lawful ge
     either true h rest none = none rest
     either false h rest none = zone-false geometry zone some h whole.0 lawful.0
 
-block-some : (geometry : Geometry) → IsInRange geometry → 1 ≤ geometry.block
+-- no block is of no byte
+pub block-some : (geometry : Geometry) → IsInRange geometry → 1 ≤ geometry.block
 block-some geometry in_range = elim in_range.block [ inl small ↦ omega arith | inr large ↦ omega arith ]
 
 pub not-zones : (geometry : Geometry) (zones : List StoredZone) → IsInRange geometry → list_all (is_lawful geometry) zones ≡ false → ¬ AreZones geometry zones

@@ -31,22 +31,32 @@ abbrev pub wants_open_resource : Status → Bool
 wants_open_resource TooManyOpenZones = true
 wants_open_resource status = false
 
--- The zones on which the command is done: where it would be refused because no open resource is left, a drive that makes room closes the lowest implicitly opened zone first. Nothing else is closed before a command.
+-- The zones on which the command is done: where it would be refused because no open resource is left, a drive that
+-- makes room closes the lowest implicitly opened zone first. Nothing else is closed before a command.
 abbrev pub chosen : Habit → Geometry → List Zone → Result Command DecodeFault → List ℕ → List Zone
-chosen habit geometry zones command bytes = if wants_open_resource (outcome geometry zones command bytes).status && makes_room habit then close_lowest zones else zones
+chosen habit geometry zones command bytes =
+    if wants_open_resource (outcome geometry zones command bytes).status && makes_room habit then close_lowest zones else zones
 
 -- what a command gives on a drive of this habit, before the drive closes anything after it
 abbrev pub performed : Habit → Geometry → List Zone → Result Command DecodeFault → List ℕ → Outcome
 performed habit geometry zones command bytes = outcome geometry (chosen habit geometry zones command bytes) command bytes
 
 -- The command was done on the drive as old: this reply, these bytes, and the drive as new, on which nothing but the zones changed.
-pub record Gives (old : MemoryDrive) (command : Result Command DecodeFault) (bytes : List ℕ) (reply : Reply) (returned : List ℕ) (new : MemoryDrive) : Type 0 where
-  pub outcome : performed old.habit old.state.geometry old.state.zones command bytes ≡ record { status = reply.status; value = reply.value; returned = returned; zones = new.state.zones }
+pub record Gives (old : MemoryDrive) (command : Result Command DecodeFault) (bytes : List ℕ) (reply : Reply) (returned : List ℕ)
+    (new : MemoryDrive) : Type 0 where
+  pub outcome : performed old.habit old.state.geometry old.state.zones command bytes
+      ≡ record { status = reply.status; value = reply.value; returned = returned; zones = new.state.zones }
   pub others : new ≡ with_zones old new.state.zones
 
 -- An entry is answered by what its command gives on this drive, and by nothing else. Then the drive closes what its habit says.
 pub record AnswersByChoice (old : MemoryDrive) (entry bytes completion returned : List ℕ) (new : MemoryDrive) : Type 0 where
-  pub completion_is : completion ≡ completion_bytes (record { result = (performed old.habit old.state.geometry old.state.zones (decode_of entry) bytes).value; id = id_of entry; status = (performed old.habit old.state.geometry old.state.zones (decode_of entry) bytes).status })
+  pub completion_is : completion
+      ≡ completion_bytes
+      (record {
+        result = (performed old.habit old.state.geometry old.state.zones (decode_of entry) bytes).value;
+        id = id_of entry;
+        status = (performed old.habit old.state.geometry old.state.zones (decode_of entry) bytes).status;
+      })
   pub returned_is : returned ≡ (performed old.habit old.state.geometry old.state.zones (decode_of entry) bytes).returned
   pub zones_are : new.state.zones ≡ settled old.habit (performed old.habit old.state.geometry old.state.zones (decode_of entry) bytes).zones
   pub habit : new.habit ≡ old.habit
@@ -54,8 +64,12 @@ pub record AnswersByChoice (old : MemoryDrive) (entry bytes completion returned 
 -- Room for a zone to be opened: there are resources for it, or there are once the zone with this number is closed, or a drive of this habit has none.
 abbrev pub RoomGives : Habit → Geometry → List Zone → Zone → Result (Option ℕ) Status → Type 0
 RoomGives habit geometry zones zone (Ok None) = None ≡ first_failing (resource_checks geometry zones zone)
-RoomGives habit geometry zones zone (Ok (Some low)) = (Some TooManyOpenZones ≡ first_failing (resource_checks geometry zones zone)) × (makes_room habit ≡ true) × IsLowestOpened zones low
-RoomGives habit geometry zones zone (Err status) = (Some status ≡ first_failing (resource_checks geometry zones zone)) × ((wants_open_resource status && makes_room habit) ≡ true → close_lowest zones ≡ zones)
+RoomGives habit geometry zones zone (Ok (Some low)) =
+    (Some TooManyOpenZones ≡ first_failing (resource_checks geometry zones zone)) × (makes_room habit ≡ true)
+    × IsLowestOpened zones low
+RoomGives habit geometry zones zone (Err status) =
+    (Some status ≡ first_failing (resource_checks geometry zones zone))
+    × ((wants_open_resource status && makes_room habit) ≡ true → close_lowest zones ≡ zones)
 
 -- the zones once there is room for that zone: the lowest implicitly opened one is closed where it has to be
 abbrev pub with_room : List Zone → Option ℕ → List Zone

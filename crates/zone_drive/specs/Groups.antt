@@ -1,4 +1,5 @@
--- What is counted of the zones: how many are active and open, and how many of each group are implicitly opened, so that the lowest of them is found without looking at all zones.
+-- What is counted of the zones: how many are active and open, and how many of each group are implicitly opened, so that
+-- the lowest of them is found without looking at all zones.
 use Rattle.std.specs.Prelude.{◌≡◌, ℕ, ◌+◌, ◌*◌, ◌<◌, ◌≤◌, Bool, List, length, take, count_by, slice_index}
 use Rattle.nvme_wire.specs.declared.zone_state.ZoneState.TheVariants.{ImplicitlyOpened}
 use Rattle.zone_states.specs.Stored.{StoredZone}

@@ -24,7 +24,8 @@ unused geometry zones = record { geometry = geometry; zones = zones; completed =
 abbrev pub fresh : Geometry → DriveState
 fresh geometry = unused geometry (replicate geometry.zones (record { state = Empty; blocks = [] }))
 
--- Zones that a drive of this geometry can have: as many as it has, each with whole blocks, as many as its state allows, and no more of them active and open than may be.
+-- Zones that a drive of this geometry can have: as many as it has, each with whole blocks, as many as its state allows,
+-- and no more of them active and open than may be.
 pub record AreZones (geometry : Geometry) (zones : List StoredZone) : Type 0 where
   pub count : length zones ≡ geometry.zones
   pub whole : AllByRecursion (λ zone. AreWholeBlocks geometry.block zone.bytes) zones

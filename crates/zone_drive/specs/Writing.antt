@@ -26,7 +26,8 @@ write_first geometry zone slba blocks bytes =
 
 -- These blocks come after those of the zone, where there are resources for it; else nothing changes.
 abbrev pub WritesAfter : MemoryDrive → ℕ → List ℕ → Option Status → MemoryDrive → Type 0
-WritesAfter old index bytes (Some status) new = RoomGives old.habit old.state.geometry old.state.zones (zone_at old.state.zones index) (Err status) × (new ≡ old)
+WritesAfter old index bytes (Some status) new =
+    RoomGives old.habit old.state.geometry old.state.zones (zone_at old.state.zones index) (Err status) × (new ≡ old)
 WritesAfter old index bytes None new =
     (closing : Option ℕ)
     × RoomGives old.habit old.state.geometry old.state.zones (zone_at old.state.zones index) (Ok closing)

@@ -28,7 +28,8 @@ impl Drive {
     fn execute(&mut self, command: Command, bytes: &[u8], into: &mut Vec<u8>) -> Result<Reply, Halt>
         requires admitted { IsAdmitted command }
         ensures ok { IfOk result (λ reply. Adds into.old.items
-            (λ returned. Gives self.old (Ok command) bytes.now reply returned self.new) into.new.items) }
+            (λ returned. Gives self.old (Ok command) bytes.now reply returned self.new)
+            into.new.items) }
         ensures err { IfErr result (λ halt. halt ≡ Halt.Memory) }
         ensures allocates { OnErr result (may_allocate (Ok command) ≡ true) }
         ensures kept { OnErr result (self.new ≡ self.old) }
@@ -74,7 +75,8 @@ impl Drive {
     // Counts a command that was completed.
     fn count(&mut self, command: Result<Command, DecodeFault>, status: Status)
         requires { self.old.state.completed < 2 ^ 63 }
-        ensures counted { self.new ≡ record self.old { state = counted self.old.state command status } }
+        ensures counted { self.new ≡
+            record self.old { state = counted self.old.state command status } }
         ensures lawful { IsLawful self.new.state }
     {
         self.completed += 1;
@@ -96,12 +98,14 @@ impl Drive {
         bytes: &[u8],
         into: &mut Vec<u8>,
     ) -> Result<[u8; 16], Halt>
-        ensures gives { SubmitAdds self.old.state entry.now bytes.now into.old.items result into.new.items self.new.state }
+        ensures gives { SubmitAdds self.old.state entry.now bytes.now into.old.items result
+            into.new.items self.new.state }
         ensures was_lawful { IsLawful self.old.state }
         ensures lawful { IsLawful self.new.state }
         ensures memory { IsErrOf result Halt.Memory → may_allocate (decode_of entry.now) ≡ true }
         ensures choice { IfOk result (λ completion. Adds into.old.items
-            (λ returned. AnswersByChoice self.old entry.now bytes.now completion returned self.new) into.new.items) }
+            (λ returned. AnswersByChoice self.old entry.now bytes.now completion returned self.new)
+            into.new.items) }
         ensures stops { self.new.state.stopped ≡ nat_le (2 ^ 63) self.new.state.completed }
         ensures kept { OnErr result (self.new ≡ self.old) }
     {
@@ -147,7 +151,8 @@ impl Device for Drive {
         bytes: &[u8],
         into: &mut Vec<u8>,
     ) -> Result<[u8; 16], Halt>
-        ensures gives { SubmitGives self.old.state entry.now bytes.now result into.new.items self.new.state }
+        ensures gives { SubmitGives self.old.state entry.now bytes.now result into.new.items
+            self.new.state }
         ensures was_lawful { IsLawful self.old.state }
         ensures lawful { IsLawful self.new.state }
 
@@ -166,14 +171,16 @@ impl Device for Drive {
 
     #[inline(always)]
     fn submit_extending(&mut self, entry: &[u8; 64], into: &mut Vec<u8>) -> Result<[u8; 16], Halt>
-        ensures gives { SubmitAdds self.old.state entry.now [] into.old.items result into.new.items self.new.state }
+        ensures gives { SubmitAdds self.old.state entry.now [] into.old.items result into.new.items
+            self.new.state }
         ensures was_lawful { IsLawful self.old.state }
         ensures lawful { IsLawful self.new.state }
 
         // Of the memory, of what it closes and of when it stops, it keeps what `submit` does.
         ensures memory { IsErrOf result Halt.Memory → may_allocate (decode_of entry.now) ≡ true }
         ensures choice { IfOk result (λ completion. Adds into.old.items
-            (λ returned. AnswersByChoice self.old entry.now [] completion returned self.new) into.new.items) }
+            (λ returned. AnswersByChoice self.old entry.now [] completion returned self.new)
+            into.new.items) }
         ensures stops { self.new.state.stopped ≡ nat_le (2 ^ 63) self.new.state.completed }
         ensures kept { OnErr result (self.new ≡ self.old) }
     {

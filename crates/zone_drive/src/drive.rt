@@ -176,7 +176,8 @@ impl Drive {
     pub fn zone(&self, index: usize) -> Option<&Zone>
         ensures some { IfSome result (λ zone. zone_stored self.now.state.geometry.block zone.now
             ≡ zone_at self.now.state.zones index) }
-        ensures whole { IfSome result (λ zone. AreWholeBlocks self.now.state.geometry.block zone.now.bytes) }
+        ensures whole { IfSome result
+            (λ zone. AreWholeBlocks self.now.state.geometry.block zone.now.bytes) }
         ensures in_range { IsSome result ↔ (index < length self.now.state.zones) }
     {
         self.zones.as_slice().get(index)
@@ -185,7 +186,8 @@ impl Drive {
     /// All zones, in ascending order.
     pub fn zones(&self) -> &[Zone]
         ensures zones { zones_of self.now.state.geometry.block result.now ≡ self.now.state.zones }
-        ensures whole { AllByRecursion (λ zone. AreWholeBlocks self.now.state.geometry.block zone.bytes) result.now }
+        ensures whole { AllByRecursion
+            (λ zone. AreWholeBlocks self.now.state.geometry.block zone.bytes) result.now }
         ensures in_range { IsInRange self.now.state.geometry }
     {
         self.zones.as_slice()

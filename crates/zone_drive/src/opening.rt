@@ -11,7 +11,8 @@ impl Drive {
     // Whether there are the resources that a zone needs to be opened.
     fn resource_refusal(&self, number: u32) -> Option<Status>
         requires { number < self.now.state.geometry.zones }
-        ensures { result ≡ first_failing (resource_checks self.now.state.geometry self.now.state.zones
+        ensures { result ≡ first_failing
+            (resource_checks self.now.state.geometry self.now.state.zones
             (zone_at self.now.state.zones number)) }
     {
         let state = self.zone_numbered(number).state();

@@ -1,4 +1,5 @@
-ghost use Rattle.std.specs.Prelude.{◌≡◌, ℕ, ◌*◌, ◌/◌, ◌%◌, ◌≤◌, List, ◌++◌, drop, Some, None, Ok, IfOk, OnOk, IfErr, OnErr};
+ghost use Rattle.std.specs.Prelude.{◌≡◌, ℕ, ◌*◌, ◌/◌, ◌%◌, ◌≤◌, List, ◌++◌, drop};
+ghost use Rattle.std.specs.Prelude.{Some, None, Ok, IfOk, OnOk, IfErr, OnErr};
 ghost use Rattle.zone_states.specs.Checks.{first_failing};
 ghost use Rattle.drive_port.specs.Halting.{Adds};
 ghost use Rattle.drive_port.specs.Step.{bytes_from, read_checks, zone_at};
@@ -53,7 +54,8 @@ impl Drive {
     pub(crate) fn read(&self, slba: u64, blocks: u32, into: &mut Vec<u8>) -> Result<Reply, Halt>
         requires some { 1 ≤ blocks }
         ensures ok { (bytes : List ℕ) → IfOk result (λ reply. Adds into.old.items
-            (λ returned. Gives self.now (Ok (Command.Read slba blocks)) bytes reply returned self.now)
+            (λ returned.
+            Gives self.now (Ok (Command.Read slba blocks)) bytes reply returned self.now)
             into.new.items) }
         ensures err { IfErr result (λ halt. halt ≡ Halt.Memory) }
         ensures returned { OnErr result (into.new.items ≡ into.old.items) }

@@ -14,7 +14,8 @@ use nvme_wire::{Command, Status};
 impl Drive {
     // The status where the data is not that many blocks, or is more than one transfer moves.
     fn data_refusal(&self, blocks: u32, bytes: &[u8]) -> Option<Status>
-        ensures checks { result ≡ first_failing (data_checks self.now.state.geometry blocks bytes.now) }
+        ensures checks { result ≡ first_failing
+            (data_checks self.now.state.geometry blocks bytes.now) }
         ensures count { IfNone result (length bytes.now / self.now.state.geometry.block ≡ blocks) }
     {
         if blocks > self.geometry.transfer {
@@ -29,7 +30,8 @@ impl Drive {
     // The status of the first check that an Append fails, without those of the resources.
     fn append_refusal(&self, zslba: u64, blocks: u32, bytes: &[u8]) -> Option<Status>
         ensures checks { result ≡ first_failing (append_first self.now.state.geometry
-            (zone_at self.now.state.zones (zslba / self.now.state.geometry.size)) zslba blocks bytes.now) }
+            (zone_at self.now.state.zones (zslba / self.now.state.geometry.size)) zslba blocks
+            bytes.now) }
         ensures count { IfNone result (length bytes.now / self.now.state.geometry.block ≡ blocks) }
     {
         if let Some(status) = self.data_refusal(blocks, bytes) {
@@ -49,7 +51,8 @@ impl Drive {
     fn write_refusal(&self, slba: u64, blocks: u32, bytes: &[u8]) -> Option<Status>
         requires { 1 ≤ blocks }
         ensures checks { result ≡ first_failing (write_first self.now.state.geometry
-            (zone_at self.now.state.zones (slba / self.now.state.geometry.size)) slba blocks bytes.now) }
+            (zone_at self.now.state.zones (slba / self.now.state.geometry.size)) slba blocks
+            bytes.now) }
         ensures count { IfNone result (length bytes.now / self.now.state.geometry.block ≡ blocks) }
     {
         if let Some(status) = self.data_refusal(blocks, bytes) {
@@ -68,7 +71,8 @@ impl Drive {
         requires in_range { number < self.old.state.geometry.zones }
         requires checks { None ≡ first_failing (append_bytes_checks self.old.state.geometry
             (zone_at self.old.state.zones number) bytes.now) }
-        ensures ok { IfOk result (λ refusal. WritesAfter self.old number bytes.now refusal self.new) }
+        ensures ok { IfOk result
+            (λ refusal. WritesAfter self.old number bytes.now refusal self.new) }
         ensures limit { open_count self.old.state.zones ≤ self.old.state.geometry.open }
         ensures err { IfErr result (λ halt. halt ≡ Halt.Memory) }
         ensures kept { OnErr result (self.new ≡ self.old) }

@@ -1,4 +1,5 @@
-ghost use Rattle.std.specs.Prelude.{◌≡◌, ◌<◌, ◌≤◌, ◌+◌, ◌++◌, ℕ, length, drop, take, IfOk, IfErr, OnOk, min, replicate, ◌-◌, if◌then◌else◌};
+ghost use Rattle.std.specs.Prelude.{◌≡◌, ◌<◌, ◌≤◌, ◌+◌, ◌++◌, ℕ, length, drop, take, IfOk};
+ghost use Rattle.std.specs.Prelude.{IfErr, OnOk, min, replicate, ◌-◌, if◌then◌else◌};
 ghost use Rattle.std.specs.List.{flat_map};
 ghost use Rattle.nvme_wire.specs.Descriptor.{descriptor_bytes, report_head_bytes};
 ghost use Rattle.zone_report.specs.Report.{CanReport, CannotReport, descriptor_of, is_chosen, matching, report};
@@ -52,7 +53,8 @@ fn write_descriptors<Z: ReportedZones>(
     ensures count { IfOk result (λ named.
         named ≡ length (matching geometry options first (drop first (Z.zones zones.now)))) }
     ensures ok { OnOk result (bytes.new.items ≡ bytes.old.items
-        ++ flat_map descriptor_bytes (take room (matching geometry options first (drop first (Z.zones zones.now))))) }
+        ++ flat_map descriptor_bytes
+        (take room (matching geometry options first (drop first (Z.zones zones.now))))) }
     ensures err { IfErr result (λ fault. fault ≡ ReportFault.OutOfMemory) }
 {
     let mut named = 0;

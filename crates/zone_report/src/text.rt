@@ -1,6 +1,8 @@
-ghost use Rattle.std.specs.Prelude.{◌≡◌, ◌≢◌, ◌++◌, IfOk, IfErr, OnOk, MatchResult, IsTrue, ◌↔◌, length, replicate, string_bytes};
+ghost use Rattle.std.specs.Prelude.{◌≡◌, ◌≢◌, ◌++◌, IfOk, IfErr, OnOk, MatchResult};
+ghost use Rattle.std.specs.Prelude.{IsTrue, ◌↔◌, length, replicate, string_bytes};
 ghost use Rattle.std.specs.List.{flat_map};
-ghost use Rattle.zone_report.specs.ReportText.{IsListing, IsReport, IsTextOf, ListsText, descriptor_line, report_lines, state_text};
+ghost use Rattle.zone_report.specs.ReportText.{IsListing, IsReport, IsTextOf, ListsText, descriptor_line};
+ghost use Rattle.zone_report.specs.ReportText.{report_lines, state_text};
 
 use crate::fault::ReportFault;
 use nvme_wire::{Descriptor, ReportHead, ZoneState};

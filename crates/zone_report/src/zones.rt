@@ -12,5 +12,6 @@ pub trait ReportedZones {
     /// What a report says of the zone with this number.
     fn status(&self, number: u32) -> ZoneStatus
         requires { number < length (zones self.now) }
-        ensures { (none : Zone) → result ≡ zone_status (slice_index_or (zones self.now) number none) };
+        ensures { (none : Zone)
+            → result ≡ zone_status (slice_index_or (zones self.now) number none) };
 }

@@ -1,16 +1,35 @@
 -- Bytes one after the other are cut into blocks one after the other.
 use Rattle.std.proofs.Common.{◌≡◌, ℕ, zero, suc, ◌+◌, ◌*◌, ◌/◌, ◌≤◌, List, [], ◌∷◌, ◌++◌, length, take, drop, refl, ◌∙◌, arith}
-use Rattle.std.proofs.lemmas.List.{take-append-le, drop-append-le, length-append, length-drop}
+use Rattle.std.specs.List.{concat}
+use Rattle.std.proofs.lemmas.List.{drop-append-le, drop-take, length-append, length-drop, take-append-drop, take-append-le, take-take}
 use Rattle.std.proofs.lemmas.Nat.{div-mul-add}
 use Rattle.std.proofs.Math.Nat.{add-mul, div-zero}
 use Rattle.zone_states.specs.declared.geometry.Geometry.{Geometry}
 use Rattle.zone_states.specs.Zone.{cut_blocks}
 use Rattle.zone_states.specs.Stored.{AreWholeBlocks, StoredZone, WrittenAfter, stored_write}
 
+-- as many blocks as were asked for
 pub length-cut : (size n : ℕ) (xs : List ℕ) → length (cut_blocks size n xs) ≡ n
 length-cut size zero xs = refl
 length-cut size (suc n) xs = let rest = length-cut size n (drop size xs) in omega (arith, rest)
 
+-- the first j blocks are cut from the first bytes
+pub cut-front : (size n j : ℕ) (xs : List ℕ) → j ≤ n → cut_blocks size j (take (j * size) xs) ≡ take j (cut_blocks size n xs)
+cut-front size n zero xs le = refl
+cut-front size zero (suc j) xs le = absurd (omega arith)
+cut-front size (suc n) (suc j) xs le =
+    let k : suc j * size ≡ size + j * size = omega arith in
+    let first : take size (take (size + j * size) xs) ≡ take size xs = take-take size (size + j * size) xs (omega arith) in
+    let rest : drop size (take (size + j * size) xs) ≡ take (j * size) (drop size xs) = drop-take size (j * size) xs in
+    rw (k, first, rest, cut-front size n j (drop size xs) (omega arith)) refl
+
+-- the blocks of whole blocks, joined again, are the bytes
+pub concat-cut : (size n : ℕ) (bytes : List ℕ) → length bytes ≡ n * size → concat (cut_blocks size n bytes) ≡ bytes
+concat-cut size zero [] long = refl
+concat-cut size zero (x ∷ bytes) long = absurd (omega arith)
+concat-cut size (suc n) bytes long = rw (concat-cut size n (drop size bytes) (omega (arith, length-drop size bytes))) (take-append-drop size bytes)
+
+-- bytes one after the other are cut into the blocks of the first and those of the second
 pub cut-append : (size n m k : ℕ) (xs ys : List ℕ) → k ≡ n + m → length xs ≡ n * size → cut_blocks size k (xs ++ ys) ≡ cut_blocks size n xs ++ cut_blocks size m ys
 cut-append size zero m k [] ys e len = let same : k ≡ m = omega arith in rw same refl
 cut-append size zero m k (x ∷ xs) ys e len = absurd (omega arith)
@@ -47,6 +66,7 @@ stored_write-after geometry zone bytes whole_zone whole_bytes =
       whole = rw count (sum ∙ omega (arith, whole_zone, whole_bytes, add-mul n m size));
     }
 
+-- the same of a zone that is given as what the write leaves
 pub written-after : (geometry : Geometry) (zone : StoredZone) (bytes : List ℕ) (new : StoredZone) → new ≡ stored_write geometry zone bytes → AreWholeBlocks geometry.block zone.bytes → AreWholeBlocks geometry.block bytes
     → WrittenAfter geometry zone bytes new
 written-after geometry zone bytes new same whole_zone whole_bytes = rw same (stored_write-after geometry zone bytes whole_zone whole_bytes)

@@ -1,2 +1,4 @@
 pub mod CheckLaws
+pub mod ListLaws
+pub mod HoldLaws
 pub mod Cutting

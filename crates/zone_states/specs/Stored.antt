@@ -30,7 +30,8 @@ stored_write geometry zone bytes =
 
 -- In blocks: those of these bytes are after those of the zone, and its bytes are whole blocks again.
 pub record WrittenAfter (geometry : Geometry) (old : StoredZone) (bytes : List ℕ) (new : StoredZone) : Type 0 where
-  pub zone : zone_stored geometry.block new ≡ written_zone geometry.capacity (zone_stored geometry.block old) (cut_blocks geometry.block (length bytes / geometry.block) bytes)
+  pub zone : zone_stored geometry.block new ≡ written_zone geometry.capacity (zone_stored geometry.block old)
+      (cut_blocks geometry.block (length bytes / geometry.block) bytes)
   pub whole : AreWholeBlocks geometry.block new.bytes
 
 -- the bytes that an action leaves: a Reset takes them away

@@ -1,4 +1,5 @@
--- Which zone states hold active and open resources, and which action of a Zone Management Send leads from which state to which (Zoned Namespace Command Set 1.1, section 2.1.1, and section 3.4.3).
+-- Which zone states hold active and open resources, and which action of a Zone Management Send leads from which state
+-- to which (Zoned Namespace Command Set 1.1, section 2.1.1, and section 3.4.3).
 use Rattle.std.specs.Prelude.{Bool, true, false, Result, Ok, Err}
 use Rattle.nvme_wire.specs.declared.zone_state.ZoneState.{ZoneState}
 use Rattle.nvme_wire.specs.declared.zone_state.ZoneState.TheVariants.{Empty, ImplicitlyOpened, ExplicitlyOpened, Closed, ReadOnly, Full, Offline}

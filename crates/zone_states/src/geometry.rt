@@ -70,7 +70,8 @@ impl Geometry {
     /// Refuses a geometry by the first part that is out of range, in the order of `GeometryFault`.
     pub fn check(&self) -> Result<(), GeometryFault>
         ensures ok { OnOk result (IsInRange self.now) }
-        ensures err { IfErr result (λ fault. first_failing (geometry_checks self.now) ≡ Some fault) }
+        ensures err { IfErr result
+            (λ fault. first_failing (geometry_checks self.now) ≡ Some fault) }
     {
         if self.block != 512 && self.block != 4096 {
             return Err(GeometryFault::Block);

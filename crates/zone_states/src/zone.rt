@@ -1,9 +1,12 @@
-ghost use Rattle.std.specs.Prelude.{◌≡◌, ◌/◌, [], length, Ok, Err, Some, None, IfErr, OnOk, OnErr, IfSome, OnSome, is_some, if◌then◌else◌};
+ghost use Rattle.std.specs.Prelude.{◌≡◌, ◌/◌, [], length, Ok, Err, Some, None, IfErr, OnOk};
+ghost use Rattle.std.specs.Prelude.{OnErr, IfSome, OnSome, is_some, if◌then◌else◌};
 ghost use Rattle.zone_states.specs.Checks.{first_failing};
 ghost use Rattle.zone_states.specs.Sending.{zone_after};
-ghost use Rattle.zone_states.specs.Stored.{AreWholeBlocks, WrittenAfter, apply_result, refusal_of, stored_after, stored_write, zone_stored};
+ghost use Rattle.zone_states.specs.Stored.{AreWholeBlocks, WrittenAfter, apply_result, refusal_of};
+ghost use Rattle.zone_states.specs.Stored.{stored_after, stored_write, zone_stored};
 ghost use Rattle.zone_states.specs.Transition.{state_after};
-ghost use Rattle.zone_states.specs.Writing.{append_bytes_checks, data_checks, room_checks, state_checks, zone_append_checks, zone_write_checks, write_bytes_checks};
+ghost use Rattle.zone_states.specs.Writing.{append_bytes_checks, data_checks, room_checks, state_checks};
+ghost use Rattle.zone_states.specs.Writing.{zone_append_checks, zone_write_checks, write_bytes_checks};
 ghost use Rattle.zone_states.specs.Zone.{opened_by_write};
 ghost use Rattle.zone_states.specs.declared.zone.ZoneFault.TheVariants.{OutOfMemory};
 
@@ -163,7 +166,8 @@ impl Zone {
     /// offset in blocks on. The limits on active and open zones are not looked at.
     pub fn write_refusal(&self, geometry: &Geometry, offset: u64, blocks: u64) -> Option<Status>
         ensures { result ≡ first_failing
-            (zone_write_checks geometry.now (zone_stored geometry.now.block self.now) offset blocks) }
+            (zone_write_checks geometry.now
+            (zone_stored geometry.now.block self.now) offset blocks) }
     {
         if let Some(status) = self.state_refusal() {
             return Some(status);
@@ -178,7 +182,8 @@ impl Zone {
     /// checked here. The zone's bytes grow once.
     pub fn extend(&mut self, geometry: &Geometry, bytes: &[u8]) -> Result<(), AllocError>
         ensures ok { OnOk result (self.new ≡ stored_write geometry.now self.old bytes.now) }
-        ensures in_blocks { AreWholeBlocks geometry.now.block self.old.bytes → AreWholeBlocks geometry.now.block bytes.now
+        ensures in_blocks { AreWholeBlocks geometry.now.block self.old.bytes
+            → AreWholeBlocks geometry.now.block bytes.now
             → OnOk result (WrittenAfter geometry.now self.old bytes.now self.new) }
         ensures kept { OnErr result (self.new ≡ self.old) }
     {
@@ -219,7 +224,8 @@ impl Zone {
         bytes: &[u8],
     ) -> Result<(), ZoneFault>
         ensures checks { refusal_of result ≡ first_failing
-            (write_bytes_checks geometry.now (zone_stored geometry.now.block self.old) offset bytes.now) }
+            (write_bytes_checks geometry.now
+            (zone_stored geometry.now.block self.old) offset bytes.now) }
         ensures ok { OnOk result (self.new ≡ stored_write geometry.now self.old bytes.now) }
         ensures in_blocks { AreWholeBlocks geometry.now.block self.old.bytes
             → OnOk result (WrittenAfter geometry.now self.old bytes.now self.new) }
@@ -239,7 +245,8 @@ impl Zone {
     /// 3.4.3). It allocates nothing. The limits on active and open zones are not looked at.
     pub fn apply(&mut self, action: Action) -> Result<(), ZoneFault>
         ensures checks { result ≡ apply_result (state_after self.old.state action) }
-        ensures stored { self.new ≡ stored_after action self.old (state_after self.old.state action) }
+        ensures stored { self.new ≡ stored_after action self.old
+            (state_after self.old.state action) }
         ensures in_blocks { (block : _) → zone_stored block self.new
             ≡ zone_after action (zone_stored block self.old) (state_after self.old.state action) }
     {

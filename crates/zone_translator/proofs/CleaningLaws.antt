@@ -16,6 +16,7 @@ use Rattle.zone_choice.proofs.AloneLaws.{stops-tables}
 use Rattle.drive_array.specs.Records.{append_log, without}
 use Rattle.drive_array.specs.Reserve.{batch_most}
 use Rattle.drive_array.proofs.AppendLaws.{log_at-other, log_at-same}
+use Rattle.drive_array.proofs.ClearingLaws.{without-same}
 use Rattle.zone_cleaner.specs.declared.fault.CleanFault.{CleanFault}
 use Rattle.zone_cleaner.specs.declared.fault.CleanFault.TheVariants as faults
 use Rattle.zone_cleaner.specs.declared.step.Step.{Step}
@@ -57,15 +58,9 @@ newer-one sequence old new zone b newer is k = elim (cases_eq k zone) as (λ _. 
   | inr other ↦ ([], tt, inr (rw is (log_at-other old zone k b other) ∙ sym (append-nil (log_at old k))))
 ]
 
--- a zone that was emptied
-emptied-log : (logs : List (List Batch)) (zone : ℕ) → log_at (without logs zone) zone ≡ []
-emptied-log [] zone = refl
-emptied-log (log ∷ logs) zero = refl
-emptied-log (log ∷ logs) (suc zone) = emptied-log logs zone
-
 newer-without : (sequence : ℕ) (old new : List (List Batch)) (zone : ℕ) → new ≡ without old zone → OnlyNewer sequence old new
 newer-without sequence old new zone is k = elim (cases_eq k zone) as (λ _. (more : List Batch) × AreNewer sequence more × ((log_at new k ≡ more) ⊎ (log_at new k ≡ log_at old k ++ more))) [
-  | inl same ↦ ([], tt, inl (rw (same, is) (emptied-log old zone)))
+  | inl same ↦ ([], tt, inl (rw (same, is) (without-same old zone)))
   | inr other ↦ ([], tt, inr (rw is (get_or-set_other old zone k [] [] other) ∙ sym (append-nil (log_at old k))))
 ]
 
@@ -230,7 +225,7 @@ step-newer before after c new Reset done = newer-without before.tables.next (dri
 step-goes : (before after : MountedView) (c : CleanView) (new : Option CleanView) (step : Step) → NoMoreTurns before (Some c) after new → StepDone step before c after new → GoesOnOrEnds before (Some c) after new
 step-goes before after c new (Gather block place) few done = goes-running before after c (with_record c block (live_content (mounted_array before) block place)) new done.2 refl few
 step-goes before after c new Move few done = goes-running before after c (after_move c) new done.1 refl few
-step-goes before after c new Reset few done = goes-ended before after c new done.1 (rw (done.0.logs, emptied-log (drive_logs before.drive) c.victim) tt)
+step-goes before after c new Reset few done = goes-ended before after c new done.1 (rw (done.0.logs, without-same (drive_logs before.drive) c.victim) tt)
 
 -- what turns that are done keep
 record TurnsKeep (before : MountedView) (old : Option CleanView) (after : MountedView) (new : Option CleanView) : Type 0 where

@@ -3,6 +3,7 @@ use Rattle.std.proofs.Common.{◌≡◌, ℕ, zero, suc, ◌+◌, ◌-◌, ◌*�
 use Rattle.std.proofs.lemmas.List.{drop-drop, drop-take, length-drop, length-replicate, length-take}
 use Rattle.std.proofs.Math.Nat.{add-mul}
 use Rattle.zone_states.specs.Zone.{cut_blocks}
+use Rattle.zone_states.proofs.Cutting.{length-cut, cut-front}
 use Rattle.batch_log.specs.Log.{data_count, zero_block}
 use Rattle.logical_map.specs.declared.place.Place.{Place}
 use Rattle.zone_choice.specs.Builder.{entries_from}
@@ -36,15 +37,6 @@ take-take (suc n) zero xs le = absurd (omega arith)
 take-take (suc n) (suc m) [] le = refl
 take-take {X} (suc n) (suc m) (x ∷ xs) le = ap (λ (ys : List X). x ∷ ys) (take-take n m xs (omega arith))
 
-pub cut-front : (size n j : ℕ) (xs : List ℕ) → j ≤ n → cut_blocks size j (take (j * size) xs) ≡ take j (cut_blocks size n xs)
-cut-front size n zero xs le = refl
-cut-front size zero (suc j) xs le = absurd (omega arith)
-cut-front size (suc n) (suc j) xs le =
-    let k : suc j * size ≡ size + j * size = omega (arith, add-mul j 1 size) in
-    let first : take size (take (size + j * size) xs) ≡ take size xs = take-take size (size + j * size) xs (omega arith) in
-    let rest : drop size (take (size + j * size) xs) ≡ take (j * size) (drop size xs) = drop-take size (j * size) xs in
-    rw (k, first, rest, cut-front size n j (drop size xs) (omega arith)) refl
-
 pub take-less : {X : Type 0} (a n : ℕ) (x : X) → a ≤ n → take a (replicate n x) ≡ replicate a x
 take-less zero n x le = refl
 take-less (suc a) zero x le = absurd (omega arith)
@@ -70,10 +62,6 @@ pub fewer-blocks : (block count left : ℕ) → count ≤ left → count * block
 fewer-blocks block zero left le = omega arith
 fewer-blocks block (suc count) zero le = absurd (omega arith)
 fewer-blocks block (suc count) (suc left) le = let rest = fewer-blocks block count left (omega arith) in omega (arith, rest, add-mul count 1 block, add-mul left 1 block)
-
-pub length-cut : (size n : ℕ) (xs : List ℕ) → length (cut_blocks size n xs) ≡ n
-length-cut size zero xs = refl
-length-cut size (suc n) xs = let rest = length-cut size n (drop size xs) in omega (arith, rest)
 
 -- ---- what is written
 

@@ -16,7 +16,8 @@ use Rattle.zone_cleaner.specs.declared.fault.CleanFault.{CleanFault}
 use Rattle.zone_cleaner.specs.declared.fault.CleanFault.TheVariants as faults
 use Rattle.zone_cleaner.specs.Clean.{CleanView, turns_left}
 use Rattle.zone_cleaner.specs.Start.{AgreesWithClean, GoesOn, IsCleaningCause, KeepsByCleaning}
-use Rattle.zone_cleaner.proofs.NextLaws.{cleaning_kept}
+use Rattle.zone_cleaner.proofs.NextLaws.{cleaning_kept, cleaned_kept}
+use Rattle.zone_cleaner.proofs.TurnLaws.{cleans_mountable}
 use Rattle.zone_translator.specs.declared.fault.DiskFault.{DiskFault}
 use Rattle.zone_translator.specs.declared.fault.DiskFault.TheVariants.{OutOfRange, OutOfMemory, Stopped, Spent, Unmounted, Smaller, Reserve}
 use Rattle.zone_translator.specs.declared.status.DiskStatus.{DiskStatus}
@@ -33,7 +34,7 @@ use Rattle.zone_translator.proofs.ContentLaws.{took-names}
 use Rattle.zone_translator.specs.Flat.{IsAfterFront, IsFront, grow}
 use Rattle.zone_translator.specs.Read.{IsBlockFault, IsReadFault}
 use Rattle.zone_translator.proofs.WriteLaws.{front-none}
-use Rattle.zone_translator.proofs.RoomLaws.{room-stops, serves-kept, serves_mountable}
+use Rattle.zone_translator.proofs.RoomLaws.{room-stops}
 use Rattle.zone_translator.specs.View.{DiskView, KeepsDisk, disk_array, disk_turns, flat_of, given_size, next_sequence, disk_places}
 
 -- what a disk of these parts is seen as
@@ -122,7 +123,7 @@ reserve-kept a b same given fits = rw (same, given) fits
 -- a disk that serves, by the agreement of its tables and its drive
 pub holds-serving : (disk : MountedView) (clean : Option CleanView) → FitsReserve disk.drive.geometry disk.tables.given → AgreesWithClean disk clean → Holds disk clean statuses.Serving
 holds-serving disk clean fits serves = record {
-  mountable = serves_mountable disk clean serves;
+  mountable = cleans_mountable disk clean serves;
   geometry = serves.0.geometry;
   reserve = fits;
   short = serves.0.reserve.1;
@@ -143,15 +144,15 @@ holds-stopped a b clean clean' fits serves stops = record {
 
 -- one that was read, and goes on or has stopped
 pub holds-kept : (a b : MountedView) (clean : Option CleanView) → FitsReserve a.drive.geometry a.tables.given → AgreesWithClean a clean → KeepsArray a b → Holds b clean statuses.Serving
-holds-kept a b clean fits serves kept = holds-serving b clean (reserve-kept a b kept.geometry kept.given fits) (serves-kept a b clean serves kept)
+holds-kept a b clean fits serves kept = holds-serving b clean (reserve-kept a b kept.geometry kept.given fits) (cleaned_kept a b clean serves kept)
 
 pub holds-read : (a b : MountedView) (clean : Option CleanView) (fault : DiskFault) → FitsReserve a.drive.geometry a.tables.given → AgreesWithClean a clean → KeepsArray a b → IsReadFault b.drive fault → Holds b clean (status_left fault)
 holds-read a b clean OutOfRange fits serves kept cause = absurd cause
 holds-read a b clean OutOfMemory fits serves kept cause = holds-kept a b clean fits serves kept
 holds-read a b clean Stopped fits serves kept cause =
-    let now = serves-kept a b clean serves kept in
+    let now = cleaned_kept a b clean serves kept in
     record {
-      mountable = serves_mountable b clean now;
+      mountable = cleans_mountable b clean now;
       geometry = now.0.geometry;
       reserve = reserve-kept a b kept.geometry kept.given fits;
       short = now.0.reserve.1;

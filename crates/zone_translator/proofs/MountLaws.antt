@@ -23,12 +23,12 @@ use Rattle.zone_translator.specs.declared.status.DiskStatus.{DiskStatus}
 use Rattle.zone_translator.specs.declared.status.DiskStatus.TheVariants.{Serving, Unmounted}
 use Rattle.zone_translator.specs.Calls.{Holds}
 use Rattle.zone_cleaner.specs.Start.{AgreesWithClean}
+use Rattle.zone_cleaner.proofs.TurnLaws.{cleans_mountable}
 use Rattle.zone_translator.specs.Flat.{FlatRemount}
 use Rattle.zone_translator.specs.Answers.{IsMounted, Remounts}
 use Rattle.zone_translator.specs.Mount.{MountsDisk}
 use Rattle.zone_translator.specs.View.{DiskView, disk_array, disk_size, flat_of, given_size, mounted_of}
 use Rattle.zone_translator.proofs.CallLaws.{flat-is}
-use Rattle.zone_translator.proofs.RoomLaws.{serves_mountable}
 use Rattle.zone_translator.proofs.DiskLaws.{length-array, view_of}
 
 -- the lower of the two zones is the host zone, so the other is the next one
@@ -72,7 +72,7 @@ is-mounted old new n tables kept mounts =
       range = serves.0.geometry;
       fits = serves.0.reserve;
       kept = kept;
-      mountable = serves_mountable (mounted new tables) None serves;
+      mountable = cleans_mountable (mounted new tables) None serves;
     }
 
 -- ---- mounting again
@@ -116,7 +116,7 @@ remounts old new clean none kept mounts =
       cause = tt;
       kept = kept;
       given = mounts.given;
-      mountable = serves_mountable new None serves;
+      mountable = cleans_mountable new None serves;
       clean = none;
     }
 

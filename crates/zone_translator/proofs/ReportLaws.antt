@@ -23,16 +23,9 @@ use Rattle.zone_choice.proofs.ChangeLaws.{keeps-contents, keeps-halt, keeps-same
 use Rattle.zone_choice.proofs.OpenLaws.{closing-opens}
 use Rattle.zone_translator.specs.Calls.{ReportsAll, whole_report}
 use Rattle.zone_translator.proofs.ReadLaws.{ReadHalts}
+use Rattle.drive_survey.proofs.ReportLaws.{length-matching, whole-room, can-report}
 
 -- ---- the bytes
-
-length-matching : (geometry : Geometry) (number : ℕ) (zones : List Zone) → length (matching geometry AnyState number zones) ≡ length zones
-length-matching geometry number [] = refl
-length-matching geometry number (zone ∷ zones) = ap suc (length-matching geometry (number + 1) zones)
-
--- there is room for all descriptors, and for nothing else
-whole-room : (zones dwords : ℕ) → dwords ≡ 16 * (1 + zones) → descriptor_room dwords ≡ zones
-whole-room zones dwords is = omega (arith, is)
 
 report-whole : (geometry : Geometry) (zones : List Zone) (dwords : ℕ) → 1 ≤ geometry.size → dwords ≡ 16 * (1 + length zones) → report geometry zones 0 AnyState false dwords ≡ whole_report geometry zones
 report-whole geometry zones dwords some is =
@@ -53,10 +46,6 @@ reports-all old new dwords bytes range count is reported = record {
 }
 
 -- ---- the drive
-
--- the drive takes it
-can-report : (drive : DriveState) → IsInRange drive.geometry → 0 < end_of drive.geometry
-can-report drive range = let one : 1 * 1 ≤ drive.geometry.zones * drive.geometry.size = mul-le 1 1 drive.geometry.zones drive.geometry.size (omega (arith, range.zones)) (omega (arith, range.size, range.capacity)) in omega (arith, one)
 
 pub report_kept : (old new : DriveState) (tables : TablesView) (dwords : ℕ) (bytes : List ℕ) → Agrees (mounted old tables) → SameContents old new → IsClosing old.zones new.zones → Obeys {V = Unit {0}} old (Ok tt) new → Reported old new 0 AnyState false dwords bytes → KeepsArray (mounted old tables) (mounted new tables)
 report_kept old new tables dwords bytes agrees same closing obeys reported = keeps-contents old new tables agrees same (closing-opens old.zones new.zones closing) obeys.lawful reported.counts

@@ -35,13 +35,6 @@ use Rattle.zone_translator.specs.Changes.{IsCause, IsHost, NoMoreTurns, RetireLe
 
 -- ---- a disk that serves
 
-pub serves-kept : (a b : MountedView) (clean : Option CleanView) → AgreesWithClean a clean → KeepsArray a b → AgreesWithClean b clean
-serves-kept a b clean serves kept = cleaned_kept a b clean serves kept
-
--- its drive can be mounted
-pub serves_mountable : (disk : MountedView) (clean : Option CleanView) → AgreesWithClean disk clean → IsMountable disk.drive disk.tables.given
-serves_mountable disk clean serves = cleans_mountable disk clean serves
-
 -- ---- parts of a call that write nothing for the host
 
 -- the array is kept, and the disk serves

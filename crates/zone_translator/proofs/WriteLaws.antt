@@ -12,6 +12,7 @@ use Rattle.drive_port.specs.declared.device.Halt.TheVariants as halt
 use Rattle.batch_log.specs.Header.{Heading, IsHeading, IsSize, entry_room, header_block}
 use Rattle.batch_log.specs.Log.{Batch, data_count, log_size}
 use Rattle.batch_log.proofs.HeaderLaws.{header_length}
+use Rattle.batch_log.proofs.LentLaws.{data-few}
 use Rattle.logical_map.specs.Places.{MapView}
 use Rattle.logical_map.specs.declared.place.Place.{Place}
 use Rattle.logical_map.specs.declared.place.Place.TheVariants as places
@@ -29,7 +30,6 @@ use Rattle.zone_choice.specs.Tables.{AreReserved, SameButReady, TablesView, size
 use Rattle.zone_choice.proofs.AgreementLaws.{extended-same, size-encoded}
 use Rattle.drive_array.proofs.WholeLaws.{length-spelled}
 use Rattle.zone_choice.proofs.AloneLaws.{stops-tables}
-use Rattle.zone_choice.proofs.BuilderLaws.{data_count-few}
 use Rattle.zone_choice.proofs.ChangeLaws.{keeps-room, large-block}
 use Rattle.drive_array.proofs.ReserveLaws.{positive-most}
 use Rattle.zone_choice.proofs.CommandLaws.{filling-in_range}
@@ -113,7 +113,7 @@ pub can_place : (old : DriveState) (tables : TablesView) (host : Filling) (trim 
     → IsHeading old.geometry.block (host_heading size tables.next trim first count) → CanPlace (mounted old tables) host.zone (host_batch size tables.next trim first count body)
 can_place old tables host trim first count body agrees room in_range most free size grows reserve reserved says =
     let here = host-filled old tables host room.host_is agrees in
-    let few_data = data_count-few (entries_from trim first count) in
+    let few_data = data-few (entries_from trim first count) in
     let long = length-entries trim first count in
     record {
       agrees = agrees;

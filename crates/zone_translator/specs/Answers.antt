@@ -1,5 +1,6 @@
 -- What the calls of a disk promise.
-use Rattle.std.specs.Prelude.{◌≡◌, ◌⊎◌, ℕ, ◌+◌, ◌-◌, ◌*◌, ◌<◌, ◌≤◌, Bool, true, false, List, length, slice_index_or, Some, None, IfErr, IfSome, OnOk, OnErr, Result, Err}
+use Rattle.std.specs.Prelude.{◌≡◌, ◌⊎◌, ℕ, ◌+◌, ◌-◌, ◌*◌, ◌<◌, ◌≤◌, Bool, true, false, List, length}
+use Rattle.std.specs.Prelude.{slice_index_or, Some, None, IfErr, IfSome, OnOk, OnErr, Result, Err}
 use Rattle.logical_map.specs.declared.place.Place.{Place}
 use Rattle.logical_map.specs.declared.place.Place.TheVariants as places
 use Rattle.drive_survey.specs.declared.fault.MountFault.{MountFault}
@@ -22,7 +23,8 @@ use Rattle.zone_translator.specs.Changes.{AreNamed, batch_commands}
 use Rattle.zone_translator.specs.Cleaning.{AreNewer, log_in_zone}
 use Rattle.zone_translator.specs.Flat.{Call, FlatCall, FlatRemount, read, with_nothing, write}
 use Rattle.zone_translator.specs.Mount.{MountsDisk}
-use Rattle.zone_translator.specs.View.{DiskCause, DiskView, KeepsDisk, disk_size, disk_turns, flat_of, given_size, logs_of, mounted_of, most_batches, next_sequence, disk_places, size_on}
+use Rattle.zone_translator.specs.View.{DiskCause, DiskView, KeepsDisk, disk_size, disk_turns, flat_of, given_size}
+use Rattle.zone_translator.specs.View.{logs_of, mounted_of, most_batches, next_sequence, disk_places, size_on}
 
 -- ---- what is asked, and what it takes
 

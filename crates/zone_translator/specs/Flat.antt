@@ -1,5 +1,6 @@
 -- The flat disk: an array of blocks, and what a conventional disk that can grow answers to a call.
-use Rattle.std.specs.Prelude.{◌≡◌, ◌⊎◌, ℕ, zero, suc, ◌+◌, ◌≤◌, ◌==◌, nat_lt, if◌then◌else◌, Bool, true, false, List, [], ◌∷◌, length, replicate, take, drop, MatchOption, Option, Some, None, Result, Ok, Err}
+use Rattle.std.specs.Prelude.{◌≡◌, ◌⊎◌, ℕ, zero, suc, ◌+◌, ◌≤◌, ◌==◌, nat_lt, if◌then◌else◌, Bool, true, false, List, []}
+use Rattle.std.specs.Prelude.{◌∷◌, length, replicate, take, drop, MatchOption, Option, Some, None, Result, Ok, Err}
 use Rattle.batch_log.specs.Log.{zero_block}
 use Rattle.drive_array.specs.Sizes.{extended}
 use Rattle.drive_survey.specs.declared.fault.MountFault.{MountFault}

@@ -2,8 +2,8 @@ use Rattle.std.proofs.Common.{ℕ, List, length, sym, subst, ap, refl, arith}
 use Rattle.std.proofs.lemmas.List.{length-append, take_all}
 use Rattle.zone_states.specs.Stored.{AreWholeBlocks, StoredZone, zone_stored}
 use Rattle.zone_states.specs.Zone.{IsLawfulZone}
+use Rattle.zone_states.proofs.ListLaws.{all-at}
 use Rattle.zone_drive.specs.Stored.{zones_of}
-use Rattle.zone_drive.proofs.WriteLaws.{all-at}
 use Rattle.drive_images.specs.Image.{head_bytes, zones_bytes}
 use Rattle.drive_images.proofs.HeadLaws.{length-head}
 use Rattle.drive_images.proofs.LengthLaws.{length-more, zone-small}

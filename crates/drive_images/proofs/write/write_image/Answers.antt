@@ -1,8 +1,8 @@
 use Rattle.std.proofs.Common.{◌≤◌, length, sym, subst, ap, arith}
 use Rattle.std.proofs.lemmas.List.{length-map, take_all}
-use Rattle.zone_drive.proofs.WriteLaws.{all-at}
 use Rattle.zone_states.specs.Stored.{zone_stored}
 use Rattle.zone_states.specs.Zone.{IsLawfulZone, Zone}
+use Rattle.zone_states.proofs.ListLaws.{all-at}
 use Rattle.std.specs.Io.KnownBytes.{Appends}
 use Rattle.disk_files.specs.Output.{AppendsFront}
 use Rattle.disk_files.proofs.OutputLaws.{on_err}

@@ -9,10 +9,8 @@ use Rattle.drive_images.specs.Reading.{TellsFirst, zone_fault}
 use Rattle.drive_images.specs.declared.fault.ImageFault.TheVariants.{Limits, Written}
 use Rattle.drive_images.proofs.TellingLaws.{after_any, after_front, if_fault}
 use Rattle.drive_images.proofs.ZoneLaws.{is-lawful, is-whole, over_limit, tells_bad_head, tells_short_zone, too_many, zone_bytes-is}
+use Rattle.zone_drive.proofs.ZonesLaws.{block-some}
 use Rattle.drive_images.proofs.zone.read_zone.Goals as goal
-
-block-some : (geometry : Geometry) → IsInRange geometry → 1 ≤ geometry.block
-block-some geometry in_range = elim in_range.block [ inl small ↦ omega arith | inr large ↦ omega arith ]
 
 pub returns-in_err-head-clause-err : goal.returns-in_err-head-clause-err
 returns-in_err-head-clause-err g c =

@@ -1,7 +1,7 @@
 use Rattle.std.proofs.Common.{◌≡◌, ◌∙◌, ap}
 use Rattle.nvme_wire.specs.declared.report_head.ReportHead.{ReportHead}
 use Rattle.drive_port.specs.Calls.{chosen_count}
-use Rattle.drive_port.proofs.CountLaws.{chosen-fits, counted-all_empty, counted-empty_all, reported-counts, reported-head}
+use Rattle.drive_port.proofs.CountLaws.{chosen-fits, counted-empty, reported-counts, reported-head}
 use Rattle.drive_port.proofs.calls.count_zones.Goals as goal
 
 pub unreachable-requires : goal.unreachable-requires
@@ -20,8 +20,5 @@ returns-clause-counted g c =
     let same : c.in-Ok.head ≡ made = cc in
     reported-counts _ _ c.args.options _ _ shown (ap (λ (h : ReportHead). h.zones) same)
 
-pub returns-clause-all_empty : goal.returns-clause-all_empty
-returns-clause-all_empty g c = counted-all_empty _ _ c.args.options _ c.report.ensures.obeys.was_lawful (returns-clause-counted g c)
-
-pub returns-clause-empty_all : goal.returns-clause-empty_all
-returns-clause-empty_all g c = counted-empty_all _ _ c.args.options _ c.report.ensures.obeys.was_lawful (returns-clause-counted g c)
+pub returns-clause-empty : goal.returns-clause-empty
+returns-clause-empty g c = counted-empty _ _ c.args.options _ c.report.ensures.obeys.was_lawful (returns-clause-counted g c)

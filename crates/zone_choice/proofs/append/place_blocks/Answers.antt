@@ -1,6 +1,8 @@
 use Rattle.std.proofs.Common.{false, get_or, refl, arith}
 use Rattle.batch_log.specs.declared.header.Entry.{Entry}
-use Rattle.zone_choice.proofs.BuilderLaws.{data_count-few, entry_place-fits, one-at_most, placing-more}
+use Rattle.batch_log.proofs.EntryLaws.{few-data}
+use Rattle.batch_log.proofs.LentLaws.{data-few}
+use Rattle.zone_choice.proofs.BuilderLaws.{entry_place-fits, placing-more}
 use Rattle.zone_choice.proofs.append.place_blocks.Goals as goal
 
 pub overflow_add-address-in-loop-entry : goal.overflow_add-address-in-loop-entry
@@ -8,7 +10,7 @@ overflow_add-address-in-loop-entry c =
     let none : Entry = record { block = 0; trim = false } in
     let entry = get_or c.args.entries.now c.loop-entry.entry-index none in
     let was = c.loop-entry.invariant in
-    omega (arith, was.data_left, data_count-few c.args.entries.now, c.data_blocks-address.ensures, one-at_most entry.trim, c.requires.few, c.requires.fits)
+    omega (arith, was.data_left, data-few c.args.entries.now, c.data_blocks-address.ensures, few-data entry.trim, c.requires.few, c.requires.fits)
 
 pub loop-entry-preserved : goal.loop-entry-preserved
 loop-entry-preserved c =
@@ -20,11 +22,11 @@ loop-entry-preserved c =
 pub overflow_cast-result : goal.overflow_cast-result
 overflow_cast-result c =
     let was = c.loop-entry.invariant in
-    omega (arith, was.data_left, data_count-few c.args.entries.now, c.requires.few)
+    omega (arith, was.data_left, data-few c.args.entries.now, c.requires.few)
 
 pub place-requires-clause-fits : goal.place-requires-clause-fits
 place-requires-clause-fits c =
     let none : Entry = record { block = 0; trim = false } in
     let entry = get_or c.args.entries.now c.loop-entry.entry-index none in
     let was = c.loop-entry.invariant in
-    rw c.place_of.ensures (entry_place-fits entry.trim c.args.header c.loop-entry.address was.above (omega (arith, was.data_left, data_count-few c.args.entries.now, c.requires.few, c.requires.fits)))
+    rw c.place_of.ensures (entry_place-fits entry.trim c.args.header c.loop-entry.address was.above (omega (arith, was.data_left, data-few c.args.entries.now, c.requires.few, c.requires.fits)))

@@ -19,20 +19,20 @@ pub halt_of-requires : goal.halt_of-requires
 halt_of-requires g c =
     let agrees = rw (← c.disk.view_is) at c.requires.agrees in
     let in_range = rw (← c.disk.view_is) at c.requires.in_range in
-    (place_halts (g.D.Device.drive c.disk.inside.device) _ c.disk.inside.tables c.args.block c.in-At.address _ c.in-Err.fault agrees in_range c.in-At.ensures c.in-Err.ensures.gives.given c.in-Err.ensures.kept c.in-Err.ensures.closing c.in-Err.ensures.obeys c.in-Err.ensures.taken).halt
+    (place_halts (g.D.Device.drive c.disk.inside.device) _ c.disk.inside.tables c.args.block c.in-At.address _ c.in-Err.fault agrees in_range c.in-At.ensures c.in-Err.ensures.gives.given c.in-Err.ensures.kept.contents c.in-Err.ensures.kept.closing c.in-Err.ensures.obeys c.in-Err.ensures.taken).halt
 
 pub returns-in-Err-clause-kept : goal.returns-in-Err-clause-kept
 returns-in-Err-clause-kept g c =
     let agrees = rw (← c.disk.view_is) at c.requires.agrees in
     let in_range = rw (← c.disk.view_is) at c.requires.in_range in
     rw (← c.disk.view_is)
-    (place_halts (g.D.Device.drive c.disk.inside.device) _ c.disk.inside.tables c.args.block c.in-At.address _ c.in-Err.fault agrees in_range c.in-At.ensures c.in-Err.ensures.gives.given c.in-Err.ensures.kept c.in-Err.ensures.closing c.in-Err.ensures.obeys c.in-Err.ensures.taken).kept
+    (place_halts (g.D.Device.drive c.disk.inside.device) _ c.disk.inside.tables c.args.block c.in-At.address _ c.in-Err.fault agrees in_range c.in-At.ensures c.in-Err.ensures.gives.given c.in-Err.ensures.kept.contents c.in-Err.ensures.kept.closing c.in-Err.ensures.obeys c.in-Err.ensures.taken).kept
 
 pub returns-in-Err-clause-err : goal.returns-in-Err-clause-err
 returns-in-Err-clause-err g c =
     let agrees = rw (← c.disk.view_is) at c.requires.agrees in
     let in_range = rw (← c.disk.view_is) at c.requires.in_range in
-    let halts = place_halts (g.D.Device.drive c.disk.inside.device) _ c.disk.inside.tables c.args.block c.in-At.address _ c.in-Err.fault agrees in_range c.in-At.ensures c.in-Err.ensures.gives.given c.in-Err.ensures.kept c.in-Err.ensures.closing c.in-Err.ensures.obeys c.in-Err.ensures.taken in
+    let halts = place_halts (g.D.Device.drive c.disk.inside.device) _ c.disk.inside.tables c.args.block c.in-At.address _ c.in-Err.fault agrees in_range c.in-At.ensures c.in-Err.ensures.gives.given c.in-Err.ensures.kept.contents c.in-Err.ensures.kept.closing c.in-Err.ensures.obeys c.in-Err.ensures.taken in
     record { cause = rw (c.fault_of.ensures, c.halt_of.ensures) halts.cause; stops = λ stopped. at-data c.disk.inside.tables c.args.block c.in-At.address c.in-At.ensures }
 
 pub returns-clause-ok : goal.returns-clause-ok
@@ -40,9 +40,9 @@ returns-clause-ok g c =
     let agrees = rw (← c.disk.view_is) at c.requires.agrees in
     let in_range = rw (← c.disk.view_is) at c.requires.in_range in
     rw (← c.disk.view_is)
-    (c.in_default-read_extending.ensures.shown ∙ ap (λ (bytes : List ℕ). c.args.into.now.items ++ bytes) (place_shown (g.D.Device.drive c.disk.inside.device) c.disk.inside.tables c.args.block c.in-At.address _ agrees in_range c.in-At.ensures refl))
+    (c.in_default-read_extending.ensures.shown.bytes ∙ ap (λ (bytes : List ℕ). c.args.into.now.items ++ bytes) (place_shown (g.D.Device.drive c.disk.inside.device) c.disk.inside.tables c.args.block c.in-At.address _ agrees in_range c.in-At.ensures refl))
 
 pub returns-clause-kept : goal.returns-clause-kept
 returns-clause-kept g c =
     let agrees = rw (← c.disk.view_is) at c.requires.agrees in
-    rw (← c.disk.view_is) (place_kept _ _ c.disk.inside.tables agrees c.in_default-read_extending.ensures.kept c.in_default-read_extending.ensures.closing c.in_default-read_extending.ensures.obeys.lawful c.in_default-read_extending.ensures.counts)
+    rw (← c.disk.view_is) (place_kept _ _ c.disk.inside.tables agrees c.in_default-read_extending.ensures.kept.contents c.in_default-read_extending.ensures.kept.closing c.in_default-read_extending.ensures.obeys.lawful c.in_default-read_extending.ensures.shown.counts)

@@ -5,7 +5,7 @@ use Rattle.zone_translator.proofs.report.report_all.Goals as goal
 
 pub returns-clause-kept : goal.returns-clause-kept
 returns-clause-kept g c =
-    rw (← c.disk.view_is) (report_kept (g.D.Device.drive c.disk.inside.device) _ c.disk.inside.tables _ _ (rw (← c.disk.view_is) at c.requires.agrees) c.report.ensures.kept c.report.ensures.closing c.in_default.ensures.obeys c.in_default.ensures.shown)
+    rw (← c.disk.view_is) (report_kept (g.D.Device.drive c.disk.inside.device) _ c.disk.inside.tables _ _ (rw (← c.disk.view_is) at c.requires.agrees) c.report.ensures.kept.contents c.report.ensures.kept.closing c.in_default.ensures.obeys c.in_default.ensures.shown)
 
 pub returns-clause-zones : goal.returns-clause-zones
 returns-clause-zones g c =
@@ -16,14 +16,14 @@ returns-clause-zones g c =
 
 pub halt_of-requires : goal.halt_of-requires
 halt_of-requires g c =
-    (report_halts (g.D.Device.drive c.disk.inside.device) _ c.disk.inside.tables _ _ c.in-Err.fault (rw (← c.disk.view_is) at c.requires.agrees) c.in-Err.ensures.gives c.report.ensures.kept c.report.ensures.closing c.in-Err.ensures.obeys c.in-Err.ensures.taken).halt
+    (report_halts (g.D.Device.drive c.disk.inside.device) _ c.disk.inside.tables _ _ c.in-Err.fault (rw (← c.disk.view_is) at c.requires.agrees) c.in-Err.ensures.gives c.report.ensures.kept.contents c.report.ensures.kept.closing c.in-Err.ensures.obeys c.in-Err.ensures.taken).halt
 
 pub returns-in-Err-clause-kept : goal.returns-in-Err-clause-kept
 returns-in-Err-clause-kept g c =
     rw (← c.disk.view_is)
-    (report_halts (g.D.Device.drive c.disk.inside.device) _ c.disk.inside.tables _ _ c.in-Err.fault (rw (← c.disk.view_is) at c.requires.agrees) c.in-Err.ensures.gives c.report.ensures.kept c.report.ensures.closing c.in-Err.ensures.obeys c.in-Err.ensures.taken).kept
+    (report_halts (g.D.Device.drive c.disk.inside.device) _ c.disk.inside.tables _ _ c.in-Err.fault (rw (← c.disk.view_is) at c.requires.agrees) c.in-Err.ensures.gives c.report.ensures.kept.contents c.report.ensures.kept.closing c.in-Err.ensures.obeys c.in-Err.ensures.taken).kept
 
 pub returns-in-Err-clause-err : goal.returns-in-Err-clause-err
 returns-in-Err-clause-err g c =
     rw (c.fault_of.ensures, c.halt_of.ensures)
-    (report_halts (g.D.Device.drive c.disk.inside.device) _ c.disk.inside.tables _ _ c.in-Err.fault (rw (← c.disk.view_is) at c.requires.agrees) c.in-Err.ensures.gives c.report.ensures.kept c.report.ensures.closing c.in-Err.ensures.obeys c.in-Err.ensures.taken).cause
+    (report_halts (g.D.Device.drive c.disk.inside.device) _ c.disk.inside.tables _ _ c.in-Err.fault (rw (← c.disk.view_is) at c.requires.agrees) c.in-Err.ensures.gives c.report.ensures.kept.contents c.report.ensures.kept.closing c.in-Err.ensures.obeys c.in-Err.ensures.taken).cause
