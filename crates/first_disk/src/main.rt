@@ -35,7 +35,8 @@ fn write_and_read<D: Device + Drop>(
     bytes: &[u8],
     shown: &mut Vec<u8>,
 ) -> Result<(), DiskFault>
-    requires whole { length bytes.now ≡ block_count disk.old.drive.geometry bytes.now * disk.old.drive.geometry.block }
+    requires whole { length bytes.now
+        ≡ block_count disk.old.drive.geometry bytes.now * disk.old.drive.geometry.block }
     requires blocks { blocks ≡ block_count disk.old.drive.geometry bytes.now }
     ensures { OnOk result (shown.new.items ≡ bytes.now) }
 {
