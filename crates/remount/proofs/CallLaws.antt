@@ -34,7 +34,7 @@ use Rattle.drive_survey.specs.declared.survey.Survey.{Survey}
 use Rattle.remount.specs.Kept.{AreVacantEmpty, KeepsMountable}
 use Rattle.drive_survey.specs.Known.{Knows}
 use Rattle.remount.specs.Mount.{IsOnlyTorn}
-use Rattle.remount.specs.Resets.{FinishesOne, reported_full}
+use Rattle.remount.specs.Resets.{FinishesOne, OpensNoZone, finished_if_active, reported_full}
 use Rattle.remount.specs.Moving.{AreSettled, FinishesZone, KeepsShut, SettlesZone}
 use Rattle.drive_survey.specs.Reported.{IsKnown, KeepsZones}
 use Rattle.drive_survey.specs.Scan.{AreKnown, FailsBy, mount_fault}
@@ -253,7 +253,8 @@ finished-zone n old new before after zone known active whole one =
     let logs : drive_logs new ≡ drive_logs old = rw geometry same.logs in
     let count : length new.zones ≡ length old.zones = omega (arith, was.count, one.known.lawful.count, ap (λ (x : Geometry). x.zones) geometry) in
     let others : (other : ℕ) → other ≢ zone → content_at (contents new.zones) other ≡ content_at zones other = λ other ne. rw finishes.zones (get_or-set_other zones zone other (finished (content_at zones zone)) nothing ne) in
-    let settled : (content_at (contents new.zones) zone).usage ≡ full = rw finishes.zones (ap (λ (c : Content). c.usage) (get_or-set_same zones zone (finished (content_at zones zone)) nothing finishes.in_range)) in
+    let there : content_at (contents new.zones) zone ≡ finished (content_at zones zone) = rw finishes.zones (get_or-set_same zones zone (finished (content_at zones zone)) nothing finishes.in_range) in
+    let settled : (content_at (contents new.zones) zone).usage ≡ full = ap (λ (c : Content). c.usage) there in
     record {
       known = rw logs (record {
         all_logs = rw geometry (same.all_logs known.all_logs);
@@ -274,13 +275,15 @@ finished-zone n old new before after zone known active whole one =
         | inr there ↦ vacant other r there.1 (rw logs at none)
       ];
       settled = rw settled refl;
+      own = rw active there;
       others = others;
+      opens = one.opens;
     }
 
 -- ---- a zone is settled
 
 pub settles-same : (n : ℕ) (drive : DriveState) (survey : Survey) (torn zone : ℕ) → Knows drive n (drive_logs drive) survey → (zone ≢ torn → is_active_usage (content_at (contents drive.zones) zone).usage ≡ false) → SettlesZone n drive drive survey survey torn zone
-settles-same n drive survey torn zone known settled = record { known = known; logs = refl; tails = refl; vacant = λ v. v; settled = settled; others = λ other h. h; count = refl }
+settles-same n drive survey torn zone known settled = record { known = known; logs = refl; tails = refl; vacant = λ v. v; settled = settled; own = λ ne. rw (settled ne) refl; others = λ other ne. refl; opens = λ other h. h; count = refl }
 
 pub settles-finished : (n : ℕ) (old new : DriveState) (before after : Survey) (torn zone : ℕ) → Knows old n (drive_logs old) before → FinishesZone n old new before after zone → SettlesZone n old new before after torn zone
 settles-finished n old new before after torn zone known f = record {
@@ -289,10 +292,9 @@ settles-finished n old new before after torn zone known f = record {
   tails = f.tails;
   vacant = f.vacant;
   settled = λ ne. f.settled;
-  others = λ other h. elim (cases_eq other zone) as (λ _. is_active_usage (content_at (contents new.zones) other).usage ≡ false) [
-    | inl same ↦ rw same f.settled
-    | inr ne ↦ rw (f.others other ne) h
-  ];
+  own = λ ne. f.own;
+  others = f.others;
+  opens = f.opens;
   count = f.known.zones.count ∙ count-same (f.known.zones.lawful) (known.zones.lawful) ∙ sym known.zones.count;
 }
   where
@@ -319,12 +321,15 @@ pub record Settles (n torn : ℕ) (start now : DriveState) (before after : Surve
   pub tails : zone_tails (contents now.zones) ≡ zone_tails (contents start.zones)
   pub vacant : AreVacantEmpty after.zones.items (drive_logs now)
   pub settled : AreSettled now torn limit
+  pub done : (zone : ℕ) → zone < limit → zone ≢ torn → content_at (contents now.zones) zone ≡ finished_if_active (content_at (contents start.zones) zone)
+  pub rest : (zone : ℕ) → limit ≤ zone → content_at (contents now.zones) zone ≡ content_at (contents start.zones) zone
+  pub opens : OpensNoZone start now
   pub only : IsOnlyTorn (drive_logs now) (zone_tails (contents now.zones)) torn
   pub kept : KeepsMountable n start now
   pub count : length after.zones.items ≡ length before.zones.items
 
 pub settles-none : (n torn : ℕ) (start : DriveState) (before : Survey) → Knows start n (drive_logs start) before → AreVacantEmpty before.zones.items (drive_logs start) → IsOnlyTorn (drive_logs start) (zone_tails (contents start.zones)) torn → Settles n torn start start before before 0
-settles-none n torn start before known vacant only = record { known = known; logs = refl; tails = refl; vacant = vacant; settled = λ zone lt ne. absurd (omega arith); only = only; kept = mountable-same n start start (record { geometry = refl; contents = refl }) known.zones.lawful refl; count = refl }
+settles-none n torn start before known vacant only = record { known = known; logs = refl; tails = refl; vacant = vacant; settled = λ zone lt ne. absurd (omega arith); done = λ zone lt ne. absurd (omega arith); rest = λ zone le. refl; opens = λ zone h. h; only = only; kept = mountable-same n start start (record { geometry = refl; contents = refl }) known.zones.lawful refl; count = refl }
 
 pub settles-more : (n torn : ℕ) (start now next : DriveState) (before middle after : Survey) (limit : ℕ) → Settles n torn start now before middle limit → SettlesZone n now next middle after torn limit → KeepsMountable n now next → Settles n torn start next before after (limit + 1)
 settles-more n torn start now next before middle after limit s z kept = record {
@@ -334,8 +339,14 @@ settles-more n torn start now next before middle after limit s z kept = record {
   vacant = z.vacant s.vacant;
   settled = λ zone lt ne. elim (cases_eq zone limit) as (λ _. is_active_usage (content_at (contents next.zones) zone).usage ≡ false) [
     | inl same ↦ rw same (z.settled (λ e. ne (same ∙ e)))
-    | inr other ↦ z.others zone (s.settled zone (omega (arith, lt, other)) ne)
+    | inr other ↦ rw (z.others zone other) (s.settled zone (omega (arith, lt, other)) ne)
   ];
+  done = λ zone lt ne. elim (cases_eq zone limit) as (λ _. content_at (contents next.zones) zone ≡ finished_if_active (content_at (contents start.zones) zone)) [
+    | inl same ↦ rw same (z.own (λ e. ne (same ∙ e)) ∙ ap finished_if_active (s.rest limit (omega arith)))
+    | inr other ↦ z.others zone other ∙ s.done zone (omega (arith, lt, other)) ne
+  ];
+  rest = λ zone le. z.others zone (λ e. absurd (omega (arith, le, e))) ∙ s.rest zone (omega (arith, le));
+  opens = λ zone h. z.opens zone (s.opens zone h);
   only = rw (z.logs, z.tails) s.only;
   kept = mountable-both n start now next s.kept kept;
   count = z.count ∙ s.count;

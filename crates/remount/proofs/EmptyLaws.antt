@@ -19,7 +19,7 @@ use Rattle.drive_survey.specs.declared.survey.Survey.{Survey}
 use Rattle.remount.specs.Kept.{AreVacantEmpty, KeepsMountable}
 use Rattle.drive_survey.specs.Known.{Knows}
 use Rattle.remount.specs.Mount.{AreToEmpty}
-use Rattle.remount.specs.Resets.{KeepsWritten, MayChange, MayReset, ResetsAll, reported_empty, set_all}
+use Rattle.remount.specs.Resets.{KeepsWritten, MayChange, MayReset, OpensNoZone, ResetsAll, reported_empty, set_all}
 use Rattle.drive_survey.specs.Scan.{AreKnown, heads_in, tails_in}
 use Rattle.remount.proofs.KeepLaws.{keeps-mountable-both, keeps-mountable-none, reset-keeps, without-vacant}
 use Rattle.remount.proofs.SetAllLaws.{cleared-set_all, get-set_all, get_or-set_all_other, map-set_all, set_all-both, set_all-parts}
@@ -59,6 +59,7 @@ pub record ResetsSome (first now : DriveState) (before survey : Survey) (n : ℕ
   pub keeps : KeepsMountable n first now
   pub geometry : now.geometry ≡ first.geometry
   pub contents_are : set_all (contents now.zones) rest emptied ≡ set_all (contents first.zones) zones emptied
+  pub opens : OpensNoZone first now
   pub known : AreKnown now survey.zones.items
   pub reported : set_all survey.zones.items rest reported_empty ≡ set_all before.zones.items zones reported_empty
   pub heads : heads_in survey.scanned.items ≡ heads_in before.scanned.items
@@ -72,6 +73,7 @@ resets-none drive survey n zones known may = record {
   keeps = keeps-mountable-none n drive known.lawful;
   geometry = refl;
   contents_are = refl;
+  opens = λ zone h. h;
   known = known;
   reported = refl;
   heads = refl;
@@ -92,6 +94,7 @@ resets-more first now new before survey after n zone zones rest some change one 
   keeps = some-keeps first now new before survey n zone zones rest some change;
   geometry = one.geometry ∙ some.geometry;
   contents_are = ap (λ (cs : List Content). set_all cs rest emptied) one.contents_are ∙ some.contents_are;
+  opens = λ z h. one.opens z (some.opens z h);
   known = one.known;
   reported = ap (λ (rs : List ReportedZone). set_all rs rest reported_empty) one.reported ∙ some.reported;
   heads = one.heads ∙ some.heads;
@@ -105,6 +108,7 @@ pub resets-end : (first now : DriveState) (before survey : Survey) (n : ℕ) (zo
 resets-end first now before survey n zones some = record {
   geometry = some.geometry;
   contents_are = some.contents_are;
+  opens = some.opens;
   known = some.known;
   reported = some.reported;
   heads = some.heads;
@@ -138,6 +142,7 @@ resets-both : (old middle new : DriveState) (before survey after : Survey) (vaca
 resets-both old middle new before survey after vacant half_clean one two = record {
   geometry = two.geometry ∙ one.geometry;
   contents_are = two.contents_are ∙ ap (λ (cs : List Content). set_all cs half_clean emptied) one.contents_are ∙ set_all-both (contents old.zones) vacant half_clean emptied;
+  opens = λ z h. two.opens z (one.opens z h);
   known = two.known;
   reported = two.reported ∙ ap (λ (rs : List ReportedZone). set_all rs half_clean reported_empty) one.reported ∙ set_all-both before.zones.items vacant half_clean reported_empty;
   heads = two.heads ∙ one.heads;

@@ -26,7 +26,7 @@ use Rattle.remount.specs.Kept.{AreVacantEmpty, KeepsMountable}
 use Rattle.drive_survey.specs.Known.{Knows}
 use Rattle.remount.specs.Mount.{AreWhole, IsRepaired, IsUntorn}
 use Rattle.drive_survey.specs.Reported.{IsKnown}
-use Rattle.remount.specs.Resets.{FinishesIf, FinishesOne, CanBeFilled, IsTested, KeepsGoing, MayChange, is_to_finish, reported_full}
+use Rattle.remount.specs.Resets.{FinishesIf, FinishesNeeded, FinishesOne, CanBeFilled, IsTested, MayChange, is_to_finish, reported_full}
 use Rattle.drive_survey.specs.Scan.{AreKnown, heads_in}
 use Rattle.drive_survey.specs.Survey.{is_partly_reported}
 use Rattle.remount.proofs.KeepLaws.{CanFinishZone, finish-keeps, keeps-mountable-both, keeps-mountable-none}
@@ -124,7 +124,7 @@ pub record FinishesSome (first now : DriveState) (before survey : Survey) (n zon
   pub given : survey.given ≡ before.given
   pub vacant : AreVacantEmpty survey.zones.items (drive_logs first)
   pub done : (k : ℕ) → k < zone → CanBeFilled now k
-  pub others : KeepsGoing first now
+  pub needed : FinishesNeeded first now
 
 pub finishes-none : (drive : DriveState) (survey : Survey) (n : ℕ) → IsUntorn drive n survey → FinishesSome drive drive survey survey n 0
 finishes-none drive survey n can = record {
@@ -137,7 +137,7 @@ finishes-none drive survey n can = record {
   given = refl;
   vacant = can.empty;
   done = λ k lt. absurd (omega (arith, lt));
-  others = λ k goes. refl;
+  needed = record { going = λ k goes. refl; blocks = λ k. refl; opens = λ k h. h };
 }
 
 some-at : (first now : DriveState) (before survey : Survey) (n below zone : ℕ) → IsUntorn first n before → FinishesSome first now before survey n below → zone < length survey.zones.items → SurveyedAt now (drive_logs first) survey zone
@@ -234,7 +234,7 @@ finishes-more first now new before survey after n zone can some lt keeps (inl is
     | inl same ↦ subst (CanBeFilled now) (sym same) (goes-on first now before survey n zone can some lt is.0)
     | inr other ↦ some.done k (omega (arith, below, other))
   ];
-  others = some.others;
+  needed = some.needed;
 })
 finishes-more first now new before survey after n zone can some lt keeps (inr is) = record {
   keeps = keeps;
@@ -246,7 +246,11 @@ finishes-more first now new before survey after n zone can some lt keeps (inr is
   given = one.given ∙ some.given;
   vacant = λ k r there none. vacant-at k r (cases_eq k zone) there none;
   done = λ k below. done-at k (cases_eq k zone) below;
-  others = λ k goes. others-at k (cases_eq k zone) goes;
+  needed = record {
+    going = λ k goes. others-at k (cases_eq k zone) goes;
+    blocks = λ k. blocks-at k (cases_eq k zone);
+    opens = λ k h. one.opens k (some.needed.opens k h);
+  };
 }
   where
     one : FinishesOne now new survey after zone
@@ -282,10 +286,18 @@ finishes-more first now new before survey after n zone can some lt keeps (inr is
 
     others-at : (k : ℕ) → (k ≡ zone) ⊎ (k ≡ zone → ⊥) → CanBeFilled first k → content_at (contents new.zones) k ≡ content_at (contents first.zones) k
     others-at k (inl same) goes =
-        let still : CanBeFilled now k = λ partly. rw (some.logs, some.keeps.geometry, some.others k goes) (goes (rw (some.others k goes) at partly)) in
+        let still : CanBeFilled now k = λ partly. rw (some.logs, some.keeps.geometry, some.needed.going k goes) (goes (rw (some.needed.going k goes) at partly)) in
         absurd (due-stops first now before survey n zone can some lt is.0 (subst (CanBeFilled now) same still))
     others-at k (inr other) goes =
-        rw one.contents_are.zones (get_or-set_other (contents now.zones) zone k (finished (content_at (contents now.zones) zone)) nothing other) ∙ some.others k goes
+        rw one.contents_are.zones (get_or-set_other (contents now.zones) zone k (finished (content_at (contents now.zones) zone)) nothing other) ∙ some.needed.going k goes
+
+    blocks-at : (k : ℕ) → (k ≡ zone) ⊎ (k ≡ zone → ⊥) → (content_at (contents new.zones) k).blocks ≡ (content_at (contents first.zones) k).blocks
+    blocks-at k (inl same) =
+        let here : content_at (contents new.zones) k ≡ finished (content_at (contents now.zones) zone) = rw (same, one.contents_are.zones) (get_or-set_same (contents now.zones) zone (finished (content_at (contents now.zones) zone)) nothing one.contents_are.in_range) in
+        ap (λ (c : Content). c.blocks) here ∙ ap (λ (z : ℕ). (content_at (contents now.zones) z).blocks) (sym same) ∙ some.needed.blocks k
+    blocks-at k (inr other) =
+        let here : content_at (contents new.zones) k ≡ content_at (contents now.zones) k = rw one.contents_are.zones (get_or-set_other (contents now.zones) zone k (finished (content_at (contents now.zones) zone)) nothing other) in
+        ap (λ (c : Content). c.blocks) here ∙ some.needed.blocks k
 
 -- ---- all of them
 

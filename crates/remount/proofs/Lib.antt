@@ -27,3 +27,4 @@ pub mod OrderedLaws
 pub mod LiveLaws
 pub mod PlannedLaws
 pub mod StepLaws
+pub mod BesideLaws

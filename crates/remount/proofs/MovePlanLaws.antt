@@ -71,7 +71,7 @@ entry-block b places.None = refl
 entry-block b (places.Trimmed address) = refl
 entry-block b (places.At address) = refl
 
-blocks-moved : (all : List Place) (blocks : List ℕ) → map (λ (e : Entry). e.block) (moved_entries all blocks) ≡ blocks
+pub blocks-moved : (all : List Place) (blocks : List ℕ) → map (λ (e : Entry). e.block) (moved_entries all blocks) ≡ blocks
 blocks-moved all [] = refl
 blocks-moved all (b ∷ bs) = rw (entry-block b (slice_index_or all b places.None), blocks-moved all bs) refl
 

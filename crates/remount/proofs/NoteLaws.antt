@@ -95,12 +95,12 @@ there-torn : (n : ℕ) (start new : DriveState) (plan : MovePlan) (made : List B
 there-torn n start new plan made e lt =
     rw e.zones (get_or-set_same (set (contents start.zones) plan.into e.there) plan.torn emptied nothing (omega (arith, lt, new-count n start new plan made e, length-set (contents start.zones) plan.into e.there, length-map start.zones content_of)))
 
-there-into : (n : ℕ) (start new : DriveState) (plan : MovePlan) (made : List Batch) → (e : EmptiesTorn n start new plan made) → plan.into < length new.zones → content_at (contents new.zones) plan.into ≡ e.there
+pub there-into : (n : ℕ) (start new : DriveState) (plan : MovePlan) (made : List Batch) → (e : EmptiesTorn n start new plan made) → plan.into < length new.zones → content_at (contents new.zones) plan.into ≡ e.there
 there-into n start new plan made e lt =
     rw e.zones (get_or-set_other (set (contents start.zones) plan.into e.there) plan.torn plan.into emptied nothing e.apart
     ∙ get_or-set_same (contents start.zones) plan.into e.there nothing (omega (arith, lt, new-count n start new plan made e, length-map start.zones content_of)))
 
-there-other : (n : ℕ) (start new : DriveState) (plan : MovePlan) (made : List Batch) (zone : ℕ) → EmptiesTorn n start new plan made → zone ≢ plan.torn → zone ≢ plan.into → content_at (contents new.zones) zone ≡ content_at (contents start.zones) zone
+pub there-other : (n : ℕ) (start new : DriveState) (plan : MovePlan) (made : List Batch) (zone : ℕ) → EmptiesTorn n start new plan made → zone ≢ plan.torn → zone ≢ plan.into → content_at (contents new.zones) zone ≡ content_at (contents start.zones) zone
 there-other n start new plan made zone e ne other =
     rw e.zones (get_or-set_other (set (contents start.zones) plan.into e.there) plan.torn zone emptied nothing ne ∙ get_or-set_other (contents start.zones) plan.into zone e.there nothing other)
 

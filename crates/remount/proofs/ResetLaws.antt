@@ -174,6 +174,7 @@ pub resets-all-one : (old new : DriveState) (before after : Survey) (zone : ℕ)
 resets-all-one old new before after zone was known lt long done was-is reported scanned size given = record {
   geometry = done.kept.geometry;
   contents_are = done.contents_are.zones;
+  opens = done.opens;
   known = rw reported (known-reset old new before.zones.items zone known lt done);
   reported = reported;
   heads = rw scanned (map-set_same (λ (z : ScannedZone). z.heads) before.scanned.items zone (record { heads = was.heads; is_torn = false }) was (ap (λ (z : ScannedZone). z.heads) (sym was-is)));
@@ -187,6 +188,7 @@ pub finishes-one : (old new : DriveState) (before after : Survey) (zone : ℕ) �
 finishes-one old new before after zone known lt done reported scanned size given = record {
   geometry = done.kept.geometry;
   contents_are = done.contents_are;
+  opens = done.opens;
   known = rw reported (known-finish old new before.zones.items zone known lt done);
   reported = reported;
   scanned = scanned;

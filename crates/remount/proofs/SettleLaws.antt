@@ -43,7 +43,7 @@ use Rattle.remount.proofs.MovePlanLaws.{named-blocks, size-either, within-by}
 
 -- ---- all blocks are named
 
-take-plus : (i n : ℕ) (xs : List ℕ) → take (i + n) xs ≡ take i xs ++ take n (drop i xs)
+pub take-plus : (i n : ℕ) (xs : List ℕ) → take (i + n) xs ≡ take i xs ++ take n (drop i xs)
 take-plus zero n xs = let same : 0 + n ≡ n = omega arith in rw same refl
 take-plus (suc i) n [] = let same : suc i + n ≡ suc (i + n) = omega arith in rw same (sym (none n))
   where
@@ -66,7 +66,7 @@ all-named-before P source plan zone (suc k) all =
     let more : suc k * plan.most ≡ k * plan.most + plan.most = omega (arith, add-mul k 1 plan.most) in
     rw (more, take-plus (k * plan.most) plan.most plan.blocks.items) (all-append P (take (k * plan.most) plan.blocks.items) (named_by plan k) (all-named-before P source plan zone k split.0) here)
 
-all-there : (plan : MovePlan) → 1 ≤ plan.most → take (move_count plan * plan.most) plan.blocks.items ≡ plan.blocks.items
+pub all-there : (plan : MovePlan) → 1 ≤ plan.most → take (move_count plan * plan.most) plan.blocks.items ≡ plan.blocks.items
 all-there plan some =
     let len = length plan.blocks.items in
     let enough = div_ceil-enough len plan.most (omega (arith, some)) in

@@ -27,7 +27,7 @@ use Rattle.drive_survey.specs.declared.survey.Survey.{Survey}
 use Rattle.drive_survey.specs.Heads.{HeadsView, greatest_sequence, heads_of, sequences_in}
 use Rattle.remount.specs.Kept.{AreVacantEmpty, KeepsMountable}
 use Rattle.drive_survey.specs.Known.{HasVacant, Knows}
-use Rattle.remount.specs.Mount.{AreMountedRoles, AreToEmpty, AreWhole, CannotRepair, IsCleared, IsPlan, IsPlanned, IsRepaired, IsToMount, IsUntorn, KeepsOthers, LeavesCleared, LeavesPlanned, LeavesRepaired, MountFails, Mounts, NoneIsTorn, PlanFails, Plans}
+use Rattle.remount.specs.Mount.{AreMountedRoles, AreToEmpty, AreWhole, CannotRepair, IsCleared, IsPlan, IsPlanned, IsRepaired, IsToMount, IsUntorn, FinishesByNeed, KeepsOthers, LeavesCleared, LeavesPlanned, LeavesRepaired, MountFails, Mounts, NoneIsTorn, PlanFails, Plans}
 use Rattle.drive_survey.specs.Reported.{KeepsZones}
 use Rattle.remount.specs.Resets.{CanBeFilled, KeepsGoing, KeepsWritten}
 use Rattle.drive_survey.specs.Scan.{FailsBy, heads_in}
@@ -391,7 +391,7 @@ pub record Repaired (old new : DriveState) (n : ℕ) (survey : Survey) : Type 0 
   pub kept : KeepsMountable n old new
   pub known : Knows new n (drive_logs new) survey
   pub repaired : IsRepaired new n survey
-  pub others : KeepsOthers old resets new
+  pub zones : FinishesByNeed old resets new
 
 pub to-mount : (old middle third : DriveState) (n : ℕ) (first second : Survey) (plan : Plan) → IsLawful old → KeepsZones old middle → Surveys old middle n first → KeepsZones middle third → IsPlanned third n second plan → IsToMount old n
 to-mount old middle third n first second plan lawful k is k' planned =
@@ -400,8 +400,8 @@ to-mount old middle third n first second plan lawful k is k' planned =
 
 pub repairs : (old middle third new : DriveState) (n : ℕ) (first second last : Survey) (plan : Plan) → IsLawful old → KeepsZones old middle → Surveys old middle n first → KeepsZones middle third → IsPlanned third n second plan
     → KeepsMountable n third new → Knows new n (drive_logs new) last → IsRepaired new n last → LeavesCleared n third plan.half_clean.items new
-    → KeepsOthers third plan.half_clean.items new → Repaired old new n last
-repairs old middle third new n first second last plan lawful k is k' planned kept known repaired left others =
+    → FinishesByNeed old plan.half_clean.items new → Repaired old new n last
+repairs old middle third new n first second last plan lawful k is k' planned kept known repaired left zones =
     let both = keeps-both old middle third k k' in
     record {
       can = to-mount old middle third n first second plan lawful k is k' planned;
@@ -411,7 +411,7 @@ repairs old middle third new n first second last plan lawful k is k' planned kep
       kept = keeps-mountable-both n old third new (closing-keeps old third n both) kept;
       known = known;
       repaired = repaired;
-      others = rw (kept-logs old third both, kept-contents old third both, both.geometry) at others;
+      zones = zones;
     }
 
 -- the next sequence
@@ -434,7 +434,7 @@ pub mounts : (old new : DriveState) (n : ℕ) (survey : Survey) (tables : Tables
     → Mounts old new n tables
 mounts old new n survey tables is next given agrees roles = record {
   can = is.can;
-  leaves = record { resets = is.resets; clearing = is.clearing; left = is.left; others = is.others };
+  leaves = record { resets = is.resets; clearing = is.clearing; left = is.left; zones = is.zones };
   agrees = agrees;
   roles = roles;
   given = given;

@@ -4,14 +4,14 @@ use Rattle.std.specs.List.{AllByRecursion}
 use Rattle.nvme_wire.specs.declared.zone_state.ZoneState.TheVariants.{Empty}
 use Rattle.zone_states.specs.declared.geometry.Geometry.{Geometry}
 use Rattle.zone_states.specs.Geometry.{IsInRange}
-use Rattle.drive_port.specs.Contents.{Content, content_at, contents}
+use Rattle.drive_port.specs.Contents.{Content, content_at, contents, full}
 use Rattle.drive_port.specs.Drive.{DriveState}
 use Rattle.logical_map.specs.Live.{blocks_in}
 use Rattle.batch_log.specs.Log.{Batch}
 use Rattle.zone_choice.specs.declared.roles.Filling.{Filling}
 use Rattle.zone_choice.specs.declared.roles.Second.{Second}
 use Rattle.zone_choice.specs.declared.roles.Second.TheVariants.{Next}
-use Rattle.zone_choice.specs.Agreement.{Agrees, mounted}
+use Rattle.zone_choice.specs.Agreement.{Agrees, IsShut, mounted}
 use Rattle.drive_array.specs.ZoneLogs.{drive_logs, log_at, sequences, spelled, zone_tails}
 use Rattle.drive_array.specs.Mountable.{HoldDisk, IsMountable, is_partly_written}
 use Rattle.drive_array.specs.Repair.{Fits, HasAtMost, IsTornAt, live_records, live_data, moves}
@@ -29,8 +29,8 @@ use Rattle.remount.specs.declared.plan.Plan.{Plan}
 use Rattle.drive_survey.specs.Heads.{greatest_sequence}
 use Rattle.remount.specs.Kept.{AreVacantEmpty}
 use Rattle.drive_survey.specs.Known.{HasVacant, Knows}
-use Rattle.remount.specs.Resets.{CanBeFilled, KeepsWritten, reported_empty}
-use Rattle.remount.specs.TornRepair.{RepairsTorn}
+use Rattle.remount.specs.Resets.{CanBeFilled, KeepsWritten, OpensNoZone, finished_if_active, reported_empty}
+use Rattle.remount.specs.TornRepair.{RepairsBeside, RepairsTorn}
 use Rattle.drive_survey.specs.Survey.{AreInside, CanScan, HoldLogs, SurveyFails, drive_size}
 
 -- ---- torn zones
@@ -138,18 +138,40 @@ LeavesPlanned geometry n logs (Some repair) new = RepairsTorn geometry n logs re
 abbrev pub LeavesCleared : ℕ → DriveState → List ℕ → DriveState → Type 0
 LeavesCleared n old resets new = LeavesRepaired old.geometry n (cleared (drive_logs old) resets) (zone_tails (contents old.zones)) (drive_logs new)
 
--- Where no zone of the cleared drive is torn, no zone was finished without need: each zone that has a batch there holds what it held, but for partly written ones that a disk does not go on with. (Beside a torn zone every other partly written zone is finished.)
+-- What carrying it out leaves of the zones beside the torn one.
+abbrev pub LeavesBeside : DriveState → Option Repair → DriveState → Type 0
+LeavesBeside old None new = new ≡ old
+LeavesBeside old (Some repair) new = RepairsBeside old new repair.zone
+
+-- Where no zone of the cleared drive is torn, no zone was finished without need: each zone that has a batch there holds what it held, but for partly written ones that a disk does not go on with.
 abbrev pub KeepsOthers : DriveState → List ℕ → DriveState → Type 0
 KeepsOthers old resets new =
     NoneIsTorn (cleared (drive_logs old) resets) (zone_tails (contents old.zones))
     → (zone : ℕ) → log_at (cleared (drive_logs old) resets) zone ≢ [] → CanBeFilled old zone → content_at (contents new.zones) zone ≡ content_at (contents old.zones) zone
 
--- What a mount leaves of a drive: its half clean zones were emptied, the lowest first, and then a torn zone was repaired; where none was torn, no zone was finished without need.
+-- Where a zone of the cleared drive is torn, each other one that has a batch there was finished, if it was opened or Closed, and else holds what it held.
+abbrev pub FinishesBeside : DriveState → List ℕ → DriveState → Type 0
+FinishesBeside old resets new =
+    (torn : ℕ) → IsTornAt (cleared (drive_logs old) resets) (zone_tails (contents old.zones)) torn
+    → (zone : ℕ) → log_at (cleared (drive_logs old) resets) zone ≢ [] → zone ≢ torn → content_at (contents new.zones) zone ≡ finished_if_active (content_at (contents old.zones) zone)
+
+-- A zone had no batch on the cleared drive, and has one now: it took the Moves of a repair.
+abbrev pub TookMoves : DriveState → List ℕ → DriveState → ℕ → Type 0
+TookMoves old resets new zone = IsVacant (cleared (drive_logs old) resets) zone × (log_at (drive_logs new) zone ≢ [])
+
+-- Zones are finished and opened by need alone: of those with a batch as above; the one that took the Moves of a repair is full only if fewer than two of its blocks are free, and no other one was opened.
+pub record FinishesByNeed (old : DriveState) (resets : List ℕ) (new : DriveState) : Type 0 where
+  pub others : KeepsOthers old resets new
+  pub beside : FinishesBeside old resets new
+  pub moves : (zone : ℕ) → TookMoves old resets new zone → (content_at (contents new.zones) zone).usage ≡ full → new.geometry.capacity < length (content_at (contents new.zones) zone).blocks + 2
+  pub opens : (zone : ℕ) → IsShut old.zones zone → IsShut new.zones zone ⊎ TookMoves old resets new zone
+
+-- What a mount leaves of a drive: its half clean zones were emptied, the lowest first, and then a torn zone was repaired; no zone was finished or opened without need.
 pub record LeavesMounted (old new : DriveState) (n : ℕ) : Type 0 where
   pub resets : List ℕ
   pub clearing : IsClearing old.geometry.block n (drive_logs old) resets
   pub left : LeavesCleared n old resets new
-  pub others : KeepsOthers old resets new
+  pub zones : FinishesByNeed old resets new
 
 -- A drive that can be mounted is mounted, with n logical blocks where no header says how many. It was cleared and repaired. The tables agree with the drive that is left, which has the same array; and the next sequence is one more than the greatest that any batch had.
 pub record Mounts (old new : DriveState) (n : ℕ) (tables : TablesView) : Type 0 where
@@ -190,10 +212,11 @@ abbrev pub PlanFails : DriveState → ℕ → MountFault → Type 0
 PlanFails drive n NoSpare = HasSpare drive.geometry.block n (drive_logs drive) → ⊥
 PlanFails drive n fault = HasSpare drive.geometry.block n (drive_logs drive) × CannotClear drive n fault
 
--- The half clean zones hold no batch any more, and each zone that has one holds what it held, with its torn tail or without.
+-- The half clean zones hold no batch any more, and each zone that has one holds what it held, with its torn tail or without; none was opened.
 pub record LeavesEmptied (old new : DriveState) (half_clean : List ℕ) : Type 0 where
   pub logs : drive_logs new ≡ cleared (drive_logs old) half_clean
   pub others : KeepsWritten old new
+  pub opens : OpensNoZone old new
   pub tails : (zone : ℕ) → log_at (drive_logs new) zone ≢ [] → slice_index_or (zone_tails (contents new.zones)) zone false ≡ slice_index_or (zone_tails (contents old.zones)) zone false
 
 -- The zones that are to be emptied were: the drive can be mounted, none of its zones is half clean, and each zone without a batch is Empty.

@@ -32,6 +32,7 @@ use Rattle.remount.specs.Kept.{AreVacantEmpty, KeepsMountable}
 use Rattle.drive_survey.specs.Known.{Knows}
 use Rattle.drive_survey.specs.Reported.{IsKnown}
 use Rattle.drive_survey.specs.Scan.{readable_at}
+use Rattle.remount.specs.Resets.{OpensNoZone, finished_if_active}
 use Rattle.remount.specs.TornRepair.{HoldsSize}
 
 -- ---- commands of a repair
@@ -51,27 +52,33 @@ pub record FinishesZone (n : ℕ) (old new : DriveState) (before after : Survey)
   pub tails : zone_tails (contents new.zones) ≡ zone_tails (contents old.zones)
   pub vacant : AreVacantEmpty before.zones.items (drive_logs old) → AreVacantEmpty after.zones.items (drive_logs new)
   pub settled : is_active_usage (content_at (contents new.zones) zone).usage ≡ false
+  pub own : content_at (contents new.zones) zone ≡ finished_if_active (content_at (contents old.zones) zone)
   pub others : (other : ℕ) → other ≢ zone → content_at (contents new.zones) other ≡ content_at (contents old.zones) other
+  pub opens : OpensNoZone old new
 
--- A zone is not opened or Closed any more, unless it is the torn one: all logs and tails stay, and no other zone is opened.
+-- A zone is finished if it is opened or Closed, unless it is the torn one: all logs and tails stay, all other zones hold what they held, and none is opened.
 pub record SettlesZone (n : ℕ) (old new : DriveState) (before after : Survey) (torn zone : ℕ) : Type 0 where
   pub known : Knows new n (drive_logs new) after
   pub logs : drive_logs new ≡ drive_logs old
   pub tails : zone_tails (contents new.zones) ≡ zone_tails (contents old.zones)
   pub vacant : AreVacantEmpty before.zones.items (drive_logs old) → AreVacantEmpty after.zones.items (drive_logs new)
   pub settled : zone ≢ torn → is_active_usage (content_at (contents new.zones) zone).usage ≡ false
-  pub others : (other : ℕ) → is_active_usage (content_at (contents old.zones) other).usage ≡ false → is_active_usage (content_at (contents new.zones) other).usage ≡ false
+  pub own : zone ≢ torn → content_at (contents new.zones) zone ≡ finished_if_active (content_at (contents old.zones) zone)
+  pub others : (other : ℕ) → other ≢ zone → content_at (contents new.zones) other ≡ content_at (contents old.zones) other
+  pub opens : OpensNoZone old new
   pub count : length after.zones.items ≡ length before.zones.items
 
 -- no zone below this one is opened or Closed, but for the torn one
 abbrev pub AreSettled : DriveState → ℕ → ℕ → Type 0
 AreSettled drive torn limit = (zone : ℕ) → zone < limit → zone ≢ torn → is_active_usage (content_at (contents drive.zones) zone).usage ≡ false
 
--- All zones but the torn one were settled: all logs and tails stay.
+-- All zones but the torn one were finished that were opened or Closed: all logs and tails stay, all others hold what they held, and none was opened.
 pub record SettlesOthers (old new : DriveState) (torn : ℕ) : Type 0 where
   pub logs : drive_logs new ≡ drive_logs old
   pub tails : zone_tails (contents new.zones) ≡ zone_tails (contents old.zones)
   pub settled : AreSettled new torn (length new.zones)
+  pub others : (zone : ℕ) → zone < length new.zones → zone ≢ torn → content_at (contents new.zones) zone ≡ finished_if_active (content_at (contents old.zones) zone)
+  pub opens : OpensNoZone old new
 
 -- The drive takes a batch at the end of a zone.
 pub record CanTake (drive : DriveState) (zone : ℕ) (builder : BuilderView) : Type 0 where

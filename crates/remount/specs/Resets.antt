@@ -1,10 +1,11 @@
 -- What a Reset or a Finish of a mount leaves of the drive, and of what is known of it.
-use Rattle.std.specs.Prelude.{◌≡◌, ◌≢◌, ◌⊎◌, ℕ, ◌+◌, ◌<◌, ◌≤◌, ◌&&◌, ◌||◌, nat_lt, Bool, true, false, List, [], ◌∷◌, length, slice_get, slice_set, Some}
+use Rattle.std.specs.Prelude.{◌≡◌, ◌≢◌, ◌⊎◌, ℕ, ◌+◌, ◌<◌, ◌≤◌, ◌&&◌, ◌||◌, nat_lt, if◌then◌else◌, Bool, true, false, List, [], ◌∷◌, length, slice_get, slice_set, Some}
 use Rattle.std.specs.List.{AllByRecursion}
 use Rattle.nvme_wire.specs.declared.zone_state.ZoneState.TheVariants.{Empty, Full}
-use Rattle.drive_port.specs.Contents.{Content, Finishes, content_at, contents, emptied}
+use Rattle.drive_port.specs.Contents.{Content, Finishes, content_at, contents, emptied, finished, is_active_usage}
 use Rattle.drive_port.specs.Drive.{DriveState, IsLawful}
 use Rattle.batch_log.specs.Log.{Batch}
+use Rattle.zone_choice.specs.Agreement.{IsShut}
 use Rattle.drive_array.specs.ZoneLogs.{drive_logs, log_at}
 use Rattle.drive_array.specs.Mountable.{is_partly_written}
 use Rattle.drive_array.specs.Records.{without}
@@ -24,6 +25,10 @@ pub record MayChange (Changes : List Content → List Content → Type 0) (old n
   pub refused : new.refused ≡ old.refused
   pub contents_are : (contents new.zones ≡ contents old.zones) ⊎ Changes (contents old.zones) (contents new.zones)
 
+-- no zone was opened
+abbrev pub OpensNoZone : DriveState → DriveState → Type 0
+OpensNoZone old new = (zone : ℕ) → IsShut old.zones zone → IsShut new.zones zone
+
 -- ---- Resets
 
 abbrev pub reported_empty : ReportedZone
@@ -34,10 +39,11 @@ abbrev pub set_all : {X : Type 0} → List X → List ℕ → X → List X
 set_all xs [] x = xs
 set_all xs (i ∷ is) x = set_all (slice_set xs i x) is x
 
--- These zones are Empty now, and the survey says so; all else is as it was.
+-- These zones are Empty now, and the survey says so; no zone was opened, and all else is as it was.
 pub record ResetsAll (old new : DriveState) (before after : Survey) (zones : List ℕ) : Type 0 where
   pub geometry : new.geometry ≡ old.geometry
   pub contents_are : contents new.zones ≡ set_all (contents old.zones) zones emptied
+  pub opens : OpensNoZone old new
   pub known : AreKnown new after.zones.items
   pub reported : after.zones.items ≡ set_all before.zones.items zones reported_empty
   pub heads : heads_in after.scanned.items ≡ heads_in before.scanned.items
@@ -59,10 +65,11 @@ reported_full capacity = record { state = Full; blocks = capacity }
 abbrev pub is_to_finish : ℕ → ℕ → ReportedZone → HeadsView → Bool
 is_to_finish capacity most reported heads = is_partly_reported reported && (nat_lt capacity (reported.blocks + 2) || nat_lt most heads.most)
 
--- The zone is Full now, and the survey says so; all else is as it was.
+-- The zone is Full now, and the survey says so; no zone was opened, and all else is as it was.
 pub record FinishesOne (old new : DriveState) (before after : Survey) (zone : ℕ) : Type 0 where
   pub geometry : new.geometry ≡ old.geometry
   pub contents_are : Finishes (contents old.zones) (contents new.zones) zone
+  pub opens : OpensNoZone old new
   pub known : AreKnown new after.zones.items
   pub reported : after.zones.items ≡ slice_set before.zones.items zone (reported_full old.geometry.capacity)
   pub scanned : after.scanned ≡ before.scanned
@@ -92,3 +99,13 @@ CanBeFilled drive zone =
 -- each zone that a disk goes on with, and each that is not partly written, holds what it held
 abbrev pub KeepsGoing : DriveState → DriveState → Type 0
 KeepsGoing old new = (zone : ℕ) → CanBeFilled old zone → content_at (contents new.zones) zone ≡ content_at (contents old.zones) zone
+
+-- Zones that a disk does not go on with were finished, and no other one. No zone has other blocks, and none was opened.
+pub record FinishesNeeded (old new : DriveState) : Type 0 where
+  pub going : KeepsGoing old new
+  pub blocks : (zone : ℕ) → (content_at (contents new.zones) zone).blocks ≡ (content_at (contents old.zones) zone).blocks
+  pub opens : OpensNoZone old new
+
+-- what is left of a zone that is finished if it is opened or Closed
+abbrev pub finished_if_active : Content → Content
+finished_if_active content = if is_active_usage content.usage then finished content else content

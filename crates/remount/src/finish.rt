@@ -5,7 +5,7 @@ ghost use Rattle.drive_array.specs.ZoneLogs.{drive_logs};
 ghost use Rattle.drive_array.specs.Reserve.{batch_most};
 ghost use Rattle.remount.specs.Kept.{KeepsMountable};
 ghost use Rattle.remount.specs.Mount.{IsRepaired, IsUntorn};
-ghost use Rattle.remount.specs.Resets.{FinishesIf, FinishesOne, IsTested, KeepsGoing, MayChange, is_to_finish};
+ghost use Rattle.remount.specs.Resets.{FinishesIf, FinishesNeeded, FinishesOne, IsTested, MayChange, is_to_finish};
 
 use drive_port::{Device, finish};
 use drive_survey::{MountFault, ReportedZone, Survey, ZoneHeads, fault_of, is_partly_written};
@@ -81,7 +81,7 @@ pub(crate) fn finish_zones<D: Device>(
     requires untorn { IsUntorn (D.drive device.old) survey.old.given survey.old }
     ensures repaired { OnOk result (IsRepaired (D.drive device.new) survey.old.given survey.new) }
     ensures logs { OnOk result (drive_logs (D.drive device.new) ≡ drive_logs (D.drive device.old)) }
-    ensures others { OnOk result (KeepsGoing (D.drive device.old) (D.drive device.new)) }
+    ensures needed { OnOk result (FinishesNeeded (D.drive device.old) (D.drive device.new)) }
     ensures err { IfErr result (IsInterruption (D.drive device.new)) }
     ensures kept { KeepsMountable survey.old.given (D.drive device.old) (D.drive device.new) }
 {

@@ -1,4 +1,4 @@
-ghost use Rattle.std.specs.Prelude.{◌≡◌, ◌≢◌, ◌⊎◌, IfErr, IfOk, None, OnOk};
+ghost use Rattle.std.specs.Prelude.{◌≡◌, ◌≢◌, ◌⊎◌, IfErr, IfOk, OnOk};
 ghost use Rattle.drive_port.specs.Contents.{contents};
 ghost use Rattle.drive_survey.specs.declared.fault.MountFault.TheVariants as faults;
 ghost use Rattle.drive_survey.specs.Reported.{KeepsZones};
@@ -6,7 +6,8 @@ ghost use Rattle.drive_survey.specs.Scan.{FailsBy, IsInterruption};
 ghost use Rattle.drive_survey.specs.Survey.{MayAsk};
 ghost use Rattle.drive_array.specs.ZoneLogs.{drive_logs, zone_tails};
 ghost use Rattle.remount.specs.Kept.{KeepsMountable};
-ghost use Rattle.remount.specs.Mount.{IsCleared, IsPlanned, IsRepaired, IsToMount, IsUntorn, KeepsOthers, LeavesCleared, LeavesPlanned, MountFails, Mounts, Plans};
+ghost use Rattle.remount.specs.Mount.{FinishesByNeed, IsCleared, IsPlanned, IsRepaired, IsToMount, IsUntorn};
+ghost use Rattle.remount.specs.Mount.{LeavesBeside, LeavesCleared, LeavesPlanned, MountFails, Mounts, Plans};
 
 use crate::empty::empty_zones;
 use crate::finish::finish_zones;
@@ -31,7 +32,7 @@ fn repair_torn<D: Device>(
     ensures ok { OnOk result (IsUntorn (D.drive device.new) survey.old.given survey.new) }
     ensures left { OnOk result (LeavesPlanned (D.drive device.old).geometry survey.old.given
         (drive_logs (D.drive device.old)) repair.now (drive_logs (D.drive device.new))) }
-    ensures others { OnOk result (repair.now ≡ None → D.drive device.new ≡ D.drive device.old) }
+    ensures beside { OnOk result (LeavesBeside (D.drive device.old) repair.now (D.drive device.new)) }
     ensures err { IfErr result (IsInterruption (D.drive device.new)) }
     ensures kept { KeepsMountable survey.old.given (D.drive device.old) (D.drive device.new) }
 {
@@ -52,7 +53,7 @@ fn carry_out<D: Device>(
     ensures repaired { OnOk result (IsRepaired (D.drive device.new) survey.old.given survey.new) }
     ensures left { OnOk result (LeavesCleared survey.old.given (D.drive device.old) plan.now.half_clean.items
         (D.drive device.new)) }
-    ensures others { OnOk result (KeepsOthers (D.drive device.old) plan.now.half_clean.items (D.drive device.new)) }
+    ensures zones { OnOk result (FinishesByNeed (D.drive device.old) plan.now.half_clean.items (D.drive device.new)) }
     ensures err { IfErr result (IsInterruption (D.drive device.new)) }
     ensures kept { KeepsMountable survey.old.given (D.drive device.old) (D.drive device.new) }
 {

@@ -4,7 +4,7 @@ ghost use Rattle.drive_survey.specs.Scan.{IsInterruption};
 ghost use Rattle.drive_array.specs.ZoneLogs.{drive_logs, zone_tails};
 ghost use Rattle.remount.specs.Kept.{KeepsMountable};
 ghost use Rattle.remount.specs.Mount.{IsCleared, IsPlan, IsUntorn};
-ghost use Rattle.remount.specs.TornRepair.{RepairsTorn};
+ghost use Rattle.remount.specs.TornRepair.{RepairsBeside, RepairsTorn};
 
 mod beside;
 mod moves;
@@ -45,6 +45,7 @@ pub fn repair_zone<D: Device>(
     ensures untorn { OnOk result (IsUntorn (D.drive device.new) survey.old.given survey.new) }
     ensures repaired { OnOk result (RepairsTorn (D.drive device.old).geometry survey.old.given
         (drive_logs (D.drive device.old)) repair.now.zone (drive_logs (D.drive device.new))) }
+    ensures beside { OnOk result (RepairsBeside (D.drive device.old) (D.drive device.new) repair.now.zone) }
     ensures err { IfErr result (IsInterruption (D.drive device.new)) }
     ensures kept { KeepsMountable survey.old.given (D.drive device.old) (D.drive device.new) }
 {

@@ -34,8 +34,8 @@ use Rattle.zone_translator.proofs.ContentLaws.{took-names}
 use Rattle.zone_translator.specs.Flat.{IsAfterFront, IsFront, grow}
 use Rattle.zone_translator.specs.Read.{IsBlockFault, IsReadFault}
 use Rattle.zone_translator.proofs.WriteLaws.{front-none}
-use Rattle.zone_translator.proofs.RoomLaws.{room-stops}
-use Rattle.zone_translator.specs.View.{DiskView, KeepsDisk, disk_array, disk_turns, flat_of, given_size, next_sequence, disk_places}
+use Rattle.zone_translator.proofs.RoomLaws.{room-stops, serves-kept}
+use Rattle.zone_translator.specs.View.{AreBelowNext, DiskView, KeepsDisk, disk_array, disk_turns, flat_of, given_size, next_sequence, disk_places}
 
 -- what a disk of these parts is seen as
 abbrev pub view_of : MountedView → Option CleanView → DiskStatus → DiskView
@@ -58,32 +58,38 @@ refused-status Unmounted was e = absurd (cc)
 refused-status Smaller was e = absurd (cc)
 refused-status Reserve was e = absurd (cc)
 
+-- tables that agree with a drive have a next sequence above all that are on it
+pub below-next : (b : MountedView) (clean : Option CleanView) (is : DiskStatus) → AgreesWithClean b clean → AreBelowNext (view_of b clean is)
+below-next b clean is serves = λ e. serves.0.sound.numbers
+
 -- what a part of a call keeps, a disk keeps
-pub keeps-disk : (a b : MountedView) (clean clean' : Option CleanView) (was is : DiskStatus) → (is ≡ statuses.Unmounted → was ≡ statuses.Unmounted) → Keeps a b → KeepsDisk (view_of a clean was) (view_of b clean' is)
-keeps-disk a b clean clean' was is unmounted keeps = record {
+pub keeps-disk : (a b : MountedView) (clean clean' : Option CleanView) (was is : DiskStatus) → (is ≡ statuses.Unmounted → was ≡ statuses.Unmounted) → AreBelowNext (view_of b clean' is) → Keeps a b → KeepsDisk (view_of a clean was) (view_of b clean' is)
+keeps-disk a b clean clean' was is unmounted below keeps = record {
   given = keeps.given;
   geometry = keeps.geometry;
   mountable = keeps.mountable;
   refused = keeps.refused;
   next = keeps.next;
   appended = keeps.appended;
+  below = λ was_below. below;
   unmounted = unmounted;
 }
 
-pub cleaned-disk : (a b : MountedView) (clean clean' : Option CleanView) (was is : DiskStatus) → (is ≡ statuses.Unmounted → was ≡ statuses.Unmounted) → KeepsByCleaning a b → KeepsDisk (view_of a clean was) (view_of b clean' is)
-cleaned-disk a b clean clean' was is unmounted keeps = record {
+pub cleaned-disk : (a b : MountedView) (clean clean' : Option CleanView) (was is : DiskStatus) → (is ≡ statuses.Unmounted → was ≡ statuses.Unmounted) → AreBelowNext (view_of b clean' is) → KeepsByCleaning a b → KeepsDisk (view_of a clean was) (view_of b clean' is)
+cleaned-disk a b clean clean' was is unmounted below keeps = record {
   given = keeps.given;
   geometry = keeps.geometry;
   mountable = keeps.mountable;
   refused = keeps.refused;
   next = keeps.next;
   appended = keeps.appended;
+  below = λ was_below. below;
   unmounted = unmounted;
 }
 
 -- what a disk keeps where only commands went that change nothing
 pub kept-disk : (a b : MountedView) (clean : Option CleanView) (was is : DiskStatus) → (is ≡ statuses.Unmounted → was ≡ statuses.Unmounted) → AgreesWithClean a clean → KeepsArray a b → KeepsDisk (view_of a clean was) (view_of b clean is)
-kept-disk a b clean was is unmounted serves kept = cleaned-disk a b clean clean was is unmounted (cleaning_kept a b clean serves kept)
+kept-disk a b clean was is unmounted serves kept = cleaned-disk a b clean clean was is unmounted (below-next b clean is (serves-kept a b clean serves kept)) (cleaning_kept a b clean serves kept)
 
 -- and as many turns are left
 pub turns-same : (a b : MountedView) (clean : Option CleanView) (was is : DiskStatus) → b.tables ≡ a.tables → b.drive.geometry ≡ a.drive.geometry → disk_turns (view_of b clean is) ≡ disk_turns (view_of a clean was)
@@ -108,11 +114,12 @@ kept-join a b c p q = record {
   refused = q.refused ∙ p.refused;
   next = omega (arith, p.next, q.next);
   appended = omega (arith, p.appended, q.appended);
+  below = λ below. q.below (p.below below);
   unmounted = λ e. p.unmounted (q.unmounted e);
 }
 
 pub kept-refl : (a : DiskView) → IsMountable a.drive (given_size a) → KeepsDisk a a
-kept-refl a mountable = record { given = refl; geometry = refl; mountable = mountable; refused = refl; next = refl; appended = omega arith; unmounted = λ e. e }
+kept-refl a mountable = record { given = refl; geometry = refl; mountable = mountable; refused = refl; next = refl; appended = omega arith; below = λ below. below; unmounted = λ e. e }
 
 -- ---- the parts of a disk
 
@@ -175,14 +182,14 @@ pub record Refused (a b : MountedView) (clean clean' : Option CleanView) (fault 
 refused-serving : (a b : MountedView) (clean clean' : Option CleanView) (fault : DiskFault) (was : DiskStatus) → FitsReserve a.drive.geometry a.tables.given → status_left fault ≡ statuses.Serving → KeepsByCleaning a b × AgreesWithClean b clean' → Refused a b clean clean' fault was
 refused-serving a b clean clean' fault was fits is kept = record {
   holds = rw is (holds-serving b clean' (reserve-kept a b kept.0.geometry kept.0.given fits) kept.1);
-  kept = cleaned-disk a b clean clean' was (status_left fault) (refused-status fault was) kept.0;
+  kept = cleaned-disk a b clean clean' was (status_left fault) (refused-status fault was) (below-next b clean' (status_left fault) kept.1) kept.0;
   size = kept.0.size;
 }
 
 refused-stopped : (a b : MountedView) (clean clean' : Option CleanView) (was : DiskStatus) → FitsReserve a.drive.geometry a.tables.given → AgreesWithClean a clean → StopKeeps a b → Refused a b clean clean' Stopped was
 refused-stopped a b clean clean' was fits serves stops = record {
   holds = holds-stopped a b clean clean' fits serves stops;
-  kept = keeps-disk a b clean clean' was statuses.Stopped (refused-status Stopped was) stops.keeps;
+  kept = keeps-disk a b clean clean' was statuses.Stopped (refused-status Stopped was) (λ e. absurd (cc)) stops.keeps;
   size = stops.size;
 }
 

@@ -1,13 +1,14 @@
 -- What a disk is seen as, and what its calls keep.
 use Rattle.std.specs.Prelude.{◌≡◌, ℕ, ◌+◌, ◌<◌, ◌≤◌, Bool, true, false, List, Option, count_by}
 use Rattle.std.specs.Int.{div_ceil}
+use Rattle.std.specs.List.{AllByRecursion}
 use Rattle.drive_port.specs.Drive.{DriveState}
 use Rattle.batch_log.specs.Log.{Batch}
 use Rattle.zone_choice.specs.Tables.{TablesView, size_of}
 use Rattle.logical_map.specs.Live.{lies_in}
 use Rattle.logical_map.specs.declared.place.Place.{Place}
 use Rattle.zone_choice.specs.Agreement.{MountedView, mounted}
-use Rattle.drive_array.specs.ZoneLogs.{drive_logs, spelled}
+use Rattle.drive_array.specs.ZoneLogs.{drive_logs, sequences, spelled}
 use Rattle.drive_array.specs.Sizes.{greatest, map_of}
 use Rattle.drive_array.specs.Mountable.{IsMountable}
 use Rattle.drive_array.specs.Reserve.{batch_most, most_size}
@@ -71,8 +72,13 @@ flat_of disk = record {
   most = most_size disk.drive.geometry;
 }
 
+-- while the disk serves, each batch on its drive has a sequence below the next one
+abbrev pub AreBelowNext : DiskView → Type 0
+AreBelowNext disk = disk.status ≡ statuses.Serving → AllByRecursion (λ sequence. sequence < next_sequence disk) (sequences (logs_of disk))
+
 -- What every call of a disk but a remount keeps, whatever it answers: a drive that can be mounted again. No command is
--- refused, the next sequence rises by one with each batch that is appended, and the disk is not unmounted.
+-- refused, the next sequence rises by one with each batch that is appended and stays above all sequences on the drive,
+-- and the disk is not unmounted.
 pub record KeepsDisk (old new : DiskView) : Type 0 where
   pub given : given_size new ≡ given_size old
   pub geometry : new.drive.geometry ≡ old.drive.geometry
@@ -80,6 +86,7 @@ pub record KeepsDisk (old new : DiskView) : Type 0 where
   pub refused : new.drive.refused ≡ old.drive.refused
   pub next : next_sequence new + old.drive.appended ≡ next_sequence old + new.drive.appended
   pub appended : old.drive.appended ≤ new.drive.appended
+  pub below : AreBelowNext old → AreBelowNext new
   pub unmounted : new.status ≡ statuses.Unmounted → old.status ≡ statuses.Unmounted
 
 -- why a call was refused; of a range and of a size the call itself tells

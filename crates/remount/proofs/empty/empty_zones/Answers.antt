@@ -92,6 +92,7 @@ returns-clause-left g c =
     (λ done. record {
       logs = logs-cleared old middle new before survey after n vacant half_clean can one done;
       others = written-stay old middle new before survey after vacant half_clean one done;
+      opens = λ zone h. done.opens zone (one.opens zone h);
       tails = tails-emptied old middle new before survey after vacant half_clean one done;
     })
     two

@@ -36,5 +36,5 @@ returns-clause-repaired g c =
     let long = same-long first now c.args.survey.now c.loop-zone.survey c.args.survey.now.given c.loop-zone.zone can some in
     finish-repaired first now c.args.survey.now c.loop-zone.survey c.args.survey.now.given c.loop-zone.zone can some (omega (arith, long, c.loop-zone-test.false, c.len-zone-end.ensures))
 
-pub returns-clause-others : goal.returns-clause-others
-returns-clause-others g c = c.loop-zone.invariant.others
+pub returns-clause-needed : goal.returns-clause-needed
+returns-clause-needed g c = c.loop-zone.invariant.needed

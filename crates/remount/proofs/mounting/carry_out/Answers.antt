@@ -2,10 +2,11 @@ use Rattle.std.proofs.Common.{ℕ, ◌≡◌, sym, subst, ◌∙◌}
 use Rattle.std.specs.Prelude.{OnOk}
 use Rattle.drive_port.specs.Contents.{contents}
 use Rattle.drive_array.specs.ZoneLogs.{drive_logs, zone_tails}
-use Rattle.remount.specs.Mount.{IsRepaired, KeepsOthers, LeavesCleared, LeavesPlanned, Plans}
-use Rattle.remount.specs.Resets.{KeepsGoing}
+use Rattle.remount.specs.Mount.{IsRepaired, LeavesCleared, LeavesPlanned, Plans}
+use Rattle.remount.proofs.BesideLaws.{carried-zones}
+use Rattle.remount.proofs.CallLaws.{on-two}
 use Rattle.remount.proofs.KeepLaws.{keeps-mountable-both}
-use Rattle.remount.proofs.StepLaws.{Empties, carried-left, carried-others, cleared-own, emptied-plans, keeps-given, on-ok, untorn-own}
+use Rattle.remount.proofs.StepLaws.{Empties, carried-left, cleared-own, emptied-plans, keeps-given, on-ok, untorn-own}
 use Rattle.remount.proofs.mounting.carry_out.Goals as goal
 
 pub repair_torn-requires-clause-cleared : goal.repair_torn-requires-clause-cleared
@@ -89,8 +90,8 @@ returns-clause-left g c =
     on-ok c.finish_zones.result (drive_logs new ≡ drive_logs third) (LeavesCleared n old resets new)
     (carried-left old middle third new n resets c.args.plan.now.repair first is c.requires.planned.repair planned) c.finish_zones.ensures.logs
 
-pub returns-clause-others : goal.returns-clause-others
-returns-clause-others g c =
+pub returns-clause-zones : goal.returns-clause-zones
+returns-clause-zones g c =
     let n = c.args.survey.now.given in
     let old = g.D.Device.drive c.args.device.now in
     let middle = g.D.Device.drive c.empty_zones.new.device in
@@ -100,8 +101,8 @@ returns-clause-others g c =
     let left = c.in_ok-empty_zones.ensures.left in
     let is : Empties old middle n resets first = record { known = cleared_now.known; logs = left.logs; vacant = cleared_now.empty; tails = left.tails; kept = c.empty_zones.ensures.kept } in
     let third = g.D.Device.drive c.repair_torn.new.device in
-    let second = c.repair_torn.new.survey in
     let new = g.D.Device.drive c.finish_zones.new.device in
-    let same = c.in_ok-repair_torn.ensures.ok.known.given_is ∙ cleared_now.known.given_is in
-    on-ok c.finish_zones.result (KeepsGoing third new) (KeepsOthers old resets new)
-    (carried-others old middle third new n resets c.args.plan.now.repair first is c.requires.planned.repair left.others c.in_ok-repair_torn.ensures.others) c.finish_zones.ensures.others
+    on-two c.finish_zones.result
+    (λ needed logs. carried-zones old middle third new n resets c.args.plan.now.repair first is c.requires.planned.repair left.others left.opens c.in_ok-repair_torn.ensures.beside
+    c.repair_torn.ensures.kept.geometry (c.finish_zones.ensures.kept.geometry ∙ c.repair_torn.ensures.kept.geometry) logs needed)
+    c.finish_zones.ensures.needed c.finish_zones.ensures.logs

@@ -1,3 +1,4 @@
+use Rattle.std.proofs.Common.{arith}
 use Rattle.remount.proofs.CallLaws.{mountable-both, settles-more, settles-none}
 use Rattle.remount.proofs.BeginLaws.{cleared-kept}
 use Rattle.remount.proofs.repair.beside.finish_beside.Goals as goal
@@ -19,3 +20,14 @@ returns-clause-cleared g c =
     let new = g.D.Device.drive c.loop-zone.device in
     let s = c.loop-zone.invariant in
     record { known = s.known; mountable = s.kept.mountable c.requires.cleared.mountable; none = cleared-kept c.args.survey.now.given old new c.requires.cleared.mountable.lawful s.kept s.logs c.requires.cleared.none; empty = s.vacant }
+
+pub returns-clause-left : goal.returns-clause-left
+returns-clause-left g c =
+    let s = c.loop-zone.invariant in
+    record {
+      logs = s.logs;
+      tails = s.tails;
+      settled = λ zone lt ne. s.settled zone (omega (arith, lt, s.count, s.known.zones.count, c.loop-zone-test.false, c.len-zone-end.ensures)) ne;
+      others = λ zone lt ne. s.done zone (omega (arith, lt, s.count, s.known.zones.count, c.loop-zone-test.false, c.len-zone-end.ensures)) ne;
+      opens = s.opens;
+    }

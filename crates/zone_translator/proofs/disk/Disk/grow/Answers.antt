@@ -1,6 +1,6 @@
 use Rattle.std.proofs.Common.{Err, Ok, refl}
 use Rattle.zone_translator.proofs.CallLaws.{cause-of, growth-done, growth-refused, growth-unknown}
-use Rattle.zone_translator.proofs.DiskLaws.{batch-turns, holds-agrees, holds-serving, keeps-disk, refused-growth, reserve-kept, turns-on, view_of}
+use Rattle.zone_translator.proofs.DiskLaws.{batch-turns, below-next, holds-agrees, holds-serving, keeps-disk, refused-growth, reserve-kept, turns-on, view_of}
 use Rattle.zone_translator.proofs.disk.Disk.grow.Goals as goal
 
 pub invariant_of-self : goal.invariant_of-self
@@ -22,7 +22,7 @@ returns-in-Ok-clause-answers g c =
     record {
       flat = growth-done c.args.self.now new c.args.blocks known (rw (← c.self.view_is) grown.array) grown.size_is (rw (← c.self.view_is) refl) (rw (← c.self.view_is) grown.keeps.geometry);
       untouched = growth-unknown c.args.self.now new c.args.blocks known;
-      kept = rw (← c.self.view_is) (keeps-disk c.self.inside.mounted c.grow_batch.new.disk c.self.inside.cleaner c.grow_batch.new.cleaner c.self.inside.status c.self.inside.status (λ e. e) grown.keeps);
+      kept = rw (← c.self.view_is) (keeps-disk c.self.inside.mounted c.grow_batch.new.disk c.self.inside.cleaner c.grow_batch.new.cleaner c.self.inside.status c.self.inside.status (λ e. e) (below-next c.grow_batch.new.disk c.grow_batch.new.cleaner c.self.inside.status grown.serves) grown.keeps);
       cause = tt;
     }
 

@@ -1,7 +1,7 @@
 use Rattle.std.proofs.Common.{refl}
 use Rattle.zone_translator.specs.Changes.{IsCause}
 use Rattle.zone_translator.proofs.CallLaws.{cause-of, idle-done, idle-refused, idle-unknown}
-use Rattle.zone_translator.proofs.DiskLaws.{cleaned-disk, holds-agrees, holds-serving, refused-turn, reserve-kept, turns-back, view_of}
+use Rattle.zone_translator.proofs.DiskLaws.{below-next, cleaned-disk, holds-agrees, holds-serving, refused-turn, reserve-kept, turns-back, view_of}
 use Rattle.zone_translator.proofs.RoomLaws.{clean_cause}
 use Rattle.zone_translator.proofs.disk.Disk.idle.Goals as goal
 
@@ -24,7 +24,7 @@ returns-in-Ok-clause-answers g c =
     record {
       flat = idle-done c.args.self.now new serving (rw (← c.self.view_is) keeps.array) (rw (← c.self.view_is) keeps.size) (rw (← c.self.view_is) refl) (rw (← c.self.view_is) keeps.geometry);
       untouched = idle-unknown c.args.self.now new serving;
-      kept = rw (← c.self.view_is) (cleaned-disk c.self.inside.mounted c.turn.new.disk c.self.inside.cleaner c.turn.new.self c.self.inside.status c.self.inside.status (λ e. e) keeps);
+      kept = rw (← c.self.view_is) (cleaned-disk c.self.inside.mounted c.turn.new.disk c.self.inside.cleaner c.turn.new.self c.self.inside.status c.self.inside.status (λ e. e) (below-next c.turn.new.disk c.turn.new.self c.self.inside.status c.in-Ok.ensures.cleaning.goes_on) keeps);
       cause = tt;
     }
 

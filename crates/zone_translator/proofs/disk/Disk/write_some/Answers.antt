@@ -1,5 +1,5 @@
 use Rattle.zone_translator.specs.Batches.{is_trim}
-use Rattle.zone_translator.proofs.DiskLaws.{holds-agrees, holds-serving, keeps-disk, refused-write, reserve-kept, wrote-some}
+use Rattle.zone_translator.proofs.DiskLaws.{below-next, holds-agrees, holds-serving, keeps-disk, refused-write, reserve-kept, wrote-some}
 use Rattle.zone_translator.proofs.disk.Disk.write_some.Goals as goal
 
 pub invariant_of-self : goal.invariant_of-self
@@ -23,7 +23,7 @@ returns-in-Ok-clause-wrote g c =
     rw (← c.self.view_is) (wrote-some c.self.inside.mounted c.next_batch.new.disk c.self.inside.cleaner c.next_batch.new.cleaner c.self.inside.status c.self.inside.status c.args.rest c.in-Ok.count serving serves c.in-Ok.ensures.count c.in-Ok.ensures.leaves)
 
 pub returns-in-Ok-clause-kept : goal.returns-in-Ok-clause-kept
-returns-in-Ok-clause-kept g c = rw (← c.self.view_is) (keeps-disk c.self.inside.mounted c.next_batch.new.disk c.self.inside.cleaner c.next_batch.new.cleaner c.self.inside.status c.self.inside.status (λ e. e) c.in-Ok.ensures.leaves.keeps)
+returns-in-Ok-clause-kept g c = rw (← c.self.view_is) (keeps-disk c.self.inside.mounted c.next_batch.new.disk c.self.inside.cleaner c.next_batch.new.cleaner c.self.inside.status c.self.inside.status (λ e. e) (below-next c.next_batch.new.disk c.next_batch.new.cleaner c.self.inside.status c.in-Ok.ensures.leaves.serves) c.in-Ok.ensures.leaves.keeps)
 
 pub returns-in-Ok-clause-size : goal.returns-in-Ok-clause-size
 returns-in-Ok-clause-size g c = rw (← c.self.view_is) c.in-Ok.ensures.leaves.size
