@@ -15,7 +15,7 @@ use Rattle.drive_array.specs.Reserve.{batch_most}
 use Rattle.drive_array.specs.Spare.{IsVacant, cleared}
 use Rattle.drive_array.proofs.ReserveLaws.{positive-most}
 use Rattle.drive_array.proofs.ZoneLogLaws.{log_at-zone}
-use Rattle.zone_choice.proofs.AgreementLaws.{zone_log-emptied}
+use Rattle.drive_array.proofs.RepairingMounts.{emptied-nothing}
 use Rattle.remount.specs.declared.repair.Repair.{Repair}
 use Rattle.remount.specs.declared.repair.moves.MovePlan.{MovePlan}
 use Rattle.drive_survey.specs.declared.survey.Survey.{Survey}
@@ -84,7 +84,7 @@ beside-repaired n old one start new survey source plan torn into p torn_is into_
     logs = shut-logs one start shut ∙ settles.logs
 
     vacant : IsVacant (drive_logs start) into
-    vacant = log_at-zone start.geometry (contents start.zones) into ∙ ap (zone_log start.geometry) p.there ∙ zone_log-emptied start.geometry
+    vacant = log_at-zone start.geometry (contents start.zones) into ∙ ap (zone_log start.geometry) p.there ∙ emptied-nothing start.geometry
 
     long : length one.zones ≡ length old.zones
     long = sym (logs-count one) ∙ ap length settles.logs ∙ logs-count old
