@@ -17,7 +17,7 @@ use Rattle.zone_drive.specs.Habits.{MemoryDrive, close_implicit, closed_zone, ma
 
 -- ---- the choice is a closing
 
-same_zones : (zones : List Zone) → IsClosing zones zones
+pub same_zones : (zones : List Zone) → IsClosing zones zones
 same_zones [] = tt
 same_zones (zone ∷ zones) = (record { blocks = refl; state = inl refl }, same_zones zones)
 
@@ -41,7 +41,7 @@ closes-lowest (zone ∷ zones) = either (is_state ImplicitlyOpened zone.state) r
     either true e rest = (closes-one zone e, same_zones zones)
     either false e rest = (record { blocks = refl; state = inl refl }, rest)
 
-closes-chosen : (wants : Bool) (zones : List Zone) → IsClosing zones (cond wants (close_lowest zones) zones)
+pub closes-chosen : (wants : Bool) (zones : List Zone) → IsClosing zones (cond wants (close_lowest zones) zones)
 closes-chosen true zones = closes-lowest zones
 closes-chosen false zones = same_zones zones
 
