@@ -5,6 +5,7 @@ pub mod FillLaws
 pub mod ReadLaws
 pub mod StoredLaws
 pub mod ReplayLaws
+pub mod RestedImageLaws
 pub mod FileLaws
 pub mod KeepingLaws
 pub mod JournalingLaws
