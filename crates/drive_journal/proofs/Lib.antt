@@ -12,3 +12,4 @@ pub mod JournalingLaws
 pub mod MeaningLaws
 pub mod MomentLaws
 pub mod NoFaultLaws
+pub mod ForeseenLaws
