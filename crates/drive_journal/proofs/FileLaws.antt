@@ -1,8 +1,8 @@
 -- What is read in a file: its parts, or its first fault.
-use Rattle.std.proofs.Common.{◌≡◌, ℕ, ◌+◌, ◌<◌, Bool, true, false, not, ◌&&◌, ◌||◌, List, [], ◌∷◌, ◌++◌, length, Option, Some, None, inl, inr, refl, sym, ap, ◌∙◌, subst, arith}
-use Rattle.std.specs.Prelude.{Err, IfErr, IfSome, IsErrAnd, Ok, Result, if◌then◌else◌, is_some, nat_lt}
+use Rattle.std.proofs.Common.{◌≡◌, ℕ, ◌+◌, ◌<◌, Bool, true, false, not, ◌&&◌, ◌||◌, List, [], ◌∷◌, ◌++◌, length, take, ◌==◌, Option, Some, None, inl, inr, refl, sym, ap, ◌∙◌, subst, arith}
+use Rattle.std.specs.Prelude.{Err, IfErr, IfSome, IsErrAnd, IsTrue, ◌↔◌, Ok, Result, if◌then◌else◌, is_some, nat_lt}
 use Rattle.std.specs.Io.KnownBytes.{Consumes}
-use Rattle.std.specs.List.{AllByRecursion}
+use Rattle.std.specs.List.{AllByRecursion, list_all}
 use Rattle.std.proofs.lemmas.Bool.{le-ltb, lt-ltb}
 use Rattle.std.proofs.lemmas.List.{length-append, length-map}
 use Rattle.zone_states.specs.Checks.{first_failing}
@@ -11,11 +11,12 @@ use Rattle.zone_states.specs.Stored.{AreWholeBlocks, StoredZone, zone_stored}
 use Rattle.zone_states.specs.Zone.{Zone}
 use Rattle.zone_states.specs.declared.geometry.Geometry.{Geometry}
 use Rattle.drive_port.specs.Drive.{DriveState, IsLawful}
+use Rattle.drive_port.specs.Run.{restarted}
 use Rattle.zone_drive.specs.Faults.{IsFault}
 use Rattle.zone_drive.specs.Stored.{AreZones, unused, zones_of}
 use Rattle.zone_drive.specs.declared.drive.DriveFault.{DriveFault}
 use Rattle.zone_drive.specs.declared.drive.DriveFault.TheVariants as drives
-use Rattle.drive_images.specs.Image.{image_bytes}
+use Rattle.drive_images.specs.Image.{IsImage, image_bytes}
 use Rattle.drive_images.specs.Reading.{IsFrontFault, is_out_of_range}
 use Rattle.drive_images.specs.Steps.{ReadsImage}
 use Rattle.drive_images.specs.declared.fault.ImageFault.{ImageFault}
@@ -32,6 +33,7 @@ use Rattle.drive_journal.specs.Tail.{IsCutOff, begins_as_mark}
 use Rattle.drive_journal.specs.declared.fault.FileFault.{FileFault}
 use Rattle.drive_journal.specs.declared.fault.FileFault.TheVariants.{Damaged, Image, Zones}
 use Rattle.drive_journal.proofs.CutLaws.{length-change}
+use Rattle.drive_journal.proofs.RestedImageLaws.{is_shut, tells-image}
 
 -- ---- a drive of zones
 
@@ -112,6 +114,12 @@ module _ (geometry : Geometry) (zones : List StoredZone) (old mid : Option (List
       drive_is = drive_is ∙ ap (λ (zs : List Zone). unused geometry zs) (zones-are last e);
       whole_is = replays.end_is;
     })
+
+    -- whether the file is the image of that drive restarted
+    pub image-told : (last : List StoredZone) (drive : DriveState) → zones_of geometry.block last ≡ (if nat_lt (length image) end then at_rest after else after) → drive ≡ unused geometry (zones_of geometry.block last)
+        → IfSome old (λ bytes. IsTrue ((end == length image) && list_all is_shut last) ↔ IsImage (take end bytes) (restarted drive))
+    image-told last drive e drive_is = in-parts (λ bytes. IsTrue ((end == length image) && list_all is_shut last) ↔ IsImage (take end bytes) (restarted drive)) (λ bytes cut has.
+        tells-image bytes (parts_with cut) has drive last (drive_is ∙ ap (λ (zs : List Zone). unused geometry zs) (zones-are (zones_of geometry.block last) e)) (ap (λ (d : DriveState). d.zones) drive_is) end (length image) replays.end_is refl)
 
     -- where no drive is made of the zones, the file makes none
     pub no-drive-read : (last : List Zone) → last ≡ (if nat_lt (length image) end then at_rest after else after) → (IsLawful (unused geometry last) → ⊥) → IfSome old (λ bytes. IsFileFault bytes Zones)

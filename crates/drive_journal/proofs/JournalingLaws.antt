@@ -1,179 +1,330 @@
--- What a device that writes its changes leaves where it stops, and what its store holds then.
-use Rattle.std.proofs.Common.{◌≡◌, ℕ, ◌+◌, ◌<◌, ◌==◌, Bool, true, false, ◌&&◌, ◌||◌, List, [], ◌++◌, length, take, Option, Some, None, Result, Ok, Err, inl, inr, refl, sym, ap, ◌∙◌, subst, arith}
-use Rattle.std.specs.Prelude.{IfSome, if◌then◌else◌}
+-- What a device that writes its changes shows, and what its store holds then.
+use Rattle.std.proofs.Common.{◌≡◌, ◌⊎◌, ℕ, ◌+◌, ◌-◌, ◌<◌, ◌==◌, Bool, true, false, ◌&&◌, ◌||◌, List, [], ◌++◌, length, take, drop, Option, Some, None, Result, Ok, Err, inl, inr, refl, sym, ap, ◌∙◌, subst, arith}
+use Rattle.std.specs.Prelude.{IfOk, IfSome, OnErr, if◌then◌else◌, is_some}
 use Rattle.std.specs.Io.KnownBytes.{Appends}
-use Rattle.std.proofs.lemmas.List.{take_at}
+use Rattle.std.proofs.Math.Seq.{drop-append_seam}
+use Rattle.std.proofs.lemmas.List.{append-nil, length-append, take_at}
 use Rattle.nvme_wire.specs.Completion.{code_in}
 use Rattle.nvme_wire.specs.Entry.{decode_of}
-use Rattle.nvme_wire.specs.declared.command.Command.{Command}
-use Rattle.nvme_wire.specs.declared.command.Command.TheVariants.{Flush, Read, Write, Append, Send, Receive}
-use Rattle.nvme_wire.specs.declared.command.DecodeFault.{DecodeFault}
+use Rattle.nvme_wire.specs.declared.status.Status.{Status}
 use Rattle.nvme_wire.specs.declared.status.Status.TheVariants.{Success}
+use Rattle.zone_states.specs.Zone.{Zone}
+use Rattle.zone_states.specs.declared.geometry.Geometry.{Geometry}
 use Rattle.disk_files.specs.Output.{AppendsFront}
 use Rattle.drive_port.specs.Drive.{DriveState, IsLawful}
-use Rattle.drive_port.proofs.CallLaws.{adds-nothing}
-use Rattle.drive_port.specs.Halting.{Adds, Stops, SubmitGives}
-use Rattle.drive_port.specs.Step.{Completes, Effect, is_append, one_if}
+use Rattle.drive_port.specs.Halting.{Adds, Stops, SubmitAdds, SubmitGives}
+use Rattle.drive_port.specs.Step.{Effect, Outcome, is_success}
 use Rattle.drive_port.specs.declared.device.Halt.{Halt}
 use Rattle.drive_port.specs.declared.device.Halt.TheVariants.{Memory, Stopped}
+use Rattle.drive_port.proofs.CallLaws.{adds-also, adds-nothing}
+use Rattle.drive_port.proofs.ClosingLaws.{IsClosing-refl}
 use Rattle.drive_port.proofs.HaltLaws.{success_or}
-use Rattle.drive_journal.specs.Change.{change_of, changes, written_for}
+use Rattle.drive_port.proofs.StopLaws.{stops-already}
+use Rattle.zone_drive.specs.Foreseen.{CanGive}
+use Rattle.drive_journal.specs.Change.{Change, beside_bytes, body_bytes, change_bytes, change_of, changes, mark, seal, written_for}
 use Rattle.drive_journal.specs.File.{IsStored, IsStoredWhole}
-use Rattle.drive_journal.specs.Journaling.{AreCutOff, IsInStep, Journaled, KeptAfter, appended_before, completed_here, journaled_drive, is_lost, loss_of, written_by}
+use Rattle.drive_journal.specs.Journaling.{Answers, AreCutOff, IsInStep, Journaled, data_in, entry_in, is_lost, shown_drive, written_by}
 use Rattle.drive_journal.specs.Tail.{IsCutOff}
 use Rattle.drive_journal.specs.declared.loss.Loss.{Loss}
-use Rattle.drive_journal.specs.declared.loss.Loss.TheVariants.{Nothing, ACommand, AnAppend}
-use Rattle.drive_journal.proofs.CutLaws.{cut-front}
-use Rattle.drive_journal.proofs.KeepingLaws.{code-of, stored-completed, stored-cut, written-no, written-yes}
+use Rattle.drive_journal.specs.declared.loss.Loss.TheVariants as losses
+use Rattle.drive_journal.proofs.CutLaws.{cut-front, length-seal}
+use Rattle.drive_journal.proofs.KeepingLaws.{stored-completed, stored-cut, stored-effect, written-no, written-yes}
 use Rattle.drive_journal.proofs.StepLaws.{is-change}
 
+-- ---- the drive that is shown
+
+-- a device that lost nothing
+abbrev pub going_on : DriveState → Option (List ℕ) → Journaled
+going_on inner contents = record { drive = inner; lost = false; contents = contents }
+
+-- one that lost something, and shows these zones
+abbrev pub given_up : DriveState → List Zone → Option (List ℕ) → Journaled
+given_up inner zones contents = record { drive = record inner { zones = zones; stopped = true }; lost = true; contents = contents }
+
+-- the device as its parts are
+abbrev pub journaled : Loss → DriveState → List Zone → Option (List ℕ) → Journaled
+journaled loss inner next contents = record { drive = shown_drive loss inner next; lost = is_lost loss; contents = contents }
+
 -- a device that runs has lost nothing, and the one within runs
-pub going : (loss : Loss) (over : Bool) → (is_lost loss || over) ≡ false → (loss ≡ Nothing) × (over ≡ false)
-going Nothing over e = (refl, e)
-going ACommand over e = absurd (cc e)
-going AnAppend over e = absurd (cc e)
+pub runs-on : (loss : Loss) (inner : DriveState) (next : List Zone) → (shown_drive loss inner next).stopped ≡ false → (loss ≡ losses.Nothing) × (inner.stopped ≡ false)
+runs-on losses.Nothing inner next e = (refl, e)
+runs-on losses.Change inner next e = absurd (cc e)
+runs-on losses.Completion inner next e = absurd (cc e)
 
--- while nothing is lost the drive is the one within
-drive-going : (j : Journaled) → j.loss ≡ Nothing → journaled_drive j ≡ j.inner
-drive-going j e = ap (λ (l : Loss). journaled_drive (record { inner = j.inner; loss = l; contents = j.contents })) e
+-- what is shown is lawful
+pub lawful-shown : (loss : Loss) (inner : DriveState) (next : List Zone) (contents : Option (List ℕ)) → IsInStep (journaled loss inner next contents) → IsLawful inner → IsLawful (shown_drive loss inner next)
+lawful-shown losses.Nothing inner next contents kept lawful = lawful
+lawful-shown losses.Change inner next contents kept lawful = kept.lawful refl
+lawful-shown losses.Completion inner next contents kept lawful = kept.lawful refl
 
--- ---- a completion that is lost
-
--- the loss of any command is a loss
-pub lost-true : (command : Result Command DecodeFault) → is_lost (loss_of command) ≡ true
-lost-true (Err fault) = refl
-lost-true (Ok Flush) = refl
-lost-true (Ok (Read slba blocks)) = refl
-lost-true (Ok (Write slba blocks)) = refl
-lost-true (Ok (Append zslba blocks)) = refl
-lost-true (Ok (Send slba action all)) = refl
-lost-true (Ok (Receive slba dwords options partial)) = refl
-
-lost-completed : (loss : Loss) (n : ℕ) → is_lost loss ≡ true → completed_here loss (n + 1) ≡ n
-lost-completed Nothing n e = absurd (cc e)
-lost-completed ACommand n e = omega arith
-lost-completed AnAppend n e = omega arith
-
-lost-appended : (command : Result Command DecodeFault) (n : ℕ) → appended_before (loss_of command) (n + one_if (is_append command && true)) ≡ n
-lost-appended (Err fault) n = omega arith
-lost-appended (Ok Flush) n = omega arith
-lost-appended (Ok (Read slba blocks)) n = omega arith
-lost-appended (Ok (Write slba blocks)) n = omega arith
-lost-appended (Ok (Append zslba blocks)) n = omega arith
-lost-appended (Ok (Send slba action all)) n = omega arith
-lost-appended (Ok (Receive slba dwords options partial)) n = omega arith
-
-lost-stopped : (loss : Loss) (over : Bool) → is_lost loss ≡ true → (is_lost loss || over) ≡ true
-lost-stopped Nothing over e = absurd (cc e)
-lost-stopped ACommand over e = refl
-lost-stopped AnAppend over e = refl
-
-succeeded-by : (old new : DriveState) (entry bytes completion returned : List ℕ) (done : Completes old entry bytes completion returned new) → (code_in completion == 0) ≡ true → done.status ≡ Success
-succeeded-by old new entry bytes completion returned done e =
-    elim (success_or done.status) [
-      | inl good ↦ good
-      | inr bad ↦ absurd (cc (e, code-of old new entry bytes completion returned done, bad.1))
-    ]
-
--- the command was completed, and its change was not written: to a client the device stopped inside it
-pub lost-stops : (old new : Journaled) (entry bytes completion returned : List ℕ) → (journaled_drive old).stopped ≡ false → new.loss ≡ loss_of (decode_of entry) → (code_in completion == 0) ≡ true
-    → SubmitGives old.inner entry bytes (Ok completion) returned new.inner → Stops (journaled_drive old) (decode_of entry) bytes (journaled_drive new)
-lost-stops old new entry bytes completion returned runs lost done gives =
-    let was = going old.loss old.inner.stopped runs in
-    let step = gives.1.performs in
-    let good = succeeded-by old.inner new.inner entry bytes completion returned gives.1 done in
-    let is_true = ap (λ (l : Loss). is_lost l) lost ∙ lost-true (decode_of entry) in
-    let appends : new.inner.appended ≡ old.inner.appended + one_if (is_append (decode_of entry) && true) = rw good at step.appended in
-    let refuses : new.inner.refused ≡ old.inner.refused + 0 = rw good at step.refused in
-    subst (λ (d : DriveState). Stops d (decode_of entry) bytes (journaled_drive new)) (sym (drive-going old was.0)) (record {
-      already = λ e. absurd (cc (e, was.1));
-      stopped = lost-stopped new.loss new.inner.stopped is_true;
-      geometry = step.geometry;
-      counts = record {
-        completed = ap (λ (n : ℕ). completed_here new.loss n) step.completed ∙ lost-completed new.loss old.inner.completed is_true;
-        refused = omega (arith, refuses);
-        appended = ap (λ (n : ℕ). appended_before new.loss n) appends ∙ ap (λ (l : Loss). appended_before l (old.inner.appended + one_if (is_append (decode_of entry) && true))) lost ∙ lost-appended (decode_of entry) old.inner.appended;
-      };
-      left = inr (inl (record { status = gives.1.status; value = gives.1.value; returned = returned; effect = step.effect }));
-    })
-
--- ---- what the store holds
-
--- known bytes to which others were appended
-if-more : (old new : Option (List ℕ)) (more : List ℕ) (P Q : List ℕ → Type 0) → Appends old new more → (old ≡ None → new ≡ None) → ((bytes : List ℕ) → P bytes → Q (bytes ++ more)) → IfSome old P → IfSome new Q
-if-more None None more P Q appends unknown f p = tt
-if-more None (Some now) more P Q appends unknown f p = absurd (cc (unknown refl))
-if-more (Some held) None more P Q appends unknown f p = absurd appends
-if-more (Some held) (Some now) more P Q appends unknown f p = rw appends (f held p)
-
-if-so : (known : Option (List ℕ)) (P Q : List ℕ → Type 0) → ((bytes : List ℕ) → P bytes → Q bytes) → IfSome known P → IfSome known Q
-if-so None P Q f p = tt
-if-so (Some held) P Q f p = f held p
-
--- nothing was written, and the device halted
-pub kept-halted : (old new : Journaled) (entry bytes returned : List ℕ) (halt : Halt) → new.contents ≡ old.contents → SubmitGives old.inner entry bytes (Err halt) returned new.inner
-    → IfSome old.contents (λ held. IsStoredWhole held old.inner) → KeptAfter (Err halt) old new
-kept-halted old new entry bytes returned Memory same gives kept = rw (same, gives.1.1) kept
-kept-halted old new entry bytes returned Stopped same gives kept =
-    rw same (if-so old.contents (λ held. IsStoredWhole held old.inner) (λ held. IsStored held old.inner) (λ held stored. stored.0) kept)
-
--- a command was completed
-pub kept-done : (old new : Journaled) (entry bytes completion returned : List ℕ) → length entry ≡ 64 → Appends old.contents new.contents (written_by completion entry bytes) → (old.contents ≡ None → new.contents ≡ None)
-    → SubmitGives old.inner entry bytes (Ok completion) returned new.inner → IfSome old.contents (λ held. IsStoredWhole held old.inner) → KeptAfter (Ok completion) old new
-kept-done old new entry bytes completion returned long writes unknown gives kept =
-    if-more old.contents new.contents (written_by completion entry bytes) (λ held. IsStoredWhole held old.inner) (λ held. IsStoredWhole held new.inner) writes unknown
-    (λ held stored. stored-completed old.inner new.inner entry bytes completion returned held long gives.1 stored) kept
-
--- a beginning of a change, and not all of it, was written
-pub cut-written : (old new : DriveState) (entry bytes completion returned : List ℕ) (n : ℕ) → length entry ≡ 64 → (code_in completion == 0) ≡ true → Completes old entry bytes completion returned new
-    → n < length (written_for entry bytes) → IsCutOff old.geometry (take n (written_for entry bytes))
-cut-written old new entry bytes completion returned n long done gives short =
-    let good = succeeded-by old new entry bytes completion returned gives done in
-    ended (rw good at gives.performs.effect) (changes (decode_of entry)) refl
-  where
-    ended : Effect old.geometry old.zones (decode_of entry) bytes Success gives.value returned new.zones → (b : Bool) → changes (decode_of entry) ≡ b → IsCutOff old.geometry (take n (written_for entry bytes))
-    ended effect true e =
-        rw (written-yes entry bytes e) (cut-front old.geometry (change_of entry bytes) n (is-change old.geometry old.zones new.zones entry bytes returned gives.value long e effect) (rw (written-yes entry bytes e) at short))
-    ended effect false e = absurd (let none = rw (written-no entry bytes e) at short in omega (arith, none))
-
--- of what is written for a command that was completed each beginning is a change that was cut off
-pub written-cut : (old new : DriveState) (entry bytes completion returned : List ℕ) → length entry ≡ 64 → Completes old entry bytes completion returned new → AreCutOff old.geometry (written_by completion entry bytes)
-written-cut old new entry bytes completion returned long gives = by (code_in completion == 0) refl
-  where
-    by : (b : Bool) → (code_in completion == 0) ≡ b → AreCutOff old.geometry (if b then written_for entry bytes else [])
-    by true e = λ n. cut-written old new entry bytes completion returned n long e gives
-    by false e = λ n short. absurd (omega (arith, short))
-
--- the store failed
-pub kept-lost : (old new : Journaled) (entry bytes completion returned : List ℕ) → length entry ≡ 64 → (code_in completion == 0) ≡ true → AppendsFront old.contents new.contents (written_for entry bytes)
-    → (old.contents ≡ None → new.contents ≡ None) → SubmitGives old.inner entry bytes (Ok completion) returned new.inner → IfSome old.contents (λ held. IsStoredWhole held old.inner) → KeptAfter (Err Stopped) old new
-kept-lost old new entry bytes completion returned long done front unknown gives kept =
-    let cut = take front.count (written_for entry bytes) in
-    if-more old.contents new.contents cut (λ held. IsStoredWhole held old.inner) (λ held. IsStored held old.inner) front.appends unknown
-    (λ held stored. stored-cut held old.inner stored cut (cut-written old.inner new.inner entry bytes completion returned front.count long done gives.1 front.short)) kept
-
--- and a device that has lost one is lost
-pub lost-is-true : (entry : List ℕ) (loss : Loss) → loss ≡ loss_of (decode_of entry) → is_lost loss ≡ true
-lost-is-true entry loss lost = ap (λ (l : Loss). is_lost l) lost ∙ lost-true (decode_of entry)
+lawful-stopped : (drive : DriveState) → IsLawful drive → IsLawful (record drive { stopped = true })
+lawful-stopped drive lawful = record {
+  geometry = lawful.geometry;
+  count = lawful.count;
+  zones = lawful.zones;
+  active = lawful.active;
+  open_zones = lawful.open_zones;
+  completed = lawful.completed;
+  stopped = λ e. refl;
+}
 
 -- a truth value is not both
 pub true-false : true ≡ false → ⊥
 true-false e = absurd (cc e)
 
--- a device that lost a completion has stopped
-pub lost-kept : (j : Journaled) (entry : List ℕ) → j.loss ≡ loss_of (decode_of entry) → IsInStep j
-lost-kept j entry lost runs =
-    let is_true : is_lost j.loss ≡ true = ap (λ (l : Loss). is_lost l) lost ∙ lost-true (decode_of entry) in
-    let never : true ≡ false = sym is_true ∙ ap (λ (l : Loss). is_lost l) (going j.loss j.inner.stopped runs).0 in
-    absurd (true-false never)
+-- ---- the bytes of a store
 
-abbrev pub journaled : DriveState → Loss → Option (List ℕ) → Journaled
-journaled inner loss contents = record { inner = inner; loss = loss; contents = contents }
+-- known bytes to which others were appended
+if-more : (old new : Option (List ℕ)) (more : List ℕ) (P Q : List ℕ → Type 0) → Appends old new more → is_some new ≡ is_some old → ((bytes : List ℕ) → P bytes → Q (bytes ++ more)) → IfSome old P → IfSome new Q
+if-more None None more P Q appends known f p = tt
+if-more None (Some now) more P Q appends known f p = absurd (cc known)
+if-more (Some held) None more P Q appends known f p = absurd appends
+if-more (Some held) (Some now) more P Q appends known f p = rw appends (f held p)
 
--- what was put after the held bytes is taken away
-pub adds-taken : (held returned : List ℕ) (n : ℕ) (Given : List ℕ → Type 0) → length held ≡ n → Given [] → Adds held Given (take n (held ++ returned))
-adds-taken held returned n Given long given = rw (take_at held returned n long) (adds-nothing held Given given)
+pub if-so : (known : Option (List ℕ)) (P Q : List ℕ → Type 0) → ((bytes : List ℕ) → P bytes → Q bytes) → IfSome known P → IfSome known Q
+if-so None P Q f p = tt
+if-so (Some held) P Q f p = f held p
 
--- while the device runs it is as lawful as the one within
-pub lawful-going : (j : Journaled) (over : Bool) → (is_lost j.loss || over) ≡ false → IsLawful j.inner → IsLawful (journaled_drive j)
-lawful-going j over runs lawful = subst (λ (d : DriveState). IsLawful d) (sym (drive-going j (going j.loss over runs).0)) lawful
+appends-nothing : (contents : Option (List ℕ)) → Appends contents contents []
+appends-nothing None = tt
+appends-nothing (Some held) = sym (append-nil held)
+
+-- while nothing is lost, the bytes that store the drive are all that is to be kept
+pub going-kept : (inner : DriveState) (contents : Option (List ℕ)) → IfSome contents (λ held. IsStoredWhole held inner) → IsInStep (going_on inner contents)
+going-kept inner contents whole = record {
+  stored = if-so contents (λ held. IsStoredWhole held inner) (λ held. IsStored held inner) (λ held stored. stored.0) whole;
+  whole = λ e. whole;
+  stops = λ e. absurd (cc e);
+  lawful = λ e. absurd (cc e);
+}
+
+given-kept : (inner : DriveState) (zones : List Zone) (contents : Option (List ℕ)) → IsLawful (record inner { zones = zones }) → IfSome contents (λ held. IsStored held (record inner { zones = zones })) → IsInStep (given_up inner zones contents)
+given-kept inner zones contents lawful stored = record {
+  stored = if-so contents (λ held. IsStored held (record inner { zones = zones })) (λ held. IsStored held (record inner { zones = zones; stopped = true })) (λ held s. record { parts = s.parts; has = s.has; geometry = s.geometry; zones = s.zones }) stored;
+  whole = λ e. absurd (cc e);
+  stops = λ e. refl;
+  lawful = λ e. lawful-stopped (record inner { zones = zones }) lawful;
+}
+
+-- ---- answers
+
+-- the device had stopped
+pub answers-stopped : (old : Journaled) (entry bytes held : List ℕ) → old.drive.stopped ≡ true → IsLawful old.drive → IsInStep old → Answers old entry bytes held (Err Stopped) held old
+answers-stopped old entry bytes held stopped lawful kept = record {
+  gives = adds-nothing held (λ returned. SubmitGives old.drive entry bytes (Err Stopped) returned old.drive) (refl, stops-already old.drive (decode_of entry) bytes stopped);
+  was_lawful = lawful;
+  lawful = lawful;
+  writes = record { held = old.contents; renewed = inl refl; written = inl refl };
+  was_kept = kept;
+  kept = kept;
+}
+
+-- a command that changes nothing, or is refused, has nothing written
+pub written-not : (entry bytes completion : List ℕ) (good : Bool) → (changes (decode_of entry) && good) ≡ false → (code_in completion == 0) ≡ good → written_by completion entry bytes ≡ []
+written-not entry bytes completion good none code = rw code (by (changes (decode_of entry)) refl good none)
+  where
+    by : (b : Bool) → changes (decode_of entry) ≡ b → (good : Bool) → (b && good) ≡ false → (if good then written_for entry bytes else []) ≡ []
+    by true e true none = absurd (cc none)
+    by true e false none = refl
+    by false e true none = written-no entry bytes e
+    by false e false none = refl
+
+-- the device within answered, and nothing was to be written
+pub answers-plain : (inner new : DriveState) (contents : Option (List ℕ)) (entry bytes held items : List ℕ) (result : Result (List ℕ) Halt) → length entry ≡ 64 → inner.stopped ≡ false → IsLawful inner → IsLawful new
+    → SubmitAdds inner entry bytes held result items new → IfOk result (λ completion. written_by completion entry bytes ≡ []) → OnErr result (new ≡ inner) → IsInStep (going_on inner contents)
+    → Answers (going_on inner contents) entry bytes held result items (going_on new contents)
+answers-plain inner new contents entry bytes held items (Ok completion) long runs was lawful gives none same kept = record {
+  gives = gives;
+  was_lawful = was;
+  lawful = lawful;
+  writes = record { held = contents; renewed = inl refl; written = (refl, rw none (appends-nothing contents, λ n short. absurd (omega (arith, short)))) };
+  was_kept = kept;
+  kept = going-kept new contents (if-so contents (λ b. IsStoredWhole b inner) (λ b. IsStoredWhole b new)
+      (λ b stored. rw (append-nil b) at (rw none at (stored-completed inner new entry bytes completion gives.returned b long gives.given.1 stored))) (kept.whole refl));
+}
+answers-plain inner new contents entry bytes held items (Err Memory) long runs was lawful gives none same kept = record {
+  gives = gives;
+  was_lawful = was;
+  lawful = lawful;
+  writes = record { held = contents; renewed = inl refl; written = (refl, refl) };
+  was_kept = kept;
+  kept = rw same kept;
+}
+answers-plain inner new contents entry bytes held items (Err Stopped) long runs was lawful gives none same kept =
+    absurd (true-false (sym gives.given.1.stopped ∙ ap (λ (d : DriveState). d.stopped) same ∙ runs))
+
+-- ---- a change is written
+
+-- The device runs, and the command of an entry will change what it holds. The store holds bytes of this drive, perhaps written anew.
+module _ (inner : DriveState) (contents before : Option (List ℕ)) (entry bytes held : List ℕ) (given : Outcome) (long : length entry ≡ 64) (runs : inner.stopped ≡ false) (was : IsLawful inner) (kept : IsInStep (going_on inner contents))
+    (is_changing : changes (decode_of entry) ≡ true) (good : given.status ≡ Success) (can : CanGive inner (decode_of entry) bytes given) (stored : IfSome before (λ b. IsStoredWhole b inner)) where
+  effect : Effect inner.geometry inner.zones (decode_of entry) bytes Success given.value given.returned given.zones
+  effect = rw good at can.effect
+
+  cuts : AreCutOff inner.geometry (written_for entry bytes)
+  cuts n short =
+      rw (written-yes entry bytes is_changing) (cut-front inner.geometry (change_of entry bytes) n (is-change inner.geometry inner.zones given.zones entry bytes given.returned given.value long is_changing effect) (rw (written-yes entry bytes is_changing) at short))
+
+  -- there was no memory for it
+  pub answers-memory : Answers (going_on inner contents) entry bytes held (Err Memory) held (going_on inner before)
+  answers-memory = record {
+    gives = adds-nothing held (λ returned. SubmitGives inner entry bytes (Err Memory) returned inner) (refl, (runs, refl));
+    was_lawful = was;
+    lawful = was;
+    writes = record { held = before; renewed = inr (is_changing, stored); written = (refl, refl) };
+    was_kept = kept;
+    kept = going-kept inner before stored;
+  }
+
+  -- the store failed
+  pub answers-cut : (now : Option (List ℕ)) → AppendsFront before now (written_for entry bytes) → is_some now ≡ is_some before → Answers (going_on inner contents) entry bytes held (Err Stopped) held (given_up inner inner.zones now)
+  answers-cut now front known = record {
+    gives = adds-nothing held (λ returned. SubmitGives inner entry bytes (Err Stopped) returned (given_up inner inner.zones now).drive) (
+      refl,
+      record {
+        already = λ e. absurd (true-false (sym e ∙ runs));
+        stopped = refl;
+        geometry = refl;
+        counts = record { completed = refl; refused = refl; appended = refl };
+        left = inl (IsClosing-refl inner.zones);
+      },
+    );
+    was_lawful = was;
+    lawful = lawful-stopped inner was;
+    writes = record { held = before; renewed = inr (is_changing, stored); written = inr (refl, inl (front, cuts)) };
+    was_kept = kept;
+    kept = given-kept inner inner.zones now was (if-more before now (take front.count (written_for entry bytes)) (λ b. IsStoredWhole b inner) (λ b. IsStored b inner) front.appends known
+        (λ b whole. stored-cut b inner whole (take front.count (written_for entry bytes)) (cuts front.count front.short)) stored);
+  }
+
+  -- the change was written
+  module _ (now : Option (List ℕ)) (appends : Appends before now (written_for entry bytes)) (known : is_some now ≡ is_some before) where
+    -- and the command was done
+    pub answers-done : (new : DriveState) (completion items : List ℕ) → IsLawful new → SubmitAdds inner entry bytes held (Ok completion) items new → (code_in completion == 0) ≡ is_success given.status
+        → Answers (going_on inner contents) entry bytes held (Ok completion) items (going_on new now)
+    answers-done new completion items lawful gives code =
+        let success : is_success given.status ≡ true = ap (λ (s : Status). is_success s) good in
+        let all : written_by completion entry bytes ≡ written_for entry bytes = rw (code, success) refl in
+        record {
+          gives = gives;
+          was_lawful = was;
+          lawful = lawful;
+          writes = record { held = before; renewed = inr (is_changing, stored); written = (refl, rw all (appends, cuts)) };
+          was_kept = kept;
+          kept = going-kept new now (if-more before now (written_for entry bytes) (λ b. IsStoredWhole b inner) (λ b. IsStoredWhole b new) appends known
+              (λ b whole. rw all at (stored-completed inner new entry bytes completion gives.returned b long gives.given.1 whole)) stored);
+        }
+
+    -- and there was no memory to do the command
+    pub answers-behind : (halt : Halt) (items : List ℕ) → SubmitAdds inner entry bytes held (Err halt) items inner → Answers (going_on inner contents) entry bytes held (Err Stopped) items (given_up inner given.zones now)
+    answers-behind halt items gives = record {
+      gives = adds-also held items (λ returned. SubmitGives inner entry bytes (Err halt) returned inner) (λ returned. SubmitGives inner entry bytes (Err Stopped) returned (given_up inner given.zones now).drive) (λ returned none. (
+        none.0,
+        record {
+          already = λ e. absurd (true-false (sym e ∙ runs));
+          stopped = refl;
+          geometry = refl;
+          counts = record { completed = refl; refused = refl; appended = refl };
+          left = inr (inl (record { status = given.status; value = given.value; returned = given.returned; effect = can.effect }));
+        },
+      )) gives;
+      was_lawful = was;
+      lawful = lawful-stopped (record inner { zones = given.zones }) can.lawful;
+      writes = record { held = before; renewed = inr (is_changing, stored); written = inr (refl, inr (appends, cuts)) };
+      was_kept = kept;
+      kept = given-kept inner given.zones now can.lawful (if-more before now (written_for entry bytes) (λ b. IsStoredWhole b inner) (λ b. IsStored b (record inner { zones = given.zones })) appends known
+          (λ b whole. (stored-effect inner (record inner { zones = given.zones }) entry bytes given.returned b given.value long is_changing refl effect whole).0) stored);
+    }
+
+-- ---- the entry and the data in a change
+
+entry-is : (entry beside : List ℕ) → length entry ≡ 64 → entry_in (change_bytes (record { entry = entry; bytes = beside })) ≡ entry
+entry-is entry beside long = take_at entry (beside ++ seal entry beside) 64 long
+
+data-is : (entry beside : List ℕ) → length entry ≡ 64 → data_in (change_bytes (record { entry = entry; bytes = beside })) ≡ beside
+data-is entry beside long =
+    let all = change_bytes (record { entry = entry; bytes = beside }) in
+    let after : drop 72 all ≡ beside ++ seal entry beside = ap (λ (n : ℕ). drop n (entry ++ (beside ++ seal entry beside))) (sym long) ∙ drop-append_seam entry (beside ++ seal entry beside) in
+    let size : length beside ≡ length all - 80 = omega (arith, length-append mark (body_bytes (record { entry = entry; bytes = beside })), length-append entry (beside ++ seal entry beside), length-append beside (seal entry beside), length-seal entry beside, long) in
+    ap (λ (l : List ℕ). take (length all - 80) l) after ∙ take_at beside (seal entry beside) (length all - 80) size
+
+-- of a change that is written for a command
+pub entry-written : (entry bytes change : List ℕ) → length entry ≡ 64 → changes (decode_of entry) ≡ true → change ≡ written_for entry bytes → entry_in change ≡ entry
+entry-written entry bytes change long e is = rw (is, written-yes entry bytes e) (entry-is entry (beside_bytes (decode_of entry) bytes) long)
+
+pub data-written : (entry bytes change : List ℕ) → length entry ≡ 64 → changes (decode_of entry) ≡ true → change ≡ written_for entry bytes → data_in change ≡ beside_bytes (decode_of entry) bytes
+data-written entry bytes change long e is = rw (is, written-yes entry bytes e) (data-is entry (beside_bytes (decode_of entry) bytes) long)
+
+-- ---- the same of a device by its parts
+
+pub err-so : (result : Result (List ℕ) Halt) (P Q : Type 0) → (P → Q) → OnErr result P → OnErr result Q
+err-so (Ok completion) P Q f p = tt
+err-so (Err halt) P Q f p = f p
+
+both : (a b : Bool) → true ≡ (a && b) → (a ≡ true) × (b ≡ true)
+both true b e = (refl, sym e)
+both false b e = absurd (cc e)
+
+success-is : (status : Status) → is_success status ≡ true → status ≡ Success
+success-is status e = elim (success_or status) [ inl good ↦ good | inr bad ↦ absurd (cc (e, bad.1)) ]
+
+module _ (loss : Loss) (inner : DriveState) (next : List Zone) (contents : Option (List ℕ)) (entry bytes held : List ℕ) (long : length entry ≡ 64) (going : false ≡ (shown_drive loss inner next).stopped)
+    (was : IsLawful (shown_drive loss inner next)) (kept : IsInStep (journaled loss inner next contents)) where
+  ran : (loss ≡ losses.Nothing) × (inner.stopped ≡ false)
+  ran = runs-on loss inner next (sym going)
+
+  was-within : IsLawful inner
+  was-within = subst (λ (l : Loss). IsLawful (shown_drive l inner next)) ran.0 was
+
+  kept-within : IsInStep (going_on inner contents)
+  kept-within = subst (λ (l : Loss). IsInStep (journaled l inner next contents)) ran.0 kept
+
+  -- the store holds the drive within, before anything is written anew
+  pub shown-whole : IfSome contents (λ b. IsStoredWhole b inner)
+  shown-whole = kept-within.whole refl
+
+  pub shown-plain : (new : DriveState) (after : List Zone) (items : List ℕ) (result : Result (List ℕ) Halt) (given : Outcome) → false ≡ (changes (decode_of entry) && is_success given.status) → IsLawful new
+      → SubmitAdds inner entry bytes held result items new → IfOk result (λ completion. (code_in completion == 0) ≡ is_success given.status) → OnErr result (new ≡ inner)
+      → Answers (journaled loss inner next contents) entry bytes held result items (journaled loss new after contents)
+  shown-plain new after items result given none lawful gives code same =
+      subst (λ (l : Loss). Answers (journaled l inner next contents) entry bytes held result items (journaled l new after contents)) (sym ran.0)
+      (answers-plain inner new contents entry bytes held items result long ran.1 was-within lawful gives (ok-so result code) same kept-within)
+    where
+      ok-so : (result : Result (List ℕ) Halt) → IfOk result (λ completion. (code_in completion == 0) ≡ is_success given.status) → IfOk result (λ completion. written_by completion entry bytes ≡ [])
+      ok-so (Ok completion) code = written-not entry bytes completion (is_success given.status) (sym none) code
+      ok-so (Err halt) code = tt
+
+  module _ (before : Option (List ℕ)) (given : Outcome) (willing : true ≡ (changes (decode_of entry) && is_success given.status)) (can : CanGive inner (decode_of entry) bytes given) (stored : IfSome before (λ b. IsStoredWhole b inner)) where
+    changing : changes (decode_of entry) ≡ true
+    changing = (both (changes (decode_of entry)) (is_success given.status) willing).0
+
+    good : given.status ≡ Success
+    good = success-is given.status (both (changes (decode_of entry)) (is_success given.status) willing).1
+
+    pub shown-memory : (after : List Zone) → Answers (journaled loss inner next contents) entry bytes held (Err Memory) held (journaled loss inner after before)
+    shown-memory after =
+        subst (λ (l : Loss). Answers (journaled l inner next contents) entry bytes held (Err Memory) held (journaled l inner after before)) (sym ran.0)
+        (answers-memory inner contents before entry bytes held given long ran.1 was-within kept-within changing good can stored)
+
+    pub shown-cut : (after : List Zone) (now : Option (List ℕ)) (change : List ℕ) → change ≡ written_for entry bytes → AppendsFront before now change → is_some now ≡ is_some before
+        → Answers (journaled loss inner next contents) entry bytes held (Err Stopped) held (journaled losses.Change inner after now)
+    shown-cut after now change is front known =
+        subst (λ (l : Loss). Answers (journaled l inner next contents) entry bytes held (Err Stopped) held (journaled losses.Change inner after now)) (sym ran.0)
+        (answers-cut inner contents before entry bytes held given long ran.1 was-within kept-within changing good can stored now (rw is at front) known)
+
+    pub shown-done : (new : DriveState) (after : List Zone) (now : Option (List ℕ)) (change completion items : List ℕ) → change ≡ written_for entry bytes → Appends before now change → is_some now ≡ is_some before → IsLawful new
+        → SubmitAdds inner entry bytes held (Ok completion) items new → (code_in completion == 0) ≡ is_success given.status
+        → Answers (journaled loss inner next contents) entry bytes held (Ok completion) items (journaled loss new after now)
+    shown-done new after now change completion items is appends known lawful gives code =
+        subst (λ (l : Loss). Answers (journaled l inner next contents) entry bytes held (Ok completion) items (journaled l new after now)) (sym ran.0)
+        (answers-done inner contents before entry bytes held given long ran.1 was-within kept-within changing good can stored now (rw is at appends) known new completion items lawful gives code)
+
+    -- what is shown then is what was foreseen of the command
+    pub shown-behind : (after : Outcome) (now : Option (List ℕ)) (change : List ℕ) (halt : Halt) (items : List ℕ) → change ≡ written_for entry bytes → Appends before now change → is_some now ≡ is_some before
+        → SubmitAdds inner entry bytes held (Err halt) items inner → (entry_in change ≡ entry → data_in change ≡ beside_bytes (decode_of entry) bytes → after ≡ given)
+        → Answers (journaled loss inner next contents) entry bytes held (Err Stopped) items (journaled losses.Completion inner after.zones now)
+    shown-behind after now change halt items is appends known gives same =
+        let is_given = same (entry-written entry bytes change long changing is) (data-written entry bytes change long changing is) in
+        subst (λ (l : Loss). Answers (journaled l inner next contents) entry bytes held (Err Stopped) items (journaled losses.Completion inner after.zones now)) (sym ran.0)
+        (subst (λ (o : Outcome). Answers (going_on inner contents) entry bytes held (Err Stopped) items (journaled losses.Completion inner o.zones now)) (sym is_given)
+        (answers-behind inner contents before entry bytes held given long ran.1 was-within kept-within changing good can stored now (rw is at appends) known halt items gives))

@@ -82,6 +82,13 @@ pub code-of : (old new : DriveState) (entry bytes completion returned : List ℕ
 code-of old new entry bytes completion returned done =
     ap (λ (l : List ℕ). code_in l == 0) done.encoded ∙ done-code done.value (id_of entry) done.status
 
+-- a command that changes the drive had its effect, and its change was written
+pub stored-effect : (old new : DriveState) (entry bytes returned held : List ℕ) (value : ℕ) → length entry ≡ 64 → changes (decode_of entry) ≡ true → new.geometry ≡ old.geometry
+    → Effect old.geometry old.zones (decode_of entry) bytes Success value returned new.zones → IsStoredWhole held old → IsStoredWhole (held ++ written_for entry bytes) new
+stored-effect old new entry bytes returned held value long e geometry effect stored =
+    rw (written-yes entry bytes e) (stored-more held old stored (change_of entry bytes) new (is-change old.geometry old.zones new.zones entry bytes returned value long e effect) geometry
+    (rest-succeeded old.geometry old.zones new.zones (decode_of entry) bytes returned value effect ∙ ap (λ (zs : List Zone). at_rest zs) (sym (changed-data old.geometry old.zones (decode_of entry) bytes))))
+
 -- a command was completed, and what is to be written for it was written
 pub stored-completed : (old new : DriveState) (entry bytes completion returned held : List ℕ) → length entry ≡ 64 → Completes old entry bytes completion returned new → IsStoredWhole held old
     → IsStoredWhole (held ++ written_by completion entry bytes) new
@@ -93,9 +100,7 @@ stored-completed old new entry bytes completion returned held long done stored =
   where
     by_change : Effect old.geometry old.zones (decode_of entry) bytes Success done.value returned new.zones → is_success done.status ≡ true → (b : Bool) → changes (decode_of entry) ≡ b
         → IsStoredWhole (held ++ (if is_success done.status then written_for entry bytes else [])) new
-    by_change effect good true e =
-        rw (good, written-yes entry bytes e) (stored-more held old stored (change_of entry bytes) new (is-change old.geometry old.zones new.zones entry bytes returned done.value long e effect) done.performs.geometry
-        (rest-succeeded old.geometry old.zones new.zones (decode_of entry) bytes returned done.value effect ∙ ap (λ (zs : List Zone). at_rest zs) (sym (changed-data old.geometry old.zones (decode_of entry) bytes))))
+    by_change effect good true e = rw good (stored-effect old new entry bytes returned held done.value long e done.performs.geometry effect stored)
     by_change effect good false e =
         rw (good, written-no entry bytes e, append-nil held) (stored-same held old stored new done.performs.geometry
         (rest-succeeded old.geometry old.zones new.zones (decode_of entry) bytes returned done.value effect ∙ ap (λ (zs : List Zone). at_rest zs) (changed-not old.geometry old.zones (decode_of entry) bytes e)))

@@ -5,9 +5,11 @@ pub mod FillLaws
 pub mod ReadLaws
 pub mod StoredLaws
 pub mod ReplayLaws
+pub mod RestedImageLaws
 pub mod FileLaws
 pub mod KeepingLaws
 pub mod JournalingLaws
 pub mod MeaningLaws
 pub mod MomentLaws
 pub mod NoFaultLaws
+pub mod ForeseenLaws

@@ -5,13 +5,15 @@ use Rattle.zone_states.specs.Zone.{Zone}
 use Rattle.zone_states.specs.declared.geometry.Geometry.{Geometry}
 use Rattle.drive_port.specs.Drive.{DriveState}
 use Rattle.drive_port.specs.Run.{restarted}
-use Rattle.drive_images.specs.Image.{IsImage}
+use Rattle.zone_drive.specs.Stored.{unused}
+use Rattle.drive_images.specs.Image.{IsImage, image_bytes}
 use Rattle.drive_images.proofs.FrontLaws.{one-image}
 use Rattle.drive_images.proofs.MeaningLaws.{one-drive}
 use Rattle.drive_journal.specs.Change.{Change, journal_bytes}
 use Rattle.drive_journal.specs.File.{HasParts, IsDriveFile, IsStored, IsStoredWhole, Parts, whole_length, zones_read}
 use Rattle.drive_journal.specs.Replay.{at_rest, replayed}
 use Rattle.drive_journal.proofs.CutLaws.{cut-nothing, one-reading}
+use Rattle.drive_journal.proofs.KeepingLaws.{stored-same}
 use Rattle.drive_journal.proofs.RestLaws.{rest-rest}
 
 -- bytes have one image, one list of changes after it, and one rest
@@ -41,6 +43,11 @@ image-stored bytes drive is = (
   },
   refl,
 )
+
+-- so does the image of its zones, whatever it has counted
+pub zones-stored : (bytes : List ℕ) (drive : DriveState) → bytes ≡ image_bytes drive.geometry drive.zones → IsImage (image_bytes drive.geometry drive.zones) (unused drive.geometry drive.zones) → IsStoredWhole bytes drive
+zones-stored bytes drive text is =
+    rw text (stored-same (image_bytes drive.geometry drive.zones) (unused drive.geometry drive.zones) (image-stored (image_bytes drive.geometry drive.zones) (unused drive.geometry drive.zones) is) drive refl refl)
 
 -- what stores a drive stores it when it is restarted
 pub restart-stored : (bytes : List ℕ) (drive : DriveState) → IsStored bytes drive → IsStored bytes (restarted drive)

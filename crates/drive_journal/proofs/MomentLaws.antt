@@ -1,60 +1,47 @@
 -- However a run is cut, its file holds the drive of a moment of it.
-use Rattle.std.proofs.Common.{◌≡◌, ℕ, ◌+◌, ◌-◌, ◌<◌, ◌≤◌, leb, ltb, Bool, true, false, List, ◌++◌, length, take, Option, Some, None, Result, Ok, Err, inl, inr, refl, sym, ap, ◌∙◌, arith}
+use Rattle.std.proofs.Common.{◌≡◌, ℕ, ◌+◌, ◌-◌, ◌<◌, ◌≤◌, leb, ltb, Bool, true, false, List, ◌++◌, length, take, Option, Some, None, Result, Ok, Err, inl, inr, refl, sym, ap, ◌∙◌, subst, arith}
 use Rattle.std.specs.Prelude.{IfSome}
 use Rattle.std.specs.Io.KnownBytes.{Appends}
 use Rattle.std.proofs.Math.Seq.{take-append-add}
 use Rattle.std.proofs.lemmas.Bool.{leb-false, leb-true, ltb-false, ltb-true}
 use Rattle.std.proofs.lemmas.List.{length-append, length-take, take-append-le, take-take, take_all}
-use Rattle.drive_port.specs.Halting.{SubmitGives}
 use Rattle.drive_port.specs.declared.device.Halt.{Halt}
 use Rattle.drive_port.specs.declared.device.Halt.TheVariants.{Memory, Stopped}
 use Rattle.drive_journal.specs.File.{IsStored, IsStoredWhole}
-use Rattle.drive_journal.specs.Journaling.{AreCutOff, Journaled, KeptAfter, WritesChange, journaled_drive, written_by}
+use Rattle.drive_journal.specs.Journaling.{AreCutOff, IsInStep, Journaled, MayRenew, Writes, written_by}
 use Rattle.drive_journal.specs.Change.{written_for}
 use Rattle.zone_states.specs.declared.geometry.Geometry.{Geometry}
-use Rattle.drive_journal.specs.Moments.{IsOfAMoment, RunsTo, Submits, here, later}
+use Rattle.drive_journal.specs.Moments.{IsOfAMoment, RunsSince, RunsTo, Submits, anew, begins, goes_on, here, later}
 use Rattle.drive_journal.proofs.JournalingLaws.{true-false}
 use Rattle.drive_journal.proofs.KeepingLaws.{stored-cut}
-
--- what is known of the store at a moment
-record Holds (first : Journaled) (start : ℕ) (last : Journaled) : Type 0 where
-  pub bytes : List ℕ
-  pub contents : last.contents ≡ Some bytes
-  pub whole : (journaled_drive last).stopped ≡ false → IsStoredWhole bytes last.inner
-  pub found : (n : ℕ) → start ≤ n → IsOfAMoment first last (take n bytes)
 
 some-same : (a b : List ℕ) → Some a ≡ Some b → a ≡ b
 some-same a b e = cc e
 
--- ---- one submit
+-- what holds of known bytes
+at-known : (known : Option (List ℕ)) (bytes : List ℕ) (P : List ℕ → Type 0) → known ≡ Some bytes → IfSome known P → P bytes
+at-known None bytes P e p = absurd (cc e)
+at-known (Some held) bytes P e p = let same : held ≡ bytes = cc e in rw (← same) p
 
-module _ (first mid last : Journaled) (runs : RunsTo first mid) (submits : Submits mid last) where
-  longer : (bytes : List ℕ) → IsOfAMoment first mid bytes → IsOfAMoment first last bytes
-  longer bytes found = record { moment = found.moment; before = found.before; after = later mid last found.after submits; stored = found.stored }
+-- where the bytes of a store were known, and grew by some, they are known
+grew : (new : Option (List ℕ)) (bytes more : List ℕ) → Appends (Some bytes) new more → new ≡ Some (bytes ++ more)
+grew None bytes more appends = absurd appends
+grew (Some now) bytes more appends = rw appends refl
 
-  at-mid : (bytes : List ℕ) → IsStored bytes mid.inner → IsOfAMoment first last bytes
-  at-mid bytes stored = record { moment = mid; before = runs; after = later mid last here submits; stored = stored }
+-- what is known of the store at a moment
+record Holds (first : Journaled) (since : ℕ) (last : Journaled) : Type 0 where
+  pub runs : RunsTo first last
+  pub bytes : List ℕ
+  pub contents : last.contents ≡ Some bytes
+  pub found : (n : ℕ) → since ≤ n → IsOfAMoment first last (take n bytes)
 
-  at-last : (bytes : List ℕ) → IsStored bytes last.inner → IsOfAMoment first last bytes
-  at-last bytes stored = record { moment = last; before = later mid last runs submits; after = here; stored = stored }
-
-  -- some more bytes were written: whole they are of a moment, and each beginning of them is a change that was cut off
-  grown : (bytes more : List ℕ) (n : ℕ) → IsStoredWhole bytes mid.inner → AreCutOff mid.inner.geometry more → IsOfAMoment first last (bytes ++ more) → IsOfAMoment first mid (take n bytes)
-      → IsOfAMoment first last (take n (bytes ++ more))
-  grown bytes more n whole cuts all found = by (leb n (length bytes)) refl
-    where
-      inside : length bytes < n → (b : Bool) → ltb (n - length bytes) (length more) ≡ b → IsOfAMoment first last (take n (bytes ++ more))
-      inside past true e =
-          let splits : n ≡ length bytes + (n - length bytes) = omega (arith, past) in
-          let text : take n (bytes ++ more) ≡ bytes ++ take (n - length bytes) more = ap (λ (m : ℕ). take m (bytes ++ more)) splits ∙ take-append-add bytes more (n - length bytes) in
-          rw text (at-mid (bytes ++ take (n - length bytes) more) (stored-cut bytes mid.inner whole (take (n - length bytes) more) (cuts (n - length bytes) (ltb-true _ _ e))))
-      inside past false e =
-          let full = ltb-false _ _ e in
-          rw (take_all n (bytes ++ more) (omega (arith, length-append bytes more, past, full))) all
-
-      by : (b : Bool) → leb n (length bytes) ≡ b → IsOfAMoment first last (take n (bytes ++ more))
-      by true e = rw (take-append-le n bytes more (leb-true _ _ e)) (longer (take n bytes) found)
-      by false e = inside (let more_than = leb-false _ _ e in omega (arith, more_than)) (ltb (n - length bytes) (length more)) refl
+-- a device that runs has lost nothing
+lost-nothing : (j : Journaled) → IsInStep j → j.drive.stopped ≡ false → j.lost ≡ false
+lost-nothing j kept runs = by j.lost refl
+  where
+    by : (b : Bool) → j.lost ≡ b → j.lost ≡ false
+    by false e = e
+    by true e = absurd (true-false (sym (kept.stops e) ∙ runs))
 
 -- a beginning of bytes of which each beginning is a change that was cut off
 front-cut : (geometry : Geometry) (bytes : List ℕ) (count : ℕ) → count < length bytes → AreCutOff geometry bytes → AreCutOff geometry (take count bytes)
@@ -62,67 +49,86 @@ front-cut geometry bytes count short cuts n less =
     let few : n ≤ count = omega (arith, less, length-take count bytes) in
     rw (take-take n count bytes few) (cuts n (omega (arith, few, short)))
 
--- where the bytes of a store were known, and grew by some, they are known
-grew : (old new : Option (List ℕ)) (bytes more : List ℕ) → old ≡ Some bytes → Appends old new more → new ≡ Some (bytes ++ more)
-grew None new bytes more e appends = absurd (cc e)
-grew (Some held) None bytes more e appends = absurd appends
-grew (Some held) (Some now) bytes more e appends = let same : held ≡ bytes = cc e in rw (appends, same) refl
+-- ---- one submit, over a store that holds these bytes when the change is written
 
-at-known : (known : Option (List ℕ)) (bytes : List ℕ) (P : List ℕ → Type 0) → known ≡ Some bytes → IfSome known P → P bytes
-at-known None bytes P e p = absurd (cc e)
-at-known (Some held) bytes P e p = let same : held ≡ bytes = cc e in rw (← same) p
+module _ (first mid last : Journaled) (held : List ℕ) (runs : RunsTo first mid) (submits : Submits mid (Some held) last) where
+  longer : (bytes : List ℕ) → IsOfAMoment first mid bytes → IsOfAMoment first last bytes
+  longer bytes found = record { moment = found.moment; before = found.before; after = later mid last (Some held) found.after submits; stored = found.stored }
+
+  at-mid : (bytes : List ℕ) → IsStored bytes mid.drive → IsOfAMoment first last bytes
+  at-mid bytes stored = record { moment = mid; before = runs; after = later mid last (Some held) here submits; stored = stored }
+
+  at-last : (bytes : List ℕ) → last.contents ≡ Some bytes → IsOfAMoment first last bytes
+  at-last bytes known = record { moment = last; before = later mid last (Some held) runs submits; after = here; stored = at-known last.contents bytes (λ b. IsStored b last.drive) known submits.kept.stored }
+
+  -- these bytes store the drive, and no change in them is cut off
+  held-whole : IsStoredWhole held mid.drive
+  held-whole = elim submits.renewed [
+    | inl same ↦ at-known mid.contents held (λ b. IsStoredWhole b mid.drive) (sym same) (submits.was_kept.whole (lost-nothing mid submits.was_kept submits.runs))
+    | inr others ↦ others.1
+  ]
+
+  -- some more bytes were written: whole they are of a moment, and each beginning of them is a change that was cut off
+  grown : (more : List ℕ) (n : ℕ) → AreCutOff mid.drive.geometry more → IsOfAMoment first last (held ++ more) → IsOfAMoment first mid (take n held) → IsOfAMoment first last (take n (held ++ more))
+  grown more n cuts all found = by (leb n (length held)) refl
+    where
+      inside : length held < n → (b : Bool) → ltb (n - length held) (length more) ≡ b → IsOfAMoment first last (take n (held ++ more))
+      inside past true e =
+          let splits : n ≡ length held + (n - length held) = omega (arith, past) in
+          let text : take n (held ++ more) ≡ held ++ take (n - length held) more = ap (λ (m : ℕ). take m (held ++ more)) splits ∙ take-append-add held more (n - length held) in
+          rw text (at-mid (held ++ take (n - length held) more) (stored-cut held mid.drive held-whole (take (n - length held) more) (cuts (n - length held) (ltb-true _ _ e))))
+      inside past false e =
+          let full = ltb-false _ _ e in
+          rw (take_all n (held ++ more) (omega (arith, length-append held more, past, full))) all
+
+      by : (b : Bool) → leb n (length held) ≡ b → IsOfAMoment first last (take n (held ++ more))
+      by true e = rw (take-append-le n held more (leb-true _ _ e)) (longer (take n held) found)
+      by false e = inside (let more_than = leb-false _ _ e in omega (arith, more_than)) (ltb (n - length held) (length more)) refl
+
+  module _ (since : ℕ) (found : (n : ℕ) → since ≤ n → IsOfAMoment first mid (take n held)) where
+    -- nothing was written
+    same : last.contents ≡ Some held → Holds first since last
+    same e = record { runs = later mid last (Some held) runs submits; bytes = held; contents = e; found = λ n most. longer (take n held) (found n most) }
+
+    -- some more bytes were
+    added : (more : List ℕ) → Appends (Some held) last.contents more → AreCutOff mid.drive.geometry more → Holds first since last
+    added more appends cuts =
+        let known = grew last.contents held more appends in
+        record { runs = later mid last (Some held) runs submits; bytes = held ++ more; contents = known; found = λ n most. grown more n cuts (at-last (held ++ more) known) (found n most) }
+
+    step : Holds first since last
+    step = by submits.result submits.writes
+      where
+        by : (result : Result (List ℕ) Halt) → Writes mid (Some held) submits.entry submits.bytes result last → Holds first since last
+        by (Ok completion) writes = added (written_by completion submits.entry submits.bytes) writes.1.0 writes.1.1
+        by (Err Memory) writes = same writes.1
+        by (Err Stopped) (inl writes) = same writes
+        by (Err Stopped) (inr (lost, inl front)) =
+            let all = written_for submits.entry submits.bytes in
+            added (take front.0.count all) front.0.appends (front-cut mid.drive.geometry all front.0.count front.0.short front.1)
+        by (Err Stopped) (inr (lost, inr all)) = added (written_for submits.entry submits.bytes) all.0 all.1
 
 -- ---- a run
 
-step : (first : Journaled) (start : ℕ) (mid last : Journaled) → RunsTo first mid → Submits mid last → Holds first start mid → Holds first start last
-step first start mid last runs submits holds = by submits.result submits.writes submits.kept submits.gives
-  where
-    -- nothing was written
-    same : last.contents ≡ mid.contents → ((journaled_drive last).stopped ≡ false → IsStoredWhole holds.bytes last.inner) → Holds first start last
-    same e kept = record {
-      bytes = holds.bytes;
-      contents = e ∙ holds.contents;
-      whole = kept;
-      found = λ n most. longer first mid last runs submits (take n holds.bytes) (holds.found n most);
-    }
-
-    by : (result : Result (List ℕ) Halt) → WritesChange mid submits.entry submits.bytes result last → KeptAfter result mid last → SubmitGives (journaled_drive mid) submits.entry submits.bytes result submits.returned (journaled_drive last) → Holds first start last
-    by (Ok completion) writes kept gives =
-        let more = written_by completion submits.entry submits.bytes in
-        let known = grew mid.contents last.contents holds.bytes more holds.contents writes.1 in
-        let stored = at-known last.contents (holds.bytes ++ more) (λ b. IsStoredWhole b last.inner) known kept in
-        record {
-          bytes = holds.bytes ++ more;
-          contents = known;
-          whole = λ on. stored;
-          found = λ n most. grown first mid last runs submits holds.bytes more n (holds.whole submits.runs) writes.2 (at-last first mid last runs submits (holds.bytes ++ more) stored.0) (holds.found n most);
-        }
-    by (Err Memory) writes kept gives = same writes.1 (λ on. at-known last.contents holds.bytes (λ b. IsStoredWhole b last.inner) (writes.1 ∙ holds.contents) kept)
-    by (Err Stopped) (inl writes) kept gives = same writes.1 (λ on. absurd (true-false (sym gives.1.stopped ∙ on)))
-    by (Err Stopped) (inr writes) kept gives =
-        let all = written_for submits.entry submits.bytes in
-        let more = take writes.1.count all in
-        let stored = stored-cut holds.bytes mid.inner (holds.whole submits.runs) more (writes.2 writes.1.count writes.1.short) in
-        record {
-          bytes = holds.bytes ++ more;
-          contents = grew mid.contents last.contents holds.bytes more holds.contents writes.1.appends;
-          whole = λ on. absurd (true-false (sym gives.1.stopped ∙ on));
-          found = λ n most. grown first mid last runs submits holds.bytes more n (holds.whole submits.runs) (front-cut mid.inner.geometry all writes.1.count writes.1.short writes.2) (at-mid first mid last runs submits (holds.bytes ++ more) stored) (holds.found n most);
-        }
-
-run : (first last : Journaled) (before : List ℕ) → RunsTo first last → first.contents ≡ Some before → IsStoredWhole before first.inner → Holds first (length before) last
-run first last before here known whole = record {
-  bytes = before;
+run : (first last : Journaled) (since : ℕ) → IsInStep first → RunsSince first since last → Holds first since last
+run first last since kept (begins bytes known) = record {
+  runs = here;
+  bytes = bytes;
   contents = known;
-  whole = λ on. whole;
-  found = λ n most. rw (take_all n before most) (record { moment = first; before = here; after = here; stored = whole.0 });
+  found = λ n most. rw (take_all n bytes most) (record { moment = first; before = here; after = here; stored = at-known first.contents bytes (λ b. IsStored b first.drive) known kept.stored });
 }
-run first last before (later moment same runs submits) known whole = step first (length before) moment last runs submits (run first moment before runs known whole)
+run first last since kept (goes_on from moment same runs submits) =
+    let holds = run first moment from kept runs in
+    let over = subst (λ (o : Option (List ℕ)). Submits moment o last) holds.contents submits in
+    step first moment last holds.bytes holds.runs over since holds.found
+run first last since kept (anew from moment same held runs submits) =
+    let holds = run first moment from kept runs in
+    step first moment last held holds.runs submits (length held)
+    (λ n most. rw (take_all n held most) (record { moment = moment; before = holds.runs; after = here; stored = (held-whole first moment last held holds.runs submits).0 }))
 
 -- the first bytes of a run are those of a moment of it
-pub cut-at-a-moment : (first last : Journaled) (before bytes : List ℕ) (n : ℕ) → RunsTo first last → first.contents ≡ Some before → last.contents ≡ Some bytes → IsStoredWhole before first.inner → length before ≤ n
-    → IsOfAMoment first last (take n bytes)
-cut-at-a-moment first last before bytes n runs known ends whole most =
-    let holds = run first last before runs known whole in
+pub cut-at-a-moment : (first last : Journaled) (bytes : List ℕ) (since n : ℕ) → IsInStep first → RunsSince first since last → last.contents ≡ Some bytes → since ≤ n → IsOfAMoment first last (take n bytes)
+cut-at-a-moment first last bytes since n kept runs ends most =
+    let holds = run first last since kept runs in
     let same : holds.bytes ≡ bytes = some-same holds.bytes bytes (sym holds.contents ∙ ends) in
     rw (← same) (holds.found n most)

@@ -1,54 +1,60 @@
--- A device whose changes are written after an image.
-use Rattle.std.specs.Prelude.{◌≡◌, ◌⊎◌, ℕ, ◌-◌, ◌<◌, ◌==◌, ◌||◌, Bool, true, false, if◌then◌else◌, List, [], length, take, Option, IfSome, Result, Ok, Err}
+-- A device whose changes are written after an image, before its drive has them.
+use Rattle.std.specs.Prelude.{◌≡◌, ◌⊎◌, ℕ, ◌<◌, ◌==◌, ◌||◌, Bool, true, false, if◌then◌else◌, List, [], length, take, drop, ◌-◌, Option, IfSome, Result, Ok, Err}
 use Rattle.std.specs.Io.KnownBytes.{Appends}
 use Rattle.nvme_wire.specs.Completion.{code_in}
-use Rattle.nvme_wire.specs.declared.command.Command.{Command}
-use Rattle.nvme_wire.specs.declared.command.Command.TheVariants as commands
-use Rattle.nvme_wire.specs.declared.command.DecodeFault.{DecodeFault}
+use Rattle.nvme_wire.specs.Entry.{decode_of}
 use Rattle.disk_files.specs.Output.{AppendsFront}
-use Rattle.drive_port.specs.Drive.{DriveState}
+use Rattle.drive_port.specs.Drive.{DriveState, IsLawful}
+use Rattle.drive_port.specs.Halting.{SubmitAdds}
 use Rattle.drive_port.specs.declared.device.Halt.{Halt}
 use Rattle.drive_port.specs.declared.device.Halt.TheVariants.{Memory, Stopped}
+use Rattle.zone_states.specs.Zone.{Zone}
 use Rattle.zone_states.specs.declared.geometry.Geometry.{Geometry}
-use Rattle.drive_journal.specs.Change.{written_for}
+use Rattle.drive_journal.specs.Change.{changes, written_for}
 use Rattle.drive_journal.specs.File.{IsStored, IsStoredWhole}
 use Rattle.drive_journal.specs.Tail.{IsCutOff}
 use Rattle.drive_journal.specs.declared.loss.Loss.{Loss}
-use Rattle.drive_journal.specs.declared.loss.Loss.TheVariants.{Nothing, ACommand, AnAppend}
+use Rattle.drive_journal.specs.declared.loss.Loss.TheVariants.{Nothing, Change, Completion}
 
--- the drive within, the completion that was lost, and the bytes that the store holds, where they are known
+-- the drive that is shown, whether a change or a completion was lost, and the bytes that the store holds, where they are known
 pub record Journaled : Type 0 where
-  pub inner : DriveState
-  pub loss : Loss
+  pub drive : DriveState
+  pub lost : Bool
   pub contents : Option (List ℕ)
 
 abbrev pub is_lost : Loss → Bool
 is_lost Nothing = false
 is_lost loss = true
 
--- what is lost where the change of this command was not written
-abbrev pub loss_of : Result Command DecodeFault → Loss
-loss_of (Ok (commands.Append zslba blocks)) = AnAppend
-loss_of command = ACommand
+-- the zones that are shown: where a change was written that the drive within could not do, those that it would have left
+abbrev pub shown_zones : Loss → List Zone → List Zone → List Zone
+shown_zones Completion zones next = next
+shown_zones loss zones next = zones
 
--- a command whose completion was lost does not count
-abbrev pub completed_here : Loss → ℕ → ℕ
-completed_here Nothing n = n
-completed_here loss n = n - 1
+-- The drive that is shown: the one within, stopped where something was lost.
+abbrev pub shown_drive : Loss → DriveState → List Zone → DriveState
+shown_drive loss inner next = record inner { zones = shown_zones loss inner.zones next; stopped = is_lost loss || inner.stopped }
 
-abbrev pub appended_before : Loss → ℕ → ℕ
-appended_before AnAppend n = n - 1
-appended_before loss n = n
+-- the entry and the data of a change, by its bytes
+abbrev pub entry_in : List ℕ → List ℕ
+entry_in bytes = take 64 (drop 8 bytes)
 
--- the drive as a client sees it
-abbrev pub journaled_drive : Journaled → DriveState
-journaled_drive j = record j.inner {
-  completed = completed_here j.loss j.inner.completed;
-  appended = appended_before j.loss j.inner.appended;
-  stopped = is_lost j.loss || j.inner.stopped;
-}
+abbrev pub data_in : List ℕ → List ℕ
+data_in bytes = take (length bytes - 80) (drop 72 bytes)
+
+-- What is always so: the bytes of the store, where they are known, store the drive that is shown, and while nothing was lost no change in them is cut off.
+-- A device that lost something has stopped.
+pub record IsInStep (j : Journaled) : Type 0 where
+  pub stored : IfSome j.contents (λ bytes. IsStored bytes j.drive)
+  pub whole : j.lost ≡ false → IfSome j.contents (λ bytes. IsStoredWhole bytes j.drive)
+  pub stops : j.lost ≡ true → j.drive.stopped ≡ true
+  pub lawful : j.lost ≡ true → IsLawful j.drive
 
 -- ---- what is written
+
+-- The bytes of the store before a change is written: those that it held, or others that store the same drive. A command that changes nothing has none written anew.
+abbrev pub MayRenew : Journaled → List ℕ → Option (List ℕ) → Type 0
+MayRenew old entry held = (held ≡ old.contents) ⊎ ((changes (decode_of entry) ≡ true) × IfSome held (λ bytes. IsStoredWhole bytes old.drive))
 
 -- for a command that was completed: its change, unless it was refused
 abbrev pub written_by : List ℕ → List ℕ → List ℕ → List ℕ
@@ -59,26 +65,32 @@ abbrev pub AreCutOff : Geometry → List ℕ → Type 0
 AreCutOff geometry bytes = (n : ℕ) → n < length bytes → IsCutOff geometry (take n bytes)
 
 -- these bytes were written, or after a fault of the store a beginning of them
-abbrev pub WritesAll : Journaled → List ℕ → Journaled → Type 0
-WritesAll old bytes new = (new.loss ≡ old.loss) × Appends old.contents new.contents bytes × AreCutOff old.inner.geometry bytes
+abbrev pub WritesAll : Geometry → Option (List ℕ) → List ℕ → Journaled → Type 0
+WritesAll geometry held bytes new = Appends held new.contents bytes × AreCutOff geometry bytes
 
-abbrev pub WritesFront : Journaled → List ℕ → Journaled → Type 0
-WritesFront old bytes new = (is_lost new.loss ≡ true) × AppendsFront old.contents new.contents bytes × AreCutOff old.inner.geometry bytes
+abbrev pub WritesFront : Geometry → Option (List ℕ) → List ℕ → Journaled → Type 0
+WritesFront geometry held bytes new = AppendsFront held new.contents bytes × AreCutOff geometry bytes
 
--- A submit writes the change of a command that was completed, and nothing where it halts.
--- Where the store failed, the device has stopped, and a beginning of the change is written.
-abbrev pub WritesChange : Journaled → List ℕ → List ℕ → Result (List ℕ) Halt → Journaled → Type 0
-WritesChange old entry bytes (Ok completion) new = WritesAll old (written_by completion entry bytes) new
-WritesChange old entry bytes (Err Memory) new = (new.loss ≡ old.loss) × (new.contents ≡ old.contents)
-WritesChange old entry bytes (Err Stopped) new = ((new.loss ≡ old.loss) × (new.contents ≡ old.contents)) ⊎ WritesFront old (written_for entry bytes) new
+-- A submit writes the change of a command that was completed, and nothing where it is out of memory.
+-- Where the device stops, nothing was written; or the store failed, and has a beginning of the change; or it has the change, and the completion was lost.
+abbrev pub Writes : Journaled → Option (List ℕ) → List ℕ → List ℕ → Result (List ℕ) Halt → Journaled → Type 0
+Writes old held entry bytes (Ok completion) new = (new.lost ≡ false) × WritesAll old.drive.geometry held (written_by completion entry bytes) new
+Writes old held entry bytes (Err Memory) new = (new.lost ≡ false) × (new.contents ≡ held)
+Writes old held entry bytes (Err Stopped) new =
+    (new.contents ≡ held)
+    ⊎ ((new.lost ≡ true) × (WritesFront old.drive.geometry held (written_for entry bytes) new ⊎ WritesAll old.drive.geometry held (written_for entry bytes) new))
 
--- ---- what is kept
+-- the bytes of the store were perhaps written anew, and then the change of the command was written
+pub record WritesChange (old : Journaled) (entry bytes : List ℕ) (result : Result (List ℕ) Halt) (new : Journaled) : Type 0 where
+  pub held : Option (List ℕ)
+  pub renewed : MayRenew old entry held
+  pub written : Writes old held entry bytes result new
 
--- While the device runs, the bytes of the store, where they are known, are an image and the changes that made the drive within of it.
-abbrev pub IsInStep : Journaled → Type 0
-IsInStep j = (is_lost j.loss || j.inner.stopped) ≡ false → IfSome j.contents (λ bytes. IsStoredWhole bytes j.inner)
-
--- After a submit they are those of the drive after it. Where the device has stopped, they are those of the drive before it, whatever the drive within has done.
-abbrev pub KeptAfter : Result (List ℕ) Halt → Journaled → Journaled → Type 0
-KeptAfter (Err Stopped) old new = IfSome new.contents (λ bytes. IsStored bytes old.inner)
-KeptAfter result old new = IfSome new.contents (λ bytes. IsStoredWhole bytes new.inner)
+-- an answer to an entry, whose bytes come after those that were held
+pub record Answers (old : Journaled) (entry bytes held : List ℕ) (result : Result (List ℕ) Halt) (items : List ℕ) (new : Journaled) : Type 0 where
+  pub gives : SubmitAdds old.drive entry bytes held result items new.drive
+  pub was_lawful : IsLawful old.drive
+  pub lawful : IsLawful new.drive
+  pub writes : WritesChange old entry bytes result new
+  pub was_kept : IsInStep old
+  pub kept : IsInStep new

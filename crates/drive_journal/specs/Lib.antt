@@ -7,3 +7,4 @@ pub mod Journaling
 pub mod Moments
 pub mod Reading
 pub mod Held
+pub mod SameData

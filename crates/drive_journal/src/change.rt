@@ -1,13 +1,12 @@
-ghost use Rattle.std.specs.Prelude.{◌≡◌, ◌++◌, ◌==◌, [], None, true, OnErr, OnOk, if◌then◌else◌};
-ghost use Rattle.std.specs.Io.KnownBytes.{Appends};
-ghost use Rattle.nvme_wire.specs.Completion.{code_in};
-ghost use Rattle.disk_files.specs.Output.{AppendsFront};
-ghost use Rattle.drive_journal.specs.Change.{change_bytes, mark, seal, written_for};
+ghost use Rattle.std.specs.Prelude.{◌≡◌, ◌++◌, ◌&&◌, [], IsTrue, OnOk};
+ghost use Rattle.nvme_wire.specs.Entry.{decode_of};
+ghost use Rattle.drive_port.specs.Step.{is_success};
+ghost use Rattle.zone_drive.specs.Foreseen.{CanGive};
+ghost use Rattle.drive_journal.specs.Change.{change_bytes, changes, mark, seal, written_for};
 
-use crate::store::Store;
+use crate::foreseeing::Foreseeing;
 use byteorder::{ByteOrder, LittleEndian};
-use disk_files::WriteFault;
-use nvme_wire::Command;
+use nvme_wire::{Command, Status};
 use sqlite_wal::checksum_of;
 use std::alloc::AllocError;
 
@@ -54,27 +53,31 @@ pub(crate) fn prepare(
     }
 }
 
-/// Whether the command of this completion was not refused.
-fn is_done(completion: &[u8; 16]) -> bool
-    ensures { result ≡ (code_in completion.now == 0) }
+/// Whether the command of this entry changes what the device holds, if there is memory for it.
+pub(crate) fn will_change<D: Foreseeing>(device: &D, entry: &[u8; 64], bytes: &[u8]) -> bool
+    ensures value { result ≡ (changes (decode_of entry.now)
+        && is_success (D.foreseen device.now entry.now bytes.now).status) }
+    ensures can { IsTrue result → CanGive (D.drive device.now) (decode_of entry.now) bytes.now
+        (D.foreseen device.now entry.now bytes.now) }
 {
-    LittleEndian::read_u16(&completion[14..16]) == 0
+    match Command::decode(entry) {
+        Ok(Command::Write { .. } | Command::Append { .. } | Command::Send { .. }) => {
+            device.foresee(entry, bytes) == Status::Success
+        }
+        _ => false,
+    }
 }
 
-/// Writes the change of a command, unless the command was refused.
-pub(crate) fn write_if_done<S: Store>(
-    store: &mut S,
-    change: &[u8],
-    completion: &[u8; 16],
-) -> Result<(), WriteFault>
-    ensures ok { OnOk result (Appends (S.held store.old) (S.held store.new)
-        (if code_in completion.now == 0 then change.now else [])) }
-    ensures done { OnErr result ((code_in completion.now == 0) ≡ true) }
-    ensures err { OnErr result (AppendsFront (S.held store.old) (S.held store.new) change.now) }
-    ensures unknown { S.held store.old ≡ None → S.held store.new ≡ None }
+/// Puts the change of a command into `change`, and takes the memory that the device needs for it.
+pub(crate) fn make_ready<D: Foreseeing>(
+    device: &mut D,
+    change: &mut Vec<u8>,
+    entry: &[u8; 64],
+    bytes: &[u8],
+) -> Result<(), AllocError>
+    ensures device { device.new ≡ device.old }
+    ensures change { OnOk result (change.new.items ≡ written_for entry.now bytes.now) }
 {
-    if !is_done(completion) {
-        return Ok(());
-    }
-    store.append(change)
+    prepare(change, entry, bytes)?;
+    device.reserve(entry, bytes)
 }

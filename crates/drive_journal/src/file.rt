@@ -1,4 +1,8 @@
-ghost use Rattle.std.specs.Prelude.{◌≡◌, IfErr, IfOk, IfSome, OnErr, if◌then◌else◌};
+ghost use Rattle.std.specs.Prelude.{◌≡◌, ◌==◌, ◌&&◌, ◌↔◌, IfErr, IfOk, IfSome, IsTrue, OnErr, if◌then◌else◌, not, take};
+ghost use Rattle.std.specs.List.{list_all};
+ghost use Rattle.zone_states.specs.Transition.{is_open};
+ghost use Rattle.drive_port.specs.Run.{restarted};
+ghost use Rattle.drive_images.specs.Image.{IsImage};
 ghost use Rattle.zone_states.specs.Geometry.{IsInRange};
 ghost use Rattle.zone_drive.specs.Stored.{unused, zones_of};
 ghost use Rattle.drive_port.specs.Drive.{IsLawful};
@@ -12,7 +16,7 @@ use drive_images::{image_length, read_image_front};
 use std::alloc::Global;
 use std::io::Read;
 use zone_drive::Drive;
-use zone_states::{Geometry, Zone};
+use zone_states::{Geometry, Zone, is_open};
 
 /// A drive that was read in a file.
 #[derive(Drop)]
@@ -21,6 +25,8 @@ pub struct OpenedDrive {
     /// How many bytes of the file are the image and whole changes. The bytes after them are a change that was cut
     /// off: the file is cut there before more is written.
     pub whole: u64,
+    /// Whether these are the image of the drive as a restart leaves it: there was no change, and no zone is open.
+    pub is_image: bool,
 }
 
 // Closes the open zones, if there were changes.
@@ -32,6 +38,20 @@ fn settle(zones: &mut [Zone], block: u32, has_changes: bool)
     if has_changes {
         close_zones(block, zones);
     }
+}
+
+// Whether no zone is open, as after a restart.
+fn are_shut(zones: &[Zone]) -> bool
+    ensures { result ≡ list_all (λ zone. not (is_open zone.state)) zones.now }
+{
+    zones.iter().all(|zone| !is_open(zone.state()))
+}
+
+// Whether the whole bytes of a file are an image alone, of zones none of which is open.
+fn is_rested_image(zones: &[Zone], from: u64, whole: u64) -> bool
+    ensures { result ≡ ((whole == from) && list_all (λ zone. not (is_open zone.state)) zones.now) }
+{
+    whole == from && are_shut(zones)
 }
 
 // A drive of these zones, if there is one.
@@ -53,6 +73,8 @@ fn make_drive(alloc: Global, geometry: Geometry, zones: Vec<Zone>) -> Result<Dri
 pub fn open_drive<R: Read>(alloc: Global, reader: &mut R) -> Result<OpenedDrive, FileFault>
     ensures ok { IfOk result (λ opened. IfSome (R.remaining reader.old) (λ bytes.
         IsDriveFile bytes opened.drive.state opened.whole)) }
+    ensures image { IfOk result (λ opened. IfSome (R.remaining reader.old) (λ bytes.
+        IsTrue opened.is_image ↔ IsImage (take opened.whole bytes) (restarted opened.drive.state))) }
     ensures err { IfErr result (λ fault. IfSome (R.remaining reader.old) (λ bytes. IsFileFault bytes fault)) }
 {
     let saved = read_image_front(alloc, reader)?;
@@ -61,6 +83,11 @@ pub fn open_drive<R: Read>(alloc: Global, reader: &mut R) -> Result<OpenedDrive,
     let from = image_length(&geometry, &zones);
     let whole = replay(alloc, reader, &geometry, &mut zones, from)?;
     settle(&mut zones, geometry.block, whole > from);
+    let is_image = is_rested_image(&zones, from, whole);
     let drive = make_drive(alloc, geometry, zones)?;
-    Ok(OpenedDrive { drive, whole })
+    Ok(OpenedDrive {
+        drive,
+        whole,
+        is_image,
+    })
 }

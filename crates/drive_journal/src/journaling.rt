@@ -1,24 +1,25 @@
-ghost use Rattle.std.specs.Prelude.{◌≡◌, [], false};
-ghost use Rattle.nvme_wire.specs.Entry.{decode_of};
+ghost use Rattle.std.specs.Prelude.{◌≡◌, [], IfSome, false};
 ghost use Rattle.drive_port.specs.Drive.{IsLawful};
 ghost use Rattle.drive_port.specs.Halting.{SubmitAdds, SubmitGives};
-ghost use Rattle.drive_journal.specs.Journaling.{IsInStep, KeptAfter, WritesChange, journaled_drive, is_lost, loss_of};
+ghost use Rattle.drive_journal.specs.File.{IsStoredWhole};
+ghost use Rattle.drive_journal.specs.Journaling.{Answers, IsInStep, WritesChange};
 
-use crate::change::{prepare, write_if_done};
+use crate::change::{make_ready, will_change};
+use crate::foreseeing::Foreseeing;
 use crate::loss::Loss;
 use crate::store::Store;
 use drive_port::{Device, Geometry, Halt};
-use nvme_wire::Command;
 use std::alloc::Global;
 use std::marker::Model;
 
-/// A device that writes each change of another to a store, before it gives the completion. The store holds the image
-/// of a drive, and after it the changes since.
+/// A device that writes each change of another to a store, before the other makes it. The store holds the image of a
+/// drive, and after it the changes since. The drive that is shown is always the one that the store holds.
 ///
-/// Where the store fails, the device has stopped, and the completion is lost. The store then holds the drive as it was
-/// before the command, and a beginning of the change.
+/// Where the store fails, the device has stopped, and shows the drive as it was before the command. If the store has
+/// the change and there is no memory to do the command, the device has stopped too, and shows the drive with the
+/// command done.
 #[derive(Drop)]
-pub struct Journaling<D: Device + Drop, S: Store + Drop> {
+pub struct Journaling<D: Foreseeing + Drop, S: Store<D> + Drop> {
     device: D,
     store: S,
     loss: Loss,
@@ -26,33 +27,31 @@ pub struct Journaling<D: Device + Drop, S: Store + Drop> {
     change: Vec<u8>,
 }
 
-impl<D: Device + Drop, S: Store + Drop> Model for Journaling<D, S> {
-    ghost use Rattle.drive_journal.specs.Journaling.{IsInStep, Journaled};
+impl<D: Foreseeing + Drop, S: Store<D> + Drop> Model for Journaling<D, S> {
+    ghost use Rattle.drive_journal.specs.Journaling.{IsInStep, Journaled, data_in, entry_in, is_lost, shown_drive};
 
     ghost Value = { Journaled };
 
-    ghost view = { λ j. record { inner = D.drive j.device; loss = j.loss; contents = S.held j.store } };
+    ghost view = { λ j. record {
+      drive = shown_drive j.loss (D.drive j.device)
+          (D.foreseen j.device (entry_in j.change.items) (data_in j.change.items)).zones;
+      lost = is_lost j.loss;
+      contents = S.held j.store;
+    } };
 
-    ghost invariant = { λ j. IsInStep (record { inner = D.drive j.device; loss = j.loss; contents = S.held j.store }) };
+    ghost invariant = { λ j. IsInStep (record {
+      drive = shown_drive j.loss (D.drive j.device)
+          (D.foreseen j.device (entry_in j.change.items) (data_in j.change.items)).zones;
+      lost = is_lost j.loss;
+      contents = S.held j.store;
+    }) };
 }
 
-// What is lost where the change of this entry is not written.
-fn loss_of(entry: &[u8; 64]) -> Loss
-    ensures { result ≡ loss_of (decode_of entry.now) }
-{
-    match Command::decode(entry) {
-        Ok(Command::Append { .. }) => Loss::AnAppend,
-        _ => Loss::ACommand,
-    }
-}
-
-impl<D: Device + Drop, S: Store + Drop> Journaling<D, S> {
-    ghost use Rattle.drive_journal.specs.declared.loss.Loss.TheVariants.{Nothing};
-
-    /// A device whose changes go to this store, which holds this drive.
+impl<D: Foreseeing + Drop, S: Store<D> + Drop> Journaling<D, S> {
+    /// A device whose changes go to this store, which holds the drive of the device.
     pub fn new(alloc: Global, device: D, store: S) -> Self
-        requires { IsInStep (record { inner = D.drive device; loss = Nothing; contents = S.held store }) }
-        ensures { result ≡ record { inner = D.drive device; loss = Nothing; contents = S.held store } }
+        requires { IfSome (S.held store) (λ bytes. IsStoredWhole bytes (D.drive device)) }
+        ensures { result ≡ record { drive = D.drive device; lost = false; contents = S.held store } }
     {
         Journaling {
             device,
@@ -62,45 +61,76 @@ impl<D: Device + Drop, S: Store + Drop> Journaling<D, S> {
         }
     }
 
-    /// The device within and the store, as they are.
+    /// The device within and the store, as they are. The store holds the drive that was shown. So does the device,
+    /// unless the store failed or there was no memory for a change that the store has.
     pub fn into_parts(self) -> (D, S)
-        ensures device { D.drive result.0 ≡ self.inner }
+        ensures device { self.lost ≡ false → D.drive result.0 ≡ self.drive }
         ensures store { S.held result.1 ≡ self.contents }
         ensures kept { IsInStep self }
     {
         (self.device, self.store)
     }
 
-    /// Whether the store failed: a change was not written, and the device has stopped.
+    /// Whether the device has stopped because the store failed, or because there was no memory for a change that the
+    /// store has.
     pub fn store_failed(&self) -> bool
-        ensures { result ≡ is_lost self.now.loss }
+        ensures { result ≡ self.now.lost }
     {
         self.is_lost()
     }
 
-    // Whether a change was not written.
+    // Whether a change or a completion was lost.
     fn is_lost(&self) -> bool
-        ensures { result ≡ is_lost self.now.loss }
+        ensures { result ≡ self.now.lost }
     {
         match self.loss {
             Loss::Nothing => false,
             _ => true,
         }
     }
+
+    // Answers an entry. What it returns goes after what `into` holds.
+    fn answer(
+        &mut self,
+        entry: &[u8; 64],
+        bytes: &[u8],
+        into: &mut Vec<u8>,
+    ) -> Result<[u8; 16], Halt>
+        ensures { Answers self.old entry.now bytes.now into.old.items result into.new.items self.new }
+    {
+        if self.stopped() {
+            return Err(Halt::Stopped);
+        }
+        if !will_change(&self.device, entry, bytes) {
+            return self.device.answer(entry, bytes, into);
+        }
+        self.store.renew(&self.device);
+        let Ok(()) = make_ready(&mut self.device, &mut self.change, entry, bytes) else {
+            return Err(Halt::Memory);
+        };
+        let Ok(()) = self.store.append(&self.change) else {
+            self.loss = Loss::Change;
+            return Err(Halt::Stopped);
+        };
+        match self.device.answer(entry, bytes, into) {
+            Ok(completion) => Ok(completion),
+            Err(_) => {
+                self.loss = Loss::Completion;
+                Err(Halt::Stopped)
+            }
+        }
+    }
 }
 
-impl<D: Device + Drop, S: Store + Drop> Device for Journaling<D, S> {
-    ghost drive = { λ j. journaled_drive j };
+impl<D: Foreseeing + Drop, S: Store<D> + Drop> Device for Journaling<D, S> {
+    ghost drive = { λ j. j.drive };
 
     fn geometry(&self) -> Geometry {
         self.device.geometry()
     }
 
     fn completed(&self) -> u64 {
-        match self.loss {
-            Loss::Nothing => self.device.completed(),
-            _ => self.device.completed().saturating_sub(1),
-        }
+        self.device.completed()
     }
 
     fn stopped(&self) -> bool {
@@ -114,58 +144,29 @@ impl<D: Device + Drop, S: Store + Drop> Device for Journaling<D, S> {
         bytes: &[u8],
         into: &mut Vec<u8>,
     ) -> Result<[u8; 16], Halt>
-        ensures gives { SubmitGives (journaled_drive self.old) entry.now bytes.now result into.new.items
-            (journaled_drive self.new) }
-        ensures was_lawful { IsLawful (journaled_drive self.old) }
-        ensures lawful { IsLawful (journaled_drive self.new) }
+        ensures gives { SubmitGives self.old.drive entry.now bytes.now result into.new.items self.new.drive }
+        ensures was_lawful { IsLawful self.old.drive }
+        ensures lawful { IsLawful self.new.drive }
+
+        // The change is written before the drive makes it, and the drive that is shown is the one that the store holds.
         ensures writes { WritesChange self.old entry.now bytes.now result self.new }
         ensures was_kept { IsInStep self.old }
-        ensures kept { (journaled_drive self.old).stopped ≡ false → KeptAfter result self.old self.new }
+        ensures kept { IsInStep self.new }
     {
         into.clear();
-        if self.stopped() {
-            return Err(Halt::Stopped);
-        }
-        prepare(&mut self.change, entry, bytes)?;
-        let completion = match self.device.submit(entry, bytes, into) {
-            Ok(completion) => completion,
-            Err(halt) => return Err(halt),
-        };
-        match write_if_done(&mut self.store, &self.change, &completion) {
-            Ok(()) => Ok(completion),
-            Err(_) => {
-                into.clear();
-                self.loss = loss_of(entry);
-                Err(Halt::Stopped)
-            }
-        }
+        self.answer(entry, bytes, into)
     }
 
     fn submit_extending(&mut self, entry: &[u8; 64], into: &mut Vec<u8>) -> Result<[u8; 16], Halt>
-        ensures gives { SubmitAdds (journaled_drive self.old) entry.now [] into.old.items result into.new.items
-            (journaled_drive self.new) }
-        ensures was_lawful { IsLawful (journaled_drive self.old) }
-        ensures lawful { IsLawful (journaled_drive self.new) }
+        ensures gives { SubmitAdds self.old.drive entry.now [] into.old.items result into.new.items self.new.drive }
+        ensures was_lawful { IsLawful self.old.drive }
+        ensures lawful { IsLawful self.new.drive }
+
+        // It writes what `submit` writes, and keeps what that keeps.
         ensures writes { WritesChange self.old entry.now [] result self.new }
         ensures was_kept { IsInStep self.old }
-        ensures kept { (journaled_drive self.old).stopped ≡ false → KeptAfter result self.old self.new }
+        ensures kept { IsInStep self.new }
     {
-        if self.stopped() {
-            return Err(Halt::Stopped);
-        }
-        prepare(&mut self.change, entry, &[])?;
-        let held = into.len();
-        let completion = match self.device.submit_extending(entry, into) {
-            Ok(completion) => completion,
-            Err(halt) => return Err(halt),
-        };
-        match write_if_done(&mut self.store, &self.change, &completion) {
-            Ok(()) => Ok(completion),
-            Err(_) => {
-                into.truncate(held);
-                self.loss = loss_of(entry);
-                Err(Halt::Stopped)
-            }
-        }
+        self.answer(entry, &[], into)
     }
 }

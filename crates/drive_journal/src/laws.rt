@@ -9,8 +9,8 @@ ghost use Rattle.drive_images.specs.Image.{IsImage};
 ghost use Rattle.drive_journal.specs.Change.{Change, HasNoChange, IsChange, journal_bytes, cut_rest, whole_in};
 ghost use Rattle.drive_journal.specs.File.{IsDriveFile, IsStored, IsStoredWhole, whole_length};
 ghost use Rattle.drive_journal.specs.FileFaults.{IsFileFault, is_of_file};
-ghost use Rattle.drive_journal.specs.Journaling.{Journaled};
-ghost use Rattle.drive_journal.specs.Moments.{IsOfAMoment, RunsTo};
+ghost use Rattle.drive_journal.specs.Journaling.{IsInStep, Journaled};
+ghost use Rattle.drive_journal.specs.Moments.{IsOfAMoment, RunsSince};
 ghost use Rattle.drive_journal.specs.Tail.{IsCutOff};
 ghost use Rattle.drive_journal.specs.declared.fault.FileFault.{FileFault};
 
@@ -55,12 +55,12 @@ pub fn stored_is_read()
         (stored : IsStored bytes drive) → IsDriveFile bytes opened whole → whole ≡ whole_length stored.parts }
 {}
 
-/// A run that is killed: however the file is cut after what it held at a moment of the run, as when a reply was sent,
-/// it stores the drive of that moment or of a later one.
+/// A run that is killed: however the file is cut after what it held when the run began, or when it was last written
+/// anew, it stores the drive of a moment of the run. So it does where it is cut after what it held when a reply was
+/// sent: the run after that reply is a run too.
 pub fn cut_at_a_moment()
-    ensures { (first last : Journaled) (before bytes : List ℕ) (n : ℕ) → RunsTo first last →
-        first.contents ≡ Some before → last.contents ≡ Some bytes → IsStoredWhole before first.inner →
-        length before ≤ n → IsOfAMoment first last (take n bytes) }
+    ensures { (first last : Journaled) (bytes : List ℕ) (since n : ℕ) → IsInStep first →
+        RunsSince first since last → last.contents ≡ Some bytes → since ≤ n → IsOfAMoment first last (take n bytes) }
 {}
 
 /// What stores a drive is never refused: a drive is read in it, unless the reader fails or memory runs out.

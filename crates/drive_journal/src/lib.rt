@@ -13,11 +13,13 @@
 //!
 //! # What is promised
 //!
-//! * [`Journaling`] is a device again, over every device and every store. While it runs, the store holds an image and
-//!   the changes that made this drive of it (`IsKept` in `specs/Journaling.antt`), up to which zones are open. A change
-//!   is written before its command is answered. A command that was refused, reads or halts writes nothing.
-//! * Where the store fails, the device has stopped, and the store holds the drive as it was before the command
-//!   (`KeptAfter`), whatever the drive within has done.
+//! * [`Journaling`] is a device again, over every device that foresees how a command will end ([`Foreseeing`], as a
+//!   drive in memory does), and over every store. The drive that it shows is always the one that its store holds
+//!   (`IsInStep` in `specs/Journaling.antt`), up to which zones are open. A change is written before the drive makes
+//!   it. A command that is refused, or changes nothing, writes nothing.
+//! * Where the store fails, the device has stopped, and shows the drive as it was before the command. If the store has
+//!   the change and there is no memory to do the command, it has stopped too, and shows the drive with the command done.
+//! * A store may write its bytes anew, as the image of the drive, before a change is written (`Store::renew`).
 //! * [`open_drive`] reads the drive that a file holds (`IsDriveFile` in `specs/File.antt`), or tells its first fault
 //!   (`IsFileFault`). A change that was cut off is dropped, since its command was never answered. Bytes that are no
 //!   change are a fault: after the image itself `Long`, as ever; after a change, or where they are more than a change
@@ -30,6 +32,7 @@
 mod change;
 mod fault;
 mod file;
+mod foreseeing;
 mod found;
 mod journaling;
 pub mod laws;
@@ -40,6 +43,7 @@ mod store;
 
 pub use fault::FileFault;
 pub use file::{OpenedDrive, open_drive};
+pub use foreseeing::Foreseeing;
 pub use journaling::Journaling;
 pub use loss::Loss;
 pub use replaying::replay;

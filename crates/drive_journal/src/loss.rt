@@ -1,10 +1,10 @@
-/// Which completion was lost because its change was not written.
+/// What a device lost that has stopped.
 #[derive(Clone, Copy, Debug, PartialEq, Eq)]
 pub enum Loss {
-    /// None: the changes of all completed commands were written.
+    /// Nothing: the store has the changes of all commands that were completed, and no other.
     Nothing,
-    /// That of a command other than an Append.
-    ACommand,
-    /// That of an Append.
-    AnAppend,
+    /// A change: the store failed, and the command was not done.
+    Change,
+    /// A completion: the store has the change, and there was no memory to do the command.
+    Completion,
 }

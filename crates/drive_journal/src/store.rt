@@ -1,12 +1,18 @@
-ghost use Rattle.std.specs.Prelude.{◌≡◌, List, None, OnErr, OnOk, Option, Some, ℕ};
+ghost use Rattle.std.specs.Prelude.{◌≡◌, List, IfOk, IfSome, OnErr, OnOk, Option, Some, None, is_some, ℕ};
 ghost use Rattle.std.specs.Io.KnownBytes.{Appends};
 ghost use Rattle.disk_files.specs.Output.{AppendsFront};
+ghost use Rattle.drive_journal.specs.File.{IsStoredWhole};
 
 use disk_files::{WriteFault, write_out};
+use drive_images::laws::image_again;
+use drive_images::write_image;
+use drive_port::Device;
+use std::alloc::Global;
 use std::io::Write;
+use zone_drive::Drive;
 
-/// What changes are written to: a file, whose bytes no contract knows, or bytes in memory.
-pub trait Store {
+/// What the changes of a device are written to: a file, whose bytes no contract knows, or bytes in memory.
+pub trait Store<D: Device> {
     /// The bytes that it holds, where they are known.
     ghost held: { Self → Option (List ℕ) };
 
@@ -14,10 +20,17 @@ pub trait Store {
     fn append(&mut self, bytes: &[u8]) -> Result<(), WriteFault>
         ensures ok { OnOk result (Appends (held self.old) (held self.new) bytes.now) }
         ensures err { OnErr result (AppendsFront (held self.old) (held self.new) bytes.now) }
-        ensures unknown { held self.old ≡ None → held self.new ≡ None };
+        ensures known { is_some (held self.new) ≡ is_some (held self.old) };
+
+    /// May put others in the place of the bytes that it holds, which store the same drive, as its image does. It is
+    /// called before a change is written. Where the others cannot be written, the bytes stay.
+    fn renew(&mut self, device: &D)
+        requires { IfSome (held self.old) (λ bytes. IsStoredWhole bytes (D.drive device.now)) }
+        ensures stored { IfSome (held self.new) (λ bytes. IsStoredWhole bytes (D.drive device.now)) }
+        ensures known { is_some (held self.new) ≡ is_some (held self.old) };
 }
 
-/// A writer of whose bytes no contract says anything, as a file.
+/// A writer of whose bytes no contract says anything, as a file. It writes nothing anew.
 #[derive(Drop)]
 pub struct Unknown<W: Write + Drop> {
     writer: W,
@@ -35,28 +48,37 @@ impl<W: Write + Drop> Unknown<W> {
     }
 }
 
-impl<W: Write + Drop> Store for Unknown<W> {
+impl<W: Write + Drop, D: Device> Store<D> for Unknown<W> {
     ghost held = { λ _. None };
 
     fn append(&mut self, bytes: &[u8]) -> Result<(), WriteFault> {
         write_out(&mut self.writer, bytes)
     }
+
+    fn renew(&mut self, _device: &D) {}
 }
 
-/// Bytes in memory.
+/// Bytes in memory. Where there are more than a limit, they are written anew as the image of the drive. Then the limit
+/// is at least twice as long as the image, so that this seldom happens.
 #[derive(Drop)]
 pub struct Held {
+    alloc: Global,
     bytes: Vec<u8>,
+    limit: usize,
 }
 
 impl Held {
     ghost use Rattle.drive_journal.specs.Held.{held_bytes};
 
-    /// These bytes.
-    pub fn new(bytes: Vec<u8>) -> Self
+    /// These bytes, and the limit.
+    pub fn new(alloc: Global, bytes: Vec<u8>, limit: usize) -> Self
         ensures { held_bytes result ≡ bytes.items }
     {
-        Held { bytes }
+        Held {
+            alloc,
+            bytes,
+            limit,
+        }
     }
 
     /// The bytes.
@@ -67,10 +89,30 @@ impl Held {
     }
 }
 
-impl Store for Held {
+// The image of a drive.
+fn image_of(alloc: Global, drive: &Drive) -> Result<Vec<u8>, WriteFault>
+    ensures { IfOk result (λ image. IsStoredWhole image.items drive.now.state) }
+{
+    image_again(drive);
+    let mut image = Vec::new(alloc);
+    write_image(drive, &mut image)?;
+    Ok(image)
+}
+
+impl Store<Drive> for Held {
     ghost held = { λ h. Some h.bytes.items };
 
     fn append(&mut self, bytes: &[u8]) -> Result<(), WriteFault> {
         write_out(&mut self.bytes, bytes)
+    }
+
+    fn renew(&mut self, drive: &Drive) {
+        if self.bytes.len() <= self.limit {
+            return;
+        }
+        if let Ok(image) = image_of(self.alloc, drive) {
+            self.limit = self.limit.max(image.len().saturating_mul(2));
+            self.bytes = image;
+        }
     }
 }

@@ -13,3 +13,4 @@ pub mod ZonesLaws
 pub mod GroupLaws
 pub mod TableLaws
 pub mod ChangeLaws
+pub mod ForeseeLaws

@@ -38,7 +38,7 @@ closes-lowest (zone ∷ zones) = either (is_state ImplicitlyOpened zone.state) r
     either true e rest = (closes-one zone e, IsClosing-refl zones)
     either false e rest = (record { blocks = refl; state = inl refl }, rest)
 
-closes-chosen : (wants : Bool) (zones : List Zone) → IsClosing zones (cond wants (close_lowest zones) zones)
+pub closes-chosen : (wants : Bool) (zones : List Zone) → IsClosing zones (cond wants (close_lowest zones) zones)
 closes-chosen true zones = closes-lowest zones
 closes-chosen false zones = IsClosing-refl zones
 

@@ -8,3 +8,4 @@ pub mod Writing
 pub mod Sending
 pub mod Counts
 pub mod Memory
+pub mod Foreseen

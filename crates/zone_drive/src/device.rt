@@ -12,7 +12,7 @@ use crate::reply::Reply;
 use drive_port::{Device, Geometry, Halt};
 use nvme_wire::{Command, Completion, DecodeFault, Status, entry_id};
 
-fn fault_status(fault: DecodeFault) -> Status
+pub(crate) fn fault_status(fault: DecodeFault) -> Status
     ensures { result ≡ decode_status fault }
 {
     match fault {
@@ -89,10 +89,11 @@ impl Drive {
         }
     }
 
-    // Answers an entry, and counts its command. What it returns goes after what `into` holds. It is inlined:
-    // where LLVM sees an entry encoded and then decoded, or a completion, it does neither.
+    /// Answers an entry as `submit` does, and extends what `into` holds as `submit_extending` does.
+    //
+    // It is inlined: where LLVM sees an entry encoded and then decoded, or a completion, it does neither.
     #[inline(always)]
-    fn answer(
+    pub fn answer(
         &mut self,
         entry: &[u8; 64],
         bytes: &[u8],

@@ -26,6 +26,7 @@
 
 mod device;
 mod drive;
+mod foresee;
 mod habit;
 mod opening;
 mod read;

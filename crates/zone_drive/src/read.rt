@@ -14,9 +14,9 @@ use std::alloc::AllocError;
 use zone_states::ZoneState;
 
 impl Drive {
-    // What is written of a zone from an address on, for a Read of that many blocks; or the status of the
-    // first check that the Read fails.
-    fn written_from(&self, slba: u64, blocks: u32) -> Result<&[u8], Status>
+    /// What is written of a zone from an address on, for a Read of that many blocks; or the status of the
+    /// first check that the Read fails.
+    pub(crate) fn written_from(&self, slba: u64, blocks: u32) -> Result<&[u8], Status>
         requires { 1 ≤ blocks }
         ensures passed { OnOk result (None ≡ first_failing (read_checks self.now.state.geometry
             (zone_at self.now.state.zones (slba / self.now.state.geometry.size)) slba blocks)) }

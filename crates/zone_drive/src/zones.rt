@@ -68,6 +68,16 @@ impl Zones {
         self.resources.lowest_implicit(&self.zones)
     }
 
+    /// Takes the memory for that many more bytes of a zone, if there is one with this number.
+    pub fn reserve(&mut self, index: usize, bytes: usize) -> Result<(), AllocError>
+        ensures { self.new ≡ self.old }
+    {
+        if index >= self.zones.len() {
+            return Ok(());
+        }
+        self.zones[index].reserve(bytes)
+    }
+
     /// Writes bytes after those of a zone, as a Write or an Append does that passed its checks: nothing is
     /// checked here.
     pub fn write(

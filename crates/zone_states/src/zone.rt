@@ -178,6 +178,13 @@ impl Zone {
         self.room_refusal(geometry, blocks)
     }
 
+    /// Takes the memory for that many more bytes, so that they can be added without another allocation.
+    pub fn reserve(&mut self, bytes: usize) -> Result<(), AllocError>
+        ensures { self.new ≡ self.old }
+    {
+        self.written.reserve(bytes)
+    }
+
     /// Adds these bytes after the others, as a Write or an Append does that passed its checks: nothing is
     /// checked here. The zone's bytes grow once.
     pub fn extend(&mut self, geometry: &Geometry, bytes: &[u8]) -> Result<(), AllocError>
