@@ -27,7 +27,8 @@ impl OptionHead {
     /// Decodes a head. None where the bytes do not begin with `IHAVEOPT`.
     pub fn decode(bytes: &[u8; 16]) -> Option<OptionHead>
         ensures some { IfSome result (λ head. (bytes.now ≡ option_head_bytes head) × FitsHead head) }
-        ensures encoded { (head : _) → FitsHead head → bytes.now ≡ option_head_bytes head → result ≡ Some head }
+        ensures encoded { (head : _) → FitsHead head → bytes.now ≡ option_head_bytes head
+            → result ≡ Some head }
     {
         let head = OptionHead {
             option: u32_at(bytes, 8),

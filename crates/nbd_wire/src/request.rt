@@ -40,7 +40,8 @@ impl Request {
     /// Decodes a head. None where the bytes do not begin with the magic number of requests.
     pub fn decode(bytes: &[u8; 28]) -> Option<Request>
         ensures some { IfSome result (λ request. (bytes.now ≡ request_bytes request) × FitsRequest request) }
-        ensures encoded { (request : _) → FitsRequest request → bytes.now ≡ request_bytes request → result ≡ Some request }
+        ensures encoded { (request : _) → FitsRequest request → bytes.now ≡ request_bytes request
+            → result ≡ Some request }
     {
         let request = Request {
             flags: u16_at(bytes, 4),

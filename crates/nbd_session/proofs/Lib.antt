@@ -1,0 +1,5 @@
+pub mod KnownLaws
+pub mod TurnLaws
+pub mod RunLaws
+pub mod StoreLaws
+pub mod ServedLaws

@@ -1,0 +1,5 @@
+pub mod Store
+pub mod Streams
+pub mod Requests
+pub mod Session
+pub mod Turns
