@@ -3,3 +3,4 @@ pub mod TurnLaws
 pub mod RunLaws
 pub mod StoreLaws
 pub mod ServedLaws
+pub mod DurableLaws

@@ -3,3 +3,4 @@ pub mod Streams
 pub mod Requests
 pub mod Session
 pub mod Turns
+pub mod Laws

@@ -113,16 +113,21 @@ DoesOrNot left left' old wanted count shown (Err fault) new = (fault ≡ Input) 
 
 -- ---- the reply
 
+-- the error of a request past the end
+abbrev pub error_past_end : Asked → ErrorCode
+error_past_end (Write first) = errors.NoSpace
+error_past_end (WriteZeroes first n hole) = errors.NoSpace
+error_past_end wanted = errors.Invalid
+
 -- the error of a refusal; a disk that has stopped, or is not mounted, answers ESHUTDOWN to each request that needs it
 abbrev pub error_of : Asked → DiskFault → ErrorCode
-error_of (Write first) disk.OutOfRange = errors.NoSpace
-error_of (WriteZeroes first n hole) disk.OutOfRange = errors.NoSpace
-error_of wanted disk.OutOfRange = errors.Invalid
+error_of wanted disk.OutOfRange = error_past_end wanted
 error_of wanted disk.OutOfMemory = errors.NoMemory
 error_of wanted disk.Stopped = errors.Shutdown
 error_of wanted disk.Unmounted = errors.Shutdown
 error_of wanted disk.Spent = errors.NoSpace
-error_of wanted fault = errors.Invalid
+error_of wanted disk.Smaller = errors.Invalid
+error_of wanted disk.Reserve = errors.Invalid
 
 -- the error of a reply; where the medium fails in a sync, it is EIO
 abbrev pub code_of : Asked → Result (Unit {0}) StoreFault → ErrorCode

@@ -16,7 +16,7 @@
 //! - A request is answered after it was done. The data of a READ follow only a reply that says so, and a request that
 //!   is refused has its error, also one that is not aligned or past the end.
 //! - A FLUSH, and a write with FUA, is answered by success only after a sync. Then a loss of power leaves the array as
-//!   it is. Until the next sync it leaves an array that the disk had since.
+//!   it is (`laws::forced_is_durable`). Until the next sync it leaves an array that the disk had since.
 //! - After the drive has stopped each request that needs it is answered by `ESHUTDOWN`, and the session goes on.
 //! - After a fault all messages before are answered. Of the next one nothing is done, unless only its reply was cut.
 //! - Whatever comes, the drive can be mounted again, and no command was refused.
@@ -26,6 +26,7 @@
 
 mod asked;
 mod fault;
+pub mod laws;
 mod option_answer;
 mod options;
 mod output;
