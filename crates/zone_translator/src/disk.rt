@@ -1,4 +1,4 @@
-ghost use Rattle.std.specs.Prelude.{◌≡◌, ◌+◌, ◌<◌, ◌≤◌, ◌++◌, [], IfErr, IfOk, None, OnErr, OnOk, false, is_some, length, slice_index_or, true};
+ghost use Rattle.std.specs.Prelude.{◌≡◌, ◌+◌, ◌<◌, ◌≤◌, ◌^◌, ◌++◌, [], IfErr, IfOk, None, OnErr, OnOk, false, is_some, length, slice_index_or, true};
 ghost use Rattle.logical_map.specs.declared.place.Place.TheVariants as places;
 ghost use Rattle.remount.specs.Kept.{KeepsMountable};
 ghost use Rattle.remount.specs.Mount.{MountFails, Mounts};
@@ -127,6 +127,7 @@ impl<D: Device + Drop> Disk<D> {
     /// How many logical blocks there are.
     pub fn blocks(&self) -> u64
         ensures size { result ≡ disk_size self.now }
+        ensures few { result ≤ 2 ^ 31 }
         ensures array { self.now.status ≡ Serving → length (disk_array self.now) ≡ disk_size self.now }
     {
         mounted_blocks(&self.mounted)

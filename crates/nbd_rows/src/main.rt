@@ -1,0 +1,83 @@
+//! Runs recorded sessions of the Network Block Device protocol, and writes down what the server sends.
+//!
+//! Each session is served from a fresh drive in memory, as 9 logical blocks. The lines of standard input:
+//!
+//! - `session NAME ..` begins one. After the name may come `wide` (blocks of 4,096 bytes, else of 512), `stop K` (the
+//!   drive stops after `K` commands, those of the mount included) and `worn` (the medium fails).
+//! - A line of words is what the client sends: hexadecimal digits, or `BB*N` for a byte that is repeated.
+//! - `end` runs the session. `cuts` runs it cut after each of its bytes, and with an output that fails after each byte.
+//! - An empty line, and one that begins with `#`, says nothing.
+//!
+//! Shown are the lines `session`, a line for each reply, and how the session ended.
+#![tactic(auto)]
+
+mod fault;
+mod run;
+mod show;
+mod words;
+
+use crate::fault::RowsFault;
+use crate::run::{Setting, show_cuts, show_session};
+use crate::words::{put_bytes, setting_of};
+use std::alloc::Global;
+use std::io;
+use std::process::ExitCode;
+
+/// A session that is read.
+#[derive(Drop)]
+struct Recorded {
+    setting: Setting,
+    input: Vec<u8>,
+}
+
+impl Recorded {
+    /// Reads one line. What the line shows goes after `out`.
+    fn take(&mut self, alloc: Global, line: &str, out: &mut String) -> Result<(), RowsFault> {
+        if line.is_empty() || line.starts_with('#') {
+            return Ok(());
+        }
+        match line {
+            "end" => show_session(alloc, self.setting, &self.input, out),
+            "cuts" => show_cuts(alloc, self.setting, &self.input, out),
+            _ => self.take_words(alloc, line, out),
+        }
+    }
+
+    /// Reads a line that begins a session, or the bytes of one.
+    fn take_words(&mut self, alloc: Global, line: &str, out: &mut String) -> Result<(), RowsFault> {
+        let Some(words) = line.strip_prefix("session ") else {
+            return put_bytes(alloc, line, &mut self.input);
+        };
+        self.setting = setting_of(words)?;
+        self.input.clear();
+        out.push_str(line)?;
+        out.push('\n')?;
+        Ok(())
+    }
+}
+
+/// Runs the sessions of a text, and shows them.
+fn run_rows(alloc: Global, text: &str, out: &mut String) -> Result<(), RowsFault> {
+    let mut recorded = Recorded {
+        setting: Setting::plain(),
+        input: Vec::new(alloc),
+    };
+    for line in text.lines() {
+        recorded.take(alloc, line, out)?;
+    }
+    Ok(())
+}
+
+fn main(rt: HostRuntime) -> io::Result<ExitCode> {
+    let text = io::read_to_string(rt.alloc(), rt.reader())?;
+    let mut out = String::new(rt.alloc());
+    let ended = run_rows(rt.alloc(), &text, &mut out);
+    print!(rt; "{out}")?;
+    match ended {
+        Ok(()) => Ok(ExitCode::SUCCESS),
+        Err(fault) => {
+            eprintln!(rt; "the sessions end here: {fault}")?;
+            Ok(ExitCode::FAILURE)
+        }
+    }
+}

@@ -1,0 +1,43 @@
+//! The words of a line.
+
+use crate::fault::RowsFault;
+use crate::run::Setting;
+use std::alloc::Global;
+
+/// The setting that the words after `session` give, of which the first is a name.
+pub fn setting_of(words: &str) -> Result<Setting, RowsFault> {
+    let mut setting = Setting::plain();
+    let mut is_limit = false;
+    for word in words.split(' ').skip(1) {
+        match word {
+            _ if is_limit => setting.stop_after = word.parse::<u64>().or(Err(RowsFault::Words))?,
+            "wide" => setting.block = 4096,
+            "worn" => setting.is_worn = true,
+            "stop" => {}
+            _ => return Err(RowsFault::Words),
+        }
+        is_limit = word == "stop";
+    }
+    Ok(setting)
+}
+
+/// Puts a byte that is repeated after `out`.
+fn put_run(alloc: Global, digits: &str, count: &str, out: &mut Vec<u8>) -> Result<(), RowsFault> {
+    let count = count.parse::<usize>().or(Err(RowsFault::Words))?;
+    let byte = hex::decode(alloc, digits)?;
+    for _ in 0..count {
+        out.extend_from_slice(&byte)?;
+    }
+    Ok(())
+}
+
+/// Puts the bytes of a line after `out`.
+pub fn put_bytes(alloc: Global, line: &str, out: &mut Vec<u8>) -> Result<(), RowsFault> {
+    for word in line.split(' ') {
+        match word.split_once('*') {
+            Some((digits, count)) => put_run(alloc, digits, count, out)?,
+            None => out.extend_from_slice(&hex::decode(alloc, word)?)?,
+        }
+    }
+    Ok(())
+}

@@ -1,0 +1,6 @@
+pub mod KnownLaws
+pub mod TurnLaws
+pub mod RunLaws
+pub mod StoreLaws
+pub mod ServedLaws
+pub mod DurableLaws

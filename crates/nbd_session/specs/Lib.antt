@@ -1,0 +1,6 @@
+pub mod Store
+pub mod Streams
+pub mod Requests
+pub mod Session
+pub mod Turns
+pub mod Laws

@@ -1,0 +1,150 @@
+-- What a request asks of a disk, and the reply to it.
+use Rattle.std.specs.Prelude.{◌≡◌, ◌⊎◌, ℕ, ◌*◌, ◌/◌, ◌%◌, ◌==◌, ◌||◌, nat_lt, not, if◌then◌else◌, Bool, true, false}
+use Rattle.std.specs.Prelude.{List, ◌++◌, length, Option, Some, Result, Ok, Err}
+use Rattle.std.specs.List.{concat}
+use Rattle.std.specs.Io.KnownBytes.{Consumes}
+use Rattle.nbd_wire.specs.Transmission.{command_of, simple_reply_bytes}
+use Rattle.nbd_wire.specs.declared.command.Command.{Command}
+use Rattle.nbd_wire.specs.declared.command.Command.TheVariants as commands
+use Rattle.nbd_wire.specs.declared.error_code.ErrorCode.{ErrorCode}
+use Rattle.nbd_wire.specs.declared.error_code.ErrorCode.TheVariants as errors
+use Rattle.nbd_wire.specs.declared.request.Request.{Request}
+use Rattle.zone_translator.specs.Answers.{write_bytes}
+use Rattle.zone_translator.specs.Flat.{Answer, read, trim, with_nothing}
+use Rattle.zone_translator.specs.declared.fault.DiskFault.{DiskFault}
+use Rattle.zone_translator.specs.declared.fault.DiskFault.TheVariants as disk
+use Rattle.nbd_session.specs.declared.asked.Asked.{Asked}
+use Rattle.nbd_session.specs.declared.asked.Asked.TheVariants.{Read, Write, Trim, WriteZeroes, Flush}
+use Rattle.nbd_session.specs.declared.asked.TheConstants.{MOST_BYTES}
+use Rattle.nbd_session.specs.declared.fault.SessionFault.{SessionFault}
+use Rattle.nbd_session.specs.declared.fault.SessionFault.TheVariants.{Input}
+use Rattle.nbd_session.specs.declared.fault.StoreFault.{StoreFault}
+use Rattle.nbd_session.specs.declared.fault.StoreFault.TheVariants.{Disk, Medium}
+use Rattle.nbd_session.specs.Store.{Calls, StoreView, Syncs}
+use Rattle.nbd_session.specs.Streams.{DropsFewer}
+
+-- ---- what is asked
+
+-- only the data of a WRITE follow a request
+abbrev pub data_length_by : Option Command → Request → ℕ
+data_length_by (Some commands.Write) r = r.length
+data_length_by command r = 0
+
+abbrev pub data_length : Request → ℕ
+data_length r = data_length_by (command_of r.code) r
+
+abbrev pub is_disconnect_by : Option Command → Bool
+is_disconnect_by (Some commands.Disconnect) = true
+is_disconnect_by command = false
+
+abbrev pub is_disconnect : Request → Bool
+is_disconnect r = is_disconnect_by (command_of r.code)
+
+-- every command may have FUA, bit 0, and WRITE_ZEROES alone NO_HOLE, bit 1
+abbrev pub most_flags : Option Command → ℕ
+most_flags (Some commands.WriteZeroes) = 3
+most_flags command = 1
+
+-- whether a request begins or ends within a block
+abbrev pub is_unaligned : ℕ → Request → Bool
+is_unaligned block r = not (r.offset % block == 0) || not (r.length % block == 0)
+
+-- what a request of whole blocks asks for, by its command; a READ and a WRITE have a greatest length, and a FLUSH names no block
+abbrev pub asked_with : ℕ → Option Command → Request → Result Asked ErrorCode
+asked_with block (Some commands.Read) r = if nat_lt MOST_BYTES r.length then Err errors.Invalid else Ok (Read (r.offset / block) (r.length / block))
+asked_with block (Some commands.Write) r = if nat_lt MOST_BYTES r.length then Err errors.Invalid else Ok (Write (r.offset / block))
+asked_with block (Some commands.Trim) r = Ok (Trim (r.offset / block) (r.length / block))
+asked_with block (Some commands.WriteZeroes) r = Ok (WriteZeroes (r.offset / block) (r.length / block) (nat_lt r.flags 2))
+asked_with block (Some commands.Flush) r = if not (r.offset == 0) || not (r.length == 0) then Err errors.Invalid else Ok Flush
+asked_with block command r = Err errors.Invalid
+
+-- what a request asks of a disk whose blocks have this many bytes, or the error that it is refused by before the disk is asked
+abbrev pub asked_of : ℕ → Request → Result Asked ErrorCode
+asked_of block r =
+    if nat_lt (most_flags (command_of r.code)) r.flags then Err errors.Invalid
+    else if is_unaligned block r then Err errors.Invalid
+    else asked_with block (command_of r.code) r
+
+-- how many bytes of data come with what is asked: whole blocks with a WRITE, and none with another command
+abbrev pub Carries : ℕ → Asked → ℕ → Type 0
+Carries block (Write first) count = count ≡ count / block * block
+Carries block wanted count = count ≡ 0
+
+-- ---- what is done
+
+-- whether the array has to be durable before the reply
+abbrev pub is_forced : Asked → Request → Bool
+is_forced (Read first n) r = false
+is_forced (Write first) r = r.flags % 2 == 1
+is_forced (Trim first n) r = r.flags % 2 == 1
+is_forced (WriteZeroes first n hole) r = r.flags % 2 == 1
+is_forced Flush r = true
+
+-- what is asked is done by one call of the disk; of a WRITE nothing is done where there is no memory for its data
+abbrev pub Does : StoreView → Asked → List ℕ → Answer → StoreView → Type 0
+Does old (Write first) bytes answer new =
+    Calls old (write_bytes old.disk first bytes) answer new ⊎ ((answer ≡ with_nothing (Err disk.OutOfMemory)) × (new ≡ old))
+Does old (Read first n) bytes answer new = Calls old (read first n) answer new
+Does old (Trim first n) bytes answer new = Calls old (trim old.disk.drive.geometry.block first n) answer new
+Does old (WriteZeroes first n hole) bytes answer new = Calls old (trim old.disk.drive.geometry.block first n) answer new
+Does old Flush bytes answer new = (answer ≡ with_nothing (Ok tt)) × (new ≡ old)
+
+-- what was done is synced where it has to be durable, unless it was refused
+abbrev pub Forces : Bool → StoreView → Result (Unit {0}) DiskFault → Result (Unit {0}) StoreFault → StoreView → Type 0
+Forces forced old (Err fault) result new = (result ≡ Err (Disk fault)) × (new ≡ old)
+Forces true old (Ok done) result new = Syncs old result new
+Forces false old (Ok done) result new = (result ≡ Ok tt) × (new ≡ old)
+
+-- what is asked is done with the data that came with it, and these bytes are shown
+pub record DoesWith (left left' : Option (List ℕ)) (old : StoreView) (wanted : Asked) (count : ℕ) (shown : List ℕ)
+    (result : Result (Unit {0}) DiskFault) (new : StoreView) : Type 0 where
+  pub bytes : List ℕ
+  pub count_is : length bytes ≡ count
+  pub read : Consumes left left' bytes
+  pub blocks : List (List ℕ)
+  pub does : Does old wanted bytes (record { result = result; shown = blocks }) new
+  pub shown_is : shown ≡ concat blocks
+
+-- that, or the data are cut and nothing is done
+abbrev pub DoesOrNot : Option (List ℕ) → Option (List ℕ) → StoreView → Asked → ℕ → List ℕ
+    → Result (Result (Unit {0}) DiskFault) SessionFault → StoreView → Type 0
+DoesOrNot left left' old wanted count shown (Ok result) new = DoesWith left left' old wanted count shown result new
+DoesOrNot left left' old wanted count shown (Err fault) new = (fault ≡ Input) × DropsFewer left left' count × (new ≡ old)
+
+-- ---- the reply
+
+-- the error of a request past the end
+abbrev pub error_past_end : Asked → ErrorCode
+error_past_end (Write first) = errors.NoSpace
+error_past_end (WriteZeroes first n hole) = errors.NoSpace
+error_past_end wanted = errors.Invalid
+
+-- the error of a refusal; a disk that has stopped, or is not mounted, answers ESHUTDOWN to each request that needs it
+abbrev pub error_of : Asked → DiskFault → ErrorCode
+error_of wanted disk.OutOfRange = error_past_end wanted
+error_of wanted disk.OutOfMemory = errors.NoMemory
+error_of wanted disk.Stopped = errors.Shutdown
+error_of wanted disk.Unmounted = errors.Shutdown
+error_of wanted disk.Spent = errors.NoSpace
+error_of wanted disk.Smaller = errors.Invalid
+error_of wanted disk.Reserve = errors.Invalid
+
+-- the error of a reply; where the medium fails in a sync, it is EIO
+abbrev pub code_of : Asked → Result (Unit {0}) StoreFault → ErrorCode
+code_of wanted (Ok done) = errors.Success
+code_of wanted (Err (Disk fault)) = error_of wanted fault
+code_of wanted (Err Medium) = errors.Io
+
+-- what is asked is done, and synced where it has to be, and this is the reply
+pub record DoesAndReplies (old : StoreView) (request : Request) (wanted : Asked) (bytes reply : List ℕ) (new : StoreView) : Type 0 where
+  pub answer : Answer
+  pub middle : StoreView
+  pub does : Does old wanted bytes answer middle
+  pub result : Result (Unit {0}) StoreFault
+  pub forces : Forces (is_forced wanted request) middle answer.result result new
+  pub reply_is : reply ≡ simple_reply_bytes (code_of wanted result) request.cookie ++ concat answer.shown
+
+-- a request is answered
+abbrev pub AnswersAsked : StoreView → Request → Result Asked ErrorCode → List ℕ → List ℕ → StoreView → Type 0
+AnswersAsked old request (Err error) bytes reply new = (reply ≡ simple_reply_bytes error request.cookie) × (new ≡ old)
+AnswersAsked old request (Ok wanted) bytes reply new = DoesAndReplies old request wanted bytes reply new

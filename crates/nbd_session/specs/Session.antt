@@ -1,0 +1,129 @@
+-- A session: the greeting, options, and the transmission of requests. Each message that is read is answered.
+use Rattle.std.specs.Prelude.{◌≡◌, ℕ, ◌*◌, ◌==◌, max, if◌then◌else◌, Bool, true, false, List, [], ◌∷◌, ◌++◌, length, Option, Some, None}
+use Rattle.std.specs.List.{flat_map}
+use Rattle.std.specs.Io.KnownBytes.{Appends, Consumes}
+use Rattle.nbd_wire.specs.Handshake.{FitsHead, client_flags_bytes, greeting, info_replies, list_reply, name_reply, option_head_bytes, option_of, option_reply}
+use Rattle.nbd_wire.specs.Transmission.{FitsRequest, request_bytes}
+use Rattle.nbd_wire.specs.declared.client_flags.ClientFlags.{ClientFlags}
+use Rattle.nbd_wire.specs.declared.export.Export.{Export}
+use Rattle.nbd_wire.specs.declared.option_head.OptionHead.{OptionHead}
+use Rattle.nbd_wire.specs.declared.option_kind.OptionKind.{OptionKind}
+use Rattle.nbd_wire.specs.declared.option_kind.OptionKind.TheVariants as options
+use Rattle.nbd_wire.specs.declared.reply_kind.ReplyKind.TheVariants.{Acknowledge, Unsupported, Invalid}
+use Rattle.nbd_wire.specs.declared.request.Request.{Request}
+use Rattle.zone_translator.specs.View.{DiskView, disk_size}
+use Rattle.nbd_session.specs.declared.asked.TheConstants.{MOST_BYTES}
+use Rattle.nbd_session.specs.declared.option_answer.OptionAnswer.{OptionAnswer}
+use Rattle.nbd_session.specs.declared.option_answer.OptionAnswer.TheVariants.{Short, Exports, ExportInfo, Name}
+use Rattle.nbd_session.specs.declared.phase.Phase.{Phase}
+use Rattle.nbd_session.specs.declared.phase.Phase.TheVariants as phases
+use Rattle.nbd_session.specs.Requests.{AnswersAsked, asked_of, data_length, is_disconnect}
+use Rattle.nbd_session.specs.Store.{StoreView}
+use Rattle.nbd_session.specs.Streams.{Streams}
+
+pub record Session : Type 0 where
+  pub phase : Phase
+  pub store : StoreView
+
+abbrev pub session : Phase → StoreView → Session
+session phase store = record { phase = phase; store = store }
+
+-- ---- options
+
+-- what a client is told of a disk
+abbrev pub export_of : DiskView → Export
+export_of disk = record {
+  size = disk_size disk * disk.drive.geometry.block;
+  minimum = disk.drive.geometry.block;
+  preferred = max 4096 disk.drive.geometry.block;
+  maximum = MOST_BYTES;
+}
+
+-- What is answered to an option whose data have this length. There is one disk, whatever name an option has.
+abbrev pub option_answer : Option OptionKind → ℕ → OptionAnswer
+option_answer None length = Short Unsupported
+option_answer (Some options.ExportName) length = Name
+option_answer (Some options.Abort) length = Short Acknowledge
+option_answer (Some options.ListExports) length = if length == 0 then Exports else Short Invalid
+option_answer (Some options.Info) length = ExportInfo
+option_answer (Some options.Go) length = ExportInfo
+
+-- the phase after an option
+abbrev pub phase_after : Bool → Option OptionKind → Phase
+phase_after no_zeroes (Some options.ExportName) = phases.Transmission
+phase_after no_zeroes (Some options.Go) = phases.Transmission
+phase_after no_zeroes (Some options.Abort) = phases.Ended
+phase_after no_zeroes kind = phases.Options no_zeroes
+
+-- the bytes of an answer to the option of this number
+abbrev pub answer_bytes : Export → Bool → ℕ → OptionAnswer → List ℕ
+answer_bytes export no_zeroes option (Short kind) = option_reply option kind []
+answer_bytes export no_zeroes option Exports = list_reply option
+answer_bytes export no_zeroes option ExportInfo = info_replies option export
+answer_bytes export no_zeroes option Name = name_reply export no_zeroes
+
+-- a message is the head of an option and its data
+pub record ServesOption (old : StoreView) (no_zeroes : Bool) (message reply : List ℕ) (new : Session) : Type 0 where
+  pub head : OptionHead
+  pub fits : FitsHead head
+  pub bytes : List ℕ
+  pub message_is : message ≡ option_head_bytes head ++ bytes
+  pub length_is : length bytes ≡ head.length
+  pub reply_is : reply ≡ answer_bytes (export_of old.disk) no_zeroes head.option (option_answer (option_of head.option) head.length)
+  pub new_is : new ≡ session (phase_after no_zeroes (option_of head.option)) old
+
+-- ---- requests
+
+-- a DISC has no reply, and ends the session
+abbrev pub AnswersBy : StoreView → Bool → Request → List ℕ → List ℕ → Session → Type 0
+AnswersBy old true request bytes reply new = (reply ≡ []) × (new ≡ session phases.Ended old)
+AnswersBy old false request bytes reply new =
+    (new.phase ≡ phases.Transmission) × AnswersAsked old request (asked_of old.disk.drive.geometry.block request) bytes reply new.store
+
+-- a message is the head of a request and its data
+pub record ServesRequest (old : StoreView) (message reply : List ℕ) (new : Session) : Type 0 where
+  pub request : Request
+  pub fits : FitsRequest request
+  pub bytes : List ℕ
+  pub message_is : message ≡ request_bytes request ++ bytes
+  pub length_is : length bytes ≡ data_length request
+  pub answer : AnswersBy old (is_disconnect request) request bytes reply new
+
+-- ---- messages
+
+-- the client's flags have no reply
+pub record TakesFlags (old : StoreView) (message reply : List ℕ) (new : Session) : Type 0 where
+  pub flags : ClientFlags
+  pub message_is : message ≡ client_flags_bytes flags
+  pub reply_is : reply ≡ []
+  pub new_is : new ≡ session (phases.Options flags.no_zeroes) old
+
+-- a message is answered; the greeting answers to none
+abbrev pub AnswersIn : Phase → StoreView → List ℕ → List ℕ → Session → Type 0
+AnswersIn phases.Greeting old message reply new = (message ≡ []) × (reply ≡ greeting) × (new ≡ session phases.Flags old)
+AnswersIn phases.Flags old message reply new = TakesFlags old message reply new
+AnswersIn (phases.Options no_zeroes) old message reply new = ServesOption old no_zeroes message reply new
+AnswersIn phases.Transmission old message reply new = ServesRequest old message reply new
+AnswersIn phases.Ended old message reply new = ⊥
+
+abbrev pub AnswersMessage : Session → List ℕ → List ℕ → Session → Type 0
+AnswersMessage old message reply new = AnswersIn old.phase old.store message reply new
+
+-- ---- many messages
+
+-- a message and the reply to it
+pub record Dialogue : Type 0 where
+  pub message : List ℕ
+  pub reply : List ℕ
+
+-- messages are answered, one after the other
+abbrev pub AnswersEach : Session → List Dialogue → Session → Type 0
+AnswersEach old [] new = new ≡ old
+AnswersEach old (d ∷ ds) new = (middle : Session) × AnswersMessage old d.message d.reply middle × AnswersEach middle ds new
+
+-- the bytes that were read are messages, and those that were written are the replies to them
+pub record Served (bytes : Streams) (old new : Session) : Type 0 where
+  pub dialogues : List Dialogue
+  pub read : Consumes bytes.input bytes.rest (flat_map (λ (d : Dialogue). d.message) dialogues)
+  pub written : Appends bytes.written bytes.contents (flat_map (λ (d : Dialogue). d.reply) dialogues)
+  pub answered : AnswersEach old dialogues new

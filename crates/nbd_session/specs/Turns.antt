@@ -1,0 +1,152 @@
+-- What comes of one message, and how a session ends.
+use Rattle.std.specs.Prelude.{◌≡◌, ◌≢◌, ◌⊎◌, ℕ, ◌-◌, ◌<◌, ◌^◌, List, ◌++◌, length, Option, Some, None, Result, Ok, Err}
+use Rattle.std.specs.Io.KnownBytes.{Appends, Consumes, IsAtEnd, Keeps}
+use Rattle.disk_files.specs.Output.{AppendsFront}
+use Rattle.nbd_wire.specs.Handshake.{FitsHead, client_flags_bytes, option_head_bytes}
+use Rattle.nbd_wire.specs.Transmission.{FitsRequest, request_bytes}
+use Rattle.nbd_wire.specs.declared.client_flags.ClientFlags.{ClientFlags}
+use Rattle.nbd_wire.specs.declared.option_head.OptionHead.{OptionHead}
+use Rattle.nbd_wire.specs.declared.request.Request.{Request}
+use Rattle.nbd_session.specs.declared.fault.SessionFault.{SessionFault}
+use Rattle.nbd_session.specs.declared.fault.SessionFault.TheVariants.{Input, Magic, Output, TooMany}
+use Rattle.nbd_session.specs.declared.phase.Phase.{Phase}
+use Rattle.nbd_session.specs.declared.phase.Phase.TheVariants as phases
+use Rattle.nbd_session.specs.Requests.{data_length}
+use Rattle.nbd_session.specs.Session.{AnswersMessage, Served, Session, session}
+use Rattle.nbd_session.specs.Store.{StoreView}
+use Rattle.nbd_session.specs.Streams.{DropsFewer, Streams, streams}
+
+-- ---- one message
+
+-- one message more is answered
+pub record AnswersOne (bytes : Streams) (old new : Session) : Type 0 where
+  pub message : List ℕ
+  pub reply : List ℕ
+  pub read : Consumes bytes.input bytes.rest message
+  pub written : Appends bytes.written bytes.contents reply
+  pub answers : AnswersMessage old message reply new
+
+-- nothing is read, written or done
+pub record DoesNothing (bytes : Streams) (old : Session) (new : StoreView) : Type 0 where
+  pub read : Keeps bytes.input bytes.rest
+  pub written : Keeps bytes.written bytes.contents
+  pub new_is : new ≡ old.store
+
+-- a session is over: the client has said so, or has gone between two messages
+abbrev pub IsOver : Session → Option (List ℕ) → Type 0
+IsOver old rest = (old.phase ≡ phases.Ended) ⊎ IsAtEnd rest
+
+-- ---- why a message is not answered
+
+-- the head of an option, and fewer bytes than it says
+pub record IsOptionFront (bytes : List ℕ) : Type 0 where
+  pub head : OptionHead
+  pub fits : FitsHead head
+  pub front : List ℕ
+  pub bytes_are : bytes ≡ option_head_bytes head ++ front
+  pub fewer : length front < head.length
+
+-- the head of a request, and fewer bytes than come with it
+pub record IsRequestFront (bytes : List ℕ) : Type 0 where
+  pub request : Request
+  pub fits : FitsRequest request
+  pub front : List ℕ
+  pub bytes_are : bytes ≡ request_bytes request ++ front
+  pub fewer : length front < data_length request
+
+-- fewer bytes than a message of this phase has
+abbrev pub IsCutMessage : Phase → List ℕ → Type 0
+IsCutMessage phases.Flags bytes = length bytes < 4
+IsCutMessage (phases.Options no_zeroes) bytes = (length bytes < 16) ⊎ IsOptionFront bytes
+IsCutMessage phases.Transmission bytes = (length bytes < 28) ⊎ IsRequestFront bytes
+IsCutMessage phase bytes = ⊥
+
+-- a whole head, with which no message of this phase begins
+abbrev pub IsForeign : Phase → List ℕ → Type 0
+IsForeign phases.Flags head = (length head ≡ 4) × ((flags : ClientFlags) → head ≢ client_flags_bytes flags)
+IsForeign (phases.Options no_zeroes) head = (length head ≡ 16) × ((option : OptionHead) → FitsHead option → head ≢ option_head_bytes option)
+IsForeign phases.Transmission head = (length head ≡ 28) × ((request : Request) → FitsRequest request → head ≢ request_bytes request)
+IsForeign phase head = ⊥
+
+-- bytes for which this holds are read, and nothing is written or done
+pub record ReadsOnly (bytes : Streams) (Holds : List ℕ → Type 0) (old : Session) (new : StoreView) : Type 0 where
+  pub front : List ℕ
+  pub holds : Holds front
+  pub read : Consumes bytes.input bytes.rest front
+  pub written : Keeps bytes.written bytes.contents
+  pub new_is : new ≡ old.store
+
+-- a message is answered, and of the reply a beginning is written, not all of it
+pub record Breaks (bytes : Streams) (old : Session) (new : StoreView) : Type 0 where
+  pub message : List ℕ
+  pub reply : List ℕ
+  pub phase : Phase
+  pub read : Consumes bytes.input bytes.rest message
+  pub written : AppendsFront bytes.written bytes.contents reply
+  pub answers : AnswersMessage old message reply (session phase new)
+
+-- Why a session stops at a message: the reader failed or ended before all of it was read, its head is foreign, or the writer failed in the reply.
+abbrev pub StopsSession : SessionFault → Streams → Session → StoreView → Type 0
+StopsSession Input bytes old new = ReadsOnly bytes (IsCutMessage old.phase) old new
+StopsSession Magic bytes old new = ReadsOnly bytes (IsForeign old.phase) old new
+StopsSession Output bytes old new = Breaks bytes old new
+StopsSession TooMany bytes old new = ⊥
+
+-- what came of one message: a session goes on in a phase, is over, or stops
+abbrev pub TurnGives : Streams → Session → Result (Option Phase) SessionFault → StoreView → Type 0
+TurnGives bytes old (Ok (Some phase)) new = AnswersOne bytes old (session phase new)
+TurnGives bytes old (Ok None) new = DoesNothing bytes old new × IsOver old bytes.rest
+TurnGives bytes old (Err fault) new = StopsSession fault bytes old new
+
+-- ---- what follows the head of a message
+
+-- the bytes after a head are read, and the reply is written
+pub record Replies (bytes : Streams) (count : ℕ) (Answer : List ℕ → List ℕ → Type 0) : Type 0 where
+  pub after : List ℕ
+  pub count_is : length after ≡ count
+  pub reply : List ℕ
+  pub read : Consumes bytes.input bytes.rest after
+  pub written : Appends bytes.written bytes.contents reply
+  pub answer : Answer after reply
+
+-- of the reply a beginning is written
+pub record RepliesInPart (bytes : Streams) (count : ℕ) (Answer : List ℕ → List ℕ → Type 0) : Type 0 where
+  pub after : List ℕ
+  pub count_is : length after ≡ count
+  pub reply : List ℕ
+  pub read : Consumes bytes.input bytes.rest after
+  pub written : AppendsFront bytes.written bytes.contents reply
+  pub answer : Answer after reply
+
+-- why what follows a head is not answered: it is cut, and nothing is written or done, or the writer failed
+abbrev pub ReplyStops : SessionFault → Streams → ℕ → (List ℕ → List ℕ → Type 0) → Type 0 → Type 0
+ReplyStops Input bytes count Answer Nothing = DropsFewer bytes.input bytes.rest count × Keeps bytes.written bytes.contents × Nothing
+ReplyStops Magic bytes count Answer Nothing = ⊥
+ReplyStops Output bytes count Answer Nothing = RepliesInPart bytes count Answer
+ReplyStops TooMany bytes count Answer Nothing = ⊥
+
+-- ---- a session
+
+-- every message is answered, until the client ends
+pub record RunsToEnd (bytes : Streams) (old : Session) (new : StoreView) : Type 0 where
+  pub phase : Phase
+  pub served : Served bytes old (session phase new)
+  pub over : IsOver (session phase new) bytes.rest
+
+-- after that many messages a session stops at the next, or because it has answered as many as it counts
+abbrev pub StopsAfter : ℕ → SessionFault → Streams → Session → StoreView → Type 0
+StopsAfter count TooMany bytes old new = (count ≡ 2 ^ 64 - 1) × DoesNothing bytes old new
+StopsAfter count fault bytes old new = StopsSession fault bytes old new
+
+-- some messages are answered, and the session stops
+pub record StopsEarly (bytes : Streams) (old : Session) (fault : SessionFault) (new : StoreView) : Type 0 where
+  pub middle : Session
+  pub rest : Option (List ℕ)
+  pub contents : Option (List ℕ)
+  pub served : Served (streams bytes.input rest bytes.written contents) old middle
+  pub stops : StopsAfter (length served.dialogues) fault (streams rest bytes.rest contents bytes.contents) middle new
+
+-- how a session ends
+abbrev pub Serves : Streams → Session → Result (Unit {0}) SessionFault → StoreView → Type 0
+Serves bytes old (Ok done) new = RunsToEnd bytes old new
+Serves bytes old (Err fault) new = StopsEarly bytes old fault new

@@ -1,0 +1,48 @@
+ghost use Rattle.nbd_session.specs.declared.fault.SessionFault.TheVariants.{Output};
+
+use disk_files::WriteFault;
+use thiserror::Error;
+use zone_translator::DiskFault;
+
+/// Why a session stopped before the client ended it.
+#[derive(Clone, Copy, Debug, PartialEq, Eq, Error)]
+pub enum SessionFault {
+    /// The input failed, or ended within a message. Nothing came of the message.
+    #[error("the input failed, or ended within a message")]
+    Input,
+    /// A message began otherwise than the protocol says. Nothing came of it.
+    #[error("a message of another protocol came")]
+    Magic,
+    /// The output failed. The last message was done, and of its reply a beginning is written.
+    #[error("the output failed")]
+    Output,
+    /// 2^64 - 1 messages were answered.
+    #[error("too many messages came")]
+    TooMany,
+}
+
+impl From<WriteFault> for SessionFault {
+    ghost use Rattle.std.specs.Prelude.{◌≡◌};
+
+    ghost from_gives = { λ _ fault. fault ≡ Output };
+
+    fn from(_error: WriteFault) -> SessionFault {
+        SessionFault::Output
+    }
+}
+
+/// Why a store refused a request.
+#[derive(Clone, Copy, Debug, PartialEq, Eq, Error)]
+pub enum StoreFault {
+    /// The disk refused it.
+    #[error("the disk refused a request: {0}")]
+    Disk(DiskFault),
+    /// It was done, but the medium failed to keep it.
+    #[error("what was written could not be made durable")]
+    Medium,
+}
+
+/// A medium failed to keep what was written.
+#[derive(Clone, Copy, Debug, PartialEq, Eq, Error)]
+#[error("what was written could not be made durable")]
+pub struct MediumFault;

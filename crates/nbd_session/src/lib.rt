@@ -1,0 +1,46 @@
+//! A disk that is served by the Network Block Device protocol: the fixed newstyle handshake, and simple replies.
+//!
+//! [`serve`] answers each message of one client, in order, until the client ends. What it serves is any [`Store`]; a
+//! [`ServedDisk`] is one, a disk and the medium that keeps its drive.
+//!
+//! ```text
+//! let mut store = ServedDisk::new(disk, medium);
+//! let result = nbd_session::serve(alloc, &mut input, &mut output, &mut store);
+//! let (disk, medium) = store.into_parts();
+//! ```
+//!
+//! What is promised, of every reader, every writer and every store:
+//!
+//! - What is read is a list of messages, and what is written are the replies to them, in order. The replies to requests
+//!   are those of a flat disk, an array of blocks.
+//! - A request is answered after it was done. The data of a READ follow only a reply that says so, and a request that
+//!   is refused has its error, also one that is not aligned or past the end.
+//! - A FLUSH, and a write with FUA, is answered by success only after a sync. Then a loss of power leaves the array as
+//!   it is (`laws::forced_is_durable`). Until the next sync it leaves an array that the disk had since.
+//! - After the drive has stopped each request that needs it is answered by `ESHUTDOWN`, and the session goes on.
+//! - After a fault all messages before are answered. Of the next one nothing is done, unless only its reply was cut.
+//! - Whatever comes, the drive can be mounted again, and no command was refused.
+//!
+//! The bytes are promised where reader and writer say by contract which bytes they have left and hold.
+#![tactic(auto)]
+
+mod asked;
+mod fault;
+pub mod laws;
+mod option_answer;
+mod options;
+mod output;
+mod phase;
+mod reading;
+mod requests;
+mod served_disk;
+mod serving;
+mod store;
+
+pub use asked::{Asked, MOST_BYTES};
+pub use fault::{MediumFault, SessionFault, StoreFault};
+pub use option_answer::OptionAnswer;
+pub use phase::Phase;
+pub use served_disk::{Medium, ServedDisk, WriteThrough};
+pub use serving::serve;
+pub use store::Store;

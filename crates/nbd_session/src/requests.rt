@@ -1,0 +1,200 @@
+ghost use Rattle.std.specs.Prelude.{◌≡◌, [], IfErr, OnOk, Ok, ⊤};
+ghost use Rattle.nbd_wire.specs.Transmission.{simple_reply_bytes};
+ghost use Rattle.nbd_session.specs.Requests.{AnswersAsked, Carries, DoesOrNot, Forces, asked_of, data_length};
+ghost use Rattle.nbd_session.specs.Session.{session};
+ghost use Rattle.nbd_session.specs.Streams.{streams};
+ghost use Rattle.nbd_session.specs.Turns.{Replies, ReplyStops, TurnGives};
+
+use crate::asked::{Asked, data_length, is_disconnect};
+use crate::fault::{SessionFault, StoreFault};
+use crate::output::{send, send_both};
+use crate::phase::Phase;
+use crate::reading::{fill, skip, take_data};
+use crate::store::Store;
+use nbd_wire::{ErrorCode, Request, simple_reply};
+use std::alloc::Global;
+use std::io::{Read, Write};
+use zone_translator::DiskFault;
+
+/// The data of a WRITE and the blocks of a READ. They are kept from one request to the next.
+#[derive(Drop)]
+pub struct Buffers {
+    held: Vec<u8>,
+    shown: Vec<u8>,
+}
+
+impl Buffers {
+    /// Empty buffers.
+    pub fn new(alloc: Global) -> Buffers {
+        Buffers {
+            held: Vec::new(alloc),
+            shown: Vec::new(alloc),
+        }
+    }
+}
+
+/// Syncs what was done, where it has to be durable before the reply.
+fn force<S: Store>(
+    store: &mut S,
+    forced: bool,
+    done: Result<(), DiskFault>,
+) -> Result<(), StoreFault>
+    ensures { Forces forced (S.view store.old) done result (S.view store.new) }
+{
+    match done {
+        Err(fault) => Err(StoreFault::Disk(fault)),
+        Ok(()) if forced => store.sync(),
+        Ok(()) => Ok(()),
+    }
+}
+
+/// Writes the data that come with a request.
+fn write_data<R: Read, S: Store>(
+    reader: &mut R,
+    store: &mut S,
+    held: &mut Vec<u8>,
+    first: u64,
+    count: usize,
+) -> Result<Result<(), DiskFault>, SessionFault>
+    requires { Carries (S.view store.old).disk.drive.geometry.block (Asked.Write first) count }
+    ensures { DoesOrNot (R.remaining reader.old) (R.remaining reader.new)
+        (S.view store.old) (Asked.Write first) count [] result (S.view store.new) }
+{
+    if take_data(reader, held, count)? {
+        return Ok(store.write(first, &held[..count]));
+    }
+    Ok(Err(DiskFault::OutOfMemory))
+}
+
+/// Does what a request asks for. `shown` holds the blocks of a READ that is done, and nothing else.
+fn obey<R: Read, S: Store>(
+    reader: &mut R,
+    store: &mut S,
+    buffers: &mut Buffers,
+    wanted: Asked,
+    count: u32,
+) -> Result<Result<(), DiskFault>, SessionFault>
+    requires { Carries (S.view store.old).disk.drive.geometry.block wanted count }
+    ensures { DoesOrNot (R.remaining reader.old) (R.remaining reader.new)
+        (S.view store.old) wanted count buffers.new.shown.items result (S.view store.new) }
+{
+    buffers.shown.clear();
+    match wanted {
+        Asked::Read { first, blocks } => Ok(store.read(first, blocks, &mut buffers.shown)),
+        Asked::Write { first } => {
+            write_data(reader, store, &mut buffers.held, first, count as usize)
+        }
+        Asked::Trim { first, blocks } => Ok(store.trim(first, blocks)),
+        Asked::WriteZeroes {
+            first,
+            blocks,
+            hole: true,
+        } => Ok(store.trim(first, blocks)),
+        Asked::WriteZeroes {
+            first,
+            blocks,
+            hole: false,
+        } => Ok(store.write_zeroes(first, blocks)),
+        Asked::Flush => Ok(Ok(())),
+    }
+}
+
+/// Does what a request asks for, and replies.
+fn answer_asked<R: Read, W: Write, S: Store>(
+    reader: &mut R,
+    writer: &mut W,
+    store: &mut S,
+    buffers: &mut Buffers,
+    request: &Request,
+    wanted: Asked,
+) -> Result<(), SessionFault>
+    requires { Carries (S.view store.old).disk.drive.geometry.block wanted (data_length request.now) }
+    ensures ok { OnOk result (Replies
+        (streams (R.remaining reader.old) (R.remaining reader.new) (W.contents writer.old) (W.contents writer.new))
+        (data_length request.now)
+        (λ bytes reply. AnswersAsked (S.view store.old) request.now (Ok wanted) bytes reply (S.view store.new))) }
+    ensures err { IfErr result (λ fault. ReplyStops fault
+        (streams (R.remaining reader.old) (R.remaining reader.new) (W.contents writer.old) (W.contents writer.new))
+        (data_length request.now)
+        (λ bytes reply. AnswersAsked (S.view store.old) request.now (Ok wanted) bytes reply (S.view store.new))
+        (S.view store.new ≡ S.view store.old)) }
+{
+    let done = obey(reader, store, buffers, wanted, data_length(request))?;
+    let done = force(store, wanted.is_forced(request), done);
+    send_both(
+        writer,
+        &simple_reply(wanted.code(done), request.cookie),
+        &buffers.shown,
+    )?;
+    Ok(())
+}
+
+/// Drops the data of a request that is refused, and replies.
+fn refuse<R: Read, W: Write>(
+    reader: &mut R,
+    writer: &mut W,
+    request: &Request,
+    error: ErrorCode,
+) -> Result<(), SessionFault>
+    ensures ok { OnOk result (Replies
+        (streams (R.remaining reader.old) (R.remaining reader.new) (W.contents writer.old) (W.contents writer.new))
+        (data_length request.now) (λ bytes reply. reply ≡ simple_reply_bytes error request.now.cookie)) }
+    ensures err { IfErr result (λ fault. ReplyStops fault
+        (streams (R.remaining reader.old) (R.remaining reader.new) (W.contents writer.old) (W.contents writer.new))
+        (data_length request.now) (λ bytes reply. reply ≡ simple_reply_bytes error request.now.cookie) ⊤) }
+{
+    skip(reader, data_length(request) as usize)?;
+    send(writer, &simple_reply(error, request.cookie))?;
+    Ok(())
+}
+
+/// Answers a request after its head, unless it is a DISC.
+fn answer_rest<R: Read, W: Write, S: Store>(
+    reader: &mut R,
+    writer: &mut W,
+    store: &mut S,
+    buffers: &mut Buffers,
+    request: &Request,
+) -> Result<(), SessionFault>
+    ensures ok { OnOk result (Replies
+        (streams (R.remaining reader.old) (R.remaining reader.new) (W.contents writer.old) (W.contents writer.new))
+        (data_length request.now)
+        (λ bytes reply. AnswersAsked (S.view store.old) request.now
+        (asked_of (S.view store.old).disk.drive.geometry.block request.now) bytes reply (S.view store.new))) }
+    ensures err { IfErr result (λ fault. ReplyStops fault
+        (streams (R.remaining reader.old) (R.remaining reader.new) (W.contents writer.old) (W.contents writer.new))
+        (data_length request.now)
+        (λ bytes reply. AnswersAsked (S.view store.old) request.now
+        (asked_of (S.view store.old).disk.drive.geometry.block request.now) bytes reply (S.view store.new))
+        (S.view store.new ≡ S.view store.old)) }
+{
+    match Asked::of(request, store.block_bytes()) {
+        Ok(wanted) => answer_asked(reader, writer, store, buffers, request, wanted),
+        Err(error) => refuse(reader, writer, request, error),
+    }
+}
+
+/// Reads a request, and answers it.
+pub fn answer_request<R: Read, W: Write, S: Store>(
+    reader: &mut R,
+    writer: &mut W,
+    store: &mut S,
+    buffers: &mut Buffers,
+) -> Result<Option<Phase>, SessionFault>
+    ensures { TurnGives
+        (streams (R.remaining reader.old) (R.remaining reader.new) (W.contents writer.old) (W.contents writer.new))
+        (session Phase.Transmission (S.view store.old)) result (S.view store.new) }
+{
+    let mut head = [0; 28];
+    if !fill(reader, &mut head)? {
+        return Ok(None);
+    }
+    let Some(request) = Request::decode(&head) else {
+        return Err(SessionFault::Magic);
+    };
+    if is_disconnect(&request) {
+        return Ok(Some(Phase::Ended));
+    }
+    answer_rest(reader, writer, store, buffers, &request)?;
+    Ok(Some(Phase::Transmission))
+}

@@ -1,0 +1,103 @@
+ghost use Rattle.std.specs.Prelude.{◌≡◌};
+
+use crate::fault::{MediumFault, StoreFault};
+use crate::store::Store;
+use drive_port::Device;
+use std::marker::Model;
+use zone_translator::{Disk, DiskFault, DiskStatus};
+
+/// What keeps a drive when the power fails, as the file that its changes are written to. No contract can say what it
+/// keeps: a `sync` that answers `Ok` has made all that was written before durable.
+pub trait Medium {
+    /// Makes durable what was written. After a fault it never answers `Ok` again, since what it lost is unknown.
+    fn sync(&mut self) -> Result<(), MediumFault>;
+}
+
+/// The medium of a drive that keeps each completed command by itself.
+#[derive(Debug, Drop)]
+pub struct WriteThrough;
+
+impl Medium for WriteThrough {
+    fn sync(&mut self) -> Result<(), MediumFault> {
+        Ok(())
+    }
+}
+
+/// A disk, and the medium that keeps its drive.
+#[derive(Drop)]
+pub struct ServedDisk<D: Device + Drop, M: Medium + Drop> {
+    disk: Disk<D>,
+    medium: M,
+}
+
+impl<D: Device + Drop, M: Medium + Drop> Model for ServedDisk<D, M> {
+    ghost use Rattle.zone_translator.specs.View.{DiskView};
+
+    ghost Value = { DiskView };
+
+    ghost view = { λ s. s.disk };
+}
+
+impl<D: Device + Drop, M: Medium + Drop> ServedDisk<D, M> {
+    /// This disk, whose drive this medium keeps.
+    pub fn new(disk: Disk<D>, medium: M) -> ServedDisk<D, M>
+        ensures { result ≡ disk }
+    {
+        ServedDisk { disk, medium }
+    }
+
+    /// The disk and the medium, as they are.
+    pub fn into_parts(self) -> (Disk<D>, M)
+        ensures { result.0 ≡ self }
+    {
+        (self.disk, self.medium)
+    }
+}
+
+impl<D: Device + Drop, M: Medium + Drop> Store for ServedDisk<D, M> {
+    ghost use Rattle.std.specs.Prelude.{[], ◌∷◌};
+    ghost use Rattle.zone_translator.specs.View.{disk_array};
+
+    // The drive itself has no other array than the one that the disk serves.
+    ghost view = { λ s. record { disk = s; since = disk_array s ∷ [] } };
+
+    fn block_bytes(&self) -> u32 {
+        let bytes = self.disk.block_bytes();
+        prove!(bytes > 0);
+        self.disk.device().geometry().block
+    }
+
+    fn blocks(&self) -> u64 {
+        // A block has less than 2^32 bytes.
+        let _block = self.block_bytes();
+        self.disk.blocks()
+    }
+
+    fn read(&mut self, first: u64, blocks: u64, into: &mut Vec<u8>) -> Result<(), DiskFault> {
+        self.disk.read(first, blocks, into)
+    }
+
+    fn write(&mut self, first: u64, bytes: &[u8]) -> Result<(), DiskFault> {
+        self.disk.write(first, bytes)
+    }
+
+    fn trim(&mut self, first: u64, blocks: u64) -> Result<(), DiskFault> {
+        self.disk.trim(first, blocks)
+    }
+
+    fn write_zeroes(&mut self, first: u64, blocks: u64) -> Result<(), DiskFault> {
+        self.disk.fill(first, blocks, 0)
+    }
+
+    fn sync(&mut self) -> Result<(), StoreFault> {
+        match self.disk.status() {
+            DiskStatus::Serving => {}
+            DiskStatus::Stopped => return Err(StoreFault::Disk(DiskFault::Stopped)),
+            DiskStatus::Unmounted => return Err(StoreFault::Disk(DiskFault::Unmounted)),
+        }
+        match self.medium.sync() {
+            Ok(()) => Ok(()),
+            Err(MediumFault) => Err(StoreFault::Medium),
+        }
+    }
+}

@@ -1,0 +1,61 @@
+ghost use Rattle.disk_runs.specs.Trace.{KeepsServed};
+ghost use Rattle.nbd_session.specs.Session.{session};
+ghost use Rattle.nbd_session.specs.Streams.{streams};
+ghost use Rattle.nbd_session.specs.Turns.{Serves, TurnGives};
+
+use crate::fault::SessionFault;
+use crate::options::{answer_option, greet, take_flags};
+use crate::phase::Phase;
+use crate::requests::{Buffers, answer_request};
+use crate::store::Store;
+use std::alloc::Global;
+use std::io::{Read, Write};
+
+/// Reads a message, and answers it: the phase that follows, or none where the session is over.
+fn take_turn<R: Read, W: Write, S: Store>(
+    reader: &mut R,
+    writer: &mut W,
+    store: &mut S,
+    buffers: &mut Buffers,
+    phase: Phase,
+) -> Result<Option<Phase>, SessionFault>
+    ensures { TurnGives
+        (streams (R.remaining reader.old) (R.remaining reader.new) (W.contents writer.old) (W.contents writer.new))
+        (session phase (S.view store.old)) result (S.view store.new) }
+{
+    match phase {
+        Phase::Greeting => greet(reader, writer, store),
+        Phase::Flags => take_flags(reader, writer, store),
+        Phase::Options { no_zeroes } => answer_option(reader, writer, store, no_zeroes),
+        Phase::Transmission => answer_request(reader, writer, store, buffers),
+        Phase::Ended => Ok(None),
+    }
+}
+
+/// Serves a disk to one client: the reader gives what the client sends, and the writer takes what the client gets.
+///
+/// A session ends with `Ok` where the client has said so, or has gone between two messages. After a fault all messages
+/// before are answered and, where the writer failed, the last one is done and a beginning of its reply written.
+pub fn serve<R: Read, W: Write, S: Store>(
+    alloc: Global,
+    reader: &mut R,
+    writer: &mut W,
+    store: &mut S,
+) -> Result<(), SessionFault>
+    // The bytes that are read are messages, and those that are written are the replies of this disk.
+    ensures serves { Serves
+        (streams (R.remaining reader.old) (R.remaining reader.new) (W.contents writer.old) (W.contents writer.new))
+        (session Phase.Greeting (S.view store.old)) result (S.view store.new) }
+    // The drive can be mounted again, and no command was refused.
+    ensures keeps { KeepsServed (S.view store.old).disk (S.view store.new).disk }
+{
+    let mut buffers = Buffers::new(alloc);
+    let mut phase = Phase::Greeting;
+    for _turn in 0..u64::MAX {
+        match take_turn(reader, writer, store, &mut buffers, phase)? {
+            Some(next) => phase = next,
+            None => return Ok(()),
+        }
+    }
+    Err(SessionFault::TooMany)
+}

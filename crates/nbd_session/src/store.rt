@@ -1,0 +1,48 @@
+ghost use Rattle.std.specs.Prelude.{◌≡◌, ◌*◌, ◌<◌, ◌^◌};
+ghost use Rattle.zone_translator.specs.Answers.{AreBlocksOf, write_bytes};
+ghost use Rattle.zone_translator.specs.Flat.{trim, with_nothing};
+ghost use Rattle.zone_translator.specs.View.{disk_size};
+ghost use Rattle.nbd_session.specs.Store.{Calls, Shows, StoreView, Syncs};
+
+use crate::fault::StoreFault;
+use zone_translator::DiskFault;
+
+/// A disk that can be synced.
+pub trait Store {
+    /// The disk, and the arrays that a loss of power may leave.
+    ghost view: { Self → StoreView };
+
+    /// How many bytes a block has.
+    fn block_bytes(&self) -> u32
+        ensures size { result ≡ (view self.now).disk.drive.geometry.block }
+        ensures some { 0 < result };
+
+    /// How many blocks there are. Their bytes can be counted in 64 bits.
+    fn blocks(&self) -> u64
+        ensures size { result ≡ disk_size (view self.now).disk }
+        ensures few { result * (view self.now).disk.drive.geometry.block < 2 ^ 64 };
+
+    /// Shows `blocks` blocks from `first` on. `into` is empty after a refusal.
+    fn read(&mut self, first: u64, blocks: u64, into: &mut Vec<u8>) -> Result<(), DiskFault>
+        ensures { Shows (view self.old) first blocks result into.new.items (view self.new) };
+
+    /// Writes whole blocks from `first` on. After a refusal on its way a front of them is written.
+    fn write(&mut self, first: u64, bytes: &[u8]) -> Result<(), DiskFault>
+        requires { AreBlocksOf (view self.old).disk bytes.now }
+        ensures { Calls (view self.old) (write_bytes (view self.old).disk first bytes.now)
+            (with_nothing result) (view self.new) };
+
+    /// Makes `blocks` blocks from `first` on zeros that take no room.
+    fn trim(&mut self, first: u64, blocks: u64) -> Result<(), DiskFault>
+        ensures { Calls (view self.old) (trim (view self.old).disk.drive.geometry.block first blocks)
+            (with_nothing result) (view self.new) };
+
+    /// Writes `blocks` blocks of zeros from `first` on.
+    fn write_zeroes(&mut self, first: u64, blocks: u64) -> Result<(), DiskFault>
+        ensures { Calls (view self.old) (trim (view self.old).disk.drive.geometry.block first blocks)
+            (with_nothing result) (view self.new) };
+
+    /// Makes the array durable: after a loss of power it is found again.
+    fn sync(&mut self) -> Result<(), StoreFault>
+        ensures { Syncs (view self.old) result (view self.new) };
+}
