@@ -34,7 +34,7 @@ use Rattle.zone_translator.proofs.ContentLaws.{took-names}
 use Rattle.zone_translator.specs.Flat.{IsAfterFront, IsFront, grow}
 use Rattle.zone_translator.specs.Read.{IsBlockFault, IsReadFault}
 use Rattle.zone_translator.proofs.WriteLaws.{front-none}
-use Rattle.zone_translator.proofs.RoomLaws.{room-stops, serves-kept}
+use Rattle.zone_translator.proofs.RoomLaws.{room-stops}
 use Rattle.zone_translator.specs.View.{AreBelowNext, DiskView, KeepsDisk, disk_array, disk_turns, flat_of, given_size, next_sequence, disk_places}
 
 -- what a disk of these parts is seen as
@@ -89,7 +89,7 @@ cleaned-disk a b clean clean' was is unmounted below keeps = record {
 
 -- what a disk keeps where only commands went that change nothing
 pub kept-disk : (a b : MountedView) (clean : Option CleanView) (was is : DiskStatus) → (is ≡ statuses.Unmounted → was ≡ statuses.Unmounted) → AgreesWithClean a clean → KeepsArray a b → KeepsDisk (view_of a clean was) (view_of b clean is)
-kept-disk a b clean was is unmounted serves kept = cleaned-disk a b clean clean was is unmounted (below-next b clean is (serves-kept a b clean serves kept)) (cleaning_kept a b clean serves kept)
+kept-disk a b clean was is unmounted serves kept = cleaned-disk a b clean clean was is unmounted (below-next b clean is (cleaned_kept a b clean serves kept)) (cleaning_kept a b clean serves kept)
 
 -- and as many turns are left
 pub turns-same : (a b : MountedView) (clean : Option CleanView) (was is : DiskStatus) → b.tables ≡ a.tables → b.drive.geometry ≡ a.drive.geometry → disk_turns (view_of b clean is) ≡ disk_turns (view_of a clean was)
