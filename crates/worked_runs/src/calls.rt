@@ -1,15 +1,12 @@
 //! Calls of the libraries: those of a disk, and the typed calls to a drive.
 
-use crate::bench::{Bench, Setting, Stage, bench_of, world_after};
-use crate::fault::ScriptFault;
-use crate::requests::{Request, parse_request};
-use crate::runs::{show_report, show_unreached};
-use crate::show::{show_answer_bytes, show_line, show_sent};
-use crate::words::{meant, number, part};
-use crate::world::World;
 use disk_files::{ParseFault, TraceLine};
 use drive_port::{Device, PortFault, append, close, count_zones, finish, read, report, reset};
 use nvme_wire::{Action, Command};
+use script_world::{
+    Bench, Request, ScriptFault, Setting, Stage, World, bench_of, meant, number, parse_request,
+    part, show_answer_bytes, show_line, show_report, show_sent, show_unreached, world_after,
+};
 use std::alloc::{AllocError, Global};
 use zone_translator::{Disk, DiskFault, MountFault, Place};
 

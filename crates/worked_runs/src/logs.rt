@@ -3,10 +3,9 @@
 ghost use Rattle.std.specs.Prelude.{◌↔◌, ◌≡◌, IsTrue, vec_len};
 ghost use Rattle.std.specs.List.{AllByRecursion};
 
-use crate::fault::ScriptFault;
-use crate::world::{World, bytes_of};
 use batch_log::{Batches, FaultAt};
 use nvme_wire::ZoneState;
+use script_world::{ScriptFault, World, bytes_of};
 use std::alloc::{AllocError, Global};
 use yardsticks::{ZoneImage, log};
 

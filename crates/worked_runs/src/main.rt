@@ -12,26 +12,11 @@
 //! ```
 #![tactic(auto)]
 
-mod batches;
-mod bench;
 mod calls;
-mod fault;
-mod flat;
 mod grammar;
-mod images;
 mod logs;
-mod mounted_images;
-mod mounts;
 mod questions;
-mod requests;
-mod runs;
 mod script;
-mod show;
-mod stops;
-mod survey;
-mod sweeps;
-mod words;
-mod world;
 
 use std::io;
 use std::process::ExitCode;

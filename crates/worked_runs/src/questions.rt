@@ -1,12 +1,10 @@
 //! What a script asks of its drive between two runs.
 
-use crate::fault::ScriptFault;
-use crate::requests::{Request, parse_request};
-use crate::show::{show_bytes, show_fault, show_lines};
-use crate::words::{number, part};
-use crate::world::World;
 use disk_runs::RunFault;
 use drive_port::Device;
+use script_world::{
+    Request, ScriptFault, World, number, parse_request, part, show_bytes, show_fault, show_lines,
+};
 use std::alloc::{AllocError, Global};
 use yardsticks::quota;
 use zone_choice::{batch_most, fill, fits_reserve};

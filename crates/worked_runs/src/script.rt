@@ -1,24 +1,19 @@
 //! The lines of a script, and what each of them does.
 
-use crate::batches::parse_batch;
-use crate::bench::{Setting, Stage};
 use crate::calls::{show_calls, show_disk};
-use crate::fault::ScriptFault;
 use crate::grammar::{show_raw_lines, show_trace_lines};
-use crate::images::{show_all_changes, show_changed_images, show_image, show_random_images};
 use crate::logs::show_logs;
-use crate::mounted_images::show_mounted_changes;
-use crate::mounts::{show_mount, show_mount_halts};
 use crate::questions::{
     show_array, show_contents, show_drive_fault, show_moves, show_reserve, show_room, show_zones,
 };
-use crate::runs::{Lines, show_run};
-use crate::show::show_answer_bytes;
-use crate::stops::{Halts, Trace, Trial};
-use crate::survey::show_survey;
-use crate::sweeps::show_all_stops;
-use crate::words::{byte, bytes, habit, meant, number, part, shape, state};
-use crate::world::World;
+use script_sweeps::{
+    Halts, Trace, Trial, show_all_changes, show_all_stops, show_changed_images, show_image,
+    show_mount, show_mount_halts, show_mounted_changes, show_random_images, show_survey,
+};
+use script_world::{
+    Lines, ScriptFault, Setting, Stage, World, byte, bytes, habit, meant, number, parse_batch,
+    part, shape, show_answer_bytes, show_run, state,
+};
 use std::alloc::Global;
 use zone_drive::Drive;
 use zone_states::Geometry;

@@ -1,15 +1,10 @@
 //! A trace with a stop after each number of commands, or inside each Append, or out of memory there,
 //! against a flat array.
 
-use crate::bench::Setting;
-use crate::fault::ScriptFault;
 use crate::flat::Flat;
-use crate::runs::{Lines, Ran, run};
-use crate::show::show_line;
-use crate::words::meant;
-use crate::world::World;
 use disk_runs::RunFault;
 use nvme_wire::Command;
+use script_world::{Lines, Ran, ScriptFault, Setting, World, meant, run, show_line};
 use std::alloc::{AllocError, Global};
 use zone_translator::{DiskFault, MountFault};
 

@@ -1,10 +1,7 @@
 //! What a mount reads of a drive before it changes anything.
 
-use crate::bench::{Setting, bench_of};
-use crate::fault::ScriptFault;
-use crate::show::show_sent;
-use crate::world::World;
 use remount::{MountFault, Survey, survey_drive};
+use script_world::{ScriptFault, Setting, World, bench_of, show_sent};
 use std::alloc::{AllocError, Global};
 
 fn show_answer(answer: Result<Survey, MountFault>, out: &mut String) -> Result<(), AllocError> {

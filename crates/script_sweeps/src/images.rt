@@ -1,11 +1,8 @@
 //! Images of the drive of a script, and of random drives: what is written, and what is read again.
 
-use crate::fault::ScriptFault;
-use crate::show::{show_answer_bytes, show_line};
-use crate::words::{byte, bytes, meant, number};
-use crate::world::World;
 use drive_images::{ImageFault, read_image, write_image};
 use nvme_wire::ZoneState;
+use script_world::{ScriptFault, World, byte, bytes, meant, number, show_answer_bytes, show_line};
 use std::alloc::{AllocError, Global};
 use zone_drive::Drive;
 use zone_states::{Geometry, Zone, is_active, is_open};

@@ -1,8 +1,7 @@
 //! The flat array that a disk is compared with: a plain list of blocks.
 
-use crate::fault::ScriptFault;
-use crate::show::show_digits;
 use disk_files::{ParseFault, TraceLine};
+use script_world::{ScriptFault, show_digits};
 use std::alloc::{AllocError, Global};
 use yardsticks::quota;
 use zone_states::Geometry;

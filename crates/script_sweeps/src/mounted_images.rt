@@ -1,12 +1,10 @@
 //! The image of a drive, cut or changed at each place, read and then mounted: what comes of it, and how often.
 
-use crate::fault::ScriptFault;
 use crate::images::image_of_world;
-use crate::words::{byte, number};
-use crate::world::World;
 use disk_runs::{RunFault, write_fault};
 use drive_images::{image_fault_line, read_image};
 use remount::{MountFault, mount};
+use script_world::{ScriptFault, World, byte, number};
 use std::alloc::{AllocError, Global};
 use zone_drive::Drive;
 

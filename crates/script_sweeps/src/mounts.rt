@@ -1,12 +1,11 @@
 //! Mounts of the drive: which commands are sent, and what is known of the disk then.
 
-use crate::bench::{Bench, Left, Setting, bench_of, left_by, world_after};
-use crate::fault::ScriptFault;
-use crate::show::show_sent;
 use crate::stops::{Halts, checked, settings};
-use crate::world::World;
 use logical_map::Place;
 use remount::{MountFault, mount};
+use script_world::{
+    Bench, Left, ScriptFault, Setting, World, bench_of, left_by, show_sent, world_after,
+};
 use std::alloc::{AllocError, Global};
 use zone_choice::{Filling, Second, Tables};
 

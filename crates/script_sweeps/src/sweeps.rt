@@ -1,13 +1,10 @@
 //! A trace that stops everywhere, and after each of its stops a mount that stops everywhere, against a flat array.
 
-use crate::bench::Setting;
-use crate::fault::ScriptFault;
 use crate::flat::Flat;
 use crate::mounts::mount_over;
-use crate::runs::{Lines, Ran, run};
 use crate::stops::{Halts, Trace, Trial, checked, settings, text_of};
-use crate::world::World;
 use remount::MountFault;
+use script_world::{Lines, Ran, ScriptFault, Setting, World, run};
 use std::alloc::{AllocError, Global};
 
 // How often something stopped: between two commands, and inside an Append.
