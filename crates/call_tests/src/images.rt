@@ -3,9 +3,11 @@
 
 use crate::fakes::FullWriter;
 use disk_files::{FailAfter, LineReader, WriteFault};
-use disk_jobs::{Job, ProgramFault, run_job, write_program_fault};
+use disk_jobs::{Job, JobFile, ProgramFault, run_job, write_program_fault};
 use drive_images::{ImageFault, read_image, write_image};
+use drive_journal::{FileFault, Unknown};
 use std::alloc::{AllocError, Global};
+use std::io;
 use std::process::Abort;
 use std::test::Fail;
 use zone_drive::Drive;
@@ -32,10 +34,13 @@ fn report(alloc: Global, bytes: &[u8], left: usize, step: usize) -> Result<Vec<u
     let job = Job::Report {
         image: String::new(alloc),
     };
-    let mut image = FailAfter::in_steps(bytes, left, step);
+    let file = JobFile {
+        bytes: FailAfter::in_steps(bytes, left, step),
+        store: Unknown::new(io::sink()),
+    };
     let mut input = LineReader::new(alloc, b"".as_slice());
     let mut written = Vec::new(alloc);
-    let (_, result) = run_job(alloc, &job, &mut image, &mut input, &mut written);
+    let (_, _, result) = run_job(alloc, &job, file, &mut input, &mut written);
     if let Err(fault) = result {
         write_program_fault(alloc, fault, &mut written).or(Err(AllocError))?;
     }
@@ -84,22 +89,39 @@ fn writes_a_beginning_of_an_image(rt: HostRuntime) -> Result<(), Fail> {
     Ok(())
 }
 
-// The faults of an image, and their lines.
-const FAULT_LINES: [(ImageFault, &str); 10] = [
-    (ImageFault::Magic, "fault image 1 Magic\n"),
-    (ImageFault::Geometry, "fault image 2 Geometry\n"),
-    (ImageFault::State, "fault image 3 State\n"),
-    (ImageFault::Written, "fault image 4 Written\n"),
-    (ImageFault::RestNotZero, "fault image 5 RestNotZero\n"),
-    (ImageFault::Limits, "fault image 6 Limits\n"),
-    (ImageFault::Short, "fault image 7 Short\n"),
-    (ImageFault::Long, "fault image 8 Long\n"),
-    (ImageFault::Input, "fault image 9 Input\n"),
-    (ImageFault::OutOfMemory, "fault image 10 OutOfMemory\n"),
+// The faults of a file, and their lines.
+const FAULT_LINES: [(FileFault, &str); 12] = [
+    (FileFault::Image(ImageFault::Magic), "fault image 1 Magic\n"),
+    (
+        FileFault::Image(ImageFault::Geometry),
+        "fault image 2 Geometry\n",
+    ),
+    (FileFault::Image(ImageFault::State), "fault image 3 State\n"),
+    (
+        FileFault::Image(ImageFault::Written),
+        "fault image 4 Written\n",
+    ),
+    (
+        FileFault::Image(ImageFault::RestNotZero),
+        "fault image 5 RestNotZero\n",
+    ),
+    (
+        FileFault::Image(ImageFault::Limits),
+        "fault image 6 Limits\n",
+    ),
+    (FileFault::Image(ImageFault::Short), "fault image 7 Short\n"),
+    (FileFault::Image(ImageFault::Long), "fault image 8 Long\n"),
+    (FileFault::Image(ImageFault::Input), "fault image 9 Input\n"),
+    (
+        FileFault::Image(ImageFault::OutOfMemory),
+        "fault image 10 OutOfMemory\n",
+    ),
+    (FileFault::Damaged(96), "fault file\n"),
+    (FileFault::Zones, "fault file\n"),
 ];
 
 #[test]
-fn writes_the_lines_of_all_faults_of_an_image(rt: HostRuntime) {
+fn writes_the_lines_of_all_faults_of_a_file_that_is_read(rt: HostRuntime) {
     for (fault, line) in &FAULT_LINES {
         let mut written = Vec::new(rt.alloc());
         let ended = write_program_fault(rt.alloc(), ProgramFault::Image(*fault), &mut written);

@@ -9,6 +9,7 @@ use disk_jobs::{Job, do_job, explain, write_program_fault};
 use std::alloc::{AllocError, Global};
 use std::fs;
 use std::fs::File;
+use std::os::unix::fs::MetadataExt;
 use std::process::Abort;
 use std::rt::Files;
 use std::test::Fail;
@@ -313,13 +314,6 @@ start 16 state Empty pointer 16 capacity 6
 start 24 state Empty pointer 24 capacity 6
 ";
 
-const CLOSED: &[u8] = b"zones 4
-start 0 state Full pointer - capacity 6
-start 8 state Closed pointer 10 capacity 6
-start 16 state Empty pointer 16 capacity 6
-start 24 state Empty pointer 24 capacity 6
-";
-
 const FINISHED: &[u8] = b"zones 4
 start 0 state Full pointer - capacity 6
 start 8 state Closed pointer 10 capacity 6
@@ -358,7 +352,7 @@ const FILE_JOBS: [(&str, &[u8], &[u8], u64); 13] = [
     (RUN, b"fill 0 5 AA\nnone\n", b"ok\nfault line 2\n", 4192),
     (REPORT, b"", OPENED, 4192),
     (STRICT, b"read 0 1\n", b"0 aa*512\nok\n", 4192),
-    (REPORT, b"", CLOSED, 4192),
+    (REPORT, b"", OPENED, 4192),
     (NVME, b"none\n", b"fault line 1\n", 4192),
     (NVME, FINISH, b"00000000000000000000000001000000\n", 4192),
     (REPORT, b"", FINISHED, 4192),
@@ -394,12 +388,12 @@ fn narrow_image(alloc: Global) -> Result<Vec<u8>, AllocError> {
     Ok(bytes)
 }
 
-// The same after a fill of block 0 with the byte A1, and a restart: zone 0 is Closed, with a header and the block.
+// The same after a fill of block 0 with the byte A1: zone 0 is Implicitly Opened, with a header and the block.
 fn filled_image(alloc: Global) -> Result<Vec<u8>, AllocError> {
     let mut bytes = narrow_image(alloc)?;
     bytes.truncate(64);
     bytes.extend_from_slice(
-        b"\x04\0\0\0\x02\0\0\0ZLOGBAT1\x02\0\x01\0\x01\0\0\0\x01\0\0\0\0\0\0\0",
+        b"\x02\0\0\0\x02\0\0\0ZLOGBAT1\x02\0\x01\0\x01\0\0\0\x01\0\0\0\0\0\0\0",
     )?;
     bytes.extend_from_slice(b"\0\0\0\0\x02\0\0\0")?;
     bytes.resize(72 + 512, 0)?;
@@ -416,7 +410,7 @@ fn check_narrow_image<R: Files + Alloc + Abort>(rt: &R, want: &[u8]) {
 // What a run that stops before its first command writes.
 const HALTED: &[u8] = b"fault mount 10 Halted\n";
 
-// Such a run only restarts the drive, and saves it.
+// Such a run leaves the file alone.
 #[test]
 fn keeps_each_byte_where_a_run_stops_at_once(rt: HostRuntime) -> Result<(), Fail> {
     let empty = narrow_image(rt.alloc())?;
@@ -488,9 +482,18 @@ fn long_name(rt: &impl Abort, alloc: Global) -> String {
     name
 }
 
-// The replies come before the fault, and the image does not change. Both the fault of a line and the save are told.
+// The zones after two fills and a Finish, none of which is in the image.
+const KEPT: &[u8] = b"zones 4
+start 0 state Closed pointer 4 capacity 6
+start 8 state Empty pointer 8 capacity 6
+start 16 state Full pointer - capacity 6
+start 24 state Empty pointer 24 capacity 6
+";
+
+// The replies come before the fault. The changes are kept after the image, and the next job finds them. Both the fault of
+// a line and the save are told.
 #[test]
-fn keeps_the_image_where_a_save_fails(rt: HostRuntime) -> Result<(), Fail> {
+fn keeps_the_changes_where_a_save_fails(rt: HostRuntime) -> Result<(), Fail> {
     let alloc = rt.alloc();
     let name = long_name(&rt, alloc);
     let run = format!(in alloc; "zonedisk run --image {name} --blocks 9")?;
@@ -498,28 +501,56 @@ fn keeps_the_image_where_a_save_fails(rt: HostRuntime) -> Result<(), Fail> {
     let report = format!(in alloc; "zonedisk report --image {name}")?;
     check_written(&rt, alloc, &[(FORMAT_LONG, b"", b"ok\n")]);
     fs::rename(&rt, "long.image", name.as_str())?;
-    let written: [(&str, &[u8], &[u8]); 4] = [
+    let written: [(&str, &[u8], &[u8]); 6] = [
+        (&run, b"read 0 1\n", b"0 00*512\nok\n"),
         (
             &run,
             b"fill 0 1 AA\nread 0 1\n",
             b"ok\n0 aa*512\nok\nfault file\n",
         ),
-        (&run, b"fill 0 1 AA\nnone\n", b"ok\nfault line 2\n"),
+        (&run, b"fill 1 1 BB\nnone\n", b"ok\nfault line 2\n"),
+        (&run, b"read 0 2\n", b"0 aa*512\n1 bb*512\nok\n"),
         (
             &nvme,
             FINISH,
             b"00000000000000000000000001000000\nfault file\n",
         ),
-        (&report, b"", EMPTY),
+        (&report, b"", KEPT),
     ];
     check_written(&rt, alloc, &written);
-    let lost = "is not saved, and holds what it held before: no new file can be made in its folder";
+    let kept =
+        "is not written anew, and keeps all that it holds: no new file can be made in its folder";
     let why = "File name too long (os error 36)";
     let told = format!(in alloc;
-        "line 1: word 1 has to be read, fill, write, trim, idle, grow or remount\n{name} {lost}: {why}"
+        "line 2: word 1 has to be read, fill, write, trim, idle, grow or remount\n{name} {kept}: {why}"
     )?;
-    check_told(&rt, alloc, &[(&run, b"none\n", &told)]);
+    check_told(&rt, alloc, &[(&run, b"fill 2 1 CC\nnone\n", &told)]);
     fs::remove_file(&rt, name.as_str())?;
+    Ok(())
+}
+
+const FORMAT_READ: &str =
+    "zonedisk format --image read.image --block 512 --zones 4 --size 8 --capacity 6 --transfer 4 --active 2 --open 2";
+
+const RUN_READ: &str = "zonedisk run --image read.image --blocks 9";
+
+const RUN_SYNCED: &str = "zonedisk run --image read.image --blocks 9 --sync";
+
+const NVME_SYNCED: &str = "zonedisk nvme --image read.image --sync";
+
+// A run that changes nothing leaves the file alone. After a change a new file takes its place.
+#[test]
+fn leaves_a_file_alone_that_is_only_read(rt: HostRuntime) -> Result<(), Fail> {
+    let alloc = rt.alloc();
+    check_written(&rt, alloc, &[(FORMAT_READ, b"", b"ok\n")]);
+    check_written(&rt, alloc, &[(RUN_SYNCED, b"fill 0 1 AA\n", b"ok\n")]);
+    let first = fs::metadata(&rt, "read.image")?.ino();
+    check_written(&rt, alloc, &[(RUN_READ, b"read 0 1\n", b"0 aa*512\nok\n")]);
+    check_written(&rt, alloc, &[(NVME_SYNCED, b"# no entry\n", b"")]);
+    assert_eq!(rt; fs::metadata(&rt, "read.image")?.ino(), first);
+    check_written(&rt, alloc, &[(RUN_READ, b"trim 0 1\n", b"ok\n")]);
+    assert_ne!(rt; fs::metadata(&rt, "read.image")?.ino(), first);
+    fs::remove_file(&rt, "read.image")?;
     Ok(())
 }
 

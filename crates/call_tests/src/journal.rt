@@ -3,7 +3,8 @@
 ghost use Rattle.std.specs.Prelude.{◌≡◌, ◌≤◌, ◌<◌, false};
 ghost use Rattle.nvme_wire.specs.Entry.{IsAdmitted};
 
-use disk_files::FailAfter;
+use disk_files::{FailAfter, LineReader};
+use disk_runs::run_trace;
 use drive_images::write_image;
 use drive_journal::{FileFault, Held, Journaling, Store, Unknown, open_drive};
 use drive_port::{Device, read_extending};
@@ -119,24 +120,32 @@ fn changes_within(bytes: u64) -> usize
     changes.min(5)
 }
 
-// The file gives the drive after these changes.
+// The blocks of the first two zones.
+fn blocks_of(drive: &Drive) -> (usize, usize) {
+    let mut blocks = (9, 9);
+    if let Some(zone) = drive.zone(0) {
+        blocks.0 = zone.blocks(&GEOMETRY);
+    }
+    if let Some(zone) = drive.zone(1) {
+        blocks.1 = zone.blocks(&GEOMETRY);
+    }
+    blocks
+}
+
+// The file gives the drive after these changes, and is an image if there were none.
 fn holds(alloc: Global, bytes: &[u8], changes: usize) -> bool
     requires { changes < 6 }
 {
     let Ok(opened) = open_drive(alloc, &mut &bytes[..]) else {
         return false;
     };
-    let mut blocks = (9, 9);
-    if let Some(zone) = opened.drive.zone(0) {
-        blocks.0 = zone.blocks(&GEOMETRY);
-    }
     if let Some(zone) = opened.drive.zone(1) {
-        blocks.1 = zone.blocks(&GEOMETRY);
         if changes >= 4 && zone.state() != ZoneState::Full {
             return false;
         }
     }
-    blocks == BLOCKS[changes] && opened.whole == ENDS[changes] as u64
+    let has_blocks = blocks_of(&opened.drive) == BLOCKS[changes];
+    has_blocks && opened.is_image == (changes == 0) && opened.whole == ENDS[changes] as u64
 }
 
 #[test]
@@ -205,9 +214,88 @@ fn reads_what_it_wrote(rt: HostRuntime) -> Result<(), Fail> {
 
 #[test]
 fn a_store_in_memory_holds_what_it_was_given(rt: HostRuntime) -> Result<(), Fail> {
-    let mut store = Held::new(Vec::new(rt.alloc()));
-    store.append(b"one")?;
-    store.append(b"two")?;
+    let mut store = Held::new(rt.alloc(), Vec::new(rt.alloc()), usize::MAX);
+    Store::<Drive>::append(&mut store, b"one")?;
+    Store::<Drive>::append(&mut store, b"two")?;
     assert_eq!(rt; store.bytes(), b"onetwo".as_slice());
+    Ok(())
+}
+
+// The first command is one change after the image, and past the limit. So the image is written anew before the second
+// change, and then there may be twice as many bytes as it has: one more time before the fourth.
+#[test]
+fn a_store_in_memory_is_written_anew(rt: HostRuntime) -> Result<(), Fail> {
+    let drive = Drive::new(rt.alloc(), GEOMETRY)?;
+    let store = Held::of_drive(rt.alloc(), &drive, IMAGE)?;
+    let mut device = Journaling::new(rt.alloc(), drive, store);
+    assert_eq!(rt; run_five(rt.alloc(), &mut device), 5);
+    let (_, store) = device.into_parts();
+    assert_eq!(rt; store.bytes().len(), IMAGE + 3 * 512 + 160);
+    let opened = open_drive(rt.alloc(), &mut store.bytes())?;
+    assert!(rt; !opened.is_image);
+    assert_eq!(rt; blocks_of(&opened.drive), BLOCKS[5]);
+    Ok(())
+}
+
+// The lines of a run, each of which makes one change.
+const LINES: &[u8] = b"fill 0 1 11\nfill 1 1 22\nfill 0 1 33\ntrim 1 1\nfill 2 1 44\n";
+
+// Where each of the changes ends: a header, and a block of data but for the trim.
+const LINE_ENDS: [usize; 5] = [1104, 2208, 3312, 3904, 5008];
+
+// What the array reads after as many lines.
+const ARRAYS: [&[u8]; 6] = [
+    b"0 00*512\n1 00*512\n2 00*512\nok\n",
+    b"0 11*512\n1 00*512\n2 00*512\nok\n",
+    b"0 11*512\n1 22*512\n2 00*512\nok\n",
+    b"0 33*512\n1 22*512\n2 00*512\nok\n",
+    b"0 33*512\n1 00*512\n2 00*512\nok\n",
+    b"0 33*512\n1 00*512\n2 44*512\nok\n",
+];
+
+// Runs these lines over a device with 5 logical blocks, and shows the replies.
+fn run_lines<D: Device + Drop>(alloc: Global, device: D, lines: &[u8]) -> (D, Vec<u8>) {
+    let mut reader = LineReader::new(alloc, lines);
+    let mut replies = Vec::new(alloc);
+    let (device, _) = run_trace(alloc, &mut reader, &mut replies, device, 5);
+    (device, replies)
+}
+
+// A run whose store fails after that many bytes of changes: how many lines were answered, and what the store holds.
+fn run_until(alloc: Global, left: usize) -> Result<(usize, Vec<u8>), Fail> {
+    let geometry = Geometry {
+        capacity: 6,
+        zones: 4,
+        size: 8,
+        ..GEOMETRY
+    };
+    let drive = Drive::new(alloc, geometry)?;
+    let mut bytes = Vec::new(alloc);
+    write_image(&drive, &mut bytes)?;
+    let writer = FailAfter::in_steps(bytes, left, 100);
+    let device = Journaling::new(alloc, drive, Unknown::new(writer));
+    let (device, replies) = run_lines(alloc, device, LINES);
+    let (_, store) = device.into_parts();
+    Ok((replies.len() / 3, store.into_inner().inner))
+}
+
+// How many of the lines have their whole changes in that many bytes.
+fn lines_within(bytes: usize) -> usize
+    ensures { result ≤ 5 }
+{
+    let lines = LINE_ENDS.iter().filter(|end| **end <= bytes).count();
+    lines.min(5)
+}
+
+#[test]
+fn a_store_that_fails_holds_the_lines_that_were_answered(rt: HostRuntime) -> Result<(), Fail> {
+    for left in 0..5009 {
+        let (answered, bytes) = run_until(rt.alloc(), left)?;
+        let lines = lines_within(left);
+        assert_eq!(rt; answered, lines);
+        let opened = open_drive(rt.alloc(), &mut bytes.as_slice())?;
+        let (_, replies) = run_lines(rt.alloc(), opened.drive, b"read 0 3\n");
+        assert_eq!(rt; replies.as_slice(), ARRAYS[lines]);
+    }
     Ok(())
 }

@@ -72,13 +72,13 @@ abbrev pub format : Shape
 format = with_options (codes "format") (image ∷ flag (codes "force") ∷ parts)
 
 abbrev pub run : Bor (List (Bor Text)) → Shape
-run names = with_options (codes "run") (image ∷ blocks ∷ flag (codes "zones") ∷ habit names ∷ stops)
+run names = with_options (codes "run") (image ∷ blocks ∷ flag (codes "zones") ∷ flag (codes "sync") ∷ habit names ∷ stops)
 
 abbrev pub report_words : Shape
 report_words = with_options (codes "report") (image ∷ [])
 
 abbrev pub nvme : Bor (List (Bor Text)) → Shape
-nvme names = with_options (codes "nvme") (image ∷ habit names ∷ [])
+nvme names = with_options (codes "nvme") (image ∷ flag (codes "sync") ∷ habit names ∷ [])
 
 abbrev pub fresh_words : Bor (List (Bor Text)) → Shape
 fresh_words names = with_options (codes "fresh") (parts ++ blocks ∷ flag (codes "report") ∷ flag (codes "statistics") ∷ habit names ∷ stops)

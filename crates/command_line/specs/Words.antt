@@ -73,11 +73,12 @@ HasImage rows path = first_of (codes "image") rows ≡ Some path
 abbrev pub AsksFor : Text → List Row → Job → Type 0
 AsksFor name rows (Format path geometry force) =
     (name ≡ codes "format") × HasImage rows (string_bytes path) × HasGeometry rows geometry × HasFlag rows (codes "force") force
-AsksFor name rows (Run path blocks zones stop habit) =
+AsksFor name rows (Run path blocks zones stop habit sync) =
     (name ≡ codes "run") × HasImage rows (string_bytes path) × HasNumber 64 rows (codes "blocks") blocks
-    × HasFlag rows (codes "zones") zones × HasStop rows stop × HasHabit rows habit
+    × HasFlag rows (codes "zones") zones × HasStop rows stop × HasHabit rows habit × HasFlag rows (codes "sync") sync
 AsksFor name rows (Report path) = (name ≡ codes "report") × HasImage rows (string_bytes path)
-AsksFor name rows (Nvme path habit) = (name ≡ codes "nvme") × HasImage rows (string_bytes path) × HasHabit rows habit
+AsksFor name rows (Nvme path habit sync) =
+    (name ≡ codes "nvme") × HasImage rows (string_bytes path) × HasHabit rows habit × HasFlag rows (codes "sync") sync
 AsksFor name rows (Fresh geometry blocks report statistics stop habit) =
     (name ≡ codes "fresh") × HasGeometry rows geometry × HasNumber 64 rows (codes "blocks") blocks
     × HasFlag rows (codes "report") report × HasFlag rows (codes "statistics") statistics

@@ -27,6 +27,8 @@ const FRESH_EXAMPLE: &str = "Example:
 const FRESH_RAW_EXAMPLE: &str = "Example:
   printf '0000010001000000%0112d\\n' 0 | zonedisk fresh-raw --block 512 --zones 4 --size 8 --capacity 6 --transfer 4 --active 2 --open 2";
 
+const SYNC_HELP: &str = "Sends a reply only once the changes before it are on the disk";
+
 /// An option that takes a number, and has to be given.
 fn number_option<'a>(
     alloc: Global,
@@ -184,6 +186,7 @@ fn run_command<'a>(alloc: Global, habits: &'a [&'a str]) -> Result<Command<'a>, 
         .arg(image_option(alloc))?
         .arg(blocks_option(alloc))?
         .arg(flag(alloc, "zones", zones))?
+        .arg(flag(alloc, "sync", SYNC_HELP))?
         .arg(habit_option(alloc, habits))?;
     stop_options(alloc, command)
 }
@@ -204,6 +207,7 @@ fn nvme_command<'a>(alloc: Global, habits: &'a [&'a str]) -> Result<Command<'a>,
         .about("Submits the raw entries on standard input to the drive in a file")
         .after_help(NVME_EXAMPLE)
         .arg(image_option(alloc))?
+        .arg(flag(alloc, "sync", SYNC_HELP))?
         .arg(habit_option(alloc, habits))
 }
 

@@ -155,6 +155,7 @@ fn run_job(alloc: Global, matches: &ArgMatches<'_>) -> Result<Job, WordFault>
         zones: has_flag(matches, "zones"),
         stop,
         habit: habit_of(matches),
+        sync: has_flag(matches, "sync"),
     })
 }
 
@@ -174,6 +175,7 @@ fn nvme_job(alloc: Global, matches: &ArgMatches<'_>) -> Result<Job, WordFault>
     Ok(Job::Nvme {
         image: image(alloc, matches)?,
         habit: habit_of(matches),
+        sync: has_flag(matches, "sync"),
     })
 }
 

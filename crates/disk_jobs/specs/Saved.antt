@@ -1,5 +1,5 @@
 -- What a job does: the drive that it leaves to be saved, what it ends with, and what is written.
-use Rattle.std.specs.Prelude.{◌≡◌, ℕ, ◌+◌, ◌*◌, Bool, true, false, List, Option, Some, None, Result, Ok, Err, IfSome, ⊤}
+use Rattle.std.specs.Prelude.{◌≡◌, ℕ, ◌+◌, ◌*◌, ◌||◌, Bool, true, false, if◌then◌else◌, List, Option, Some, None, Result, Ok, Err, IfSome, ⊤}
 use Rattle.std.specs.Io.KnownBytes.{Appends}
 use Rattle.nvme_wire.specs.declared.command.ReportingOptions.TheVariants.{AnyState}
 use Rattle.zone_states.specs.Checks.{first_failing}
@@ -19,8 +19,8 @@ use Rattle.drive_array.specs.Reserve.{most_size}
 use Rattle.drive_survey.specs.declared.fault.MountFault.TheVariants as mounts
 use Rattle.disk_files.specs.Output.{AppendsFront}
 use Rattle.disk_files.specs.Reply.{ok_text}
-use Rattle.drive_images.specs.Image.{IsImage}
-use Rattle.drive_images.specs.Reading.{IsImageFault}
+use Rattle.drive_journal.specs.File.{IsDriveFile, IsStored}
+use Rattle.drive_journal.specs.FileFaults.{IsFileFault}
 use Rattle.disk_runs.specs.RawLines.{raw}
 use Rattle.disk_runs.specs.Run.{Exchange, Known, Runs}
 use Rattle.disk_runs.specs.Trace.{RunGives, RunLeaves}
@@ -28,29 +28,31 @@ use Rattle.disk_runs.specs.declared.fault.RunFault.{RunFault}
 use Rattle.disk_runs.specs.declared.fault.RunFault.TheVariants as runs
 use Rattle.disk_jobs.specs.declared.fault.ProgramFault.{ProgramFault}
 use Rattle.disk_jobs.specs.declared.fault.ProgramFault.TheVariants as program
+use Rattle.disk_jobs.specs.declared.file_fault.FileFault.{FileFault}
 use Rattle.disk_jobs.specs.declared.job.Job.{Job}
 use Rattle.disk_jobs.specs.declared.job.Job.TheVariants as jobs
 use Rattle.disk_jobs.specs.declared.job.Stop.{Stop}
-use Rattle.disk_jobs.specs.declared.program.TraceRun.{TraceRun}
+use Rattle.disk_jobs.specs.declared.begun.Begun.{Begun}
+use Rattle.disk_jobs.specs.declared.lines.Left.{Left}
 
 -- ---- the drive that a job begins with
 
 abbrev pub fresh_drive : Geometry → Habit → MemoryDrive
 fresh_drive geometry habit = record { state = fresh geometry; habit = habit }
 
--- the drive whose image the bytes are, restarted, with this habit
-pub record IsRestarted (image : Known) (habit : Habit) (drive : MemoryDrive) : Type 0 where
-  pub saved : DriveState
-  pub is_image : IfSome image (λ bytes. IsImage bytes saved)
-  pub drive_is : drive ≡ record { state = restarted saved; habit = habit }
+-- the drive that the bytes of a file hold, restarted, with this habit
+pub record IsRestarted (file : Known) (habit : Habit) (begun : Begun) : Type 0 where
+  pub opened : DriveState
+  pub is_file : IfSome file (λ bytes. IsDriveFile bytes opened begun.whole)
+  pub drive_is : begun.drive ≡ record { state = restarted opened; habit = habit }
 
-abbrev pub BeginsOn : Job → Known → MemoryDrive → Type 0
-BeginsOn (jobs.Format path geometry force) image drive = drive ≡ fresh_drive geometry Lazy
-BeginsOn (jobs.Run path blocks zones stop habit) image drive = IsRestarted image habit drive
-BeginsOn (jobs.Report path) image drive = ⊥
-BeginsOn (jobs.Nvme path habit) image drive = IsRestarted image habit drive
-BeginsOn (jobs.Fresh geometry blocks shown statistics stop habit) image drive = drive ≡ fresh_drive geometry habit
-BeginsOn (jobs.FreshRaw geometry habit) image drive = drive ≡ fresh_drive geometry habit
+abbrev pub BeginsOn : Job → Known → Begun → Type 0
+BeginsOn (jobs.Format path geometry force) file begun = begun.drive ≡ fresh_drive geometry Lazy
+BeginsOn (jobs.Run path blocks zones stop habit sync) file begun = IsRestarted file habit begun
+BeginsOn (jobs.Report path) file begun = ⊥
+BeginsOn (jobs.Nvme path habit sync) file begun = IsRestarted file habit begun
+BeginsOn (jobs.Fresh geometry blocks shown statistics stop habit) file begun = begun.drive ≡ fresh_drive geometry habit
+BeginsOn (jobs.FreshRaw geometry habit) file begun = begun.drive ≡ fresh_drive geometry habit
 
 -- why there is no fresh drive: its geometry is out of range, or memory ran out
 abbrev pub IsNotFresh : Geometry → ProgramFault → Type 0
@@ -58,10 +60,10 @@ IsNotFresh geometry (program.Run (runs.Geometry fault)) = first_failing (geometr
 IsNotFresh geometry (program.Run runs.Memory) = ⊤
 IsNotFresh geometry fault = ⊥
 
--- why there is none in the image: the bytes are no image, by their first fault
+-- why there is none in the file: its bytes hold no drive, by their first fault
 abbrev pub IsNotRead : Known → ProgramFault → Type 0
-IsNotRead image (program.Image fault) = IfSome image (λ bytes. IsImageFault bytes fault)
-IsNotRead image fault = ⊥
+IsNotRead file (program.Image fault) = IfSome file (λ bytes. IsFileFault bytes fault)
+IsNotRead file fault = ⊥
 
 -- ---- what is written of it
 
@@ -69,10 +71,15 @@ IsNotRead image fault = ⊥
 abbrev pub IsZonesText : DriveState → List ℕ → Type 0
 IsZonesText drive text = IsTextOf (report drive.geometry drive.zones 0 AnyState false (16 * (drive.geometry.zones + 1))) text
 
--- the text of the zones of the drive in the image, as they were saved
-pub record IsSavedText (image : Known) (text : List ℕ) : Type 0 where
+-- this drive is read in the file
+pub record IsReadIn (file : Known) (drive : DriveState) : Type 0 where
+  pub whole : ℕ
+  pub is_file : IfSome file (λ bytes. IsDriveFile bytes drive whole)
+
+-- the text of the zones of the drive in the file, as they were saved
+pub record IsSavedText (file : Known) (text : List ℕ) : Type 0 where
   pub saved : DriveState
-  pub is_image : IfSome image (λ bytes. IsImage bytes saved)
+  pub is_read : IsReadIn file saved
   pub is_text : IsZonesText saved text
 
 -- such a text is written, and nothing else
@@ -89,19 +96,19 @@ FailsToWrite Before IsText fault old new = Before fault × (new ≡ old)
 abbrev pub IsOk : List ℕ → Type 0
 IsOk text = text ≡ ok_text
 
--- Why a job leaves no drive. A fault of the image comes before anything is written. Of `ok` a beginning may be written, and of a report one of it.
+-- Why a job leaves no drive. A fault of the file comes before anything is written. Of `ok` a beginning may be written, and of a report one of it.
 abbrev pub HasNoDrive : Job → Known → ProgramFault → Known → Known → Type 0
-HasNoDrive (jobs.Format path geometry force) image fault old new = FailsToWrite (IsNotFresh geometry) IsOk fault old new
-HasNoDrive (jobs.Run path blocks zones stop habit) image fault old new = IsNotRead image fault × (new ≡ old)
-HasNoDrive (jobs.Report path) image fault old new = FailsToWrite (IsNotRead image) (IsSavedText image) fault old new
-HasNoDrive (jobs.Nvme path habit) image fault old new = IsNotRead image fault × (new ≡ old)
-HasNoDrive (jobs.Fresh geometry blocks shown statistics stop habit) image fault old new = IsNotFresh geometry fault × (new ≡ old)
-HasNoDrive (jobs.FreshRaw geometry habit) image fault old new = IsNotFresh geometry fault × (new ≡ old)
+HasNoDrive (jobs.Format path geometry force) file fault old new = FailsToWrite (IsNotFresh geometry) IsOk fault old new
+HasNoDrive (jobs.Run path blocks zones stop habit sync) file fault old new = IsNotRead file fault × (new ≡ old)
+HasNoDrive (jobs.Report path) file fault old new = FailsToWrite (IsNotRead file) (IsSavedText file) fault old new
+HasNoDrive (jobs.Nvme path habit sync) file fault old new = IsNotRead file fault × (new ≡ old)
+HasNoDrive (jobs.Fresh geometry blocks shown statistics stop habit) file fault old new = IsNotFresh geometry fault × (new ≡ old)
+HasNoDrive (jobs.FreshRaw geometry habit) file fault old new = IsNotFresh geometry fault × (new ≡ old)
 
--- only a report is done without a drive to save: it shows the zones of the drive in the image
+-- only a report is done without a drive to save: it shows the zones of the drive in the file
 abbrev pub ShowsReport : Job → Known → Known → Known → Type 0
-ShowsReport (jobs.Report path) image old new = WritesText (IsSavedText image) old new
-ShowsReport job image old new = ⊥
+ShowsReport (jobs.Report path) file old new = WritesText (IsSavedText file) old new
+ShowsReport job file old new = ⊥
 
 -- what is written before the lines: a drive that was just made is told
 abbrev pub SaysFirst : Job → Known → Known → Type 0
@@ -109,9 +116,9 @@ SaysFirst (jobs.Format path geometry force) old new = Appends old new ok_text
 SaysFirst job old new = new ≡ old
 
 -- a job has this drive before its lines; a report has none, and is done
-abbrev pub HasDrive : Job → Known → Option MemoryDrive → Known → Known → Type 0
-HasDrive job image None old new = ShowsReport job image old new
-HasDrive job image (Some drive) old new = BeginsOn job image drive × SaysFirst job old new
+abbrev pub HasDrive : Job → Known → Option Begun → Known → Known → Type 0
+HasDrive job file None old new = ShowsReport job file old new
+HasDrive job file (Some begun) old new = BeginsOn job file begun × SaysFirst job old new
 
 -- ---- what the lines make of it
 
@@ -135,23 +142,27 @@ ThenShows true drive (Ok done) old (Err runs.Memory) new = new ≡ old
 ThenShows true drive (Ok done) old (Err fault) new = ⊥
 ThenShows zones drive ran old ended new = (ended ≡ ran) × (new ≡ old)
 
--- a trace is run over the drive, which stops, and then the zones are shown, if they are asked for
-pub record RunsAndShows (how : TraceRun) (old : DriveState) (bytes : Exchange) (ended : Result (Unit {0}) RunFault) (new : DriveState) : Type 0 where
+-- what the lines of a job do over a drive; nothing is said of a run whose commands are counted
+abbrev pub RunsLines : Job → Exchange → DriveState → Result (Unit {0}) RunFault → DriveState → Type 0
+RunsLines (jobs.Run path blocks zones stop habit sync) bytes old ended new = RunsTrace blocks (stopping stop old) bytes ended new
+RunsLines (jobs.Fresh geometry blocks shown false stop habit) bytes old ended new = RunsTrace blocks (stopping stop old) bytes ended new
+RunsLines (jobs.Fresh geometry blocks shown true stop habit) bytes old ended new = ⊤
+RunsLines (jobs.Nvme path habit sync) bytes old ended new = Runs raw bytes old ended new
+RunsLines (jobs.FreshRaw geometry habit) bytes old ended new = Runs raw bytes old ended new
+RunsLines job bytes old ended new = (ended ≡ Ok tt) × (bytes.contents ≡ bytes.written) × (new ≡ old)
+
+-- whether the zones are shown after the replies
+abbrev pub shows_zones : Job → Bool
+shows_zones (jobs.Run path blocks zones stop habit sync) = zones
+shows_zones (jobs.Fresh geometry blocks shown statistics stop habit) = shown
+shows_zones job = false
+
+-- The lines of a job are answered over its drive, and leave this one. Then the zones of the drive that is handed back are shown, if they are asked for.
+pub record AnswersLines (job : Job) (bytes : Exchange) (old : DriveState) (ended : Result (Unit {0}) RunFault) (new back : DriveState) : Type 0 where
   pub ran : Result (Unit {0}) RunFault
   pub middle : Known
-  pub runs : RunsTrace how.blocks (stopping how.stop old) (record bytes { contents = middle }) ran new
-  pub shows : ThenShows how.zones new ran middle ended bytes.contents
-
--- The lines of a job are answered over its drive. Nothing is said of a run whose commands are counted.
-abbrev pub AnswersLines : Job → Exchange → DriveState → Result (Unit {0}) RunFault → DriveState → Type 0
-AnswersLines (jobs.Run path blocks zones stop habit) bytes old ended new =
-    RunsAndShows (record { blocks = blocks; zones = zones; stop = stop }) old bytes ended new
-AnswersLines (jobs.Fresh geometry blocks shown false stop habit) bytes old ended new =
-    RunsAndShows (record { blocks = blocks; zones = shown; stop = stop }) old bytes ended new
-AnswersLines (jobs.Fresh geometry blocks shown true stop habit) bytes old ended new = ⊤
-AnswersLines (jobs.Nvme path habit) bytes old ended new = Runs raw bytes old ended new
-AnswersLines (jobs.FreshRaw geometry habit) bytes old ended new = Runs raw bytes old ended new
-AnswersLines job bytes old ended new = (ended ≡ Ok tt) × (bytes.contents ≡ bytes.written) × (new ≡ old)
+  pub runs : RunsLines job (record bytes { contents = middle }) old ran new
+  pub shows : ThenShows (shows_zones job) back ran middle ended bytes.contents
 
 -- the end of a run, by how the program tells it
 abbrev pub ended_by : Result (Unit {0}) ProgramFault → Result (Unit {0}) RunFault
@@ -165,19 +176,56 @@ TellsRun geometry (program.Run fault) = ⊤
 TellsRun geometry (program.Reserve most) = most ≡ most_size geometry
 TellsRun geometry fault = ⊥
 
+-- ---- what the file holds
+
+-- whether the changes of a job go to its file
+abbrev pub has_changes : Job → Bool
+has_changes (jobs.Run path blocks zones stop habit sync) = true
+has_changes (jobs.Nvme path habit sync) = true
+has_changes job = false
+
+-- The store of a job with a file stores the drive that the lines left. Other jobs do not use it.
+abbrev pub StoresDrive : Job → Known → Known → DriveState → Type 0
+StoresDrive (jobs.Run path blocks zones stop habit sync) old new drive = IfSome new (λ bytes. IsStored bytes drive)
+StoresDrive (jobs.Nvme path habit sync) old new drive = IfSome new (λ bytes. IsStored bytes drive)
+StoresDrive job old new drive = new ≡ old
+
+-- the drive that is handed back is this one; where the store failed, only the store has it
+abbrev pub IsHandedBack : Bool → DriveState → DriveState → Type 0
+IsHandedBack failed drive back = failed ≡ false → (back.geometry ≡ drive.geometry) × (back.zones ≡ drive.zones)
+
 -- ---- the job
 
--- The drive that the lines of a job left of the one that it began with, whatever ended them.
-pub record LeftByLines (job : Job) (image : Known) (bytes : Exchange) (ended : Result (Unit {0}) RunFault) (drive : DriveState) : Type 0 where
-  pub first : MemoryDrive
-  pub begins : BeginsOn job image first
+-- What the lines of a job leave of its drive, whatever ended them, and what its store holds then.
+pub record LeavesDrive (job : Job) (bytes : Exchange) (old : DriveState) (ended : Result (Unit {0}) RunFault) (left : Left) (before held : Known) : Type 0 where
+  pub drive : DriveState
+  pub answers : AnswersLines job bytes old ended drive left.drive.state
+  pub back : IsHandedBack left.failed drive left.drive.state
+  pub stored : StoresDrive job before held drive
+
+-- What a job leaves of the drive that it began with.
+pub record LeftByLines (job : Job) (file : Known) (bytes : Exchange) (ended : Result (Unit {0}) RunFault) (left : Left) (before held : Known) : Type 0 where
+  pub first : Begun
+  pub begins : BeginsOn job file first
   pub told : Known
   pub says : SaysFirst job bytes.written told
-  pub answers : AnswersLines job (record bytes { written = told }) first.state ended drive
+  pub leaves : LeavesDrive job (record bytes { written = told }) first.drive.state ended left before held
+
+-- a store holds the bytes of a file, where its bytes are known
+abbrev pub HoldsFile : Known → Known → Type 0
+HoldsFile None file = ⊤
+HoldsFile (Some held) file = file ≡ Some held
 
 -- ---- the file
 
--- What is saved of a job: the drive that it left, also after a fault. A fresh drive is saved only if its `ok` was sent.
-abbrev pub drive_to_save : Job → Result (Unit {0}) ProgramFault → Option MemoryDrive → Option MemoryDrive
-drive_to_save (jobs.Format path geometry force) (Err fault) drive = None
-drive_to_save job sent drive = drive
+-- What is saved of a job, once what it wrote was sent: the drive that it left, also after a fault. A fresh drive is saved only if its `ok` was sent.
+-- Nothing is saved where the file was not changed, nor where a change could not be written: then the file has all changes before it.
+abbrev pub drive_to_save : Job → Result (Unit {0}) ProgramFault → Bool → Option Left → Option MemoryDrive
+drive_to_save job sent unchanged None = None
+drive_to_save (jobs.Format path geometry force) (Err fault) unchanged (Some left) = None
+drive_to_save job sent unchanged (Some left) = if (left.failed || unchanged) then None else Some left.drive
+
+-- A job whose file failed during its lines is told by that fault: its lines met it as a drive that stopped, or as an output that failed.
+abbrev pub first_told : Result (Unit {0}) ProgramFault → Option FileFault → Result (Unit {0}) ProgramFault
+first_told ended (Some failed) = Err (program.File failed)
+first_told ended None = ended

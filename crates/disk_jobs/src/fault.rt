@@ -1,13 +1,14 @@
-ghost use Rattle.std.specs.Prelude.{◌≡◌, IfErr, OnOk};
+ghost use Rattle.std.specs.Prelude.{◌≡◌, IfErr, IfOk, OnOk};
 ghost use Rattle.std.specs.Io.KnownBytes.{Appends};
 ghost use Rattle.disk_runs.specs.declared.fault.RunFault.TheVariants.{Memory, Output};
-ghost use Rattle.disk_jobs.specs.FaultLine.{IsUnwritten, program_text};
+ghost use Rattle.disk_jobs.specs.FaultLine.{IsUnwritten, program_text, read_fault_text};
 ghost use Rattle.disk_jobs.specs.declared.fault.ProgramFault.TheVariants as program;
 
 use crate::file_fault::FileFault;
 use disk_files::{WriteFault, write_out};
 use disk_runs::{RunFault, write_fault};
-use drive_images::{ImageFault, image_fault_line};
+use drive_images::image_fault_line;
+use drive_journal::FileFault as ReadFault;
 use std::alloc::{AllocError, Global};
 use std::io::Write;
 use thiserror::Error;
@@ -23,9 +24,9 @@ pub enum ProgramFault {
     /// The drive has not room for that many logical blocks, but for `most` of them.
     #[error("Reserve")]
     Reserve { most: u64 },
-    /// The file has no image of a drive.
+    /// The file holds no drive: its image or a change after it has a fault.
     #[error("Image")]
-    Image(ImageFault),
+    Image(ReadFault),
     /// The file of the image is not used, or the drive is not saved in it.
     #[error("File")]
     File(FileFault),
@@ -39,10 +40,10 @@ impl From<RunFault> for ProgramFault {
     }
 }
 
-impl From<ImageFault> for ProgramFault {
+impl From<ReadFault> for ProgramFault {
     ghost from_gives = { λ fault told. told ≡ program.Image fault };
 
-    fn from(fault: ImageFault) -> ProgramFault {
+    fn from(fault: ReadFault) -> ProgramFault {
         ProgramFault::Image(fault)
     }
 }
@@ -65,6 +66,17 @@ impl From<WriteFault> for ProgramFault {
 
 const RESERVE: RunFault = RunFault::Mount(MountFault::Reserve);
 
+/// The line of the fault of a file that holds no drive.
+fn read_fault_line(alloc: Global, fault: ReadFault) -> Result<Vec<u8>, AllocError>
+    ensures { IfOk result (λ line. line.items ≡ read_fault_text fault) }
+{
+    match fault {
+        ReadFault::Image(fault) => image_fault_line(alloc, fault),
+        ReadFault::Damaged(_) => Vec::from_slice(alloc, b"fault file\n"),
+        ReadFault::Zones => Vec::from_slice(alloc, b"fault file\n"),
+    }
+}
+
 /// Writes the line of a fault. It is refused by `Output` where the writer fails, with a beginning of the line written,
 /// and by `Memory` with nothing written.
 pub fn write_program_fault<W: Write>(
@@ -79,7 +91,7 @@ pub fn write_program_fault<W: Write>(
     match fault {
         ProgramFault::Run(fault) => write_fault(alloc, fault, output)?,
         ProgramFault::Reserve { .. } => write_fault(alloc, RESERVE, output)?,
-        ProgramFault::Image(fault) => write_out(output, &image_fault_line(alloc, fault)?)?,
+        ProgramFault::Image(fault) => write_out(output, &read_fault_line(alloc, fault)?)?,
         ProgramFault::File(_) => write_out(output, b"fault file\n")?,
     }
     Ok(())

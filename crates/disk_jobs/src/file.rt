@@ -1,20 +1,23 @@
+use crate::changes_file::ChangesFile;
 use crate::fault::ProgramFault;
 use crate::file_fault::{FileFault, SystemError};
 use crate::image_file::{ImageFile, open_to_format, open_to_read, open_to_save};
 use crate::job::Job;
-use crate::new_file::save;
-use crate::program::run_job;
-use crate::saving::drive_to_save;
+use crate::new_file::{Saving, save};
+use crate::program::{JobFile, run_job};
+use crate::saving::{drive_to_save, first_told};
+use crate::synced_output::SyncedOutput;
 use disk_files::LineReader;
 use disk_runs::RunFault;
+use drive_journal::Unknown;
 use std::alloc::Global;
 use std::fs::File;
 use std::io;
-use std::io::{BufReader, Read, Write};
+use std::io::{BufReader, BufWriter, Read, Write};
 use std::rt::Files;
 use zone_drive::Drive;
 
-/// How a job ended, and how its drive was saved. Both can fail: then the save lost what the job had done.
+/// How a job ended, and how its drive was saved. Both can fail.
 #[derive(Clone, Copy, Debug, PartialEq, Eq)]
 pub struct Done {
     /// Of the job, with the replies that it sent.
@@ -35,6 +38,9 @@ impl Done {
     }
 }
 
+/// What a job left to be saved, and how it ended.
+type Ran = (Option<Drive>, Result<(), ProgramFault>);
+
 /// What a fault of a file is to the program: that memory ran out is told as in a run.
 fn told(fault: FileFault) -> ProgramFault {
     if fault.is_memory() {
@@ -48,7 +54,7 @@ fn send<W: Write>(output: &mut W) -> Result<(), ProgramFault> {
     output.flush().or(Err(ProgramFault::Run(RunFault::Output)))
 }
 
-/// Opens and locks the file of a job that reads an image.
+/// Opens and locks the file of a job that reads one.
 fn open_image<F: Files<File = File>>(
     files: &F,
     alloc: Global,
@@ -61,66 +67,116 @@ fn open_image<F: Files<File = File>>(
     }
 }
 
-/// Does a job on the bytes of an image, sends what it wrote, and hands back the drive to save, if there is
-/// one.
-fn run_on<I: Read, R: Read + Drop, W: Write>(
+/// Does a job that reads no file, and sends what it wrote.
+fn run_without_file<R: Read + Drop, W: Write>(
     alloc: Global,
     job: &Job,
-    image: &mut I,
     input: &mut LineReader<R>,
     output: &mut W,
-) -> (Option<Drive>, Result<(), ProgramFault>) {
-    let (drive, ran) = run_job(alloc, job, image, input, output);
+) -> Ran {
+    let file = JobFile {
+        bytes: io::empty(),
+        store: Unknown::new(io::sink()),
+    };
+    let (left, _, ran) = run_job(alloc, job, file, input, output);
     let sent = ran.and(send(output));
-    (drive_to_save(job, sent, drive), sent)
+    (drive_to_save(job, sent, false, left), sent)
 }
 
-/// Does a job on the image in a file.
-fn run_on_file<R: Read + Drop, W: Write>(
-    alloc: Global,
+/// Reads a file from its beginning.
+fn reader_of(alloc: Global, file: &File) -> io::Result<BufReader<File>> {
+    BufReader::new(alloc, file.try_clone()?)
+}
+
+/// Saves a drive in the place of an image, if there is one to save.
+fn save_if_any<F: Files<File = File>>(
+    saving: &Saving<'_, F>,
+    drive: Option<Drive>,
+    image: &ImageFile,
+) -> Result<(), ProgramFault> {
+    let Some(drive) = drive else {
+        return Ok(());
+    };
+    match save(saving, &drive, image) {
+        Ok(_) => Ok(()),
+        Err(fault) => Err(told(fault)),
+    }
+}
+
+/// Does a job on the drive in a file, sends what it wrote, and saves the drive. Its changes go to the file.
+fn run_with_changes<F: Files<File = File>, R: Read + Drop, W: Write>(
+    saving: &Saving<'_, F>,
     job: &Job,
-    file: &File,
+    image: ImageFile,
     input: &mut LineReader<R>,
     output: &mut W,
-) -> (Option<Drive>, Result<(), ProgramFault>) {
-    match BufReader::new(alloc, file) {
-        Ok(mut image) => run_on(alloc, job, &mut image, input, output),
-        Err(error) => {
-            let fault = FileFault::Open(SystemError::from(error));
-            (None, Err(told(fault)))
-        }
+) -> Done {
+    let bytes = match reader_of(saving.alloc, &image.file) {
+        Ok(bytes) => bytes,
+        Err(error) => return Done::unsaved(Err(told(FileFault::Open(SystemError::from(error))))),
+    };
+    let store = ChangesFile::new(saving, image);
+    let (left, store, ran) = run_job(saving.alloc, job, JobFile { bytes, store }, input, output);
+    let failed = store.error().map(FileFault::Change);
+    let sent = first_told(ran.and(send(output)), failed);
+    let drive = drive_to_save(job, sent, store.is_unchanged(), left);
+    Done {
+        job: sent,
+        saved: save_if_any(saving, drive, &store.into_image()),
+    }
+}
+
+/// The same, and before something is sent the changes are on the disk.
+fn run_with_syncs<F: Files<File = File>, R: Read + Drop, W: Write>(
+    saving: &Saving<'_, F>,
+    job: &Job,
+    image: ImageFile,
+    input: &mut LineReader<R>,
+    output: &mut W,
+) -> Done {
+    let Ok(path) = String::from_str(saving.alloc, &image.path) else {
+        return Done::unsaved(Err(ProgramFault::Run(RunFault::Memory)));
+    };
+    let synced = SyncedOutput::new(saving.files, &path, output);
+    let Ok(mut buffered) = BufWriter::new(saving.alloc, synced) else {
+        return Done::unsaved(Err(ProgramFault::Run(RunFault::Memory)));
+    };
+    let done = run_with_changes(saving, job, image, input, &mut buffered);
+    let failed = buffered.get_ref().error().map(FileFault::Sync);
+    Done {
+        job: first_told(done.job, failed),
+        saved: done.saved,
     }
 }
 
 /// Opens the file of a fresh drive, and saves the drive in it. A file that was made for it is removed after a fault.
 fn save_fresh<F: Files<File = File>>(
-    files: &F,
-    alloc: Global,
+    saving: &Saving<'_, F>,
     path: &str,
     force: bool,
     drive: &Drive,
 ) -> Result<(), FileFault> {
-    let image = open_to_format(files, alloc, path, force)?;
-    let saved = save(files, alloc, drive, &image);
+    let image = open_to_format(saving.files, saving.alloc, path, force)?;
+    let saved = save(saving, drive, &image);
     if saved.is_err() {
-        image.discard(files);
+        image.discard(saving.files);
     }
-    saved
+    saved?;
+    Ok(())
 }
 
 /// Makes a fresh drive, says `ok`, and saves the drive. The file is opened after the `ok`, so its faults follow it.
 fn format<F: Files<File = File>, R: Read + Drop, W: Write>(
-    files: &F,
-    alloc: Global,
+    saving: &Saving<'_, F>,
     job: &Job,
     input: &mut LineReader<R>,
     output: &mut W,
 ) -> Done {
-    let (drive, sent) = run_on(alloc, job, &mut io::empty(), input, output);
+    let (drive, sent) = run_without_file(saving.alloc, job, input, output);
     let (Job::Format { image, force, .. }, Some(drive)) = (job, &drive) else {
         return Done::unsaved(sent);
     };
-    let saved = save_fresh(files, alloc, image, *force, drive);
+    let saved = save_fresh(saving, image, *force, drive);
     Done {
         job: sent,
         saved: saved.map_err(told),
@@ -128,7 +184,8 @@ fn format<F: Files<File = File>, R: Read + Drop, W: Write>(
 }
 
 /// Does a job, sends what it wrote, and then saves the drive if the job works on one in a file, also after
-/// a fault. The file is locked from before it is read until after the drive is saved.
+/// a fault. The file is locked from before it is read until after the drive is saved. Each change of the drive is in
+/// the file before a reply that depends on it is sent.
 pub fn do_job<F: Files<File = File>, R: Read + Drop, W: Write>(
     files: &F,
     alloc: Global,
@@ -137,22 +194,22 @@ pub fn do_job<F: Files<File = File>, R: Read + Drop, W: Write>(
     output: &mut W,
 ) -> Done {
     let Some(path) = job.image() else {
-        return Done::unsaved(run_on(alloc, job, &mut io::empty(), input, output).1);
+        return Done::unsaved(run_without_file(alloc, job, input, output).1);
+    };
+    let saving = Saving {
+        files,
+        alloc,
+        sync: job.sync(),
     };
     if let Job::Format { .. } = job {
-        return format(files, alloc, job, input, output);
+        return format(&saving, job, input, output);
     }
     let image = match open_image(files, alloc, job, path) {
         Ok(image) => image,
         Err(fault) => return Done::unsaved(Err(told(fault))),
     };
-    let (drive, sent) = run_on_file(alloc, job, &image.file, input, output);
-    let saved = match &drive {
-        Some(drive) => save(files, alloc, drive, &image),
-        None => Ok(()),
-    };
-    Done {
-        job: sent,
-        saved: saved.map_err(told),
+    if job.sync() {
+        return run_with_syncs(&saving, job, image, input, output);
     }
+    run_with_changes(&saving, job, image, input, output)
 }

@@ -36,7 +36,7 @@ impl Display for SystemError {
 }
 
 /// Why the file of an image is not used, or why the drive is not saved in it. Its text follows the file's path.
-/// After each of them the file holds what it held before.
+/// After each of them the file has all changes that were answered: those of a fresh drive are none.
 #[derive(Clone, Copy, Debug, PartialEq, Eq, Error)]
 pub enum FileFault {
     /// It cannot be opened, or a new file cannot be made at its path.
@@ -54,17 +54,23 @@ pub enum FileFault {
     /// Another program has locked it, or has just replaced it.
     #[error("is in use by another program")]
     InUse,
+    /// A change cannot be written to it. It has all changes before that one.
+    #[error("takes no more changes: {0}")]
+    Change(SystemError),
+    /// Its changes cannot be brought to the disk. The replies that depend on them are not sent.
+    #[error("cannot be synchronized: {0}")]
+    Sync(SystemError),
     /// No new file can be made in its folder.
-    #[error("is not saved, and holds what it held before: no new file can be made in its folder: {0}")]
+    #[error("is not written anew, and keeps all that it holds: no new file can be made in its folder: {0}")]
     NewFile(SystemError),
     /// The new file cannot be written.
-    #[error("is not saved, and holds what it held before: the new file cannot be written: {0}")]
+    #[error("is not written anew, and keeps all that it holds: the new file cannot be written: {0}")]
     Write(SystemError),
     /// Another file is at its path now.
     #[error("is not saved: another file is at its path now")]
     Replaced,
     /// The new file cannot take its place.
-    #[error("is not saved, and holds what it held before: the new file cannot take its place: {0}")]
+    #[error("is not written anew, and keeps all that it holds: the new file cannot take its place: {0}")]
     Rename(SystemError),
 }
 
@@ -74,6 +80,8 @@ impl FileFault {
         match self {
             FileFault::Open(error)
             | FileFault::Lock(error)
+            | FileFault::Change(error)
+            | FileFault::Sync(error)
             | FileFault::NewFile(error)
             | FileFault::Write(error)
             | FileFault::Rename(error) => error.is_memory(),

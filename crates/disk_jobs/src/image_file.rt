@@ -21,6 +21,8 @@ pub struct ImageFile {
     pub file: File,
     /// Of the file when it was locked.
     pub metadata: Metadata,
+    /// Why the file cannot be written, if it was opened only to be read.
+    pub read_only: Option<SystemError>,
     /// Whether the file was made here, and is empty until the drive is saved.
     pub is_new: bool,
 }
@@ -50,16 +52,20 @@ fn without_link<F: Files>(files: &F, alloc: Global, path: &str) -> io::Result<St
     Ok(String::from_str(alloc, path)?)
 }
 
-/// Opens a file to read and to write it, or only to read it. Network file systems lock no file that cannot be written.
-fn open_both_ways<F: Files>(files: &F, path: &str) -> io::Result<F::File> {
+/// Opens a file to read and to write it, or only to read it: then it says why. Network file systems lock no file that
+/// cannot be written.
+fn open_both_ways<F: Files>(files: &F, path: &str) -> io::Result<(F::File, Option<SystemError>)> {
     match OpenOptions::new().read(true).write(true).open(files, path) {
-        Ok(file) => Ok(file),
-        Err(_) => fs::open(files, path),
+        Ok(file) => Ok((file, None)),
+        Err(error) => Ok((fs::open(files, path)?, Some(SystemError::from(error)))),
     }
 }
 
 /// Opens a regular file. It looks first, since opening a pipe waits for its other end.
-fn open_regular<F: Files>(files: &F, path: &str) -> Result<F::File, FileFault> {
+fn open_regular<F: Files>(
+    files: &F,
+    path: &str,
+) -> Result<(F::File, Option<SystemError>), FileFault> {
     let metadata = fs::metadata(files, path).map_err(open_fault)?;
     if !metadata.is_file() {
         return Err(FileFault::NotRegular);
@@ -84,6 +90,7 @@ fn lock_at<F: Files>(
         path,
         file,
         metadata,
+        read_only: None,
         is_new,
     })
 }
@@ -102,6 +109,7 @@ pub fn open_to_read<F: Files<File = File>>(
         path,
         file,
         metadata,
+        read_only: None,
         is_new: false,
     })
 }
@@ -113,8 +121,10 @@ pub fn open_to_save<F: Files<File = File>>(
     path: &str,
 ) -> Result<ImageFile, FileFault> {
     let path = without_link(files, alloc, path).map_err(open_fault)?;
-    let file = open_regular(files, &path)?;
-    lock_at(files, path, file, false)
+    let (file, read_only) = open_regular(files, &path)?;
+    let mut image = lock_at(files, path, file, false)?;
+    image.read_only = read_only;
+    Ok(image)
 }
 
 /// Makes an empty file for an image. It is removed again where it cannot be locked, unless another program has it.
@@ -166,6 +176,20 @@ pub fn open_to_format<F: Files<File = File>>(
 }
 
 impl ImageFile {
+    /// A new file that is going to be at the path of an old one. No other program knows it yet, so it can be locked.
+    pub fn replacing(alloc: Global, old: &ImageFile, file: File) -> Result<ImageFile, FileFault> {
+        locked(file.try_lock())?;
+        let metadata = file.metadata().map_err(open_fault)?;
+        let path = String::from_str(alloc, &old.path).map_err(|error| open_fault(error.into()))?;
+        Ok(ImageFile {
+            path,
+            file,
+            metadata,
+            read_only: None,
+            is_new: false,
+        })
+    }
+
     /// Whether the path still names the file.
     pub fn is_named<F: Files>(&self, files: &F) -> io::Result<bool> {
         let named = fs::metadata(files, self.path.as_str())?;

@@ -30,13 +30,15 @@ pub enum Job {
     },
     /// Reads a drive from the file, restarts it, mounts it as `blocks` logical blocks, answers the lines of a trace,
     /// and saves it. With `zones` the zones of the drive are shown after the replies. The drive has this habit, here
-    /// and below, until it is saved.
+    /// and below, until it is saved. With `sync`, here and below, each change is on the disk before the replies that
+    /// depend on it are sent.
     Run {
         image: String,
         blocks: u64,
         zones: bool,
         stop: Stop,
         habit: Habit,
+        sync: bool,
     },
     /// Shows the zones of the drive in the file, as they were saved.
     Report {
@@ -46,6 +48,7 @@ pub enum Job {
     Nvme {
         image: String,
         habit: Habit,
+        sync: bool,
     },
     /// Makes a fresh drive in memory, mounts it as `blocks` logical blocks, and answers the lines of a
     /// trace. With `statistics` it is shown after the replies what was written and moved, and with `report`
@@ -66,6 +69,14 @@ pub enum Job {
 }
 
 impl Job {
+    /// Whether what the job sends waits until its changes are on the disk.
+    pub fn sync(&self) -> bool {
+        match self {
+            Job::Run { sync, .. } | Job::Nvme { sync, .. } => *sync,
+            _ => false,
+        }
+    }
+
     /// The path of the image file, if the job has one.
     pub fn image(&self) -> Option<&str> {
         match self {

@@ -18,12 +18,14 @@
 //!
 //! # What is promised
 //!
-//! * The drive that [`run_job`] hands back is the one that the lines left, also after a fault: of `run`, what `run_trace`
-//!   of `disk_runs` left of the drive in the image, restarted; of `nvme`, what `run_raw` left of it; of `format`, a
-//!   fresh drive (`specs/Saved.antt`). Then the fault comes from the run, and the output is `ok` of `format`, the
-//!   replies, and then the zones if they are asked for.
+//! * What [`run_job`] hands back is what the lines left, also after a fault: of `run`, what `run_trace` of `disk_runs`
+//!   left of the drive in the file, restarted; of `nvme`, what `run_raw` left of it; of `format`, a fresh drive
+//!   (`specs/Saved.antt`). Then the fault comes from the run, and the output is `ok` of `format`, the replies, and then
+//!   the zones if they are asked for.
+//! * The store of `run` and `nvme` holds that drive too: its image, and all changes since. Each was written before the
+//!   reply to its line.
 //! * There is no drive only after a report, or where none was made or read. Then no line was read, and the fault says
-//!   why. Nothing is written before a fault of the image.
+//!   why. Nothing is written before a fault of the file.
 //! * What is saved in a file is that drive, also after a fault; a fresh drive only if its `ok` was sent (`saving.rt`).
 //! * [`write_program_fault`] writes the line of each fault, or a beginning of it (`specs/FaultLine.antt`).
 //!
@@ -34,6 +36,8 @@
 //! in the rows of `worked_runs`.
 #![tactic(auto)]
 
+mod begun;
+mod changes_file;
 mod explanation;
 mod fault;
 mod file;
@@ -41,15 +45,18 @@ mod file_fault;
 mod image_file;
 mod job;
 mod line_problem;
+mod lines;
 mod new_file;
 mod program;
 mod saving;
 mod statistics;
+mod synced_output;
 
 pub use explanation::explain;
 pub use fault::{ProgramFault, write_program_fault};
 pub use file::{Done, do_job};
 pub use file_fault::{FileFault, SystemError};
 pub use job::{Job, Stop};
-pub use program::run_job;
+pub use lines::Left;
+pub use program::{JobFile, run_job};
 pub use zone_drive::Habit;

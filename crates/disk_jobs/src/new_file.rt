@@ -87,7 +87,7 @@ fn keep_owner_and_mode(new: &File, old: &Metadata) {
 }
 
 /// Writes the image of a drive to a new file.
-fn write(alloc: Global, drive: &Drive, file: &File) -> Result<(), SystemError> {
+fn write_drive(alloc: Global, drive: &Drive, file: &File) -> Result<(), SystemError> {
     let mut writer = BufWriter::new(alloc, WrittenFile { file, error: None })?;
     if write_image(drive, &mut writer).is_ok() {
         return Ok(writer.flush()?);
@@ -96,6 +96,33 @@ fn write(alloc: Global, drive: &Drive, file: &File) -> Result<(), SystemError> {
         Some(error) => Err(error),
         None => Err(SystemError::from(io::Error::from(ErrorKind::WriteZero))),
     }
+}
+
+/// Writes the image of a drive to a new file, with `sync` to the disk too.
+fn write(alloc: Global, drive: &Drive, file: &File, sync: bool) -> Result<(), SystemError> {
+    write_drive(alloc, drive, file)?;
+    if sync {
+        file.sync_all()?;
+    }
+    Ok(())
+}
+
+/// The path of the folder of a file.
+fn folder(path: &str) -> &str {
+    match path.rfind('/') {
+        Some(0) => "/",
+        Some(end) => &path[..end],
+        None => ".",
+    }
+}
+
+/// Brings the name of a file to the disk.
+fn sync_name<F: Files<File = File>>(files: &F, path: &str) -> Result<(), FileFault> {
+    let synced = match fs::open(files, folder(path)) {
+        Ok(folder) => folder.sync_all(),
+        Err(error) => Err(error),
+    };
+    synced.map_err(|error| FileFault::Sync(SystemError::from(error)))
 }
 
 /// Puts the new file at `path` in the place of the image, if the image is still there.
@@ -108,24 +135,48 @@ fn put_in_place<F: Files>(files: &F, path: &str, image: &ImageFile) -> Result<()
     renamed.map_err(|error| FileFault::Rename(SystemError::from(error)))
 }
 
-/// Saves a drive in the place of an image. After a fault the image is as before, and no new file is left.
+/// How drives are saved.
+#[derive(Drop)]
+pub struct Saving<'a, F: Files> {
+    pub files: &'a F,
+    pub alloc: Global,
+    /// Whether the new file is on the disk when it takes the place of the old one, and its name afterwards.
+    pub sync: bool,
+}
+
+/// Locks a new file, writes the image of a drive to it, and puts it in the place of the old one.
+fn fill<F: Files<File = File>>(
+    how: &Saving<'_, F>,
+    drive: &Drive,
+    path: &str,
+    file: File,
+    image: &ImageFile,
+) -> Result<ImageFile, FileFault> {
+    keep_owner_and_mode(&file, &image.metadata);
+    write(how.alloc, drive, &file, how.sync).map_err(FileFault::Write)?;
+    let new = ImageFile::replacing(how.alloc, image, file)?;
+    put_in_place(how.files, path, image)?;
+    Ok(new)
+}
+
+/// Saves a drive in the place of an image, and hands back the new file. After a fault no new file is left, and the image
+/// is as before, unless its name could not be brought to the disk.
 pub fn save<F: Files<File = File>>(
-    files: &F,
-    alloc: Global,
+    how: &Saving<'_, F>,
     drive: &Drive,
     image: &ImageFile,
-) -> Result<(), FileFault> {
-    let (path, file) = match make_at_free_name(files, alloc, &image.path) {
+) -> Result<ImageFile, FileFault> {
+    let (path, file) = match make_at_free_name(how.files, how.alloc, &image.path) {
         Ok(made) => made,
         Err(error) => return Err(FileFault::NewFile(SystemError::from(error))),
     };
-    keep_owner_and_mode(&file, &image.metadata);
-    let mut saved = write(alloc, drive, &file).map_err(FileFault::Write);
-    if saved.is_ok() {
-        saved = put_in_place(files, &path, image);
-    }
+    let saved = fill(how, drive, &path, file, image);
     if saved.is_err() {
-        let _ = fs::remove_file(files, path.as_str());
+        let _ = fs::remove_file(how.files, path.as_str());
     }
-    saved
+    let new = saved?;
+    if how.sync {
+        sync_name(how.files, &image.path)?;
+    }
+    Ok(new)
 }

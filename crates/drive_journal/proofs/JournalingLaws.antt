@@ -1,5 +1,5 @@
 -- What a device that writes its changes shows, and what its store holds then.
-use Rattle.std.proofs.Common.{◌≡◌, ◌⊎◌, ℕ, ◌+◌, ◌-◌, ◌<◌, ◌==◌, Bool, true, false, ◌&&◌, ◌||◌, List, [], ◌++◌, length, take, drop, Option, Some, None, Result, Ok, Err, inl, inr, refl, sym, ap, ◌∙◌, subst, arith}
+use Rattle.std.proofs.Common.{◌≡◌, ℕ, ◌-◌, ◌==◌, Bool, true, false, ◌&&◌, List, [], ◌++◌, length, take, drop, Option, Some, None, Result, Ok, Err, inl, inr, refl, sym, ap, ◌∙◌, subst, arith}
 use Rattle.std.specs.Prelude.{IfOk, IfSome, OnErr, if◌then◌else◌, is_some}
 use Rattle.std.specs.Io.KnownBytes.{Appends}
 use Rattle.std.proofs.Math.Seq.{drop-append_seam}
@@ -9,10 +9,9 @@ use Rattle.nvme_wire.specs.Entry.{decode_of}
 use Rattle.nvme_wire.specs.declared.status.Status.{Status}
 use Rattle.nvme_wire.specs.declared.status.Status.TheVariants.{Success}
 use Rattle.zone_states.specs.Zone.{Zone}
-use Rattle.zone_states.specs.declared.geometry.Geometry.{Geometry}
 use Rattle.disk_files.specs.Output.{AppendsFront}
 use Rattle.drive_port.specs.Drive.{DriveState, IsLawful}
-use Rattle.drive_port.specs.Halting.{Adds, Stops, SubmitAdds, SubmitGives}
+use Rattle.drive_port.specs.Halting.{SubmitAdds, SubmitGives}
 use Rattle.drive_port.specs.Step.{Effect, Outcome, is_success}
 use Rattle.drive_port.specs.declared.device.Halt.{Halt}
 use Rattle.drive_port.specs.declared.device.Halt.TheVariants.{Memory, Stopped}
@@ -21,10 +20,9 @@ use Rattle.drive_port.proofs.ClosingLaws.{IsClosing-refl}
 use Rattle.drive_port.proofs.HaltLaws.{success_or}
 use Rattle.drive_port.proofs.StopLaws.{stops-already}
 use Rattle.zone_drive.specs.Foreseen.{CanGive}
-use Rattle.drive_journal.specs.Change.{Change, beside_bytes, body_bytes, change_bytes, change_of, changes, mark, seal, written_for}
+use Rattle.drive_journal.specs.Change.{beside_bytes, body_bytes, change_bytes, change_of, changes, mark, seal, written_for}
 use Rattle.drive_journal.specs.File.{IsStored, IsStoredWhole}
 use Rattle.drive_journal.specs.Journaling.{Answers, AreCutOff, IsInStep, Journaled, data_in, entry_in, is_lost, shown_drive, written_by}
-use Rattle.drive_journal.specs.Tail.{IsCutOff}
 use Rattle.drive_journal.specs.declared.loss.Loss.{Loss}
 use Rattle.drive_journal.specs.declared.loss.Loss.TheVariants as losses
 use Rattle.drive_journal.proofs.CutLaws.{cut-front, length-seal}

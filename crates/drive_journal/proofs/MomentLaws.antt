@@ -8,7 +8,7 @@ use Rattle.std.proofs.lemmas.List.{length-append, length-take, take-append-le, t
 use Rattle.drive_port.specs.declared.device.Halt.{Halt}
 use Rattle.drive_port.specs.declared.device.Halt.TheVariants.{Memory, Stopped}
 use Rattle.drive_journal.specs.File.{IsStored, IsStoredWhole}
-use Rattle.drive_journal.specs.Journaling.{AreCutOff, IsInStep, Journaled, MayRenew, Writes, written_by}
+use Rattle.drive_journal.specs.Journaling.{AreCutOff, IsInStep, Journaled, Writes, written_by}
 use Rattle.drive_journal.specs.Change.{written_for}
 use Rattle.zone_states.specs.declared.geometry.Geometry.{Geometry}
 use Rattle.drive_journal.specs.Moments.{IsOfAMoment, RunsSince, RunsTo, Submits, anew, begins, goes_on, here, later}

@@ -1,5 +1,6 @@
 -- A device whose changes are written after an image, before its drive has them.
-use Rattle.std.specs.Prelude.{◌≡◌, ◌⊎◌, ℕ, ◌<◌, ◌==◌, ◌||◌, Bool, true, false, if◌then◌else◌, List, [], length, take, drop, ◌-◌, Option, IfSome, Result, Ok, Err}
+use Rattle.std.specs.Prelude.{◌≡◌, ◌⊎◌, ℕ, ◌<◌, ◌-◌, ◌==◌, ◌||◌, Bool, true, false, if◌then◌else◌, List, [], length, take, drop}
+use Rattle.std.specs.Prelude.{Option, IfSome, Result, Ok, Err}
 use Rattle.std.specs.Io.KnownBytes.{Appends}
 use Rattle.nvme_wire.specs.Completion.{code_in}
 use Rattle.nvme_wire.specs.Entry.{decode_of}
@@ -14,7 +15,7 @@ use Rattle.drive_journal.specs.Change.{changes, written_for}
 use Rattle.drive_journal.specs.File.{IsStored, IsStoredWhole}
 use Rattle.drive_journal.specs.Tail.{IsCutOff}
 use Rattle.drive_journal.specs.declared.loss.Loss.{Loss}
-use Rattle.drive_journal.specs.declared.loss.Loss.TheVariants.{Nothing, Change, Completion}
+use Rattle.drive_journal.specs.declared.loss.Loss.TheVariants.{Nothing, Completion}
 
 -- the drive that is shown, whether a change or a completion was lost, and the bytes that the store holds, where they are known
 pub record Journaled : Type 0 where
@@ -52,7 +53,8 @@ pub record IsInStep (j : Journaled) : Type 0 where
 
 -- ---- what is written
 
--- The bytes of the store before a change is written: those that it held, or others that store the same drive. A command that changes nothing has none written anew.
+-- The bytes of the store before a change is written: those that it held, or others that store the same drive.
+-- A command that changes nothing has none written anew.
 abbrev pub MayRenew : Journaled → List ℕ → Option (List ℕ) → Type 0
 MayRenew old entry held = (held ≡ old.contents) ⊎ ((changes (decode_of entry) ≡ true) × IfSome held (λ bytes. IsStoredWhole bytes old.drive))
 
@@ -71,14 +73,16 @@ WritesAll geometry held bytes new = Appends held new.contents bytes × AreCutOff
 abbrev pub WritesFront : Geometry → Option (List ℕ) → List ℕ → Journaled → Type 0
 WritesFront geometry held bytes new = AppendsFront held new.contents bytes × AreCutOff geometry bytes
 
+abbrev pub WritesSome : Geometry → Option (List ℕ) → List ℕ → Journaled → Type 0
+WritesSome geometry held bytes new = WritesFront geometry held bytes new ⊎ WritesAll geometry held bytes new
+
 -- A submit writes the change of a command that was completed, and nothing where it is out of memory.
 -- Where the device stops, nothing was written; or the store failed, and has a beginning of the change; or it has the change, and the completion was lost.
 abbrev pub Writes : Journaled → Option (List ℕ) → List ℕ → List ℕ → Result (List ℕ) Halt → Journaled → Type 0
 Writes old held entry bytes (Ok completion) new = (new.lost ≡ false) × WritesAll old.drive.geometry held (written_by completion entry bytes) new
 Writes old held entry bytes (Err Memory) new = (new.lost ≡ false) × (new.contents ≡ held)
 Writes old held entry bytes (Err Stopped) new =
-    (new.contents ≡ held)
-    ⊎ ((new.lost ≡ true) × (WritesFront old.drive.geometry held (written_for entry bytes) new ⊎ WritesAll old.drive.geometry held (written_for entry bytes) new))
+    (new.contents ≡ held) ⊎ ((new.lost ≡ true) × WritesSome old.drive.geometry held (written_for entry bytes) new)
 
 -- the bytes of the store were perhaps written anew, and then the change of the command was written
 pub record WritesChange (old : Journaled) (entry bytes : List ℕ) (result : Result (List ℕ) Halt) (new : Journaled) : Type 0 where

@@ -8,3 +8,4 @@ pub mod Moments
 pub mod Reading
 pub mod Held
 pub mod SameData
+pub mod Cut

@@ -26,8 +26,10 @@ pub data RunsTo (first : Journaled) : Journaled → Type 0 where
 -- The same, with how many bytes the store held at the first moment, or when they were last written anew.
 pub data RunsSince (first : Journaled) : ℕ → Journaled → Type 0 where
   begins : (bytes : List ℕ) → first.contents ≡ Some bytes → RunsSince first (length bytes) first
-  goes_on : (since : ℕ) (moment last : Journaled) → RunsSince first since moment → Submits moment moment.contents last → RunsSince first since last
-  anew : (since : ℕ) (moment last : Journaled) (held : List ℕ) → RunsSince first since moment → Submits moment (Some held) last → RunsSince first (length held) last
+  goes_on : (since : ℕ) (moment last : Journaled)
+      → RunsSince first since moment → Submits moment moment.contents last → RunsSince first since last
+  anew : (since : ℕ) (moment last : Journaled) (held : List ℕ)
+      → RunsSince first since moment → Submits moment (Some held) last → RunsSince first (length held) last
 
 -- these bytes store the drive of a moment between these two
 pub record IsOfAMoment (first last : Journaled) (bytes : List ℕ) : Type 0 where

@@ -13,7 +13,8 @@ use Rattle.zone_drive.specs.Foreseen.{foreseen}
 use Rattle.zone_drive.specs.Habits.{MemoryDrive}
 use Rattle.drive_journal.specs.Change.{beside_bytes}
 
-outcome-data : (geometry : Geometry) (zones : List Zone) (command : Result Command DecodeFault) (bytes : List ℕ) → outcome geometry zones command (beside_bytes command bytes) ≡ outcome geometry zones command bytes
+outcome-data : (geometry : Geometry) (zones : List Zone) (command : Result Command DecodeFault) (bytes : List ℕ)
+    → outcome geometry zones command (beside_bytes command bytes) ≡ outcome geometry zones command bytes
 unfolding outcome
 outcome-data geometry zones (Err fault) bytes = refl
 outcome-data geometry zones (Ok Flush) bytes = refl
@@ -24,7 +25,8 @@ outcome-data geometry zones (Ok (Send slba action true)) bytes = refl
 outcome-data geometry zones (Ok (Send slba action false)) bytes = refl
 outcome-data geometry zones (Ok (Receive slba dwords options partial)) bytes = refl
 
-performed-data : (habit : Habit) (geometry : Geometry) (zones : List Zone) (command : Result Command DecodeFault) (bytes : List ℕ) → performed habit geometry zones command (beside_bytes command bytes) ≡ performed habit geometry zones command bytes
+performed-data : (habit : Habit) (geometry : Geometry) (zones : List Zone) (command : Result Command DecodeFault) (bytes : List ℕ)
+    → performed habit geometry zones command (beside_bytes command bytes) ≡ performed habit geometry zones command bytes
 performed-data habit geometry zones command bytes = rw (outcome-data geometry zones command bytes) (outcome-data geometry _ command bytes)
 
 pub foreseen-data : (drive : MemoryDrive) (entry bytes : List ℕ) → foreseen drive entry (beside_bytes (decode_of entry) bytes) ≡ foreseen drive entry bytes

@@ -22,7 +22,8 @@ pub trait Foreseeing: Device {
     /// stopped.
     fn foresee(&self, entry: &[u8; 64], bytes: &[u8]) -> Status
         ensures status { result ≡ (foreseen self.now entry.now bytes.now).status }
-        ensures can { CanGive (Self.drive self.now) (decode_of entry.now) bytes.now (foreseen self.now entry.now bytes.now) };
+        ensures can { CanGive (Self.drive self.now) (decode_of entry.now) bytes.now
+            (foreseen self.now entry.now bytes.now) };
 
     /// Takes the memory that the command of this entry needs for its blocks. Nothing else changes.
     fn reserve(&mut self, entry: &[u8; 64], bytes: &[u8]) -> Result<(), AllocError>
@@ -35,7 +36,8 @@ pub trait Foreseeing: Device {
         bytes: &[u8],
         into: &mut Vec<u8>,
     ) -> Result<[u8; 16], Halt>
-        ensures gives { SubmitAdds (Self.drive self.old) entry.now bytes.now into.old.items result into.new.items (Self.drive self.new) }
+        ensures gives { SubmitAdds (Self.drive self.old) entry.now bytes.now into.old.items result into.new.items
+            (Self.drive self.new) }
         ensures lawful { IsLawful (Self.drive self.new) }
         ensures as_foreseen { IfOk result (λ completion. (code_in completion == 0)
             ≡ is_success (foreseen self.old entry.now bytes.now).status) }

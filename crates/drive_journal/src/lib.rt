@@ -17,8 +17,9 @@
 //!   drive in memory does), and over every store. The drive that it shows is always the one that its store holds
 //!   (`IsInStep` in `specs/Journaling.antt`), up to which zones are open. A change is written before the drive makes
 //!   it. A command that is refused, or changes nothing, writes nothing.
-//! * Where the store fails, the device has stopped, and shows the drive as it was before the command. If the store has
-//!   the change and there is no memory to do the command, it has stopped too, and shows the drive with the command done.
+//! * Where the store fails, the device has stopped, and shows the drive as it was before the command. If the store
+//!   has the change and there is no memory to do the command, it has stopped too, and shows the drive with the command
+//!   done.
 //! * A store may write its bytes anew, as the image of the drive, before a change is written (`Store::renew`).
 //! * [`open_drive`] reads the drive that a file holds (`IsDriveFile` in `specs/File.antt`), or tells its first fault
 //!   (`IsFileFault`). A change that was cut off is dropped, since its command was never answered. Bytes that are no

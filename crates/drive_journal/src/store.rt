@@ -1,4 +1,5 @@
 ghost use Rattle.std.specs.Prelude.{◌≡◌, List, IfOk, IfSome, OnErr, OnOk, Option, Some, None, is_some, ℕ};
+ghost use Rattle.drive_journal.specs.Cut.{front_of};
 ghost use Rattle.std.specs.Io.KnownBytes.{Appends};
 ghost use Rattle.disk_files.specs.Output.{AppendsFront};
 ghost use Rattle.drive_journal.specs.File.{IsStoredWhole};
@@ -28,6 +29,10 @@ pub trait Store<D: Device> {
         requires { IfSome (held self.old) (λ bytes. IsStoredWhole bytes (D.drive device.now)) }
         ensures stored { IfSome (held self.new) (λ bytes. IsStoredWhole bytes (D.drive device.now)) }
         ensures known { is_some (held self.new) ≡ is_some (held self.old) };
+
+    /// Drops all bytes after the first `whole`. A store that cannot do it at once does it before it appends more.
+    fn cut(&mut self, whole: u64)
+        ensures { held self.new ≡ front_of whole (held self.old) };
 }
 
 /// A writer of whose bytes no contract says anything, as a file. It writes nothing anew.
@@ -56,6 +61,9 @@ impl<W: Write + Drop, D: Device> Store<D> for Unknown<W> {
     }
 
     fn renew(&mut self, _device: &D) {}
+
+    // Whoever made the writer has to do it.
+    fn cut(&mut self, _whole: u64) {}
 }
 
 /// Bytes in memory. Where there are more than a limit, they are written anew as the image of the drive. Then the limit
@@ -79,6 +87,13 @@ impl Held {
             bytes,
             limit,
         }
+    }
+
+    /// The image of this drive, and the limit.
+    pub fn of_drive(alloc: Global, drive: &Drive, limit: usize) -> Result<Self, WriteFault>
+        ensures { IfOk result (λ held. IsStoredWhole (held_bytes held) drive.now.state) }
+    {
+        Ok(Held::new(alloc, image_of(alloc, drive)?, limit))
     }
 
     /// The bytes.
@@ -114,5 +129,9 @@ impl Store<Drive> for Held {
             self.limit = self.limit.max(image.len().saturating_mul(2));
             self.bytes = image;
         }
+    }
+
+    fn cut(&mut self, whole: u64) {
+        self.bytes.truncate(whole as usize);
     }
 }

@@ -3,7 +3,7 @@
 //! Each session is served from a fresh drive in memory, as 9 logical blocks. The lines of standard input:
 //!
 //! - `session NAME ..` begins one. After the name may come `wide` (blocks of 4,096 bytes, else of 512), `stop K` (the
-//!   drive stops after `K` commands, those of the mount included) and `worn` (the medium fails).
+//!   drive stops after `K` commands, with the commands of the mount) and `worn` (the medium fails).
 //! - A line of words is what the client sends: hexadecimal digits, or `BB*N` for a byte that is repeated.
 //! - `end` runs the session. `cuts` runs it cut after each of its bytes, and with an output that fails after each byte.
 //! - An empty line, and one that begins with `#`, says nothing.

@@ -11,8 +11,8 @@
 //!
 //! What is promised, of every reader, every writer and every store:
 //!
-//! - What is read is a list of messages, and what is written are the replies to them, in order. The replies to requests
-//!   are those of a flat disk, an array of blocks.
+//! - What is read is a list of messages, and what is written are the replies to them, in order. Requests are answered
+//!   as a flat disk answers them, an array of blocks.
 //! - A request is answered after it was done. The data of a READ follow only a reply that says so, and a request that
 //!   is refused has its error, also one that is not aligned or past the end.
 //! - A FLUSH, and a write with FUA, is answered by success only after a sync. Then a loss of power leaves the array as

@@ -26,7 +26,7 @@ pub trait Store {
     fn read(&mut self, first: u64, blocks: u64, into: &mut Vec<u8>) -> Result<(), DiskFault>
         ensures { Shows (view self.old) first blocks result into.new.items (view self.new) };
 
-    /// Writes whole blocks from `first` on. After a refusal on its way a front of them is written.
+    /// Writes whole blocks from `first` on. After a refusal a front of them may be written.
     fn write(&mut self, first: u64, bytes: &[u8]) -> Result<(), DiskFault>
         requires { AreBlocksOf (view self.old).disk bytes.now }
         ensures { Calls (view self.old) (write_bytes (view self.old).disk first bytes.now)

@@ -90,9 +90,9 @@ start_gives drive tables new victim zone agrees due lowest new-is =
     rw new-is (record {
       cleaned = (
         agrees-roles drive tables (with_destination tables.roles zone) agrees
-        (roles-destination g.capacity zones logs tables.roles.empty tables.roles.host zone plain.roles lowest no_log)
-        (all-fillings (λ f. AllByRecursion (HasAtMost k) (log_at logs f.zone)) tables.roles.host zone plain.few (rw no_log tt))
-        (all-fillings (TellsOpen drive.zones) tables.roles.host zone plain.open_zones (λ no. emptied-shut drive.zones zone (agrees.roles.empty zone lowest.is_empty))),
+            (roles-destination g.capacity zones logs tables.roles.empty tables.roles.host zone plain.roles lowest no_log)
+            (all-fillings (λ f. AllByRecursion (HasAtMost k) (log_at logs f.zone)) tables.roles.host zone plain.few (rw no_log tt))
+            (all-fillings (TellsOpen drive.zones) tables.roles.host zone plain.open_zones (λ no. emptied-shut drive.zones zone (agrees.roles.empty zone lowest.is_empty))),
         record {
           destination = fresh zone;
           second = refl;

@@ -1,4 +1,4 @@
-use Rattle.std.proofs.Common.{Ok, Err, arith}
+use Rattle.std.proofs.Common.{Ok, Err, length, arith}
 use Rattle.nbd_session.specs.Session.{session}
 use Rattle.nbd_session.specs.Streams.{streams}
 use Rattle.nbd_session.specs.declared.fault.SessionFault.TheVariants.{TooMany}
@@ -25,7 +25,9 @@ returns-in_err-next-clause-serves g c =
       rest = g.R.Read.remaining at.reader;
       contents = g.W.Write.contents at.writer;
       served = at.invariant.served;
-      stops = stops_after _ c.in_err-next.field-0.0 _ _ _ c.in_err-next.ensures;
+      stops = stops_after (length at.invariant.served.dialogues) c.in_err-next.field-0.0
+          (streams (g.R.Read.remaining at.reader) (g.R.Read.remaining c.take_turn.new.reader) (g.W.Write.contents at.writer) (g.W.Write.contents c.take_turn.new.writer))
+          (session at.phase (view at.store)) (view c.take_turn.new.store) c.in_err-next.ensures;
     })
 
 pub returns-in_err-next-clause-keeps : goal.returns-in_err-next-clause-keeps

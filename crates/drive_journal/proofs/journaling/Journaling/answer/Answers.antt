@@ -1,6 +1,4 @@
 use Rattle.std.proofs.Common.{◌≡◌, ◌∙◌, ap, refl, sym, rules}
-use Rattle.nvme_wire.specs.Entry.{decode_of}
-use Rattle.drive_journal.specs.Change.{beside_bytes}
 use Rattle.drive_journal.specs.Journaling.{data_in, entry_in}
 use Rattle.drive_journal.proofs.JournalingLaws.{answers-stopped, err-so, shown-behind, shown-cut, shown-done, shown-memory, shown-plain, shown-whole}
 use Rattle.drive_journal.proofs.journaling.Journaling.answer.Goals as goal

@@ -1,7 +1,7 @@
 use Rattle.std.proofs.Common.{ap}
 use Rattle.drive_port.specs.Drive.{DriveState}
 use Rattle.drive_port.specs.Stop.{drive_of}
-use Rattle.disk_jobs.proofs.program.run_stopping.Goals as goal
+use Rattle.disk_jobs.proofs.lines.run_stopping.Goals as goal
 
 pub returns : goal.returns
 returns g c =

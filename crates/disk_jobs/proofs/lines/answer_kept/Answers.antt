@@ -1,0 +1,20 @@
+use Rattle.std.proofs.Common.{◌≡◌, ap, false, sym, ◌∙◌}
+use Rattle.drive_port.specs.Drive.{DriveState}
+use Rattle.disk_jobs.proofs.StoreLaws.{stores-drive}
+use Rattle.disk_jobs.proofs.lines.answer_kept.Goals as goal
+
+pub returns : goal.returns
+returns g c =
+    let left = c.run_lines-device.result.0 in
+    let held = g.S.Store.held c.into_parts-drive.result.1 in
+    record {
+      drive = left.drive;
+      answers = record {
+        ran = c.run_lines-device.result.1;
+        middle = g.W.Write.contents c.run_lines-device.new.output;
+        runs = c.run_lines-device.ensures;
+        shows = c.show_after-shown.ensures;
+      };
+      back = λ kept. let same = c.into_parts-drive.ensures.device (sym c.store_failed-failed.ensures ∙ kept) in (ap (λ (d : DriveState). d.geometry) same, ap (λ (d : DriveState). d.zones) same);
+      stored = stores-drive c.args.job.now c.args.device.contents held left.drive c.requires (rw c.into_parts-drive.ensures.store c.into_parts-drive.ensures.kept.stored);
+    }

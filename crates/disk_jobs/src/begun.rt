@@ -1,0 +1,173 @@
+// The drive that a job begins with: a fresh one, or the one in a file.
+
+ghost use Rattle.std.specs.Prelude.{◌≡◌, IfErr, IfOk, OnOk, true};
+ghost use Rattle.std.specs.Io.KnownBytes.{Appends};
+ghost use Rattle.zone_drive.specs.declared.habit.Habit.TheVariants.{Lazy};
+ghost use Rattle.disk_files.specs.Reply.{ok_text};
+ghost use Rattle.disk_jobs.specs.Saved.{FailsToWrite, HasDrive, HasNoDrive, IsNotFresh, IsNotRead, IsOk, IsReadIn, IsRestarted, IsSavedText, ThenShows, WritesText, fresh_drive};
+ghost use Rattle.disk_jobs.specs.declared.fault.ProgramFault.TheVariants as program;
+
+use crate::fault::ProgramFault;
+use crate::job::Job;
+use disk_files::{ok_reply, write_out};
+use disk_runs::RunFault;
+use drive_journal::open_drive;
+use drive_port::Device;
+use nvme_wire::ReportingOptions;
+use std::alloc::Global;
+use std::io::{Read, Write};
+use zone_drive::{Drive, DriveFault, Habit};
+use zone_report::{report_bytes, report_text};
+use zone_states::Geometry;
+
+/// The drive that a job begins with.
+#[derive(Drop)]
+pub(crate) struct Begun {
+    pub drive: Drive,
+    /// How many bytes of the file are its image and whole changes; 0 where no file is read.
+    pub whole: u64,
+}
+
+impl Begun {
+    // A drive that no file has.
+    fn fresh(drive: Drive) -> Begun
+        ensures { result.drive ≡ drive }
+    {
+        Begun { drive, whole: 0 }
+    }
+}
+
+fn fresh_drive(alloc: Global, geometry: Geometry, habit: Habit) -> Result<Drive, RunFault>
+    ensures ok { IfOk result (λ drive. drive ≡ fresh_drive geometry habit) }
+    ensures err { IfErr result (λ fault. IsNotFresh geometry (program.Run fault)) }
+{
+    match Drive::new(alloc, geometry) {
+        Ok(mut drive) => {
+            drive.set_habit(habit);
+            Ok(drive)
+        }
+        Err(DriveFault::Geometry(fault)) => Err(RunFault::Geometry(fault)),
+        Err(_) => Err(RunFault::Memory),
+    }
+}
+
+/// Writes the report text of all zones of a drive, without a command.
+pub(crate) fn show_zones<W: Write>(
+    alloc: Global,
+    drive: &Drive,
+    output: &mut W,
+) -> Result<(), RunFault>
+    ensures { ThenShows true drive.now.state (Ok tt) (W.contents output.old) result (W.contents output.new) }
+{
+    let geometry = drive.geometry();
+    let dwords = 16 * (geometry.zones as u64 + 1);
+    let Ok(report) = report_bytes(
+        alloc,
+        drive,
+        geometry,
+        0,
+        ReportingOptions::AnyState,
+        false,
+        dwords,
+    ) else {
+        return Err(RunFault::Memory);
+    };
+    let Ok(text) = report_text(alloc, &report) else {
+        return Err(RunFault::Memory);
+    };
+    write_out(output, text.as_bytes())?;
+    Ok(())
+}
+
+/// Makes a fresh drive, and says so.
+fn format<W: Write>(
+    alloc: Global,
+    geometry: Geometry,
+    output: &mut W,
+) -> Result<Drive, ProgramFault>
+    ensures ok { IfOk result (λ drive. drive ≡ fresh_drive geometry Lazy) }
+    ensures says { OnOk result (Appends (W.contents output.old) (W.contents output.new) ok_text) }
+    ensures err { IfErr result (λ fault. FailsToWrite (IsNotFresh geometry) IsOk fault
+        (W.contents output.old) (W.contents output.new)) }
+{
+    let drive = fresh_drive(alloc, geometry, Habit::Lazy)?;
+    let mut reply = Vec::new(alloc);
+    ok_reply(&mut reply)?;
+    write_out(output, &reply)?;
+    Ok(drive)
+}
+
+/// Reads a drive, restarts it, and gives it a habit.
+fn restarted_drive<I: Read>(
+    alloc: Global,
+    file: &mut I,
+    habit: Habit,
+) -> Result<Begun, ProgramFault>
+    ensures ok { IfOk result (λ begun. IsRestarted (I.remaining file.old) habit begun) }
+    ensures err { IfErr result (λ fault. IsNotRead (I.remaining file.old) fault) }
+{
+    let opened = open_drive(alloc, file)?;
+    let mut drive = opened.drive;
+    drive.restart();
+    drive.set_habit(habit);
+    Ok(Begun {
+        drive,
+        whole: opened.whole,
+    })
+}
+
+/// Reads a drive as it was saved.
+fn saved_drive<I: Read>(alloc: Global, file: &mut I) -> Result<Drive, ProgramFault>
+    ensures ok { IfOk result (λ drive. IsReadIn (I.remaining file.old) drive.state) }
+    ensures err { IfErr result (λ fault. IsNotRead (I.remaining file.old) fault) }
+{
+    Ok(open_drive(alloc, file)?.drive)
+}
+
+/// Shows the zones of a drive as it was saved.
+fn report<I: Read, W: Write>(
+    alloc: Global,
+    file: &mut I,
+    output: &mut W,
+) -> Result<(), ProgramFault>
+    ensures ok { OnOk result (WritesText (IsSavedText (I.remaining file.old))
+        (W.contents output.old) (W.contents output.new)) }
+    ensures err { IfErr result (λ fault. FailsToWrite (IsNotRead (I.remaining file.old))
+        (IsSavedText (I.remaining file.old)) fault (W.contents output.old) (W.contents output.new)) }
+{
+    let drive = saved_drive(alloc, file)?;
+    show_zones(alloc, &drive, output)?;
+    Ok(())
+}
+
+/// The drive that a job works on, if it works on one after this: a fresh one, or the one in the file.
+pub(crate) fn begin<I: Read, W: Write>(
+    alloc: Global,
+    job: &Job,
+    file: &mut I,
+    output: &mut W,
+) -> Result<Option<Begun>, ProgramFault>
+    ensures ok { IfOk result (λ found. HasDrive job.now (I.remaining file.old) found
+        (W.contents output.old) (W.contents output.new)) }
+    ensures err { IfErr result (λ fault. HasNoDrive job.now (I.remaining file.old) fault
+        (W.contents output.old) (W.contents output.new)) }
+{
+    match job {
+        Job::Format { geometry, .. } => Ok(Some(Begun::fresh(format(alloc, *geometry, output)?))),
+        Job::Run { habit, .. } | Job::Nvme { habit, .. } => {
+            Ok(Some(restarted_drive(alloc, file, *habit)?))
+        }
+        Job::Report { .. } => {
+            report(alloc, file, output)?;
+            Ok(None)
+        }
+        Job::Fresh {
+            geometry,
+            habit,
+            ..
+        }
+        | Job::FreshRaw { geometry, habit } => {
+            Ok(Some(Begun::fresh(fresh_drive(alloc, *geometry, *habit)?)))
+        }
+    }
+}

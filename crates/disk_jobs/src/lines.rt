@@ -1,0 +1,171 @@
+// The lines of a job, answered over its drive.
+
+ghost use Rattle.std.specs.Prelude.{◌≡◌, true};
+ghost use Rattle.disk_runs.specs.Run.{exchange};
+ghost use Rattle.disk_jobs.specs.Saved.{AnswersLines, LeavesDrive, RunsLines, RunsTrace, ThenShows, has_changes, shows_zones, stopping};
+
+use crate::begun::show_zones;
+use crate::job::{Job, Stop};
+use crate::statistics::run_counted;
+use disk_files::LineReader;
+use disk_runs::{RunFault, run_raw, run_trace};
+use drive_journal::{Journaling, Store};
+use drive_port::{Device, StopAfter};
+use std::alloc::Global;
+use std::io::{Read, Write};
+use zone_drive::Drive;
+
+/// What the lines of a job left.
+#[derive(Drop)]
+pub struct Left {
+    pub drive: Drive,
+    /// Whether a change could not be written to the file. Then the file has all changes before it, and the drive that
+    /// counts is the one in the file.
+    pub failed: bool,
+}
+
+/// How a trace is run: the number of logical blocks that the mount is given, and when the device stops.
+#[derive(Clone, Copy)]
+struct TraceRun {
+    blocks: u64,
+    stop: Stop,
+}
+
+/// A device that stops after the commands of a stop, or inside the Append after them. Then the first blocks of the
+/// Append are written.
+fn stopping<D: Device + Drop>(device: D, stop: Stop) -> StopAfter<D>
+    ensures { result ≡ stopping stop (D.drive device) }
+{
+    StopAfter::tearing(device, stop.commands, stop.tear)
+}
+
+/// Answers a trace over a device that stops.
+fn run_stopping<D: Device + Drop, R: Read + Drop, W: Write>(
+    alloc: Global,
+    device: D,
+    how: TraceRun,
+    input: &mut LineReader<R>,
+    output: &mut W,
+) -> (D, Result<(), RunFault>)
+    ensures { RunsTrace how.blocks (stopping how.stop (D.drive device))
+        (exchange input.old.left (W.contents output.old) (W.contents output.new)) result.1 (D.drive result.0) }
+{
+    let device = stopping(device, how.stop);
+    let (device, result) = run_trace(alloc, input, output, device, how.blocks);
+    (device.into_inner(), result)
+}
+
+/// Answers a trace over a device that stops and whose commands are counted, and then shows what was counted.
+fn run_with_statistics<D: Device + Drop, R: Read + Drop, W: Write>(
+    alloc: Global,
+    device: D,
+    how: TraceRun,
+    input: &mut LineReader<R>,
+    output: &mut W,
+) -> (D, Result<(), RunFault>) {
+    let device = stopping(device, how.stop);
+    let (device, result) = run_counted(alloc, input, output, device, how.blocks);
+    (device.into_inner(), result)
+}
+
+/// Answers the lines of a job over a device.
+fn run_lines<D: Device + Drop, R: Read + Drop, W: Write>(
+    alloc: Global,
+    job: &Job,
+    device: D,
+    input: &mut LineReader<R>,
+    output: &mut W,
+) -> (D, Result<(), RunFault>)
+    ensures { RunsLines job.now (exchange input.old.left (W.contents output.old) (W.contents output.new))
+        (D.drive device) result.1 (D.drive result.0) }
+{
+    match job {
+        Job::Run { blocks, stop, .. } => {
+            let how = TraceRun {
+                blocks: *blocks,
+                stop: *stop,
+            };
+            run_stopping(alloc, device, how, input, output)
+        }
+        Job::Fresh {
+            blocks,
+            statistics,
+            stop,
+            ..
+        } => {
+            let how = TraceRun {
+                blocks: *blocks,
+                stop: *stop,
+            };
+            if *statistics {
+                run_with_statistics(alloc, device, how, input, output)
+            } else {
+                run_stopping(alloc, device, how, input, output)
+            }
+        }
+        Job::Nvme { .. } | Job::FreshRaw { .. } => run_raw(alloc, input, output, device),
+        Job::Format { .. } | Job::Report { .. } => (device, Ok(())),
+    }
+}
+
+/// Whether the zones are shown after the replies.
+fn shows_zones(job: &Job) -> bool
+    ensures { result ≡ shows_zones job.now }
+{
+    match job {
+        Job::Run { zones, .. } => *zones,
+        Job::Fresh { report, .. } => *report,
+        _ => false,
+    }
+}
+
+/// Shows the zones of a drive after a run that was done, if the job asks for them.
+fn show_after<W: Write>(
+    alloc: Global,
+    job: &Job,
+    drive: &Drive,
+    ran: Result<(), RunFault>,
+    output: &mut W,
+) -> Result<(), RunFault>
+    ensures { ThenShows (shows_zones job.now) drive.now.state ran (W.contents output.old) result (W.contents output.new) }
+{
+    if ran.is_err() || !shows_zones(job) {
+        return ran;
+    }
+    show_zones(alloc, drive, output)
+}
+
+/// Answers the lines of a job over a drive that no file keeps.
+pub(crate) fn answer_in_memory<R: Read + Drop, W: Write>(
+    alloc: Global,
+    job: &Job,
+    drive: Drive,
+    input: &mut LineReader<R>,
+    output: &mut W,
+) -> (Drive, Result<(), RunFault>)
+    ensures { AnswersLines job.now (exchange input.old.left (W.contents output.old) (W.contents output.new))
+        drive.state result.1 result.0.state result.0.state }
+{
+    let (drive, ran) = run_lines(alloc, job, drive, input, output);
+    let shown = show_after(alloc, job, &drive, ran, output);
+    (drive, shown)
+}
+
+/// Answers the lines of a job over a drive whose changes go to a store.
+pub(crate) fn answer_kept<S: Store<Drive> + Drop, R: Read + Drop, W: Write>(
+    alloc: Global,
+    job: &Job,
+    device: Journaling<Drive, S>,
+    input: &mut LineReader<R>,
+    output: &mut W,
+) -> (Left, S, Result<(), RunFault>)
+    requires { has_changes job.now ≡ true }
+    ensures { LeavesDrive job.now (exchange input.old.left (W.contents output.old) (W.contents output.new))
+        device.drive result.2 result.0 device.contents (S.held result.1) }
+{
+    let (device, ran) = run_lines(alloc, job, device, input, output);
+    let failed = device.store_failed();
+    let (drive, store) = device.into_parts();
+    let shown = show_after(alloc, job, &drive, ran, output);
+    (Left { drive, failed }, store, shown)
+}
