@@ -3,7 +3,7 @@
 
 use crate::fakes::FullWriter;
 use disk_files::{FailAfter, LineReader, WriteFault};
-use disk_jobs::{Job, JobFile, ProgramFault, run_job, write_program_fault};
+use disk_jobs::{Job, DriveFile, ProgramFault, run_job, write_program_fault};
 use drive_images::{ImageFault, read_image, write_image};
 use drive_journal::{FileFault, Unknown};
 use std::alloc::{AllocError, Global};
@@ -34,7 +34,7 @@ fn report(alloc: Global, bytes: &[u8], left: usize, step: usize) -> Result<Vec<u
     let job = Job::Report {
         image: String::new(alloc),
     };
-    let file = JobFile {
+    let file = DriveFile {
         bytes: FailAfter::in_steps(bytes, left, step),
         store: Unknown::new(io::sink()),
     };

@@ -8,7 +8,6 @@ use Rattle.zone_states.specs.declared.geometry.Geometry.{Geometry}
 use Rattle.zone_report.specs.Report.{report}
 use Rattle.zone_report.specs.ReportText.{IsTextOf}
 use Rattle.drive_port.specs.Drive.{DriveState}
-use Rattle.drive_port.specs.Run.{restarted}
 use Rattle.drive_port.specs.Stop.{Stopping, drive_of}
 use Rattle.drive_port.specs.declared.progress.Progress.TheVariants.{Going}
 use Rattle.zone_drive.specs.Habits.{MemoryDrive}
@@ -19,7 +18,7 @@ use Rattle.drive_array.specs.Reserve.{most_size}
 use Rattle.drive_survey.specs.declared.fault.MountFault.TheVariants as mounts
 use Rattle.disk_files.specs.Output.{AppendsFront}
 use Rattle.disk_files.specs.Reply.{ok_text}
-use Rattle.drive_journal.specs.File.{IsDriveFile, IsStored}
+use Rattle.drive_journal.specs.File.{IsStored}
 use Rattle.drive_journal.specs.FileFaults.{IsFileFault}
 use Rattle.disk_runs.specs.RawLines.{raw}
 use Rattle.disk_runs.specs.Run.{Exchange, Known, Runs}
@@ -28,23 +27,18 @@ use Rattle.disk_runs.specs.declared.fault.RunFault.{RunFault}
 use Rattle.disk_runs.specs.declared.fault.RunFault.TheVariants as runs
 use Rattle.disk_jobs.specs.declared.fault.ProgramFault.{ProgramFault}
 use Rattle.disk_jobs.specs.declared.fault.ProgramFault.TheVariants as program
-use Rattle.disk_jobs.specs.declared.file_fault.FileFault.{FileFault}
+use Rattle.drive_store.specs.Kept.{IsReadIn, IsRestarted}
+use Rattle.drive_store.specs.declared.file_fault.FileFault.{FileFault}
 use Rattle.disk_jobs.specs.declared.job.Job.{Job}
 use Rattle.disk_jobs.specs.declared.job.Job.TheVariants as jobs
 use Rattle.disk_jobs.specs.declared.job.Stop.{Stop}
-use Rattle.disk_jobs.specs.declared.begun.Begun.{Begun}
+use Rattle.drive_store.specs.declared.kept_drive.Begun.{Begun}
 use Rattle.disk_jobs.specs.declared.lines.Left.{Left}
 
 -- ---- the drive that a job begins with
 
 abbrev pub fresh_drive : Geometry → Habit → MemoryDrive
 fresh_drive geometry habit = record { state = fresh geometry; habit = habit }
-
--- the drive that the bytes of a file hold, restarted, with this habit
-pub record IsRestarted (file : Known) (habit : Habit) (begun : Begun) : Type 0 where
-  pub opened : DriveState
-  pub is_file : IfSome file (λ bytes. IsDriveFile bytes opened begun.whole)
-  pub drive_is : begun.drive ≡ record { state = restarted opened; habit = habit }
 
 abbrev pub BeginsOn : Job → Known → Begun → Type 0
 BeginsOn (jobs.Format path geometry force) file begun = begun.drive ≡ fresh_drive geometry Lazy
@@ -70,11 +64,6 @@ IsNotRead file fault = ⊥
 -- the text of a report of all zones
 abbrev pub IsZonesText : DriveState → List ℕ → Type 0
 IsZonesText drive text = IsTextOf (report drive.geometry drive.zones 0 AnyState false (16 * (drive.geometry.zones + 1))) text
-
--- this drive is read in the file
-pub record IsReadIn (file : Known) (drive : DriveState) : Type 0 where
-  pub whole : ℕ
-  pub is_file : IfSome file (λ bytes. IsDriveFile bytes drive whole)
 
 -- the text of the zones of the drive in the file, as they were saved
 pub record IsSavedText (file : Known) (text : List ℕ) : Type 0 where
@@ -210,11 +199,6 @@ pub record LeftByLines (job : Job) (file : Known) (bytes : Exchange) (ended : Re
   pub told : Known
   pub says : SaysFirst job bytes.written told
   pub leaves : LeavesDrive job (record bytes { written = told }) first.drive.state ended left before held
-
--- a store holds the bytes of a file, where its bytes are known
-abbrev pub HoldsFile : Known → Known → Type 0
-HoldsFile None file = ⊤
-HoldsFile (Some held) file = file ≡ Some held
 
 -- ---- the file
 

@@ -4,38 +4,21 @@ ghost use Rattle.std.specs.Prelude.{◌≡◌, IfErr, IfOk, OnOk, true};
 ghost use Rattle.std.specs.Io.KnownBytes.{Appends};
 ghost use Rattle.zone_drive.specs.declared.habit.Habit.TheVariants.{Lazy};
 ghost use Rattle.disk_files.specs.Reply.{ok_text};
-ghost use Rattle.disk_jobs.specs.Saved.{FailsToWrite, HasDrive, HasNoDrive, IsNotFresh, IsNotRead, IsOk, IsReadIn, IsRestarted, IsSavedText, ThenShows, WritesText, fresh_drive};
+ghost use Rattle.disk_jobs.specs.Saved.{FailsToWrite, HasDrive, HasNoDrive, IsNotFresh, IsNotRead, IsOk, IsSavedText, ThenShows, WritesText, fresh_drive};
 ghost use Rattle.disk_jobs.specs.declared.fault.ProgramFault.TheVariants as program;
 
 use crate::fault::ProgramFault;
 use crate::job::Job;
 use disk_files::{ok_reply, write_out};
 use disk_runs::RunFault;
-use drive_journal::open_drive;
 use drive_port::Device;
+use drive_store::{Begun, restarted_drive, saved_drive};
 use nvme_wire::ReportingOptions;
 use std::alloc::Global;
 use std::io::{Read, Write};
 use zone_drive::{Drive, DriveFault, Habit};
 use zone_report::{report_bytes, report_text};
 use zone_states::Geometry;
-
-/// The drive that a job begins with.
-#[derive(Drop)]
-pub(crate) struct Begun {
-    pub drive: Drive,
-    /// How many bytes of the file are its image and whole changes; 0 where no file is read.
-    pub whole: u64,
-}
-
-impl Begun {
-    // A drive that no file has.
-    fn fresh(drive: Drive) -> Begun
-        ensures { result.drive ≡ drive }
-    {
-        Begun { drive, whole: 0 }
-    }
-}
 
 fn fresh_drive(alloc: Global, geometry: Geometry, habit: Habit) -> Result<Drive, RunFault>
     ensures ok { IfOk result (λ drive. drive ≡ fresh_drive geometry habit) }
@@ -95,33 +78,6 @@ fn format<W: Write>(
     ok_reply(&mut reply)?;
     write_out(output, &reply)?;
     Ok(drive)
-}
-
-/// Reads a drive, restarts it, and gives it a habit.
-fn restarted_drive<I: Read>(
-    alloc: Global,
-    file: &mut I,
-    habit: Habit,
-) -> Result<Begun, ProgramFault>
-    ensures ok { IfOk result (λ begun. IsRestarted (I.remaining file.old) habit begun) }
-    ensures err { IfErr result (λ fault. IsNotRead (I.remaining file.old) fault) }
-{
-    let opened = open_drive(alloc, file)?;
-    let mut drive = opened.drive;
-    drive.restart();
-    drive.set_habit(habit);
-    Ok(Begun {
-        drive,
-        whole: opened.whole,
-    })
-}
-
-/// Reads a drive as it was saved.
-fn saved_drive<I: Read>(alloc: Global, file: &mut I) -> Result<Drive, ProgramFault>
-    ensures ok { IfOk result (λ drive. IsReadIn (I.remaining file.old) drive.state) }
-    ensures err { IfErr result (λ fault. IsNotRead (I.remaining file.old) fault) }
-{
-    Ok(open_drive(alloc, file)?.drive)
 }
 
 /// Shows the zones of a drive as it was saved.

@@ -4,11 +4,11 @@ ghost use Rattle.disk_runs.specs.declared.fault.RunFault.TheVariants.{Memory, Ou
 ghost use Rattle.disk_jobs.specs.FaultLine.{IsUnwritten, program_text, read_fault_text};
 ghost use Rattle.disk_jobs.specs.declared.fault.ProgramFault.TheVariants as program;
 
-use crate::file_fault::FileFault;
 use disk_files::{WriteFault, write_out};
 use disk_runs::{RunFault, write_fault};
 use drive_images::image_fault_line;
 use drive_journal::FileFault as ReadFault;
+use drive_store::FileFault;
 use std::alloc::{AllocError, Global};
 use std::io::Write;
 use thiserror::Error;

@@ -1,19 +1,18 @@
-use crate::changes_file::ChangesFile;
 use crate::fault::ProgramFault;
-use crate::file_fault::{FileFault, SystemError};
-use crate::image_file::{ImageFile, open_to_format, open_to_read, open_to_save};
 use crate::job::Job;
-use crate::new_file::{Saving, save};
-use crate::program::{JobFile, run_job};
+use crate::program::run_job;
 use crate::saving::{drive_to_save, first_told};
-use crate::synced_output::SyncedOutput;
 use disk_files::LineReader;
 use disk_runs::RunFault;
 use drive_journal::Unknown;
+use drive_store::{
+    ChangesFile, DriveFile, FileFault, ImageFile, Saving, SyncedOutput, SystemError, open_to_format,
+    open_to_read, open_to_save, reader_of, save,
+};
 use std::alloc::Global;
 use std::fs::File;
 use std::io;
-use std::io::{BufReader, BufWriter, Read, Write};
+use std::io::{BufWriter, Read, Write};
 use std::rt::Files;
 use zone_drive::Drive;
 
@@ -74,18 +73,13 @@ fn run_without_file<R: Read + Drop, W: Write>(
     input: &mut LineReader<R>,
     output: &mut W,
 ) -> Ran {
-    let file = JobFile {
+    let file = DriveFile {
         bytes: io::empty(),
         store: Unknown::new(io::sink()),
     };
     let (left, _, ran) = run_job(alloc, job, file, input, output);
     let sent = ran.and(send(output));
     (drive_to_save(job, sent, false, left), sent)
-}
-
-/// Reads a file from its beginning.
-fn reader_of(alloc: Global, file: &File) -> io::Result<BufReader<File>> {
-    BufReader::new(alloc, file.try_clone()?)
 }
 
 /// Saves a drive in the place of an image, if there is one to save.
@@ -116,7 +110,7 @@ fn run_with_changes<F: Files<File = File>, R: Read + Drop, W: Write>(
         Err(error) => return Done::unsaved(Err(told(FileFault::Open(SystemError::from(error))))),
     };
     let store = ChangesFile::new(saving, image);
-    let (left, store, ran) = run_job(saving.alloc, job, JobFile { bytes, store }, input, output);
+    let (left, store, ran) = run_job(saving.alloc, job, DriveFile { bytes, store }, input, output);
     let failed = store.error().map(FileFault::Change);
     let sent = first_told(ran.and(send(output)), failed);
     let drive = drive_to_save(job, sent, store.is_unchanged(), left);

@@ -37,26 +37,21 @@
 #![tactic(auto)]
 
 mod begun;
-mod changes_file;
 mod explanation;
 mod fault;
 mod file;
-mod file_fault;
-mod image_file;
 mod job;
 mod line_problem;
 mod lines;
-mod new_file;
 mod program;
 mod saving;
 mod statistics;
-mod synced_output;
 
+pub use drive_store::{DriveFile, FileFault, SystemError};
 pub use explanation::explain;
 pub use fault::{ProgramFault, write_program_fault};
 pub use file::{Done, do_job};
-pub use file_fault::{FileFault, SystemError};
 pub use job::{Job, Stop};
 pub use lines::Left;
-pub use program::{JobFile, run_job};
+pub use program::run_job;
 pub use zone_drive::Habit;

@@ -1,30 +1,25 @@
-ghost use Rattle.std.specs.Prelude.{◌≡◌, Err, IfErr, IfNone, IfSome, OnOk, false, true};
+ghost use Rattle.std.specs.Prelude.{◌≡◌, Err, IfErr, IfNone, IfSome, OnOk, true};
 ghost use Rattle.drive_journal.specs.Cut.{front_of};
 ghost use Rattle.drive_journal.specs.File.{IsStoredWhole};
+ghost use Rattle.drive_store.specs.Kept.{HoldsFile};
 ghost use Rattle.disk_runs.specs.Run.{exchange};
-ghost use Rattle.disk_jobs.specs.Saved.{HasNoDrive, HoldsFile, LeavesDrive, LeftByLines, ShowsReport, TellsRun, ended_by, has_changes};
+ghost use Rattle.disk_jobs.specs.Saved.{HasNoDrive, LeavesDrive, LeftByLines, ShowsReport, TellsRun, ended_by, has_changes};
 
-use crate::begun::{Begun, begin};
+use crate::begun::begin;
 use crate::fault::ProgramFault;
 use crate::job::Job;
 use crate::lines::{Left, answer_in_memory, answer_kept};
 use disk_files::LineReader;
 use disk_runs::RunFault;
-use drive_journal::{Journaling, Store};
+use drive_journal::Store;
 use drive_port::Device;
+use drive_store::{Begun, DriveFile, keep};
 use std::alloc::Global;
 use std::io::{Read, Write};
 use zone_choice::most_blocks;
 use zone_drive::Drive;
 use zone_states::Geometry;
 use zone_translator::MountFault;
-
-/// The file of a job: what it holds, and the store that writes after that.
-#[derive(Drop)]
-pub struct JobFile<I: Read + Drop, S: Store<Drive> + Drop> {
-    pub bytes: I,
-    pub store: S,
-}
 
 /// What the fault of a run over a drive of this shape is to the program.
 fn told(fault: RunFault, geometry: &Geometry) -> ProgramFault
@@ -47,21 +42,6 @@ fn has_changes(job: &Job) -> bool
         Job::Run { .. } | Job::Nvme { .. } => true,
         _ => false,
     }
-}
-
-/// A drive whose changes go to a store, after the first `whole` bytes of it.
-fn keep<S: Store<Drive> + Drop>(
-    alloc: Global,
-    drive: Drive,
-    whole: u64,
-    store: S,
-) -> Journaling<Drive, S>
-    requires { IfSome (front_of whole (S.held store)) (λ bytes. IsStoredWhole bytes drive.state) }
-    ensures { result ≡ record { drive = drive.state; lost = false; contents = front_of whole (S.held store) } }
-{
-    let mut store = store;
-    store.cut(whole);
-    Journaling::new(alloc, drive, store)
 }
 
 /// What a job begins with: a drive, and the store of its file.
@@ -93,7 +73,7 @@ fn answer<S: Store<Drive> + Drop, R: Read + Drop, W: Write>(
         };
         return (left, store, result);
     }
-    let device = keep(alloc, begun.drive, begun.whole, store);
+    let device = keep(alloc, begun, store);
     answer_kept(alloc, job, device, input, output)
 }
 
@@ -102,7 +82,7 @@ fn answer<S: Store<Drive> + Drop, R: Read + Drop, W: Write>(
 pub fn run_job<I: Read + Drop, S: Store<Drive> + Drop, R: Read + Drop, W: Write>(
     alloc: Global,
     job: &Job,
-    file: JobFile<I, S>,
+    file: DriveFile<I, S>,
     input: &mut LineReader<R>,
     output: &mut W,
 ) -> (Option<Left>, S, Result<(), ProgramFault>)
@@ -121,7 +101,7 @@ pub fn run_job<I: Read + Drop, S: Store<Drive> + Drop, R: Read + Drop, W: Write>
     ensures shown { IfNone result.0 (OnOk result.2 (ShowsReport job.now (I.remaining file.bytes)
         (W.contents output.old) (W.contents output.new))) }
 {
-    let JobFile { mut bytes, store } = file;
+    let DriveFile { mut bytes, store } = file;
     let begun = match begin(alloc, job, &mut bytes, output) {
         Ok(Some(begun)) => begun,
         Ok(None) => return (None, store, Ok(())),

@@ -2,9 +2,9 @@ ghost use Rattle.std.specs.Prelude.{◌≡◌};
 ghost use Rattle.disk_jobs.specs.Saved.{drive_to_save, first_told};
 
 use crate::fault::ProgramFault;
-use crate::file_fault::FileFault;
 use crate::job::Job;
 use crate::lines::Left;
+use drive_store::FileFault;
 use zone_drive::Drive;
 
 /// What is saved of a job, by what its lines left and how it ended, once what it wrote was sent: the drive, also after a

@@ -19,7 +19,7 @@ const LEAST: u64 = 1 << 20;
 /// The file of a drive, open and locked, to which changes are appended. Until the first one it is as it was. It is
 /// written anew once its changes are longer than its image and than 1 MiB.
 #[derive(Drop)]
-pub(crate) struct ChangesFile<'a, F: Files<File = File>> {
+pub struct ChangesFile<'a, F: Files<File = File>> {
     saving: &'a Saving<'a, F>,
     image: ImageFile,
     /// How many bytes of the file are its image and whole changes. What follows is cut off before the first change.
@@ -34,7 +34,7 @@ pub(crate) struct ChangesFile<'a, F: Files<File = File>> {
 }
 
 impl<'a, F: Files<File = File>> ChangesFile<'a, F> {
-    pub(crate) fn new(saving: &'a Saving<'a, F>, image: ImageFile) -> Self {
+    pub fn new(saving: &'a Saving<'a, F>, image: ImageFile) -> Self {
         let whole = image.metadata.len();
         ChangesFile {
             saving,
@@ -48,17 +48,17 @@ impl<'a, F: Files<File = File>> ChangesFile<'a, F> {
     }
 
     /// Whether the file is as it was.
-    pub(crate) fn is_unchanged(&self) -> bool {
+    pub fn is_unchanged(&self) -> bool {
         !self.is_changed
     }
 
     /// What the system said of the change that could not be written.
-    pub(crate) fn error(&self) -> Option<SystemError> {
+    pub fn error(&self) -> Option<SystemError> {
         self.error
     }
 
     /// The file, as it is now.
-    pub(crate) fn into_image(self) -> ImageFile {
+    pub fn into_image(self) -> ImageFile {
         self.image
     }
 

@@ -10,7 +10,7 @@ use std::{fs, io};
 /// have taken its place. Before the output there is a buffer, so all replies that are sent together cost one sync. After
 /// a sync that failed nothing more is sent: the system tells of lost bytes only once.
 #[derive(Drop)]
-pub(crate) struct SyncedOutput<'a, F: Files<File = File>, W: Write> {
+pub struct SyncedOutput<'a, F: Files<File = File>, W: Write> {
     files: &'a F,
     path: &'a str,
     output: &'a mut W,
@@ -18,7 +18,7 @@ pub(crate) struct SyncedOutput<'a, F: Files<File = File>, W: Write> {
 }
 
 impl<'a, F: Files<File = File>, W: Write> SyncedOutput<'a, F, W> {
-    pub(crate) fn new(files: &'a F, path: &'a str, output: &'a mut W) -> Self {
+    pub fn new(files: &'a F, path: &'a str, output: &'a mut W) -> Self {
         SyncedOutput {
             files,
             path,
@@ -28,7 +28,7 @@ impl<'a, F: Files<File = File>, W: Write> SyncedOutput<'a, F, W> {
     }
 
     /// What the system said of the sync that failed.
-    pub(crate) fn error(&self) -> Option<SystemError> {
+    pub fn error(&self) -> Option<SystemError> {
         self.error
     }
 

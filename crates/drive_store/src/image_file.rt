@@ -8,7 +8,7 @@ use crate::file_fault::{FileFault, SystemError};
 use drive_images::{ImageFault, read_image};
 use std::alloc::Global;
 use std::fs::{File, Metadata, OpenOptions, TryLockError};
-use std::io::{ErrorKind, Read};
+use std::io::{BufReader, ErrorKind, Read};
 use std::os::unix::fs::MetadataExt;
 use std::rt::Files;
 use std::{fs, io};
@@ -29,6 +29,11 @@ pub struct ImageFile {
 
 fn open_fault(error: io::Error) -> FileFault {
     FileFault::Open(SystemError::from(error))
+}
+
+/// Reads a file from where it is.
+pub fn reader_of(alloc: Global, file: &File) -> io::Result<BufReader<File>> {
+    BufReader::new(alloc, file.try_clone()?)
 }
 
 fn is_same_file(one: &Metadata, other: &Metadata) -> bool {

@@ -1,0 +1,37 @@
+//! The file that keeps a drive: it is opened and locked, its drive is read and restarted, each change is appended to it,
+//! and the drive is saved in it.
+//!
+//! ```text
+//! let image = open_to_save(files, alloc, path)?; // locked: no other program reads or changes it
+//! let mut bytes = reader_of(alloc, &image.file)?;
+//! let begun = restarted_drive(alloc, &mut bytes, Habit::Lazy)?; // the drive that the file holds
+//! let store = ChangesFile::new(&saving, image);
+//! let device = keep(alloc, begun, store); // each change is in the file before it is answered
+//! let (drive, store) = device.into_parts();
+//! save(&saving, &drive, &store.into_image())?; // the image of the drive takes the place of the file
+//! ```
+//!
+//! # What is promised
+//!
+//! * [`restarted_drive`] gives the drive that the bytes of a file hold, restarted, and [`saved_drive`] gives it as it was
+//!   saved; or they tell the first fault in the bytes.
+//! * [`keep`] makes a device of that drive and a store: the device shows the drive, and the store holds it.
+//!
+//! Of files nothing is promised by contract, since std says nothing of what a path names, what a file holds or who has
+//! locked it. `tools/two_programs` and `tools/kill_runs` try them: an answered change is found again after a kill, and two
+//! programs never share a file.
+#![tactic(auto)]
+
+mod changes_file;
+mod file_fault;
+mod image_file;
+mod kept_drive;
+mod new_file;
+mod synced_output;
+
+pub use changes_file::ChangesFile;
+pub use file_fault::{FileFault, SystemError};
+pub use image_file::{ImageFile, open_to_format, open_to_read, open_to_save, reader_of};
+pub use kept_drive::{Begun, DriveFile, keep, restarted_drive, saved_drive};
+pub use new_file::{Saving, save};
+pub use synced_output::SyncedOutput;
