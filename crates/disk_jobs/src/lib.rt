@@ -52,6 +52,7 @@ pub use explanation::explain;
 pub use fault::{ProgramFault, write_program_fault};
 pub use file::{Done, do_job};
 pub use job::{Job, Stop};
-pub use lines::Left;
+pub use lines::{Left, stopping};
 pub use program::run_job;
+pub use statistics::statistics_of;
 pub use zone_drive::Habit;

@@ -33,7 +33,7 @@ struct TraceRun {
 
 /// A device that stops after the commands of a stop, or inside the Append after them. Then the first blocks of the
 /// Append are written.
-fn stopping<D: Device + Drop>(device: D, stop: Stop) -> StopAfter<D>
+pub fn stopping<D: Device + Drop>(device: D, stop: Stop) -> StopAfter<D>
     ensures { result ≡ stopping stop (D.drive device) }
 {
     StopAfter::tearing(device, stop.commands, stop.tear)

@@ -18,14 +18,22 @@ fn live_blocks<D: Device + Drop>(
     Ok(live)
 }
 
+/// What was counted of a disk, and how many blocks are live in its zones, as text.
+pub fn statistics_of<D: Device + Drop>(
+    alloc: Global,
+    disk: &Disk<Counter<D>>,
+) -> Result<String, AllocError> {
+    let mut live = live_blocks(alloc, disk)?;
+    statistics_text(alloc, &disk.device().counts(), &Spread::of(&mut live))
+}
+
 /// Writes what was counted of a disk, without a command.
 fn show_statistics<W: Write, D: Device + Drop>(
     alloc: Global,
     disk: &Disk<Counter<D>>,
     output: &mut W,
 ) -> Result<(), RunFault> {
-    let mut live = live_blocks(alloc, disk)?;
-    let text = statistics_text(alloc, &disk.device().counts(), &Spread::of(&mut live))?;
+    let text = statistics_of(alloc, disk)?;
     write_out(output, text.as_bytes())?;
     Ok(())
 }

@@ -2,7 +2,7 @@ use Rattle.std.proofs.Common.{◌≡◌, Err, Ok, map, string_bytes, rules}
 use Rattle.clap.specs.Walk.{texts}
 use Rattle.command_line.specs.Program.{habit_names}
 use Rattle.command_line.proofs.WordLaws.{asks_too, fails, refusal_exits, refusal_is, refused_by_clap, refused_by_matches}
-use Rattle.command_line.proofs.words.job_of.Goals as goal
+use Rattle.command_line.proofs.words.task_of.Goals as goal
 
 pub returns-in-Ok : goal.returns-in-Ok
 returns-in-Ok c =
@@ -14,9 +14,9 @@ returns-in-Ok c =
     record {
       names = names;
       are_habits = are_habits;
-      job = record {
+      task = record {
         taken = fails names command words (Ok matches) c.in_ok-program.ensures c.in_ok-matches.ensures.kinds;
-        asks = asks_too names command words matches c.in-Ok.job c.in_ok-program.ensures c.in_ok-matches.ensures.ok.2 c.in-Ok.ensures.value;
+        asks = asks_too names command words matches c.in-Ok.task c.in_ok-program.ensures c.in_ok-matches.ensures.ok.2 c.in-Ok.ensures.value;
       };
       refusal = tt;
     }
