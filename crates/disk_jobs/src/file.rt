@@ -1,13 +1,14 @@
 use crate::fault::ProgramFault;
 use crate::job::Job;
+use crate::lines::Left;
 use crate::program::run_job;
 use crate::saving::{drive_to_save, first_told};
 use disk_files::LineReader;
 use disk_runs::RunFault;
 use drive_journal::Unknown;
 use drive_store::{
-    ChangesFile, DriveFile, FileFault, ImageFile, Saving, SyncedOutput, SystemError, open_to_format,
-    open_to_read, open_to_save, reader_of, save,
+    ChangesFile, ChangesOutput, DriveFile, FileFault, ImageFile, Saving, SentAfter, SystemError,
+    open_to_format, open_to_read, open_to_save, reader_of, save,
 };
 use std::alloc::Global;
 use std::fs::File;
@@ -92,9 +93,39 @@ fn save_if_any<F: Files<File = File>>(
         return Ok(());
     };
     match save(saving, &drive, image) {
-        Ok(_) => Ok(()),
+        Ok(()) => Ok(()),
         Err(fault) => Err(told(fault)),
     }
+}
+
+/// Does a job whose changes are gathered for a file, and sends what it wrote. A reply is sent once the file has the
+/// changes before it.
+fn run_over<F: Files<File = File>, I: Read + Drop, R: Read + Drop, W: Write>(
+    saving: &Saving<'_, F>,
+    job: &Job,
+    bytes: I,
+    file: &ChangesFile<'_, F>,
+    input: &mut LineReader<R>,
+    output: &mut W,
+) -> (Option<Left>, Result<(), ProgramFault>) {
+    let after = if job.sync() {
+        SentAfter::Sync
+    } else {
+        SentAfter::Write
+    };
+    let waiting = ChangesOutput::new(file, after, output);
+    let Ok(mut output) = BufWriter::new(saving.alloc, waiting) else {
+        return (None, Err(ProgramFault::Run(RunFault::Memory)));
+    };
+    let store = file.store();
+    let (left, _, ran) = run_job(
+        saving.alloc,
+        job,
+        DriveFile { bytes, store },
+        input,
+        &mut output,
+    );
+    (left, ran.and(send(&mut output)))
 }
 
 /// Does a job on the drive in a file, sends what it wrote, and saves the drive. Its changes go to the file.
@@ -109,37 +140,13 @@ fn run_with_changes<F: Files<File = File>, R: Read + Drop, W: Write>(
         Ok(bytes) => bytes,
         Err(error) => return Done::unsaved(Err(told(FileFault::Open(SystemError::from(error))))),
     };
-    let store = ChangesFile::new(saving, image);
-    let (left, store, ran) = run_job(saving.alloc, job, DriveFile { bytes, store }, input, output);
-    let failed = store.error().map(FileFault::Change);
-    let sent = first_told(ran.and(send(output)), failed);
-    let drive = drive_to_save(job, sent, store.is_unchanged(), left);
+    let file = ChangesFile::new(saving, image);
+    let (left, ran) = run_over(saving, job, bytes, &file, input, output);
+    let sent = first_told(ran, file.write_out().err());
+    let drive = drive_to_save(job, sent, file.stays(), left);
     Done {
         job: sent,
-        saved: save_if_any(saving, drive, &store.into_image()),
-    }
-}
-
-/// The same, and before something is sent the changes are on the disk.
-fn run_with_syncs<F: Files<File = File>, R: Read + Drop, W: Write>(
-    saving: &Saving<'_, F>,
-    job: &Job,
-    image: ImageFile,
-    input: &mut LineReader<R>,
-    output: &mut W,
-) -> Done {
-    let Ok(path) = String::from_str(saving.alloc, &image.path) else {
-        return Done::unsaved(Err(ProgramFault::Run(RunFault::Memory)));
-    };
-    let synced = SyncedOutput::new(saving.files, &path, output);
-    let Ok(mut buffered) = BufWriter::new(saving.alloc, synced) else {
-        return Done::unsaved(Err(ProgramFault::Run(RunFault::Memory)));
-    };
-    let done = run_with_changes(saving, job, image, input, &mut buffered);
-    let failed = buffered.get_ref().error().map(FileFault::Sync);
-    Done {
-        job: first_told(done.job, failed),
-        saved: done.saved,
+        saved: save_if_any(saving, drive, &file.into_image()),
     }
 }
 
@@ -155,8 +162,7 @@ fn save_fresh<F: Files<File = File>>(
     if saved.is_err() {
         image.discard(saving.files);
     }
-    saved?;
-    Ok(())
+    saved
 }
 
 /// Makes a fresh drive, says `ok`, and saves the drive. The file is opened after the `ok`, so its faults follow it.
@@ -202,8 +208,5 @@ pub fn do_job<F: Files<File = File>, R: Read + Drop, W: Write>(
         Ok(image) => image,
         Err(fault) => return Done::unsaved(Err(told(fault))),
     };
-    if job.sync() {
-        return run_with_syncs(&saving, job, image, input, output);
-    }
     run_with_changes(&saving, job, image, input, output)
 }
