@@ -209,7 +209,9 @@ fn nbd_command<'a>(alloc: Global, habits: &'a [&'a str]) -> Result<Command<'a>, 
     let statistics = "Shows what was written and moved on standard error at the end";
     let idle = "Takes a turn of cleaning after each request, if one is due";
     let command = Command::new(alloc, "nbd")
-        .about("Serves the drive in a file by the Network Block Device protocol, on standard input and output")
+        .about(
+            "Serves the drive in a file by the Network Block Device protocol, on standard input and output",
+        )
         .after_help(NBD_EXAMPLE)
         .arg(image_option(alloc))?
         .arg(blocks_if_fresh_option(alloc))?

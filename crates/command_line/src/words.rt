@@ -89,10 +89,7 @@ fn number_or(matches: &ArgMatches<'_>, name: &'static str, missing: u64) -> Resu
 }
 
 /// The number that an option was given, if it was given one.
-fn number_if_given(
-    matches: &ArgMatches<'_>,
-    name: &'static str,
-) -> Result<Option<u64>, WordFault>
+fn number_if_given(matches: &ArgMatches<'_>, name: &'static str) -> Result<Option<u64>, WordFault>
     ensures { Finds (HasNumberIf (rows_of (found_of matches.now)) name.entry.now) result }
 {
     if given(matches, name).is_none() {

@@ -108,12 +108,12 @@ abbrev pub HoldsNoDrive : Option (List ℕ) → Streams → Result (Unit {0}) Nb
 HoldsNoDrive file bytes (Err (Image fault)) = IfSome file (λ held. IsFileFault held fault) × ServesNothing bytes
 HoldsNoDrive file bytes ended = ⊥
 
--- What is saved of a session: the drive that it left, also after a fault. Nothing is saved where the file was not changed, nor where it failed: then
+-- What is saved of a session: the drive that it left, also after a fault. Nothing is saved where the file stays as it is, nor where it failed: then
 -- the file has all changes before.
 abbrev pub drive_to_save : Result (Unit {0}) NbdFault → Bool → Option Left → Option MemoryDrive
-drive_to_save ended unchanged None = None
-drive_to_save (Err (File fault)) unchanged (Some left) = None
-drive_to_save ended unchanged (Some left) = if (left.failed || unchanged) then None else Some left.drive
+drive_to_save ended stays None = None
+drive_to_save (Err (File fault)) stays (Some left) = None
+drive_to_save ended stays (Some left) = if (left.failed || stays) then None else Some left.drive
 
 -- a session whose file failed is told by that fault
 abbrev pub first_told : Result (Unit {0}) NbdFault → Option FileFault → Result (Unit {0}) NbdFault

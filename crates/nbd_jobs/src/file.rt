@@ -61,12 +61,12 @@ fn told(fault: FileFault) -> NbdFault {
     NbdFault::File(fault)
 }
 
-/// Serves the drive of an open file. Its changes are in the file before a reply is sent, and on the disk before a FLUSH
-/// is answered.
+/// Serves the drive of an open file, whose bytes are read from `bytes`. Its changes are in the file before a reply is
+/// sent, and on the disk before a FLUSH is answered.
 fn serve_file<F: Files<File = File>, R: Read + Drop, W: Write>(
     alloc: Global,
     job: &NbdJob,
-    (bytes, file): (BufReader<File>, &ChangesFile<'_, F>),
+    (file, bytes): (&ChangesFile<'_, F>, BufReader<File>),
     input: R,
     output: &mut W,
 ) -> (Option<Left>, Result<(), NbdFault>) {
@@ -97,7 +97,7 @@ fn save_if_any<F: Files<File = File>>(
         return Ok(());
     };
     match save(saving, &drive, image) {
-        Ok(_) => Ok(()),
+        Ok(()) => Ok(()),
         Err(fault) => Err(told(fault)),
     }
 }
@@ -126,14 +126,13 @@ pub fn do_nbd_job<F: Files<File = File>, R: Read + Drop, W: Write>(
         Err(error) => return Done::unserved(told(FileFault::Open(SystemError::from(error)))),
     };
     let file = ChangesFile::new(&saving, image);
-    let (mut left, result) = serve_file(alloc, job, (bytes, &file), input, output);
-    let written = file.write_out();
-    let session = first_told(result, file.fault().or(written.err()));
+    let (mut left, result) = serve_file(alloc, job, (&file, bytes), input, output);
+    let session = first_told(result, file.write_out().err());
     let statistics = match &mut left {
         Some(left) => left.statistics.take(),
         None => None,
     };
-    let drive = drive_to_save(session, file.is_unchanged(), left);
+    let drive = drive_to_save(session, file.stays(), left);
     Done {
         session,
         saved: save_if_any(&saving, drive, &file.into_image()),

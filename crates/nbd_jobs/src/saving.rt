@@ -6,19 +6,19 @@ use crate::left::Left;
 use drive_store::FileFault;
 use zone_drive::Drive;
 
-/// What is saved of a session: the drive that it left, also after a fault. Nothing is saved if the file is unchanged, nor
-/// if a change could not be written to it.
+/// What is saved of a session: the drive that it left, also after a fault. Nothing is saved if the file stays as it is, since it
+/// is unchanged or takes no more changes, nor if a change could not be written to it.
 pub(crate) fn drive_to_save(
     ended: Result<(), NbdFault>,
-    unchanged: bool,
+    stays: bool,
     left: Option<Left>,
 ) -> Option<Drive>
-    ensures { result ≡ drive_to_save ended unchanged left }
+    ensures { result ≡ drive_to_save ended stays left }
 {
     let left = left?;
     match ended {
         Err(NbdFault::File(_)) => None,
-        _ if left.failed || unchanged => None,
+        _ if left.failed || stays => None,
         _ => Some(left.drive),
     }
 }
