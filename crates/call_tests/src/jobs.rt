@@ -58,7 +58,7 @@ fn answer<R: Files<File = File> + Abort>(
     }
     for ended in [done.job, done.saved] {
         if let Err(fault) = ended {
-            let text = explain(alloc, &job, fault, input.line()).expect(rt, "memory");
+            let text = explain(alloc, &job, fault, input.line(), done.mounting).expect(rt, "memory");
             told.push_str(&text).expect(rt, "memory");
             told.push('\n').expect(rt, "memory");
         }

@@ -24,12 +24,18 @@ pub struct Done {
     pub job: Result<(), ProgramFault>,
     /// Of the drive. It is `Ok` where the job leaves none to save.
     pub saved: Result<(), ProgramFault>,
+    /// How many commands the mount took, if there was one.
+    pub mounting: u64,
 }
 
 impl Done {
     /// A job that leaves no drive to save.
     fn unsaved(job: Result<(), ProgramFault>) -> Done {
-        Done { job, saved: Ok(()) }
+        Done {
+            job,
+            saved: Ok(()),
+            mounting: 0,
+        }
     }
 
     /// The fault that the program ends with: the first one.
@@ -38,8 +44,16 @@ impl Done {
     }
 }
 
-/// What a job left to be saved, and how it ended.
-type Ran = (Option<Drive>, Result<(), ProgramFault>);
+/// What the lines of a job left, and how they ended.
+type Ran = (Option<Left>, Result<(), ProgramFault>);
+
+/// How many commands the mount of a job took, if there was one.
+fn mounting(left: &Option<Left>) -> u64 {
+    match left {
+        Some(left) => left.mounting,
+        None => 0,
+    }
+}
 
 /// What a fault of a file is to the program: that memory ran out is told as in a run.
 fn told(fault: FileFault) -> ProgramFault {
@@ -79,8 +93,7 @@ fn run_without_file<R: Read + Drop, W: Write>(
         store: Unknown::new(io::sink()),
     };
     let (left, _, ran) = run_job(alloc, job, file, input, output);
-    let sent = ran.and(send(output));
-    (drive_to_save(job, sent, false, left), sent)
+    (left, ran.and(send(output)))
 }
 
 /// Saves a drive in the place of an image, if there is one to save.
@@ -107,7 +120,7 @@ fn run_over<F: Files<File = File>, I: Read + Drop, R: Read + Drop, W: Write>(
     file: &ChangesFile<'_, F>,
     input: &mut LineReader<R>,
     output: &mut W,
-) -> (Option<Left>, Result<(), ProgramFault>) {
+) -> Ran {
     let after = if job.sync() {
         SentAfter::Sync
     } else {
@@ -143,10 +156,12 @@ fn run_with_changes<F: Files<File = File>, R: Read + Drop, W: Write>(
     let file = ChangesFile::new(saving, image);
     let (left, ran) = run_over(saving, job, bytes, &file, input, output);
     let sent = first_told(ran, file.write_out().err());
+    let mounting = mounting(&left);
     let drive = drive_to_save(job, sent, file.stays(), left);
     Done {
         job: sent,
         saved: save_if_any(saving, drive, &file.into_image()),
+        mounting,
     }
 }
 
@@ -172,7 +187,8 @@ fn format<F: Files<File = File>, R: Read + Drop, W: Write>(
     input: &mut LineReader<R>,
     output: &mut W,
 ) -> Done {
-    let (drive, sent) = run_without_file(saving.alloc, job, input, output);
+    let (left, sent) = run_without_file(saving.alloc, job, input, output);
+    let drive = drive_to_save(job, sent, false, left);
     let (Job::Format { image, force, .. }, Some(drive)) = (job, &drive) else {
         return Done::unsaved(sent);
     };
@@ -180,6 +196,7 @@ fn format<F: Files<File = File>, R: Read + Drop, W: Write>(
     Done {
         job: sent,
         saved: saved.map_err(told),
+        mounting: 0,
     }
 }
 
@@ -194,7 +211,12 @@ pub fn do_job<F: Files<File = File>, R: Read + Drop, W: Write>(
     output: &mut W,
 ) -> Done {
     let Some(path) = job.image() else {
-        return Done::unsaved(run_without_file(alloc, job, input, output).1);
+        let (left, sent) = run_without_file(alloc, job, input, output);
+        return Done {
+            job: sent,
+            saved: Ok(()),
+            mounting: mounting(&left),
+        };
     };
     let saving = Saving {
         files,

@@ -4,10 +4,10 @@
 //! let mut input = LineReader::new(alloc, rt.reader());
 //! let done = do_job(&rt, alloc, &job, &mut input, &mut output);
 //! if let Err(fault) = done.job {
-//!     let text = explain(alloc, &job, fault, input.line())?;
+//!     let text = explain(alloc, &job, fault, input.line(), done.mounting)?;
 //! }
 //! if let Err(fault) = done.saved {
-//!     let text = explain(alloc, &job, fault, input.line())?;
+//!     let text = explain(alloc, &job, fault, input.line(), done.mounting)?;
 //! }
 //! ```
 //!

@@ -38,21 +38,26 @@ fn show_statistics<W: Write, D: Device + Drop>(
     Ok(())
 }
 
-/// Answers a trace over a device whose commands are counted, and then shows what was counted.
+/// Answers a trace over a device whose commands are counted, and then shows what was counted. It tells how many commands
+/// the mount took.
 pub fn run_counted<R: Read + Drop, W: Write, D: Device + Drop>(
     alloc: Global,
     input: &mut LineReader<R>,
     output: &mut W,
     device: D,
     blocks: u64,
-) -> (D, Result<(), RunFault>) {
+) -> (D, u64, Result<(), RunFault>) {
     let disk = match Disk::mount(alloc, Counter::new(device), blocks) {
         Ok(disk) => disk,
-        Err((fault, counter)) => return (counter.into_inner(), Err(RunFault::Mount(fault))),
+        Err((fault, counter)) => {
+            let mounting = counter.completed();
+            return (counter.into_inner(), mounting, Err(RunFault::Mount(fault)));
+        }
     };
+    let mounting = disk.device().completed();
     let (disk, mut result) = answer_trace(alloc, input, output, disk);
     if result.is_ok() {
         result = show_statistics(alloc, &disk, output);
     }
-    (disk.into_device().into_inner(), result)
+    (disk.into_device().into_inner(), mounting, result)
 }

@@ -34,18 +34,26 @@ impl<'s, 'a, F: Files<File = File>, W: Write> ChangesOutput<'s, 'a, F, W> {
             output,
         }
     }
-}
 
-impl<F: Files<File = File>, W: Write> Write for ChangesOutput<'_, '_, F, W> {
-    fn write(&mut self, bytes: &[u8]) -> io::Result<usize> {
+    // Waits for the file.
+    fn wait(&self) -> io::Result<()> {
         let ready = match self.after {
             SentAfter::Write => self.file.write_out(),
             SentAfter::Sync => self.file.sync(),
         };
-        if ready.is_err() {
-            return Err(io::Error::from(io::ErrorKind::Other));
-        }
+        ready.map_err(|_| io::Error::from(io::ErrorKind::Other))
+    }
+}
+
+impl<F: Files<File = File>, W: Write> Write for ChangesOutput<'_, '_, F, W> {
+    fn write(&mut self, bytes: &[u8]) -> io::Result<usize> {
+        self.wait()?;
         self.output.write(bytes)
+    }
+
+    fn write_all(&mut self, bytes: &[u8]) -> io::Result<()> {
+        self.wait()?;
+        self.output.write_all(bytes)
     }
 
     fn flush(&mut self) -> io::Result<()> {

@@ -13,22 +13,42 @@ use zone_drive::Drive;
 #[derive(Drop)]
 pub struct ChangesStore<'s, 'a, F: Files<File = File>> {
     file: &'s ChangesFile<'a, F>,
+    failed: bool,
 }
 
 impl<'s, 'a, F: Files<File = File>> ChangesStore<'s, 'a, F> {
     pub(crate) fn new(file: &'s ChangesFile<'a, F>) -> Self {
-        ChangesStore { file }
+        ChangesStore {
+            file,
+            failed: false,
+        }
     }
 }
 
 impl<F: Files<File = File>> Store<Drive> for ChangesStore<'_, '_, F> {
     ghost held = { λ _. None };
 
+    ghost failed = { λ s. s.failed };
+
+    fn has_failed(&self) -> bool {
+        self.failed
+    }
+
     fn append(&mut self, bytes: &[u8]) -> Result<(), WriteFault> {
         if bytes.is_empty() {
             return Ok(());
         }
-        self.file.append(bytes).or(Err(WriteFault))
+        match self.file.append(bytes) {
+            Ok(()) => Ok(()),
+            Err(_) => {
+                self.failed = true;
+                Err(WriteFault)
+            }
+        }
+    }
+
+    fn fail(&mut self) {
+        self.failed = true;
     }
 
     fn renew(&mut self, drive: &Drive) {

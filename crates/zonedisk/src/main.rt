@@ -57,7 +57,7 @@ fn fail<W: Write>(alloc: Global, fault: ProgramFault, output: &mut W) -> ExitCod
 fn tell<R: Eprint>(rt: &R, alloc: Global, job: &Job, done: Done, line: &[u8]) {
     for ended in [done.job, done.saved] {
         if let Err(fault) = ended
-            && let Ok(text) = explain(alloc, job, fault, line)
+            && let Ok(text) = explain(alloc, job, fault, line, done.mounting)
         {
             let _ = eprintln!(rt; "zonedisk: {text}");
         }
