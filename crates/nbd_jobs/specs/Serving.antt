@@ -90,18 +90,20 @@ pub record ServesStopping (blocks : Option ℕ) (bytes : Streams) (device : Stop
 
 -- ---- the file
 
--- What a session leaves of its drive, whatever ended it: the store holds that drive, and so has every write that was answered.
-pub record LeavesStored (job : NbdJob) (bytes : Streams) (old : DriveState) (ended : Result (Unit {0}) NbdFault) (left : Left) (held : Option (List ℕ)) : Type 0 where
+-- What a session leaves of its drive, whatever ended it: the store holds that drive, and so has every write that was answered. Whether the store
+-- failed is told.
+pub record LeavesStored (job : NbdJob) (bytes : Streams) (old : DriveState) (ended : Result (Unit {0}) NbdFault) (left : Left) (held : Option (List ℕ)) (failed : Bool) : Type 0 where
   pub drive : DriveState
   pub serves : ServesStopping job.blocks bytes (stopping job.stop old) ended drive
-  pub back : IsHandedBack left.failed drive left.drive.state
+  pub failed_is : left.failed ≡ failed
+  pub back : IsHandedBack failed drive left.drive.state
   pub stored : IfSome held (λ bytes. IsStored bytes drive)
 
 -- the same of the drive that the bytes of a file hold, restarted
-pub record LeavesFile (job : NbdJob) (file : Option (List ℕ)) (bytes : Streams) (ended : Result (Unit {0}) NbdFault) (left : Left) (held : Option (List ℕ)) : Type 0 where
+pub record LeavesFile (job : NbdJob) (file : Option (List ℕ)) (bytes : Streams) (ended : Result (Unit {0}) NbdFault) (left : Left) (held : Option (List ℕ)) (failed : Bool) : Type 0 where
   pub first : Begun
   pub begins : IsRestarted file job.habit first
-  pub leaves : LeavesStored job bytes first.drive.state ended left held
+  pub leaves : LeavesStored job bytes first.drive.state ended left held failed
 
 -- why there is no drive: the bytes of the file have this first fault. Nothing is served.
 abbrev pub HoldsNoDrive : Option (List ℕ) → Streams → Result (Unit {0}) NbdFault → Type 0

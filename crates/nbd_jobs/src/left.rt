@@ -4,8 +4,8 @@ use zone_drive::Drive;
 #[derive(Drop)]
 pub struct Left {
     pub drive: Drive,
-    /// Whether a change could not be written to the file. Then the file has all changes before it, and the drive that
-    /// counts is the one in the file.
+    /// Whether the store failed. Then it has all changes before that one, and the drive that counts is the one that it
+    /// holds.
     pub failed: bool,
     /// What was written and moved, as text, if it was asked for.
     pub statistics: Option<String>,

@@ -137,14 +137,13 @@ fn serve_kept<S: Store<Drive> + Drop, M: Medium + Drop, R: Client, W: Write>(
 ) -> (Left, S, Result<(), NbdFault>)
     ensures { LeavesStored job.now
         (streams (R.remaining reader.old) (R.remaining reader.new) (W.contents writer.old) (W.contents writer.new))
-        kept.device.drive result.2 result.0 (S.held result.1) }
+        kept.device.drive result.2 result.0 (S.held result.1) (S.failed result.1) }
 {
     let ended = serve_stopping(alloc, job, kept, reader, writer);
-    let failed = ended.device.store_failed();
     let (drive, store) = ended.device.into_parts();
     let left = Left {
         drive,
-        failed,
+        failed: store.has_failed(),
         statistics: ended.statistics,
     };
     (left, store, ended.result)
@@ -163,7 +162,7 @@ pub fn serve_drive<I: Read + Drop, S: Store<Drive> + Drop, M: Medium + Drop, R: 
     // What the client sent is answered by the disk of the drive in the file, and the store holds the drive that is left.
     ensures left { IfSome result.0 (λ left. LeavesFile job.now (I.remaining file.bytes)
         (streams (R.remaining reader.old) (R.remaining reader.new) (W.contents writer.old) (W.contents writer.new))
-        result.2 left (S.held result.1)) }
+        result.2 left (S.held result.1) (S.failed result.1)) }
     // Without a drive nothing is read of the client, and nothing is written.
     ensures none { IfNone result.0 (HoldsNoDrive (I.remaining file.bytes)
         (streams (R.remaining reader.old) (R.remaining reader.new) (W.contents writer.old) (W.contents writer.new))
