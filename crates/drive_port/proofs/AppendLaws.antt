@@ -1,5 +1,5 @@
 -- What an Append left, and which Append a drive can't refuse.
-use Rattle.std.proofs.Common.{◌≡◌, ℕ, zero, suc, ◌+◌, ◌/◌, ◌%◌, ◌*◌, ◌<◌, ◌⊎◌, Bool, true, false, not, eqb, cond, List, ◌++◌, length, drop, take, Result, Ok, Err, refl, ap, ◌∙◌, inl, inr, arith}
+use Rattle.std.proofs.Common.{◌≡◌, ℕ, ◌+◌, ◌/◌, ◌%◌, ◌*◌, ◌<◌, ◌⊎◌, Bool, true, false, not, eqb, cond, List, ◌++◌, length, take, Result, Ok, Err, refl, ap, ◌∙◌, inl, inr, arith}
 use Rattle.std.specs.Prelude.{IfOk, nat_lt, slice_set, ◌==◌}
 use Rattle.std.proofs.lemmas.Bool.{eq-eqb, leb-false, le-ltb, lt-leb, ltb-false}
 use Rattle.std.proofs.lemmas.List.{length-map, map-set, take_all}
