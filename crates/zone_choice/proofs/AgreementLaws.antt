@@ -31,7 +31,7 @@ use Rattle.zone_choice.proofs.ContentLaws.{all-usable, count-fillings, few-write
 use Rattle.drive_array.proofs.MountLaws.{NoTails, untorn_mounts}
 use Rattle.zone_choice.proofs.OpenLaws.{OpensNone, OpensOnly, ShutBeside, all-tells_closed, all-tells_grown, emptied-shut, tells-kept}
 use Rattle.zone_choice.proofs.RolesLaws.{all-filling, all-with, closed-zone, few-fillings, filling-occupied, roles_with, second_list}
-use Rattle.drive_array.proofs.SizeLaws.{append_writes, array_length, next_is_last, told-length}
+use Rattle.drive_array.proofs.SizeLaws.{append_writes, next_is_last, told-length}
 use Rattle.drive_array.proofs.ZoneLogLaws.{append_logs, finish_logs, full-untorn, log_at-zone, readable-not_full, tail-at, zone_log-read}
 use Rattle.drive_array.proofs.RepairingMounts.{emptied-nothing}
 

@@ -1,9 +1,9 @@
 -- What a stop inside the Append of a batch leaves: the logs of before, or those with the batch, on a drive that can be mounted.
-use Rattle.std.proofs.Common.{◌≡◌, ◌≢◌, ℕ, nat_lt, ◌+◌, ◌-◌, ◌<◌, ◌≤◌, ◌^◌, Bool, true, false, cond, eqb, List, ◌++◌, length, take, set, get_or, refl, inl, inr, arith}
+use Rattle.std.proofs.Common.{◌≡◌, ◌≢◌, ℕ, nat_lt, ◌+◌, ◌-◌, ◌<◌, ◌≤◌, ◌^◌, Bool, true, false, List, ◌++◌, length, take, set, get_or, refl, inl, inr, arith}
 use Rattle.std.specs.List.{AllByRecursion}
 use Rattle.std.proofs.lemmas.Bool.{cases_eq}
 use Rattle.std.proofs.lemmas.List.{get_or-set_other, length-set}
-use Rattle.drive_port.specs.Contents.{Appends, Content, SameContents, active, full, content_at, contents, filled, is_usable, nothing}
+use Rattle.drive_port.specs.Contents.{Appends, Content, SameContents, content_at, contents, filled, is_usable, nothing}
 use Rattle.drive_port.specs.Drive.{DriveState, IsLawful}
 use Rattle.batch_log.specs.Log.{Batch, IsBatch, batch_blocks, batch_size, zero_block}
 use Rattle.logical_map.specs.Places.{MapView}
