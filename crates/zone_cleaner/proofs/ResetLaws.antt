@@ -18,7 +18,7 @@ use Rattle.drive_array.specs.Mountable.{IsMountable}
 use Rattle.drive_array.specs.Records.{place, shown, without}
 use Rattle.drive_array.specs.Repair.{HasAtMost}
 use Rattle.drive_array.specs.Reserve.{batch_most}
-use Rattle.zone_choice.specs.Roles.{Differ, IsOccupied, RolesView, fillings, is_at, is_filling_at, filling_list}
+use Rattle.zone_choice.specs.Roles.{IsOccupied, RolesView, fillings, is_at, is_filling_at, filling_list}
 use Rattle.drive_array.specs.Sizes.{larger, log_greatest, map_of}
 use Rattle.drive_array.specs.Spare.{IsSpare}
 use Rattle.zone_choice.specs.Tables.{TablesView}

@@ -1,5 +1,5 @@
 -- What the calls of the cleaner promise, whatever they answer.
-use Rattle.std.specs.Prelude.{◌≡◌, ℕ, ◌+◌, ◌*◌, ◌++◌, ◌≤◌, List, [], ◌∷◌, Option, Result, IfErr, OnErr, OnOk}
+use Rattle.std.specs.Prelude.{◌≡◌, ◌+◌, ◌*◌, ◌++◌, ◌≤◌, List, [], ◌∷◌, Option, Result, IfErr, OnErr, OnOk}
 use Rattle.zone_choice.specs.Agreement.{MountedView}
 use Rattle.zone_cleaner.specs.declared.fault.CleanFault.{CleanFault}
 use Rattle.zone_cleaner.specs.Clean.{CleanView, turns_of}
