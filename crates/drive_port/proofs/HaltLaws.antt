@@ -20,6 +20,7 @@ use Rattle.drive_port.proofs.StepLaws.{effect-refused, effect_of, outcome-passes
 abbrev Refusal : Status → Type 0
 Refusal status = (status ≢ Success) × (is_success status ≡ false)
 
+-- a status is Success or a refusal
 pub success_or : (status : Status) → (status ≡ Success) ⊎ Refusal status
 success_or Success = inl refl
 success_or InvalidCommandOpcode = inr (λ e. cc, refl)
@@ -79,6 +80,7 @@ left-front geometry old new start blocks bytes some all left =
 
 -- ---- a command that changes no zone
 
+-- commands that change no zone
 abbrev pub is_query : Command → Bool
 is_query Flush = true
 is_query (Read slba blocks) = true

@@ -18,7 +18,8 @@ use Rattle.drive_port.specs.Calls.{ResetGives, ResetKeeps, ResetLeaves, ResetZon
 -- ---- calls that change a zone
 
 -- An Append of these bytes to the zone that starts there.
-pub record AppendAnswers (old : DriveState) (start : ℕ) (bytes : List ℕ) (result : Result ℕ PortFault) (new : DriveState) : Type 0 where
+pub record AppendAnswers (old : DriveState) (start : ℕ) (bytes : List ℕ) (result : Result ℕ PortFault)
+    (new : DriveState) : Type 0 where
   -- it is one submit of the command
   pub gives : AppendGives old start bytes result new
   -- where it succeeded, the zone has the blocks from this address on
@@ -33,7 +34,8 @@ pub record AppendAnswers (old : DriveState) (start : ℕ) (bytes : List ℕ) (re
   pub obeys : Obeys old result new
 
 -- A Finish of the zone that starts there.
-pub record FinishAnswers {V : Type 0} (old : DriveState) (start : ℕ) (result : Result V PortFault) (new : DriveState) : Type 0 where
+pub record FinishAnswers {V : Type 0} (old : DriveState) (start : ℕ) (result : Result V PortFault)
+    (new : DriveState) : Type 0 where
   pub gives : FinishGives old start result new
   -- where it succeeded, the zone is full
   pub finished : OnOk result (Finished old new start)
@@ -44,7 +46,8 @@ pub record FinishAnswers {V : Type 0} (old : DriveState) (start : ℕ) (result :
   pub obeys : Obeys old result new
 
 -- A Close of the zone that starts there. The contents are the same, whatever it answers.
-pub record CloseAnswers {V : Type 0} (old : DriveState) (start : ℕ) (result : Result V PortFault) (new : DriveState) : Type 0 where
+pub record CloseAnswers {V : Type 0} (old : DriveState) (start : ℕ) (result : Result V PortFault)
+    (new : DriveState) : Type 0 where
   pub gives : CloseGives old start result new
   pub closed : OnOk result (ClosedZone old new start)
   pub kept : SameContents old new
@@ -53,7 +56,8 @@ pub record CloseAnswers {V : Type 0} (old : DriveState) (start : ℕ) (result : 
   pub obeys : Obeys old result new
 
 -- A Reset of the zone that starts there.
-pub record ResetAnswers {V : Type 0} (old : DriveState) (start : ℕ) (result : Result V PortFault) (new : DriveState) : Type 0 where
+pub record ResetAnswers {V : Type 0} (old : DriveState) (start : ℕ) (result : Result V PortFault)
+    (new : DriveState) : Type 0 where
   pub gives : ResetGives old start result new
   -- where it succeeded, the zone is empty
   pub reset : OnOk result (ResetZone old new start)
@@ -66,7 +70,8 @@ pub record ResetAnswers {V : Type 0} (old : DriveState) (start : ℕ) (result : 
 -- ---- calls that only ask: no zone changes, up to closings
 
 -- A Read of that many blocks, whose bytes a buffer holds then; after a fault it is empty.
-pub record ReadAnswers {V : Type 0} (old : DriveState) (address blocks : ℕ) (result : Result V PortFault) (items : List ℕ) (new : DriveState) : Type 0 where
+pub record ReadAnswers {V : Type 0} (old : DriveState) (address blocks : ℕ) (result : Result V PortFault)
+    (items : List ℕ) (new : DriveState) : Type 0 where
   pub gives : ReadGives old address blocks result items new
   pub shown : OnOk result (ReadShows old new address blocks [] items)
   pub err : OnErr result (items ≡ [])
@@ -75,7 +80,8 @@ pub record ReadAnswers {V : Type 0} (old : DriveState) (address blocks : ℕ) (r
   pub obeys : Obeys old result new
 
 -- The same, with the bytes after those that the buffer held; after a fault it holds just these.
-pub record ReadExtends {V : Type 0} (old : DriveState) (address blocks : ℕ) (held : List ℕ) (result : Result V PortFault) (items : List ℕ) (new : DriveState) : Type 0 where
+pub record ReadExtends {V : Type 0} (old : DriveState) (address blocks : ℕ) (held : List ℕ)
+    (result : Result V PortFault) (items : List ℕ) (new : DriveState) : Type 0 where
   pub gives : Adds held (λ returned. ReadGives old address blocks result returned new) items
   pub shown : OnOk result (ReadShows old new address blocks held items)
   pub err : OnErr result (items ≡ held)
@@ -84,7 +90,8 @@ pub record ReadExtends {V : Type 0} (old : DriveState) (address blocks : ℕ) (h
   pub obeys : Obeys old result new
 
 -- A report of the chosen zones from an address on, which a buffer holds then; after a fault it is empty.
-pub record ReportAnswers {V : Type 0} (old : DriveState) (address : ℕ) (options : ReportingOptions) (partial : Bool) (dwords : ℕ) (result : Result V PortFault)
+pub record ReportAnswers {V : Type 0} (old : DriveState) (address : ℕ) (options : ReportingOptions)
+    (partial : Bool) (dwords : ℕ) (result : Result V PortFault)
     (items : List ℕ) (new : DriveState) : Type 0 where
   pub gives : ReportGives old address options partial dwords result items new
   pub shown : OnOk result (Reported old new address options partial dwords items)
@@ -94,7 +101,8 @@ pub record ReportAnswers {V : Type 0} (old : DriveState) (address : ℕ) (option
   pub obeys : Obeys old result new
 
 -- A count of the chosen zones, by a report with room for its head alone.
-pub record CountAnswers (old : DriveState) (options : ReportingOptions) (result : Result ℕ PortFault) (items : List ℕ) (new : DriveState) : Type 0 where
+pub record CountAnswers (old : DriveState) (options : ReportingOptions) (result : Result ℕ PortFault)
+    (items : List ℕ) (new : DriveState) : Type 0 where
   pub gives : ReportGives old 0 options false 16 result items new
   pub counted : IfOk result (λ number. Counted old new options number)
   -- all zones are empty exactly where all of them are chosen as such

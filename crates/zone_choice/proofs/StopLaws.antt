@@ -102,6 +102,7 @@ pub record Left (new : DriveState) (n : ℕ) (logs : List (List Batch)) (array :
   pub encodes : Encodes new n logs array
   pub mountable : HasSpare new.geometry.block n (drive_logs new) → IsMountable new n
 
+-- a torn batch leaves the logs, and the array that they spell
 pub left-torn : (old new : DriveState) (tables : TablesView) (zone j : ℕ) (b : Batch) → Agrees (mounted old tables) → TornBatch old new tables zone j b → Left new tables.given (drive_logs old) (spelled old tables.given)
 unfolding spelled_array
 left-torn old new tables zone j b agrees torn =

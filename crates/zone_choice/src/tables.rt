@@ -8,7 +8,8 @@ ghost use Rattle.logical_map.specs.declared.place.Place.TheVariants as places;
 ghost use Rattle.zone_choice.specs.Roles.{IsLowestEmpty, clean_ended, closed_beside, empty_count, fillings};
 ghost use Rattle.zone_choice.specs.Roles.{is_sealed_at, next_of, open_beside, promoted, sealed, taken};
 ghost use Rattle.zone_choice.specs.Roles.{with_destination, wrote};
-ghost use Rattle.zone_choice.specs.Tables.{AreOfEmptyDrive, AreReserved, GrowsTo, IsLeastSealed, SameButReady, size_of, with_places};
+ghost use Rattle.zone_choice.specs.Tables.{AreOfEmptyDrive, AreReserved, GrowsTo, IsLeastSealed, SameButReady};
+ghost use Rattle.zone_choice.specs.Tables.{size_of, with_places};
 
 use crate::roles::{Filling, Roles, Second};
 use live_index::LiveIndex;

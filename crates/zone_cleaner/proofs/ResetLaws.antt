@@ -134,6 +134,7 @@ few-reset most victim logs fs out all =
     all-both (λ f. AllByRecursion (HasAtMost most) (log_at logs f.zone)) (λ f. f.zone ≢ victim) (λ f. AllByRecursion (HasAtMost most) (log_at (without logs victim) f.zone)) fs
     (λ f few ne. rw (get_or-set_other logs victim f.zone [] [] ne) few) all (away-all victim fs out)
 
+-- a Reset of the victim keeps the array
 pub reset_gives : (old new : DriveState) (tables : TablesView) (c : CleanView) → Agrees (mounted old tables) → IsClean (mounted old tables) c → ResetDue (mounted old tables) c → new.geometry ≡ old.geometry → IsLawful new
     → Resets (contents old.zones) (contents new.zones) c.victim → OpensNone old.zones new.zones → ResetGives old new tables c.victim
 unfolding spelled_array

@@ -9,7 +9,8 @@ use Rattle.zone_cleaner.specs.Start.{CleanDone, CleanLeaves, CleaningLeaves, End
 use Rattle.zone_cleaner.specs.Start.{HasNextZone, KeepsTurns, TurnDone, TurnLeaves}
 
 -- The record of a block is read: one Read was sent at most, and nothing else.
-pub record GatherAnswers (before : MountedView) (gathered : List LiveRecord) (more : LiveRecord) (result : Result (Unit {0}) CleanFault)
+pub record GatherAnswers (before : MountedView) (gathered : List LiveRecord) (more : LiveRecord)
+    (result : Result (Unit {0}) CleanFault)
     (after : MountedView) (now : List LiveRecord) : Type 0 where
   pub reads : OnlyReads before after
   -- it stands after those that were gathered before
@@ -19,7 +20,8 @@ pub record GatherAnswers (before : MountedView) (gathered : List LiveRecord) (mo
   pub err : IfErr result (IsGatherFault after.drive)
 
 -- One turn of cleaning.
-pub record TurnAnswers (before : MountedView) (old : Option CleanView) (result : Result (Unit {0}) CleanFault) (after : MountedView) (new : Option CleanView) : Type 0 where
+pub record TurnAnswers (before : MountedView) (old : Option CleanView) (result : Result (Unit {0}) CleanFault)
+    (after : MountedView) (new : Option CleanView) : Type 0 where
   -- it is exactly this step
   pub leaves : TurnLeaves before old result after new
   -- the clean goes on, and the array is kept; each fault has its cause
@@ -30,7 +32,8 @@ pub record TurnAnswers (before : MountedView) (old : Option CleanView) (result :
   pub completed : after.drive.completed ≤ before.drive.completed + 2
 
 -- All turns that are left of a clean.
-pub record EndAnswers (before : MountedView) (old : Option CleanView) (result : Result (Unit {0}) CleanFault) (after : MountedView) (new : Option CleanView) : Type 0 where
+pub record EndAnswers (before : MountedView) (old : Option CleanView) (result : Result (Unit {0}) CleanFault)
+    (after : MountedView) (new : Option CleanView) : Type 0 where
   -- it takes turns, and does nothing else
   pub leaves : EndLeaves before old result after new
   pub cleaning : CleaningLeaves before result after new
@@ -38,7 +41,8 @@ pub record EndAnswers (before : MountedView) (old : Option CleanView) (result : 
   pub completed : after.drive.completed ≤ before.drive.completed + 2 * turns_of before old
 
 -- A whole clean, of a disk that lacks zones: the one that runs, or one that is started.
-pub record CleanAnswers (before : MountedView) (old : Option CleanView) (result : Result (Unit {0}) CleanFault) (after : MountedView) (new : Option CleanView) : Type 0 where
+pub record CleanAnswers (before : MountedView) (old : Option CleanView)
+    (result : Result (Unit {0}) CleanFault) (after : MountedView) (new : Option CleanView) : Type 0 where
   -- it takes turns, after the start of a clean where none runs
   pub leaves : CleanLeaves before old result after new
   pub cleaning : CleaningLeaves before result after new
