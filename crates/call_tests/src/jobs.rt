@@ -209,10 +209,12 @@ fn does_its_jobs(rt: HostRuntime) {
 }
 
 const STOPPED_AT_ONCE: &str =
-    "zonedisk fresh --block 512 --zones 4 --size 8 --capacity 6 --transfer 4 --active 2 --open 2 --blocks 9 --stop-after 0";
+    "zonedisk fresh --block 512 --zones 4 --size 8 --capacity 6 --transfer 4 \
+     --active 2 --open 2 --blocks 9 --stop-after 0";
 
 const STOPPED_LATER: &str =
-    "zonedisk fresh --block 512 --zones 4 --size 8 --capacity 6 --transfer 4 --active 2 --open 2 --blocks 9 --stop-after 2";
+    "zonedisk fresh --block 512 --zones 4 --size 8 --capacity 6 --transfer 4 \
+     --active 2 --open 2 --blocks 9 --stop-after 2";
 
 // What standard error says of a fault: with a byte order mark, a carriage return, a tab, and words that are wrong.
 const TOLD: [(&str, &[u8], &str); 13] = [
@@ -436,10 +438,12 @@ const FORMAT_KEPT: &str =
     "zonedisk format --image kept.image --block 512 --zones 4 --size 8 --capacity 6 --transfer 4 --active 2 --open 2";
 
 const FORMAT_MISSING: &str =
-    "zonedisk format --image missing/kept.image --block 512 --zones 4 --size 8 --capacity 6 --transfer 4 --active 2 --open 2";
+    "zonedisk format --image missing/kept.image --block 512 --zones 4 --size 8 --capacity 6 --transfer 4 \
+     --active 2 --open 2";
 
 const FORMAT_FOLDER: &str =
-    "zonedisk format --image kept.image.new --block 512 --zones 4 --size 8 --capacity 6 --transfer 4 --active 2 --open 2";
+    "zonedisk format --image kept.image.new --block 512 --zones 4 --size 8 --capacity 6 --transfer 4 \
+     --active 2 --open 2";
 
 const RUN_KEPT: &str = "zonedisk run --image kept.image --blocks 9";
 
@@ -490,8 +494,8 @@ start 16 state Full pointer - capacity 6
 start 24 state Empty pointer 24 capacity 6
 ";
 
-// The replies come before the fault. The changes are kept after the image, and the next job finds them. Both the fault of
-// a line and the save are told.
+// The replies come before the fault. The changes are kept after the image, and the next job finds them. Both the fault
+// of a line and the save are told.
 #[test]
 fn keeps_the_changes_where_a_save_fails(rt: HostRuntime) -> Result<(), Fail> {
     let alloc = rt.alloc();
@@ -558,7 +562,8 @@ const FORMAT_TEXT: &str =
     "zonedisk format --image text.image --block 512 --zones 4 --size 8 --capacity 6 --transfer 4 --active 2 --open 2";
 
 const FORCE_TEXT: &str =
-    "zonedisk format --force --image text.image --block 512 --zones 4 --size 8 --capacity 6 --transfer 4 --active 2 --open 2";
+    "zonedisk format --force --image text.image --block 512 --zones 4 --size 8 --capacity 6 --transfer 4 \
+     --active 2 --open 2";
 
 // A file that is no image is replaced only by force, and one that is locked not at all.
 #[test]
