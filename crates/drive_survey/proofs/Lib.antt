@@ -4,6 +4,7 @@ pub mod TakeLaws
 pub mod ZeroLaws
 pub mod NextLaws
 pub mod ScanLaws
+pub mod CountLaws
 pub mod AllScanLaws
 pub mod ReportLaws
 pub mod SoundLaws

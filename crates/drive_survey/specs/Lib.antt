@@ -1,6 +1,7 @@
 pub mod Reported
 pub mod Heads
 pub mod Scan
+pub mod Reads
 pub mod Survey
 pub mod Known
 pub mod KeptRecords
