@@ -27,7 +27,7 @@ use Rattle.remount.specs.declared.repair.Repair.{Repair}
 use Rattle.drive_survey.specs.declared.survey.Survey.{Survey}
 use Rattle.remount.specs.declared.plan.Plan.{Plan}
 use Rattle.drive_survey.specs.Heads.{greatest_sequence}
-use Rattle.remount.specs.Kept.{AreVacantEmpty}
+use Rattle.remount.specs.Kept.{AreVacantEmpty, IsNotedOpen}
 use Rattle.drive_survey.specs.Known.{HasVacant, Knows}
 use Rattle.remount.specs.Resets.{CanBeFilled, KeepsWritten, OpensNoZone, finished_if_active, reported_empty}
 use Rattle.remount.specs.TornRepair.{RepairsBeside, RepairsTorn}
@@ -166,6 +166,16 @@ pub record FinishesByNeed (old : DriveState) (resets : List ℕ) (new : DriveSta
   pub moves : (zone : ℕ) → TookMoves old resets new zone → (content_at (contents new.zones) zone).usage ≡ full → new.geometry.capacity < length (content_at (contents new.zones) zone).blocks + 2
   pub opens : (zone : ℕ) → IsShut old.zones zone → IsShut new.zones zone ⊎ TookMoves old resets new zone
 
+-- each zone that is noted as open was noted so before, or took the Moves of a repair
+abbrev pub NotesOpenByNeed : DriveState → List ℕ → DriveState → List ReportedZone → List ReportedZone → Type 0
+NotesOpenByNeed old resets new before after =
+    (zone : ℕ) → IsNotedOpen after zone → IsNotedOpen before zone ⊎ TookMoves old resets new zone
+
+-- a zone that may be open was open before the mount, or took the Moves of a repair
+abbrev pub WasOpenOrTook : DriveState → List ℕ → DriveState → Filling → Type 0
+WasOpenOrTook old resets new filling =
+    filling.may_open ≡ true → (IsShut old.zones filling.zone → ⊥) ⊎ TookMoves old resets new filling.zone
+
 -- What a mount leaves of a drive: its half clean zones were emptied, the lowest first, and then a torn zone was repaired; no zone was finished or opened without need.
 pub record LeavesMounted (old new : DriveState) (n : ℕ) : Type 0 where
   pub resets : List ℕ
@@ -178,6 +188,7 @@ pub record Mounts (old new : DriveState) (n : ℕ) (tables : TablesView) : Type 
   pub can : IsToMount old n
   pub leaves : LeavesMounted old new n
   pub agrees : Agrees (mounted new tables)
+  pub may_open : AllByRecursion (WasOpenOrTook old leaves.resets new) (fillings tables.roles)
   pub roles : AreMountedRoles new.geometry.capacity (contents new.zones) tables.roles
   pub given : tables.given ≡ n
   pub array : spelled new n ≡ spelled old n
