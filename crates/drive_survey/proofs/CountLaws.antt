@@ -6,21 +6,19 @@ use Rattle.std.specs.Ordering.{nat_cmp}
 use Rattle.std.specs.List.{sum_by}
 use Rattle.std.proofs.lemmas.Bool.{cases_eq, ne_eqb}
 use Rattle.std.proofs.lemmas.List.{length-append, length-map}
-use Rattle.std.proofs.lemmas.List.Sums.{sum_by-cons, sum_by-take-le, sum_by_more, sum_by_more_le, sum_by_push}
+use Rattle.std.proofs.lemmas.List.Sums.{sum_by-cons, sum_by-take-le, sum_by_more, sum_by_push}
 use Rattle.std.proofs.Math.Nat.{add-mul}
 use Rattle.zone_states.specs.declared.geometry.Geometry.{Geometry}
 use Rattle.batch_log.specs.Header.{Heading}
-use Rattle.batch_log.specs.Log.{data_count}
 use Rattle.drive_port.specs.Contents.{Content, content_at, content_of, contents}
 use Rattle.drive_port.specs.Drive.{DriveState}
 use Rattle.drive_array.specs.ZoneLogs.{readable}
 use Rattle.drive_survey.specs.declared.fault.MountFault.{MountFault}
-use Rattle.drive_survey.specs.declared.heads.Head.{Head}
 use Rattle.drive_survey.specs.declared.reported.ReportedZone.{ReportedZone}
 use Rattle.drive_survey.specs.declared.scan.ScannedZone.{ScannedZone}
 use Rattle.drive_survey.specs.Clearing.{entries_at, without_heads}
 use Rattle.drive_survey.specs.Heads.{HeadsView, no_heads, with_heading}
-use Rattle.drive_survey.specs.Reads.{ReadsNext, ReadsZones, batches_kept, blocks_reported, blocks_taken, entries_kept, readable_count}
+use Rattle.drive_survey.specs.Reads.{ReadsNext, ReadsZones, blocks_reported, entries_kept, readable_count}
 use Rattle.drive_survey.specs.Reported.{KeepsZones}
 use Rattle.drive_survey.specs.Scan.{AreKnown, MeetsHeader, heads_in}
 use Rattle.drive_survey.proofs.FindLaws.{not-above}

@@ -12,8 +12,10 @@ pub mod HeadLaws
 pub mod SequenceLaws
 pub mod SurveyLaws
 pub mod RecordTableLaws
+pub mod NewestRecordLaws
 pub mod RecordHoldLaws
 pub mod RecordKeyLaws
+pub mod NewestListLaws
 pub mod RecordMapLaws
 pub mod RecordKnownLaws
 pub mod RecordNewestLaws

@@ -5,6 +5,7 @@ pub mod Reads
 pub mod Survey
 pub mod Known
 pub mod KeptRecords
+pub mod NewestRecords
 pub mod BlockRecords
 pub mod SizeCounts
 pub mod Clearing

@@ -1,4 +1,5 @@
-ghost use Rattle.std.specs.Prelude.{◌≡◌, ◌≢◌, ◌+◌, ◌*◌, ◌<◌, ◌≤◌, ◌^◌, ℕ, List, Some, false, length, slice_get, IfErr, IfOk, IfSome, IsSome, OnOk};
+ghost use Rattle.std.specs.Prelude.{◌≡◌, ◌≢◌, ◌+◌, ◌*◌, ◌<◌, ◌≤◌, ◌^◌, ℕ, List, Some, false, length, slice_get};
+ghost use Rattle.std.specs.Prelude.{IfErr, IfOk, IfSome, IsSome, OnOk};
 ghost use Rattle.std.specs.BTreeSet.{IsSubset, contains};
 ghost use Rattle.std.specs.Ordering.{nat_cmp};
 ghost use Rattle.batch_log.specs.Log.{Batch};
@@ -16,10 +17,12 @@ ghost use Rattle.drive_survey.specs.Reads.{SearchesBy, entries_kept};
 ghost use Rattle.drive_survey.specs.Reported.{KeepsZones};
 ghost use Rattle.drive_survey.specs.Scan.{AreKnown, FailsBy, IsInterruption, heads_in, tails_in};
 ghost use Rattle.drive_survey.specs.SizeCounts.{size_counts};
-ghost use Rattle.drive_survey.specs.Waiting.{AllWait, AreCandidates, FindsLowestWaiting, FindsOf, HolderWaits, HoldersWait, LastWaits, LeavesWaiting, OthersWait, TellsFinding};
+ghost use Rattle.drive_survey.specs.Waiting.{AllWait, AreCandidates, FindsLowestWaiting, FindsOf, HolderWaits};
+ghost use Rattle.drive_survey.specs.Waiting.{HoldersWait, LastWaits, LeavesWaiting, OthersWait, TellsFinding};
 
 mod block_records;
 mod moved;
+mod newest;
 mod shown;
 mod sizes;
 

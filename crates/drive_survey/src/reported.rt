@@ -1,6 +1,7 @@
 ghost use Rattle.std.specs.Prelude.{◌≡◌, ◌+◌, ◌<◌, ◌≤◌, ◌^◌, List, length, IfErr, IfOk};
 ghost use Rattle.drive_port.specs.Drive.{IsLawful};
-ghost use Rattle.drive_survey.specs.Reported.{AreReported, DescribesZone, IsReported, KeepsZones, ReportsZones, TellsZones};
+ghost use Rattle.drive_survey.specs.Reported.{AreReported, DescribesZone, IsReported, KeepsZones, ReportsZones};
+ghost use Rattle.drive_survey.specs.Reported.{TellsZones};
 ghost use Rattle.drive_survey.specs.Scan.{IsInterruption, mount_fault};
 ghost use Rattle.zone_choice.specs.Changes.{IsHalt};
 ghost use Rattle.zone_states.specs.Geometry.{IsInRange};

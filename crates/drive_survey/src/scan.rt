@@ -1,4 +1,5 @@
-ghost use Rattle.std.specs.Prelude.{◌≡◌, ◌⊎◌, ◌+◌, ◌-◌, ◌*◌, ◌<◌, ◌≤◌, ◌^◌, ℕ, List, [], length, drop, slice_index_or, None, Some, true, IfErr, IfOk, OnOk};
+ghost use Rattle.std.specs.Prelude.{◌≡◌, ◌⊎◌, ◌+◌, ◌-◌, ◌*◌, ◌<◌, ◌≤◌, ◌^◌, ℕ, List, [], length, drop};
+ghost use Rattle.std.specs.Prelude.{slice_index_or, None, Some, true, IfErr, IfOk, OnOk};
 ghost use Rattle.std.specs.List.{list_all};
 ghost use Rattle.std.specs.Ordering.{nat_cmp};
 ghost use Rattle.std.specs.BTreeSet.{insert_key};
@@ -9,7 +10,9 @@ ghost use Rattle.drive_port.specs.Drive.{IsLawful};
 ghost use Rattle.drive_survey.specs.Reported.{IsKnown, KeepsZones};
 ghost use Rattle.drive_survey.specs.Reads.{ReadsNext, ReadsZone, ReadsZones, blocks_reported};
 ghost use Rattle.drive_survey.specs.Heads.{no_heads, with_heading};
-ghost use Rattle.drive_survey.specs.Scan.{AreKnown, EndsZone, FailsBy, FailsFirst, FailsIn, IsInterruption, MeetsHeader, Scans, ScansAll, Takes, TakesNext, block_of, readable_at, ending_fault, heading_fault};
+ghost use Rattle.drive_survey.specs.Scan.{AreKnown, EndsZone, FailsBy, FailsFirst, FailsIn, IsInterruption};
+ghost use Rattle.drive_survey.specs.Scan.{MeetsHeader, Scans, ScansAll, Takes, TakesNext, block_of, readable_at};
+ghost use Rattle.drive_survey.specs.Scan.{ending_fault, heading_fault};
 ghost use Rattle.batch_log.specs.Ending.{Ending};
 ghost use Rattle.batch_log.specs.Log.{IsTail, data_count};
 ghost use Rattle.drive_array.specs.ZoneLogs.{readable};

@@ -1,10 +1,12 @@
-ghost use Rattle.std.specs.Prelude.{◌≡◌, ◌+◌, ◌≤◌, ◌<◌, ◌^◌, ◌↔◌, ℕ, count_by, length, IfErr, IfNone, IfOk, IfSome, IsTrue};
+ghost use Rattle.std.specs.Prelude.{◌≡◌, ◌+◌, ◌≤◌, ◌<◌, ◌^◌, ◌↔◌, ℕ, count_by, length, IfErr, IfNone, IfOk, IfSome};
+ghost use Rattle.std.specs.Prelude.{IsTrue};
 ghost use Rattle.drive_port.specs.Contents.{is_usable, usage_of};
 ghost use Rattle.drive_survey.specs.Heads.{HeadsView};
 ghost use Rattle.drive_survey.specs.Reads.{ReadsOnce, readable_count};
 ghost use Rattle.drive_survey.specs.Reported.{KeepsZones};
 ghost use Rattle.drive_survey.specs.Scan.{AreKnown, FailsBy, heads_in};
-ghost use Rattle.drive_survey.specs.Survey.{AreBelow, AreReportedUsable, CanScan, IsLowestReported, MayAsk, SurveyFails};
+ghost use Rattle.drive_survey.specs.Survey.{AreBelow, AreReportedUsable, CanScan, IsLowestReported, MayAsk};
+ghost use Rattle.drive_survey.specs.Survey.{SurveyFails};
 ghost use Rattle.drive_survey.specs.Survey.{Surveys, TellsShut, greatest_in, is_partly_reported};
 ghost use Rattle.drive_array.specs.Sizes.{size_or};
 

@@ -1,4 +1,5 @@
-ghost use Rattle.std.specs.Prelude.{◌≡◌, ◌≢◌, ◌<◌, ◌^◌, List, length, map, slice_index_or, IfErr, IfOk, IsFalse, IsTrue, OnOk};
+ghost use Rattle.std.specs.Prelude.{◌≡◌, ◌≢◌, ◌<◌, ◌^◌, List, length, map, slice_index_or, IfErr, IfOk, IsFalse};
+ghost use Rattle.std.specs.Prelude.{IsTrue, OnOk};
 ghost use Rattle.batch_log.specs.Log.{Batch};
 ghost use Rattle.nvme_wire.specs.declared.zone_state.ZoneState.TheVariants.{Empty};
 ghost use Rattle.drive_survey.specs.Heads.{heads_of, no_heads};

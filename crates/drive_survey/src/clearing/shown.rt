@@ -1,4 +1,5 @@
-ghost use Rattle.std.specs.Prelude.{◌≡◌, ◌+◌, ◌*◌, ◌<◌, ◌≤◌, ℕ, List, Option, length, replicate, IfErr, IfNone, IfOk, IfSome, IsSome, OnOk};
+ghost use Rattle.std.specs.Prelude.{◌≡◌, ◌+◌, ◌*◌, ◌<◌, ◌≤◌, ℕ, List, Option, length, replicate, IfErr, IfNone};
+ghost use Rattle.std.specs.Prelude.{IfOk, IfSome, IsSome, OnOk};
 ghost use Rattle.std.specs.Option.{option_map};
 ghost use Rattle.batch_log.specs.Log.{Batch};
 ghost use Rattle.drive_array.specs.Records.{Record, shown};
