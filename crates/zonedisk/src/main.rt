@@ -21,10 +21,9 @@
 
 use clap::error::ErrorKind;
 pub use command_line::job_of;
-use disk_files::LineReader;
 pub use disk_jobs::{
-    Done, FileFault, Habit, Job, ProgramFault, Stop, SystemError, do_job, explain, run_job,
-    write_program_fault,
+    Done, FileFault, Gate, Habit, Job, JobInput, ProgramFault, Stop, SystemError, do_job, explain,
+    run_job, write_program_fault,
 };
 pub use disk_runs::{RunFault, answer_trace, run_raw, run_trace, write_fault};
 use std::alloc::Global;
@@ -98,7 +97,8 @@ fn main(rt: HostRuntime) -> io::Result<ExitCode> {
             return Ok(ExitCode::from(REFUSED));
         }
     };
-    let mut input = LineReader::new(alloc, rt.reader());
+    let gate = Gate::open();
+    let mut input = JobInput::new(alloc, &gate, rt.reader());
     let done = do_job(&rt, alloc, &job, &mut input, &mut output);
     let Some(fault) = done.fault() else {
         return Ok(ExitCode::SUCCESS);
