@@ -4,8 +4,7 @@
 use crate::runs::FINISH;
 use clap::error::ErrorKind;
 use command_line::job_of;
-use disk_files::LineReader;
-use disk_jobs::{Job, do_job, explain, write_program_fault};
+use disk_jobs::{Gate, Job, JobInput, do_job, explain, write_program_fault};
 use std::alloc::{AllocError, Global};
 use std::fs;
 use std::fs::File;
@@ -49,7 +48,8 @@ fn answer<R: Files<File = File> + Abort>(
     lines: &[u8],
 ) -> (Vec<u8>, String) {
     let job = job(rt, alloc, line).ok().expect(rt, "a job");
-    let mut input = LineReader::new(alloc, lines);
+    let gate = Gate::open();
+    let mut input = JobInput::new(alloc, &gate, lines);
     let mut written = Vec::new(alloc);
     let done = do_job(rt, alloc, &job, &mut input, &mut written);
     let mut told = String::new(alloc);
@@ -58,7 +58,9 @@ fn answer<R: Files<File = File> + Abort>(
     }
     for ended in [done.job, done.saved] {
         if let Err(fault) = ended {
-            let text = explain(alloc, &job, fault, input.line(), done.mounting).expect(rt, "memory");
+            let text = explain(alloc, &job, fault, input.line(), done.mounting).expect(
+                rt, "memory",
+            );
             told.push_str(&text).expect(rt, "memory");
             told.push('\n').expect(rt, "memory");
         }
@@ -222,12 +224,12 @@ const TOLD: [(&str, &[u8], &str); 13] = [
     (
         STOPPED_AT_ONCE,
         b"read 0 1\n",
-        "before the first line: the drive has stopped",
+        "before the first line: the drive has stopped, after 0 commands, of which the mount took 0",
     ),
     (
         STOPPED_LATER,
         b"fill 0 1 aa\nfill 0 1 bb\n",
-        "at the line `fill 0 1 bb`: the drive has stopped",
+        "at the line `fill 0 1 bb`: the drive has stopped, after 2 commands, of which the mount took 1",
     ),
     (
         "zonedisk report --image missing.image",

@@ -1,4 +1,5 @@
 use crate::fault::ProgramFault;
+use crate::input::JobInput;
 use crate::job::Job;
 use crate::lines::Left;
 use crate::program::run_job;
@@ -146,16 +147,17 @@ fn run_with_changes<F: Files<File = File>, R: Read + Drop, W: Write>(
     saving: &Saving<'_, F>,
     job: &Job,
     image: ImageFile,
-    input: &mut LineReader<R>,
+    input: &mut JobInput<'_, R>,
     output: &mut W,
 ) -> Done {
     let bytes = match reader_of(saving.alloc, &image.file) {
         Ok(bytes) => bytes,
         Err(error) => return Done::unsaved(Err(told(FileFault::Open(SystemError::from(error))))),
     };
-    let file = ChangesFile::new(saving, image);
-    let (left, ran) = run_over(saving, job, bytes, &file, input, output);
-    let sent = first_told(ran, file.write_out().err());
+    let file = ChangesFile::with_gate(saving, image, input.gate);
+    let (left, ran) = run_over(saving, job, bytes, &file, &mut input.lines, output);
+    let _ = file.write_out();
+    let sent = first_told(ran, file.fault());
     let mounting = mounting(&left);
     let drive = drive_to_save(job, sent, file.stays(), left);
     Done {
@@ -184,10 +186,10 @@ fn save_fresh<F: Files<File = File>>(
 fn format<F: Files<File = File>, R: Read + Drop, W: Write>(
     saving: &Saving<'_, F>,
     job: &Job,
-    input: &mut LineReader<R>,
+    input: &mut JobInput<'_, R>,
     output: &mut W,
 ) -> Done {
-    let (left, sent) = run_without_file(saving.alloc, job, input, output);
+    let (left, sent) = run_without_file(saving.alloc, job, &mut input.lines, output);
     let drive = drive_to_save(job, sent, false, left);
     let (Job::Format { image, force, .. }, Some(drive)) = (job, &drive) else {
         return Done::unsaved(sent);
@@ -207,11 +209,11 @@ pub fn do_job<F: Files<File = File>, R: Read + Drop, W: Write>(
     files: &F,
     alloc: Global,
     job: &Job,
-    input: &mut LineReader<R>,
+    input: &mut JobInput<'_, R>,
     output: &mut W,
 ) -> Done {
     let Some(path) = job.image() else {
-        let (left, sent) = run_without_file(alloc, job, input, output);
+        let (left, sent) = run_without_file(alloc, job, &mut input.lines, output);
         return Done {
             job: sent,
             saved: Ok(()),

@@ -185,10 +185,11 @@ pub(crate) fn answer_kept<S: Store<Drive> + Drop, R: Read + Drop, W: Write>(
 {
     let (device, mounting, ran) = run_lines(alloc, job, device, input, output);
     let (drive, store) = device.into_parts();
+    let failed = store.has_failed();
     let shown = show_after(alloc, job, &drive, ran, output);
     let left = Left {
         drive,
-        failed: store.has_failed(),
+        failed,
         mounting,
     };
     (left, store, shown)

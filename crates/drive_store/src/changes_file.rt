@@ -4,6 +4,7 @@ use crate::changes_store::ChangesStore;
 use crate::file_fault::{FileFault, SystemError};
 use crate::gathered_file::GatheredFile;
 use crate::image_file::ImageFile;
+use crate::input_gate::Gate;
 use crate::new_file::Saving;
 use std::cell::RefCell;
 use std::fs::File;
@@ -15,8 +16,8 @@ use zone_drive::Drive;
 /// The file of a drive, open and locked, to which changes are appended. Until the first one it is as it was.
 ///
 /// Changes are gathered, and written together: by [`write_out`](ChangesFile::write_out) at the latest, and before more
-/// than 256 KiB of them are held. After a fault the file stays as it is: it has a front of the changes, with all that
-/// were written out, and each call that needs more of it is refused by that fault.
+/// than 256 KiB of them are held. After a fault the file takes no more of them. It has the first ones, in order, with all
+/// that were written out; and what needs others is refused by that fault.
 ///
 /// The file is written anew as the image of the drive when it is more than 1 MiB longer than twice that image. So it is
 /// never longer than that and 1 MiB more, unless it cannot be written anew.
@@ -35,6 +36,16 @@ impl<'a, F: Files<File = File>> ChangesFile<'a, F> {
     pub fn new(saving: &'a Saving<'a, F>, image: ImageFile) -> Self {
         ChangesFile {
             file: RefCell::new(GatheredFile::new(saving, image)),
+        }
+    }
+
+    /// The same, and a gate is shut at the first fault of the file, so that the input that goes through it is read no
+    /// further.
+    pub fn with_gate(saving: &'a Saving<'a, F>, image: ImageFile, gate: &'a Gate) -> Self {
+        let mut file = GatheredFile::new(saving, image);
+        file.set_gate(gate);
+        ChangesFile {
+            file: RefCell::new(file),
         }
     }
 
@@ -73,7 +84,7 @@ impl<'a, F: Files<File = File>> ChangesFile<'a, F> {
         self.is_unchanged() || matches!(self.fault(), Some(FileFault::Change(_)))
     }
 
-    /// The first fault of the file.
+    /// Why the file takes no more changes, or why those that it has may not be on the disk.
     pub fn fault(&self) -> Option<FileFault> {
         match self.file.try_borrow() {
             Ok(file) => file.fault(),

@@ -2,6 +2,7 @@
 
 use crate::file_fault::{FileFault, SystemError};
 use crate::image_file::ImageFile;
+use crate::input_gate::Gate;
 use crate::new_file::{Saving, replace, sync_name};
 use std::fs::File;
 use std::io;
@@ -38,8 +39,12 @@ pub struct GatheredFile<'a, F: Files<File = File>> {
     is_synced: bool,
     /// Whether the name of the file is on the disk, as far as this program knows.
     is_name_synced: bool,
-    /// The first fault. After it the file stays as it is.
-    fault: Option<FileFault>,
+    /// Why it takes no more changes.
+    change_fault: Option<FileFault>,
+    /// Why what it has may not be on the disk. The system tells of lost bytes only once.
+    sync_fault: Option<FileFault>,
+    /// It is shut at the first fault.
+    gate: Option<&'a Gate>,
 }
 
 /// How long a file may be before the blocks of its drive are counted again, by how long its image was.
@@ -74,8 +79,15 @@ impl<'a, F: Files<File = File>> GatheredFile<'a, F> {
             is_at_end: false,
             is_synced: false,
             is_name_synced: false,
-            fault: None,
+            change_fault: None,
+            sync_fault: None,
+            gate: None,
         }
+    }
+
+    /// Shuts this gate at the first fault.
+    pub fn set_gate(&mut self, gate: &'a Gate) {
+        self.gate = Some(gate);
     }
 
     /// Whether no change was appended.
@@ -83,9 +95,9 @@ impl<'a, F: Files<File = File>> GatheredFile<'a, F> {
         !self.is_changed
     }
 
-    /// The first fault.
+    /// Why it takes no more changes, or why what it has may not be on the disk.
     pub fn fault(&self) -> Option<FileFault> {
-        self.fault
+        self.change_fault.or(self.sync_fault)
     }
 
     /// The file, as it is now.
@@ -98,10 +110,11 @@ impl<'a, F: Files<File = File>> GatheredFile<'a, F> {
         self.whole = whole;
     }
 
-    // Keeps a fault.
-    fn noting(&mut self, done: Result<(), FileFault>) -> Result<(), FileFault> {
-        self.fault = done.err();
-        done
+    // Shuts the gate if there is a fault.
+    fn note(&self) {
+        if let (Some(_), Some(gate)) = (self.fault(), self.gate) {
+            gate.shut();
+        }
     }
 
     // Cuts off what is not whole, and goes to the end of what is.
@@ -116,9 +129,6 @@ impl<'a, F: Files<File = File>> GatheredFile<'a, F> {
 
     // Makes ready for bytes to be written to the file.
     fn begin(&mut self) -> Result<(), SystemError> {
-        if let Some(error) = self.image.read_only {
-            return Err(error);
-        }
         if !self.is_at_end {
             self.go_to_end()?;
         }
@@ -145,6 +155,9 @@ impl<'a, F: Files<File = File>> GatheredFile<'a, F> {
     }
 
     fn take(&mut self, change: &[u8]) -> Result<(), SystemError> {
+        if let Some(error) = self.image.read_only {
+            return Err(error);
+        }
         if change.len() > MOST_GATHERED.saturating_sub(self.gathered.len()) {
             self.write_gathered()?;
         }
@@ -160,21 +173,28 @@ impl<'a, F: Files<File = File>> GatheredFile<'a, F> {
 
     /// Appends a change. It may be gathered.
     pub fn append(&mut self, change: &[u8]) -> Result<(), FileFault> {
-        if let Some(fault) = self.fault {
+        if let Some(fault) = self.fault() {
             return Err(fault);
         }
         self.is_changed = true;
         let taken = self.take(change).map_err(FileFault::Change);
-        self.noting(taken)
+        self.change_fault = taken.err();
+        self.note();
+        taken
     }
 
-    /// Writes all changes that are gathered to the file.
+    /// Writes all changes that are gathered to the file. If none is, nothing fails, also after a change was refused.
     pub fn write_out(&mut self) -> Result<(), FileFault> {
-        if let Some(fault) = self.fault {
+        if self.gathered.is_empty() {
+            return Ok(());
+        }
+        if let Some(fault) = self.change_fault {
             return Err(fault);
         }
         let written = self.write_gathered().map_err(FileFault::Change);
-        self.noting(written)
+        self.change_fault = written.err();
+        self.note();
+        written
     }
 
     // Brings all that was written to the disk, and the name of the file.
@@ -193,38 +213,41 @@ impl<'a, F: Files<File = File>> GatheredFile<'a, F> {
     /// Writes all changes that are gathered to the file, and brings it to the disk.
     pub fn sync(&mut self) -> Result<(), FileFault> {
         self.write_out()?;
+        if let Some(fault) = self.sync_fault {
+            return Err(fault);
+        }
         let synced = self.bring_to_disk();
-        self.noting(synced)
+        self.sync_fault = synced.err();
+        self.note();
+        synced
     }
 
     /// Writes the file anew, if it is too long.
     pub fn renew(&mut self, drive: &Drive) {
         let length = self.whole.saturating_add(self.gathered.len() as u64);
-        if length <= self.limit || self.fault.is_some() || self.image.read_only.is_some() {
+        if length <= self.limit || self.fault().is_some() || self.image.read_only.is_some() {
             return;
         }
         let image = image_length(drive);
-        if length > image.saturating_mul(2).saturating_add(ROOM) {
-            self.write_anew(drive);
-        } else {
+        if length <= image.saturating_mul(2).saturating_add(ROOM) {
             self.limit = limit_of(image);
+        } else if self.write_anew(drive).is_err() {
+            // The file may grow twice as long before it is tried again.
+            self.limit = length.saturating_mul(2);
         }
     }
 
     // Writes the image of the drive into a new file, which takes the place of this one. It has the changes that are
-    // gathered. If that fails, the file may grow twice as long before it is tried again.
-    fn write_anew(&mut self, drive: &Drive) {
-        match replace(self.saving, drive, &self.image) {
-            Ok(image) => {
-                self.whole = image.metadata.len();
-                self.limit = limit_of(self.whole);
-                self.image = image;
-                self.gathered.clear();
-                self.is_at_end = false;
-                self.is_synced = false;
-                self.is_name_synced = false;
-            }
-            Err(_) => self.limit = self.limit.saturating_mul(2),
-        }
+    // gathered.
+    fn write_anew(&mut self, drive: &Drive) -> Result<(), FileFault> {
+        let image = replace(self.saving, drive, &self.image)?;
+        self.whole = image.metadata.len();
+        self.limit = limit_of(self.whole);
+        self.image = image;
+        self.gathered.clear();
+        self.is_at_end = false;
+        self.is_synced = false;
+        self.is_name_synced = false;
+        Ok(())
     }
 }

@@ -30,6 +30,7 @@ mod changes_store;
 mod file_fault;
 mod gathered_file;
 mod image_file;
+mod input_gate;
 mod kept_drive;
 mod new_file;
 
@@ -38,5 +39,6 @@ pub use changes_output::{ChangesOutput, SentAfter};
 pub use changes_store::ChangesStore;
 pub use file_fault::{FileFault, SystemError};
 pub use image_file::{ImageFile, open_to_format, open_to_read, open_to_save, reader_of};
+pub use input_gate::{Gate, GatedInput};
 pub use kept_drive::{Begun, DriveFile, keep, restarted_drive, saved_drive};
 pub use new_file::{Saving, save};

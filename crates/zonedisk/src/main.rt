@@ -22,10 +22,9 @@
 
 use clap::error::ErrorKind;
 pub use command_line::{Task, task_of};
-use disk_files::LineReader;
 pub use disk_jobs::{
-    Done, FileFault, Habit, Job, ProgramFault, Stop, SystemError, do_job, explain, run_job,
-    write_program_fault,
+    Done, FileFault, Gate, Habit, Job, JobInput, ProgramFault, Stop, SystemError, do_job, explain,
+    run_job, write_program_fault,
 };
 pub use disk_runs::{RunFault, answer_trace, run_raw, run_trace, write_fault};
 pub use nbd_jobs::{NbdJob, do_nbd_job, serve_drive};
@@ -71,7 +70,8 @@ fn do_lines<R: Eprint + Files<File = fs::File> + Input, W: Write>(
     job: &Job,
     output: &mut W,
 ) -> ExitCode {
-    let mut input = LineReader::new(alloc, rt.reader());
+    let gate = Gate::open();
+    let mut input = JobInput::new(alloc, &gate, rt.reader());
     let done = do_job(rt, alloc, job, &mut input, output);
     let Some(fault) = done.fault() else {
         return ExitCode::SUCCESS;

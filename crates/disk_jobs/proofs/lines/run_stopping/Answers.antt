@@ -24,8 +24,8 @@ returns g c =
       seen = seen;
       gives = rw c.stopping.ensures at gives;
       leaves = rw c.stopping.ensures at leaves;
-      geometry = ap (λ (d : DriveState). d.geometry) c.into_inner.ensures;
-      zones = ap (λ (d : DriveState). d.zones) c.into_inner.ensures;
+      geometry = ap (λ (d : DriveState). d.geometry) c.into_inner-2.ensures;
+      zones = ap (λ (d : DriveState). d.zones) c.into_inner-2.ensures;
     }
 
 -- the drive was not mounted
