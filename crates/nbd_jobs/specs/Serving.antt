@@ -1,6 +1,7 @@
 -- A drive in a file that is served: what its session does, and what it leaves in the file.
 use Rattle.std.specs.Prelude.{◌≡◌, ◌≢◌, ◌||◌, if◌then◌else◌, Bool, ℕ, List, [], ◌∷◌, Option, Some, None, Result, Ok, Err, IfSome}
 use Rattle.std.specs.Io.KnownBytes.{Keeps}
+use Rattle.zone_states.specs.declared.geometry.Geometry.{Geometry}
 use Rattle.drive_port.specs.Drive.{DriveState}
 use Rattle.drive_port.specs.Stop.{Stopping, drive_of}
 use Rattle.drive_array.specs.Reserve.{most_size}
@@ -42,11 +43,17 @@ pub record IsServed (old : DriveState) (blocks : Option ℕ) (disk : DiskView) :
 -- a drive that says no size, or that it has one block, is mounted and given back, since no number was asked for
 pub record SaysNoSize (old : DriveState) (blocks : Option ℕ) (most : ℕ) (back : DriveState) : Type 0 where
   pub none : blocks ≡ None
-  pub most_is : most ≡ most_size old.geometry
+  pub most_is : most ≡ most_size back.geometry
   pub disk : DiskView
   pub mounted : IsMounted old 1 disk
   pub size : disk_size disk ≡ 1
   pub back_is : back ≡ disk.drive
+
+-- the fault of a mount is told as it is, or with the greatest number of blocks that this geometry has room for
+abbrev pub TellsMount : Geometry → MountFault → NbdFault → Type 0
+TellsMount geometry fault (Mount told) = told ≡ fault
+TellsMount geometry fault (Reserve most) = (fault ≡ mounts.Reserve) × (most ≡ most_size geometry)
+TellsMount geometry fault told = ⊥
 
 -- why a drive is not served, and how it is given back
 abbrev pub IsNotServed : DriveState → Option ℕ → NbdFault → DriveState → Type 0
