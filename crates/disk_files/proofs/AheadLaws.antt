@@ -2,7 +2,7 @@
 use Rattle.std.proofs.Common.{◌≡◌, ◌≢◌, ◌==◌, ℕ, ◌+◌, ◌-◌, ◌<◌, ◌≤◌, true, List, [], ◌∷◌, ◌++◌, length, take, drop, get_or, Some, None, Ok, refl, sym, ap, ◌∙◌, arith, append_assoc}
 use Rattle.std.specs.Prelude.{position, slice_range}
 use Rattle.std.proofs.lemmas.Bool.{eqb-true}
-use Rattle.std.proofs.lemmas.List.{drop-drop, drop-take, drop_at, drop_more, get_or-take, length-drop, length-take, take-append-drop, take-append-le, take-take, take_min, drop_min}
+use Rattle.std.proofs.lemmas.List.{drop-drop, drop-take, drop_more, get_or-take, length-drop, length-take, take-append-drop, take-take, take_min, drop_min}
 use Rattle.std.proofs.Math.Seq.{take-add}
 use Rattle.std.proofs.lemmas.List.Quantifiers.{position-Some}
 use Rattle.disk_files.specs.Ahead.{ReadsPart}

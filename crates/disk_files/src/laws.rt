@@ -1,13 +1,12 @@
 //! What holds of all lines and blocks. Each function carries one law as its contract, and does nothing.
 
-ghost use Rattle.std.specs.Prelude.{◌≡◌, ℕ, ◌*◌, ◌<◌, ◌≤◌, ◌^◌, List, [], ◌∷◌, ◌++◌, Some, codes, decimal, length};
+ghost use Rattle.std.specs.Prelude.{◌≡◌, ℕ, ◌*◌, List, ◌∷◌, ◌++◌, Some, length};
 ghost use Rattle.std.specs.List.{AllByRecursion, concat};
-ghost use Rattle.hex.specs.Hex.{IsBytes, encode_lower};
+ghost use Rattle.hex.specs.Hex.{IsBytes};
 ghost use Rattle.disk_files.specs.Line.{NoFeed, after_line, feed, first_line};
 ghost use Rattle.disk_files.specs.RawLine.{raw_answer, raw_line, raw_reply_text, raw_text};
 ghost use Rattle.disk_files.specs.Reply.{as_blocks};
-ghost use Rattle.disk_files.specs.TraceLine.{trace_line};
-ghost use Rattle.disk_files.specs.declared.trace_line.TraceLine.TheVariants as lines;
+ghost use Rattle.disk_files.specs.TraceLaws.{SaysEachCall};
 
 /// A line that is written with its line feed is read again.
 pub fn line_again()
@@ -17,25 +16,7 @@ pub fn line_again()
 
 /// A line of a trace that is written is read again: for each call there is one.
 pub fn trace_line_again()
-    ensures read { (first blocks : ℕ) → first < 2 ^ 64 → blocks < 2 ^ 64 →
-        trace_line (codes "read " ++ decimal first ++ codes " " ++ decimal blocks)
-        ≡ Some (lines.Read first blocks, []) }
-    ensures fill { (first blocks byte : ℕ) → first < 2 ^ 64 → blocks < 2 ^ 64 → byte < 2 ^ 8 →
-        trace_line (codes "fill " ++ decimal first ++ codes " " ++ decimal blocks ++ codes " "
-        ++ encode_lower (byte ∷ []))
-        ≡ Some (lines.Fill first blocks byte, []) }
-    ensures write { (first : ℕ) (bytes : List ℕ) → first < 2 ^ 64 → IsBytes bytes
-        → 1 ≤ length bytes →
-        trace_line (codes "write " ++ decimal first ++ codes " " ++ encode_lower bytes)
-        ≡ Some (lines.Write first, bytes) }
-    ensures trim { (first blocks : ℕ) → first < 2 ^ 64 → blocks < 2 ^ 64 →
-        trace_line (codes "trim " ++ decimal first ++ codes " " ++ decimal blocks)
-        ≡ Some (lines.Trim first blocks, []) }
-    ensures idle { (turns : ℕ) → turns < 2 ^ 32 →
-        trace_line (codes "idle " ++ decimal turns) ≡ Some (lines.Idle turns, []) }
-    ensures grow { (blocks : ℕ) → blocks < 2 ^ 64 →
-        trace_line (codes "grow " ++ decimal blocks) ≡ Some (lines.Grow blocks, []) }
-    ensures remount { trace_line (codes "remount") ≡ Some (lines.Remount, []) }
+    ensures { SaysEachCall }
 {}
 
 /// A raw line with and without data is read again, and so is a reply to one.

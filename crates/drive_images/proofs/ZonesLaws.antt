@@ -1,5 +1,5 @@
 -- The zones of an image, one after the other.
-use Rattle.std.proofs.Common.{◌≡◌, ℕ, ◌+◌, ◌<◌, Bool, true, false, ◌||◌, List, [], ◌∷◌, ◌++◌, length, Option, refl, sym, subst, ap, ◌∙◌, arith}
+use Rattle.std.proofs.Common.{◌≡◌, ℕ, ◌+◌, ◌<◌, Bool, false, List, [], ◌∷◌, ◌++◌, length, Option, refl, sym, subst, ap, ◌∙◌, arith}
 use Rattle.std.specs.Prelude.{IfSome, nat_lt}
 use Rattle.std.specs.List.{AllByRecursion, count_by}
 use Rattle.std.proofs.KnownBytes.{Consumes-nil, Consumes-trans}

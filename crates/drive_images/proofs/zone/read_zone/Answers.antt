@@ -1,10 +1,8 @@
-use Rattle.std.proofs.Common.{◌≡◌, ◌≤◌, ◌*◌, ◌++◌, refl, sym, inl, inr, rules, arith}
+use Rattle.std.proofs.Common.{◌≡◌, ◌*◌, ◌++◌, refl, sym, rules}
 use Rattle.std.specs.Prelude.{length}
 use Rattle.std.specs.Io.KnownBytes.{Consumes}
 use Rattle.drive_images.specs.Image.{zone_head_bytes}
 use Rattle.std.proofs.KnownBytes.{Consumes-trans}
-use Rattle.zone_states.specs.declared.geometry.Geometry.{Geometry}
-use Rattle.zone_states.specs.Geometry.{IsInRange}
 use Rattle.drive_images.specs.Reading.{TellsFirst, zone_fault}
 use Rattle.drive_images.specs.declared.fault.ImageFault.TheVariants.{Limits, Written}
 use Rattle.drive_images.proofs.TellingLaws.{after_any, after_front, if_fault}
