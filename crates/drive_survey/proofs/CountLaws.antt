@@ -18,7 +18,7 @@ use Rattle.drive_survey.specs.declared.reported.ReportedZone.{ReportedZone}
 use Rattle.drive_survey.specs.declared.scan.ScannedZone.{ScannedZone}
 use Rattle.drive_survey.specs.Clearing.{entries_at, without_heads}
 use Rattle.drive_survey.specs.Heads.{HeadsView, no_heads, with_heading}
-use Rattle.drive_survey.specs.Reads.{ReadsNext, ReadsZones, blocks_reported, entries_kept, readable_count}
+use Rattle.drive_survey.specs.Reads.{ReadsNext, ReadsOfZones, blocks_reported, entries_kept, readable_count}
 use Rattle.drive_survey.specs.Reported.{KeepsZones}
 use Rattle.drive_survey.specs.Scan.{AreKnown, MeetsHeader, heads_in}
 use Rattle.drive_survey.proofs.FindLaws.{not-above}
@@ -53,8 +53,8 @@ reads-next reported old new (Some t) first before after far reads never = absurd
 -- ---- all zones
 
 pub reads-more : (first now last : DriveState) (zones : List ReportedZone) (zone : ℕ) (d : ReportedZone) (scanned more : List ScannedZone) (one : ScannedZone) → zone < length zones → more ≡ scanned ++ one ∷ []
-    → ReadsZones (take zone zones) scanned first now → last.completed + one.heads.blocks ≤ now.completed + length one.heads.heads + (get_or zones zone d).blocks
-    → ReadsZones (take (zone + 1) zones) more first last
+    → ReadsOfZones (take zone zones) scanned first now → last.completed + one.heads.blocks ≤ now.completed + length one.heads.heads + (get_or zones zone d).blocks
+    → ReadsOfZones (take (zone + 1) zones) more first last
 reads-more first now last zones zone d scanned more one lt pushed reads here =
     let blocks = sum_by_more (λ (z : ReportedZone). z.blocks) zones zone d lt in
     let taken = sum_by_push (λ (z : ScannedZone). z.heads.blocks) scanned one in

@@ -41,12 +41,12 @@ ReadsNext zone old (Ok (Some is_torn)) new before after =
 ReadsNext zone old (Err fault) new before after = after.completed + old.blocks ≤ before.completed + zone.blocks
 
 -- of a zone: one Read for each batch, and at most one for each block after the last batch
-abbrev pub ReadsZone : ReportedZone → HeadsView → DriveState → DriveState → Type 0
-ReadsZone zone heads old new = new.completed + heads.blocks ≤ old.completed + length heads.heads + zone.blocks
+abbrev pub ReadsOfZone : ReportedZone → HeadsView → DriveState → DriveState → Type 0
+ReadsOfZone zone heads old new = new.completed + heads.blocks ≤ old.completed + length heads.heads + zone.blocks
 
 -- and so of these zones
-abbrev pub ReadsZones : List ReportedZone → List ScannedZone → DriveState → DriveState → Type 0
-ReadsZones zones scanned old new =
+abbrev pub ReadsOfZones : List ReportedZone → List ScannedZone → DriveState → DriveState → Type 0
+ReadsOfZones zones scanned old new =
     new.completed + blocks_taken scanned ≤ old.completed + batches_kept scanned + blocks_reported zones
 
 -- A survey: one report; one Read for each batch, and at most one for each block after the last batch of its zone.

@@ -71,7 +71,8 @@ fn examine_by<D: Device>(
 ) -> Result<Finding, MountFault>
     requires zones { AreKnown (D.drive device.old) survey.now.zones.items }
     requires sizes { candidates.now.sizes ≡ size_counts survey.now.size (heads_in survey.now.scanned.items) }
-    ensures ok { IfOk result (TellsFinding (D.drive device.old) survey.now.given survey.now candidates.now.records zone) }
+    ensures ok { IfOk result (TellsFinding (D.drive device.old) survey.now.given survey.now
+        candidates.now.records zone) }
     ensures err { IfErr result (IsInterruption (D.drive device.new)) }
     ensures kept { KeepsZones (D.drive device.old) (D.drive device.new) }
     ensures completed { (D.drive device.new).completed

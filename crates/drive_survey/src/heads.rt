@@ -45,7 +45,16 @@ impl Model for ZoneHeads {
 
     ghost Value = { HeadsView };
 
-    ghost view = { λ h. record { heads = h.heads.items; entries = h.entries.items; blocks = h.blocks; source = h.source; are_moves = h.are_moves; size = h.size; most = h.most; highest = h.highest } };
+    ghost view = { λ h. record {
+      heads = h.heads.items;
+      entries = h.entries.items;
+      blocks = h.blocks;
+      source = h.source;
+      are_moves = h.are_moves;
+      size = h.size;
+      most = h.most;
+      highest = h.highest;
+    } };
 }
 
 fn kept_block(block: u64) -> u32

@@ -8,7 +8,7 @@ ghost use Rattle.batch_log.specs.Header.{IsNoHeader};
 ghost use Rattle.drive_port.specs.Contents.{content_at, contents, is_full, is_usable, usage_of};
 ghost use Rattle.drive_port.specs.Drive.{IsLawful};
 ghost use Rattle.drive_survey.specs.Reported.{IsKnown, KeepsZones};
-ghost use Rattle.drive_survey.specs.Reads.{ReadsNext, ReadsZone, ReadsZones, blocks_reported};
+ghost use Rattle.drive_survey.specs.Reads.{ReadsNext, ReadsOfZone, ReadsOfZones, blocks_reported};
 ghost use Rattle.drive_survey.specs.Heads.{no_heads, with_heading};
 ghost use Rattle.drive_survey.specs.Scan.{AreKnown, EndsZone, FailsBy, FailsFirst, FailsIn, IsInterruption};
 ghost use Rattle.drive_survey.specs.Scan.{MeetsHeader, Scans, ScansAll, Takes, TakesNext, block_of, readable_at};
@@ -113,10 +113,10 @@ fn end_at<D: Device>(
 ) -> Result<(), MountFault>
     requires zone { IsKnown (D.drive device.old) zone.number zone.reported }
     requires in_range { offset < zone.reported.blocks }
-    requires block { block.old.items ≡ block_of (D.drive device.old) zone.number offset }
+    requires block { (block.old.items ≡ block_of (D.drive device.old) zone.number offset)
+        × (length block.old.items ≡ (D.drive device.old).geometry.block) }
     requires cause { header_fault block.old.items ≡ Some cause }
     requires none { IsNoHeader block.old.items }
-    requires long { length block.old.items ≡ (D.drive device.old).geometry.block }
     ensures ok { OnOk result ((is_full (usage_of zone.reported.state) ≡ true)
         × IsTail (D.drive device.old).geometry.block
         (is_full (content_at (contents (D.drive device.old).zones) zone.number).usage)
@@ -201,10 +201,16 @@ fn next_head<D: Device>(
     requires in_range { heads.old.blocks < zone.reported.blocks }
     requires few { length heads.old.entries ≤ 508 * heads.old.blocks }
     ensures few { OnOk result (length heads.new.entries ≤ 508 * heads.new.blocks) }
-    ensures ok { IfOk result (λ next. (before : List ℕ) → Takes (D.drive device.old).geometry (content_at (contents (D.drive device.old).zones) zone.number) before heads.old seen.old.keys
-        → TakesNext (D.drive device.old).geometry (content_at (contents (D.drive device.old).zones) zone.number) before heads.old next heads.new seen.new.keys) }
-    ensures err { IfErr result (FailsBy (λ fault. (before : List ℕ) → Takes (D.drive device.old).geometry (content_at (contents (D.drive device.old).zones) zone.number) before heads.old seen.old.keys
-        → FailsIn (D.drive device.old).geometry (content_at (contents (D.drive device.old).zones) zone.number) zone.number before fault) (D.drive device.new)) }
+    ensures ok { IfOk result (λ next. (before : List ℕ)
+        → Takes (D.drive device.old).geometry (content_at (contents (D.drive device.old).zones) zone.number)
+        before heads.old seen.old.keys
+        → TakesNext (D.drive device.old).geometry (content_at (contents (D.drive device.old).zones) zone.number)
+        before heads.old next heads.new seen.new.keys) }
+    ensures err { IfErr result (FailsBy (λ fault. (before : List ℕ)
+        → Takes (D.drive device.old).geometry (content_at (contents (D.drive device.old).zones) zone.number)
+        before heads.old seen.old.keys
+        → FailsIn (D.drive device.old).geometry (content_at (contents (D.drive device.old).zones) zone.number)
+        zone.number before fault) (D.drive device.new)) }
     ensures kept { KeepsZones (D.drive device.old) (D.drive device.new) }
     ensures reads { ReadsNext zone.reported heads.old result heads.new (D.drive device.old) (D.drive device.new) }
 {
@@ -229,12 +235,14 @@ pub fn scan_zone<D: Device>(
     block: &mut Vec<u8>,
 ) -> Result<ScannedZone, MountFault>
     requires zone { IsKnown (D.drive device.old) zone.number zone.reported }
-    ensures ok { IfOk result (λ scanned. Scans (D.drive device.old).geometry (content_at (contents (D.drive device.old).zones) zone.number) seen.old.keys scanned.heads scanned.is_torn seen.new.keys) }
+    ensures ok { IfOk result (λ scanned. Scans (D.drive device.old).geometry
+        (content_at (contents (D.drive device.old).zones) zone.number) seen.old.keys scanned.heads scanned.is_torn
+        seen.new.keys) }
     ensures err { IfErr result (FailsBy (FailsIn (D.drive device.old).geometry
         (content_at (contents (D.drive device.old).zones) zone.number) zone.number seen.old.keys)
         (D.drive device.new)) }
     ensures kept { KeepsZones (D.drive device.old) (D.drive device.new) }
-    ensures reads { IfOk result (λ scanned. ReadsZone zone.reported scanned.heads (D.drive device.old)
+    ensures reads { IfOk result (λ scanned. ReadsOfZone zone.reported scanned.heads (D.drive device.old)
         (D.drive device.new)) }
     ensures completed { (D.drive device.new).completed ≤ (D.drive device.old).completed + zone.reported.blocks }
 {
@@ -262,7 +270,7 @@ pub fn scan_zones<D: Device>(
     ensures err { IfErr result (FailsBy (FailsFirst (D.drive device.old).geometry
         (contents (D.drive device.old).zones)) (D.drive device.new)) }
     ensures kept { KeepsZones (D.drive device.old) (D.drive device.new) }
-    ensures reads { IfOk result (λ scanned. ReadsZones zones.now scanned.items (D.drive device.old)
+    ensures reads { IfOk result (λ scanned. ReadsOfZones zones.now scanned.items (D.drive device.old)
         (D.drive device.new)) }
     ensures completed { (D.drive device.new).completed ≤ (D.drive device.old).completed + blocks_reported zones.now }
 {

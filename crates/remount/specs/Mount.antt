@@ -49,7 +49,8 @@ pub record IsOnlyTorn (logs : List (List Batch)) (tails : List Bool) (zone : ℕ
 pub record IsPastRepair (geometry : Geometry) (size : ℕ) (logs : List (List Batch)) (tails : List Bool) (zone : ℕ) : Type 0 where
   pub torn : IsTornAt logs tails zone
   pub lowest : (other : ℕ) → other < zone → IsTornAt logs tails other → ⊥
-  pub why : ((other : ℕ) × (zone < other) × IsTornAt logs tails other) ⊎ (geometry.capacity < moves (batch_most geometry) (live_records size logs zone) + live_data size logs zone)
+  pub why : ((other : ℕ) × (zone < other) × IsTornAt logs tails other)
+      ⊎ (geometry.capacity < moves (batch_most geometry) (live_records size logs zone) + live_data size logs zone)
 
 -- One zone is torn and its live records fit in a zone, but the sequences do not last for the Moves.
 pub record LacksSequences (geometry : Geometry) (size : ℕ) (logs : List (List Batch)) (tails : List Bool) : Type 0 where
@@ -102,8 +103,10 @@ pub record IsRepaired (drive : DriveState) (n : ℕ) (survey : Survey) : Type 0 
   pub empty : AreVacantEmpty survey.zones.items (drive_logs drive)
   pub whole : AreWhole (contents drive.zones)
   pub few_partial : count_by is_partly_written (contents drive.zones) ≤ 2
-  pub room : (zone : ℕ) → is_partly_written (content_at (contents drive.zones) zone) ≡ true → length (content_at (contents drive.zones) zone).blocks + 2 ≤ drive.geometry.capacity
-  pub few : (zone : ℕ) → is_partly_written (content_at (contents drive.zones) zone) ≡ true → AllByRecursion (HasAtMost (batch_most drive.geometry)) (log_at (drive_logs drive) zone)
+  pub room : (zone : ℕ) → is_partly_written (content_at (contents drive.zones) zone) ≡ true
+      → length (content_at (contents drive.zones) zone).blocks + 2 ≤ drive.geometry.capacity
+  pub few : (zone : ℕ) → is_partly_written (content_at (contents drive.zones) zone) ≡ true
+      → AllByRecursion (HasAtMost (batch_most drive.geometry)) (log_at (drive_logs drive) zone)
   pub vacant : HasVacant (drive_logs drive)
 
 -- ---- the mount
@@ -116,7 +119,8 @@ AreInOrder host second = ⊥
 
 -- The roles after a mount: the zones that are being filled are the partly written ones.
 pub record AreMountedRoles (capacity : ℕ) (zones : List Content) (roles : RolesView) : Type 0 where
-  pub written : AllByRecursion (λ (filling : Filling). (is_partly_written (content_at zones filling.zone) ≡ true) × (filling.written + 2 ≤ capacity)) (fillings roles)
+  pub written : AllByRecursion (λ (filling : Filling). (is_partly_written (content_at zones filling.zone) ≡ true)
+      × (filling.written + 2 ≤ capacity)) (fillings roles)
   pub order : AreInOrder roles.host roles.second
   pub empty : 1 ≤ empty_count roles
 
@@ -150,13 +154,15 @@ LeavesBeside old (Some repair) new = RepairsBeside old new repair.zone
 abbrev pub KeepsOthers : DriveState → List ℕ → DriveState → Type 0
 KeepsOthers old resets new =
     NoneIsTorn (cleared (drive_logs old) resets) (zone_tails (contents old.zones))
-    → (zone : ℕ) → log_at (cleared (drive_logs old) resets) zone ≢ [] → CanBeFilled old zone → content_at (contents new.zones) zone ≡ content_at (contents old.zones) zone
+    → (zone : ℕ) → log_at (cleared (drive_logs old) resets) zone ≢ [] → CanBeFilled old zone
+    → content_at (contents new.zones) zone ≡ content_at (contents old.zones) zone
 
 -- Where a zone of the cleared drive is torn, each other one that has a batch there was finished, if it was opened or Closed, and else holds what it held.
 abbrev pub FinishesBeside : DriveState → List ℕ → DriveState → Type 0
 FinishesBeside old resets new =
     (torn : ℕ) → IsTornAt (cleared (drive_logs old) resets) (zone_tails (contents old.zones)) torn
-    → (zone : ℕ) → log_at (cleared (drive_logs old) resets) zone ≢ [] → zone ≢ torn → content_at (contents new.zones) zone ≡ finished_if_active (content_at (contents old.zones) zone)
+    → (zone : ℕ) → log_at (cleared (drive_logs old) resets) zone ≢ [] → zone ≢ torn
+    → content_at (contents new.zones) zone ≡ finished_if_active (content_at (contents old.zones) zone)
 
 -- A zone had no batch on the cleared drive, and has one now: it took the Moves of a repair.
 abbrev pub TookMoves : DriveState → List ℕ → DriveState → ℕ → Type 0
@@ -167,7 +173,8 @@ TookMoves old resets new zone = IsVacant (cleared (drive_logs old) resets) zone 
 pub record FinishesByNeed (old : DriveState) (resets : List ℕ) (new : DriveState) : Type 0 where
   pub others : KeepsOthers old resets new
   pub beside : FinishesBeside old resets new
-  pub moves : (zone : ℕ) → TookMoves old resets new zone → (content_at (contents new.zones) zone).usage ≡ full → new.geometry.capacity < length (content_at (contents new.zones) zone).blocks + 2
+  pub moves : (zone : ℕ) → TookMoves old resets new zone → (content_at (contents new.zones) zone).usage ≡ full
+      → new.geometry.capacity < length (content_at (contents new.zones) zone).blocks + 2
   pub opens : (zone : ℕ) → IsShut old.zones zone → IsShut new.zones zone ⊎ TookMoves old resets new zone
 
 -- each zone that is noted as open was noted so before, or took the Moves of a repair
@@ -204,7 +211,8 @@ pub record Mounts (old new : DriveState) (n : ℕ) (tables : TablesView) : Type 
 -- the cleared drive cannot be repaired
 abbrev pub CannotClear : DriveState → ℕ → MountFault → Type 0
 CannotClear drive n fault =
-    (resets : List ℕ) × IsClearing drive.geometry.block n (drive_logs drive) resets × CannotRepair drive.geometry (drive_size drive n) (cleared (drive_logs drive) resets) (zone_tails (contents drive.zones)) fault
+    (resets : List ℕ) × IsClearing drive.geometry.block n (drive_logs drive) resets
+    × CannotRepair drive.geometry (drive_size drive n) (cleared (drive_logs drive) resets) (zone_tails (contents drive.zones)) fault
 
 -- Why a drive is refused: the first fault, in the order in which a mount looks for them.
 abbrev pub MountFails : DriveState → ℕ → MountFault → Type 0
@@ -236,7 +244,8 @@ pub record LeavesEmptied (old new : DriveState) (half_clean : List ℕ) : Type 0
   pub logs : drive_logs new ≡ cleared (drive_logs old) half_clean
   pub others : KeepsWritten old new
   pub opens : OpensNoZone old new
-  pub tails : (zone : ℕ) → log_at (drive_logs new) zone ≢ [] → slice_index_or (zone_tails (contents new.zones)) zone false ≡ slice_index_or (zone_tails (contents old.zones)) zone false
+  pub tails : (zone : ℕ) → log_at (drive_logs new) zone ≢ []
+      → slice_index_or (zone_tails (contents new.zones)) zone false ≡ slice_index_or (zone_tails (contents old.zones)) zone false
 
 -- The zones that are to be emptied were: the drive can be mounted, none of its zones is half clean, and each zone without a batch is Empty.
 pub record IsCleared (drive : DriveState) (n : ℕ) (survey : Survey) : Type 0 where

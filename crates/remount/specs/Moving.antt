@@ -79,7 +79,8 @@ pub record SettlesOthers (old new : DriveState) (torn : ℕ) : Type 0 where
   pub logs : drive_logs new ≡ drive_logs old
   pub tails : zone_tails (contents new.zones) ≡ zone_tails (contents old.zones)
   pub settled : AreSettled new torn (length new.zones)
-  pub others : (zone : ℕ) → zone < length new.zones → zone ≢ torn → content_at (contents new.zones) zone ≡ finished_if_active (content_at (contents old.zones) zone)
+  pub others : (zone : ℕ) → zone < length new.zones → zone ≢ torn
+      → content_at (contents new.zones) zone ≡ finished_if_active (content_at (contents old.zones) zone)
   pub opens : OpensNoZone old new
 
 -- The drive takes a batch at the end of a zone.
@@ -137,7 +138,16 @@ moved_data source blocks = flat_map (λ block. blocks_listed (said source block)
 
 -- the Move from a zone that says of these blocks what is said there
 abbrev pub move_of : Source → ℕ → ℕ → Option ℕ → List ℕ → Batch
-move_of source zone sequence size blocks = record { heading = record { kind = Move; sequence = sequence; source = zone; size = size; entries = moved_entries source.places blocks }; body = moved_data source blocks }
+move_of source zone sequence size blocks = record {
+  heading = record {
+    kind = Move;
+    sequence = sequence;
+    source = zone;
+    size = size;
+    entries = moved_entries source.places blocks;
+  };
+  body = moved_data source blocks;
+}
 
 -- the bytes of a batch were built
 pub record IsBuiltAs (block_bytes : ℕ) (batch : Batch) (builder : BuilderView) : Type 0 where

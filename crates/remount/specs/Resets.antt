@@ -55,7 +55,9 @@ pub record ResetsAll (old new : DriveState) (before after : Survey) (zones : Lis
 -- These zones may be reset one after the other: each is vacant at its moment, or the lowest half clean one.
 abbrev pub MayReset : ℕ → ℕ → List (List Batch) → List ℕ → Type 0
 MayReset block_bytes n logs [] = Unit {0}
-MayReset block_bytes n logs (zone ∷ zones) = (zone < length logs) × (IsVacant logs zone ⊎ IsLowest block_bytes n logs zone) × MayReset block_bytes n (without logs zone) zones
+MayReset block_bytes n logs (zone ∷ zones) =
+    (zone < length logs) × (IsVacant logs zone ⊎ IsLowest block_bytes n logs zone)
+    × MayReset block_bytes n (without logs zone) zones
 
 -- ---- Finishes
 
@@ -79,7 +81,9 @@ pub record FinishesOne (old new : DriveState) (before after : Survey) (zone : �
 
 -- the test of a zone that was surveyed
 abbrev pub IsTested : ℕ → ℕ → Survey → ℕ → Bool → Type 0
-IsTested capacity most survey zone b = (r : ReportedZone) (heads : HeadsView) → slice_get survey.zones.items zone ≡ Some r → slice_get (heads_in survey.scanned.items) zone ≡ Some heads → is_to_finish capacity most r heads ≡ b
+IsTested capacity most survey zone b = (r : ReportedZone) (heads : HeadsView)
+    → slice_get survey.zones.items zone ≡ Some r → slice_get (heads_in survey.scanned.items) zone ≡ Some heads
+    → is_to_finish capacity most r heads ≡ b
 
 -- it is finished where it has to be
 abbrev pub FinishesIf : DriveState → DriveState → Survey → Survey → ℕ → Type 0
@@ -95,7 +99,8 @@ KeepsWritten old new = (zone : ℕ) → log_at (drive_logs new) zone ≢ [] → 
 abbrev pub CanBeFilled : DriveState → ℕ → Type 0
 CanBeFilled drive zone =
     is_partly_written (content_at (contents drive.zones) zone) ≡ true
-    → (length (content_at (contents drive.zones) zone).blocks + 2 ≤ drive.geometry.capacity) × AllByRecursion (HasAtMost (batch_most drive.geometry)) (log_at (drive_logs drive) zone)
+    → (length (content_at (contents drive.zones) zone).blocks + 2 ≤ drive.geometry.capacity)
+    × AllByRecursion (HasAtMost (batch_most drive.geometry)) (log_at (drive_logs drive) zone)
 
 -- each zone that a disk goes on with, and each that is not partly written, holds what it held
 abbrev pub KeepsGoing : DriveState → DriveState → Type 0

@@ -30,7 +30,8 @@ all_blocks_named made = flat_map (λ (batch : Batch). map (λ (entry : Entry). e
 pub record RepeatLive (logs : List (List Batch)) (zone : ℕ) (made : List Batch) : Type 0 where
   pub all : (block : ℕ) → LiesIn zone (newest block (records 0 logs)) → Contains (all_blocks_named made) block
   pub once : IsDistinct nat_eq (all_blocks_named made)
-  pub copies : AllByRecursion (λ (batch : Batch). AllByRecursion (λ (r : Record). IsCopyFrom zone (newest r.block (records 0 logs)) r) (batch_records 0 0 batch)) made
+  pub copies : AllByRecursion (λ (batch : Batch). AllByRecursion
+      (λ (r : Record). IsCopyFrom zone (newest r.block (records 0 logs)) r) (batch_records 0 0 batch)) made
 
 -- The batches of a repair: Moves from the torn zone of what is live there, as many as that takes and at least one;
 -- numbered on from the greatest sequence that there was; and of the greatest size that the torn zone says, or of none
@@ -62,7 +63,8 @@ pub record RepairsTorn (geometry : Geometry) (n : ℕ) (logs : List (List Batch)
 pub record RepairsBeside (old new : DriveState) (torn : ℕ) : Type 0 where
   pub into : ℕ
   pub vacant : IsVacant (drive_logs old) into
-  pub others : (zone : ℕ) → zone < length old.zones → zone ≢ torn → zone ≢ into → content_at (contents new.zones) zone ≡ finished_if_active (content_at (contents old.zones) zone)
+  pub others : (zone : ℕ) → zone < length old.zones → zone ≢ torn → zone ≢ into
+      → content_at (contents new.zones) zone ≡ finished_if_active (content_at (contents old.zones) zone)
   pub still : (zone : ℕ) → zone ≢ into → IsVacant (drive_logs old) zone → IsVacant (drive_logs new) zone
   pub some : log_at (drive_logs new) into ≢ []
   pub few : AllByRecursion (HasAtMost (batch_most old.geometry)) (log_at (drive_logs new) into)

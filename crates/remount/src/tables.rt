@@ -27,9 +27,12 @@ pub fn mounted_tables(
     geometry: &Geometry,
     next: u64,
 ) -> Result<Tables, AllocError>
-    ensures agrees { IfOk result (λ tables. (drive : DriveState) → drive.geometry ≡ geometry.now → IsRepaired drive survey.now.given survey.now
-        → AllByRecursion (λ sequence. sequence < next) (sequences (drive_logs drive)) → next ≤ 2 ^ 63 → Agrees (mounted drive tables)) }
-    ensures roles { IfOk result (λ tables. (drive : DriveState) → drive.geometry ≡ geometry.now → IsRepaired drive survey.now.given survey.now
+    ensures agrees { IfOk result (λ tables. (drive : DriveState) → drive.geometry ≡ geometry.now
+        → IsRepaired drive survey.now.given survey.now
+        → AllByRecursion (λ sequence. sequence < next) (sequences (drive_logs drive)) → next ≤ 2 ^ 63
+        → Agrees (mounted drive tables)) }
+    ensures roles { IfOk result (λ tables. (drive : DriveState) → drive.geometry ≡ geometry.now
+        → IsRepaired drive survey.now.given survey.now
         → AreMountedRoles geometry.now.capacity (contents drive.zones) tables.roles) }
     ensures noted { IfOk result (λ tables. AllByRecursion (λ filling. filling.may_open ≡ true
         → IsNotedOpen survey.now.zones.items filling.zone) (fillings tables.roles)) }

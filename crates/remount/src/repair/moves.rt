@@ -61,7 +61,9 @@ struct Moves {
 /// Names a block that is at a place.
 fn name_record(batch: &mut BatchBuilder, block: u32, place: Place) -> Result<(), AllocError>
     requires { block + 1 < 2 ^ 32 }
-    ensures { OnOk result (batch.new.heading ≡ record batch.old.heading { entries = batch.old.heading.entries ++ placed_entry block place ∷ [] }) }
+    ensures { OnOk result (batch.new.heading ≡ record batch.old.heading {
+      entries = batch.old.heading.entries ++ placed_entry block place ∷ [];
+    }) }
 {
     match place {
         Place::At(_) => batch.name_data(block, 1),
@@ -72,7 +74,9 @@ fn name_record(batch: &mut BatchBuilder, block: u32, place: Place) -> Result<(),
 /// Names these blocks, each as what lies at its place.
 fn name_records(batch: &mut BatchBuilder, tables: &Tables, blocks: &[u32]) -> Result<(), AllocError>
     requires { AllByRecursion (λ block. (block < size_of tables.now) × (block + 1 < 2 ^ 32)) blocks.now }
-    ensures { OnOk result (batch.new.heading ≡ record batch.old.heading { entries = batch.old.heading.entries ++ moved_entries tables.now.map.places blocks.now }) }
+    ensures { OnOk result (batch.new.heading ≡ record batch.old.heading {
+      entries = batch.old.heading.entries ++ moved_entries tables.now.map.places blocks.now;
+    }) }
 {
     for block in blocks {
         name_record(batch, *block, tables.place_of(*block))?;

@@ -25,8 +25,10 @@ pub(crate) fn empty_torn<D: Device>(
 ) -> Result<(), MountFault>
     requires done { (n : ℕ) × (start : DriveState) × (tables : TablesView) × (heads : HeadsView)
         × IsAtMove n start (D.drive device.old) tables plan.now (move_count plan.now) heads }
-    ensures ok { OnOk result ((n : ℕ) (start : DriveState) (tables : TablesView) (heads : HeadsView) → IsAtMove n start (D.drive device.old) tables plan.now (move_count plan.now) heads
-        → EmptiesTorn n start (D.drive device.new) plan.now (moves_before (source_of start tables plan.now.torn) plan.now (move_count plan.now))) }
+    ensures ok { OnOk result ((n : ℕ) (start : DriveState) (tables : TablesView) (heads : HeadsView)
+        → IsAtMove n start (D.drive device.old) tables plan.now (move_count plan.now) heads
+        → EmptiesTorn n start (D.drive device.new) plan.now
+        (moves_before (source_of start tables plan.now.torn) plan.now (move_count plan.now))) }
     ensures err { IfErr result (IsInterruption (D.drive device.new)) }
     ensures kept { (n : ℕ) (start : DriveState) (tables : TablesView) (heads : HeadsView)
         → IsAtMove n start (D.drive device.old) tables plan.now (move_count plan.now) heads

@@ -63,7 +63,8 @@ fn data_blocks(place: Place) -> u32
 fn live_blocks(alloc: Global, tables: &mut Tables, zone: u32) -> Result<LiveBlocks, AllocError>
     requires few { size_of tables.old ≤ 2 ^ 31 }
     requires zone { zone < tables.old.map.zones }
-    ensures blocks { IfOk result (λ live. live.blocks.items ≡ blocks_in tables.old.map.zone_size zone 0 tables.old.map.places) }
+    ensures blocks { IfOk result (λ live. live.blocks.items
+        ≡ blocks_in tables.old.map.zone_size zone 0 tables.old.map.places) }
     ensures data { IfOk result (λ live. live.with_data ≡ data_in tables.old.map.zone_size zone tables.old.map.places) }
     ensures kept { tables.new ≡ tables.old }
 {

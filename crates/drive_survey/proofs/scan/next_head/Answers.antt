@@ -1,4 +1,5 @@
 use Rattle.std.proofs.Common.{[], slice_index_or, length, sym, ap, ◌∙◌}
+use Rattle.zone_states.specs.declared.geometry.Geometry.{Geometry}
 use Rattle.drive_survey.proofs.ReadLaws.{keeps-both, kept-known, kept-blocks}
 use Rattle.drive_survey.proofs.NextLaws.{bad-kept, end-ok, if-fault, meet-few, meets, met-err, met-few, met-ok}
 use Rattle.drive_survey.proofs.CountLaws.{met-reads}
@@ -12,7 +13,7 @@ pub end_at-requires-clause-zone : goal.end_at-requires-clause-zone
 end_at-requires-clause-zone g c = kept-known _ _ c.args.zone.number c.args.zone.reported c.read_block.ensures.kept c.requires.zone
 
 pub end_at-requires-clause-block : goal.end_at-requires-clause-block
-end_at-requires-clause-block g c = c.in_ok-read_block.ensures.ok ∙ ap (λ bs. slice_index_or bs c.blocks-offset.result []) (sym (kept-blocks _ _ c.args.zone.number c.read_block.ensures.kept))
+end_at-requires-clause-block g c = (c.in_ok-read_block.ensures.ok ∙ ap (λ bs. slice_index_or bs c.blocks-offset.result []) (sym (kept-blocks _ _ c.args.zone.number c.read_block.ensures.kept)), c.in_ok-read_block.ensures.long ∙ sym (ap (λ (x : Geometry). x.block) c.read_block.ensures.kept.geometry))
 
 pub returns-in_err-end_at-in-Err-clause-err : goal.returns-in_err-end_at-in-Err-clause-err
 returns-in_err-end_at-in-Err-clause-err g c =
