@@ -27,7 +27,7 @@ pub returns-clause-disk : goal.returns-clause-disk
 returns-clause-disk g c = record {
   mounted = rw c.given_of.ensures at c.in-Ok.ensures.disk;
   said = elim c.else-is_none.branch [
-    else-is_none-via-then-is_none+else-blocks-eq1 w ↦ λ none size. w.if-blocks-eq1.false (w.blocks-then-is_none.ensures.size ∙ size)
+    | else-is_none-via-then-is_none+else-blocks-eq1 w ↦ λ none size. w.if-blocks-eq1.false (w.blocks-then-is_none.ensures.size ∙ size)
     | else-is_none-via-else-is_none w ↦ λ none. absurd (some-given c.args.blocks c.is_none.result c.is_none.ensures w.if-is_none.false none)
   ];
 }
