@@ -13,7 +13,7 @@ use Rattle.zone_states.specs.declared.geometry.Geometry.{Geometry}
 use Rattle.zone_drive.specs.Stored.{unused, zones_of}
 use Rattle.drive_images.specs.Image.{IsImage, MayBegin, head_bytes, image_bytes, zones_bytes}
 use Rattle.drive_images.specs.Reading.{FailsInZone, IsFrontFault, IsImageFault, TellsFirst, end_fault, head_checks, head_fault}
-use Rattle.drive_images.specs.Steps.{ReadsImage, ReadsZones}
+use Rattle.drive_images.specs.Steps.{ReadsImage, ReadsStoredZones}
 use Rattle.drive_images.specs.declared.fault.ImageFault.{ImageFault}
 use Rattle.drive_images.proofs.TellingLaws.{after_front, tells_first}
 
@@ -46,7 +46,7 @@ front_fault bytes fault (inr front) =
 
 -- the head and the zones of an image are read
 pub front_read : (geometry : Geometry) (zones : List StoredZone) (old mid new : Option (List ℕ)) (head : List ℕ) → IsInRange geometry → head ≡ head_bytes geometry → Consumes old mid head
-    → ReadsZones geometry mid new zones → length zones ≡ geometry.zones → ReadsImage geometry old new zones
+    → ReadsStoredZones geometry mid new zones → length zones ≡ geometry.zones → ReadsImage geometry old new zones
 front_read geometry zones old mid new head in_range same first read count = record {
   text = rw (← same) (Consumes-trans old mid new head (zones_bytes (zones_of geometry.block zones)) first read.text);
   in_range = in_range;

@@ -15,7 +15,7 @@ use Rattle.zone_drive.specs.Stored.{zones_of}
 use Rattle.zone_drive.proofs.CountLaws.{count-cons}
 use Rattle.drive_images.specs.Image.{MayBegin, zone_bytes, zones_bytes}
 use Rattle.drive_images.specs.Reading.{FailsInZone, TellsFirst, counts_of, counts_with, is_over_limit, zone_fault}
-use Rattle.drive_images.specs.Steps.{ReadsZone, ReadsZones}
+use Rattle.drive_images.specs.Steps.{ReadsStoredZone, ReadsStoredZones}
 use Rattle.drive_images.specs.declared.counts.ZoneCounts.{ZoneCounts}
 use Rattle.drive_images.specs.declared.fault.ImageFault.{ImageFault}
 use Rattle.drive_images.proofs.TellingLaws.{after_front}
@@ -52,11 +52,11 @@ zones_of-more : (block : ℕ) (zones : List StoredZone) (zone : StoredZone) → 
 zones_of-more block zones zone = map-append (zone_stored block) zones (zone ∷ [])
 
 module _ (geometry : Geometry) (zones : List StoredZone) (zone : StoredZone) (counts after : ZoneCounts) (old mid new : Option (List ℕ)) where
-  pub counts_next : counts ≡ counts_of (zones_of geometry.block zones) → ReadsZone geometry mid new counts zone after → after ≡ counts_of (zones_of geometry.block (zones ++ zone ∷ []))
+  pub counts_next : counts ≡ counts_of (zones_of geometry.block zones) → ReadsStoredZone geometry mid new counts zone after → after ≡ counts_of (zones_of geometry.block (zones ++ zone ∷ []))
   counts_next same next =
       next.counts ∙ ap (λ (c : ZoneCounts). counts_with c zone.state) same ∙ sym (counts-more (zones_of geometry.block zones) (zone_stored geometry.block zone)) ∙ ap counts_of (sym (zones_of-more geometry.block zones zone))
 
-  pub zones_next : counts ≡ counts_of (zones_of geometry.block zones) → ReadsZones geometry old mid zones → ReadsZone geometry mid new counts zone after → ReadsZones geometry old new (zones ++ zone ∷ [])
+  pub zones_next : counts ≡ counts_of (zones_of geometry.block zones) → ReadsStoredZones geometry old mid zones → ReadsStoredZone geometry mid new counts zone after → ReadsStoredZones geometry old new (zones ++ zone ∷ [])
   zones_next same read next =
       let before = zones_of geometry.block zones in
       let here = zone_stored geometry.block zone in
@@ -68,12 +68,12 @@ module _ (geometry : Geometry) (zones : List StoredZone) (zone : StoredZone) (co
       }
 
 -- no zone was read yet
-pub no_zones : (geometry : Geometry) (old : Option (List ℕ)) → ReadsZones geometry old old []
+pub no_zones : (geometry : Geometry) (old : Option (List ℕ)) → ReadsStoredZones geometry old old []
 no_zones geometry old = record { text = Consumes-nil old; whole = tt; begins = record { lawful = tt; active = omega arith; open_zones = omega arith } }
 
 -- ---- a fault after some zones
 
-module _ (geometry : Geometry) (zones : List StoredZone) (old mid : Option (List ℕ)) (read : ReadsZones geometry old mid zones) where
+module _ (geometry : Geometry) (zones : List StoredZone) (old mid : Option (List ℕ)) (read : ReadsStoredZones geometry old mid zones) where
   abbrev pub before : List Zone
   before = zones_of geometry.block zones
 

@@ -19,7 +19,7 @@ pub record ReadsMore (old new : Option (List ℕ)) (before after : List ℕ) (co
   pub text : Consumes old new bytes
 
 -- a zone is read, which a drive may have after zones of these counts
-pub record ReadsZone (geometry : Geometry) (old new : Option (List ℕ)) (before : ZoneCounts) (zone : StoredZone) (after : ZoneCounts) : Type 0 where
+pub record ReadsStoredZone (geometry : Geometry) (old new : Option (List ℕ)) (before : ZoneCounts) (zone : StoredZone) (after : ZoneCounts) : Type 0 where
   pub text : Consumes old new (zone_bytes (zone_stored geometry.block zone))
   pub whole : AreWholeBlocks geometry.block zone.bytes
   pub lawful : IsLawfulZone geometry (zone_stored geometry.block zone)
@@ -27,7 +27,7 @@ pub record ReadsZone (geometry : Geometry) (old new : Option (List ℕ)) (before
   pub within : is_over_limit geometry after ≡ false
 
 -- zones are read with which a drive may begin
-pub record ReadsZones (geometry : Geometry) (old new : Option (List ℕ)) (zones : List StoredZone) : Type 0 where
+pub record ReadsStoredZones (geometry : Geometry) (old new : Option (List ℕ)) (zones : List StoredZone) : Type 0 where
   pub text : Consumes old new (zones_bytes (zones_of geometry.block zones))
   pub whole : AllByRecursion (λ zone. AreWholeBlocks geometry.block zone.bytes) zones
   pub begins : MayBegin geometry (zones_of geometry.block zones)

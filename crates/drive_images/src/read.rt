@@ -3,7 +3,7 @@ ghost use Rattle.std.specs.Io.KnownBytes.{IsAtEnd};
 ghost use Rattle.zone_states.specs.Geometry.{IsInRange};
 ghost use Rattle.drive_images.specs.Image.{IsImage};
 ghost use Rattle.drive_images.specs.Reading.{FailsInZone, IsFrontFault, IsImageFault, TellsFirst, end_fault};
-ghost use Rattle.drive_images.specs.Steps.{ReadsImage, ReadsZones};
+ghost use Rattle.drive_images.specs.Steps.{ReadsImage, ReadsStoredZones};
 
 use crate::counts::ZoneCounts;
 use crate::fault::ImageFault;
@@ -30,7 +30,8 @@ fn read_zones<R: Read>(
 ) -> Result<Vec<Zone>, ImageFault>
     requires { IsInRange geometry.now }
     ensures ok { IfOk result (λ zones.
-        ReadsZones geometry.now (R.remaining reader.old) (R.remaining reader.new) zones.items) }
+        ReadsStoredZones geometry.now (R.remaining reader.old)
+        (R.remaining reader.new) zones.items) }
     ensures count { IfOk result (λ zones. length zones.items ≡ geometry.now.zones) }
     ensures err { IfErr result (λ fault.
         IfSome (R.remaining reader.old) (λ bytes. FailsInZone geometry.now bytes fault)) }

@@ -2,7 +2,7 @@ ghost use Rattle.std.specs.Prelude.{◌≡◌, ◌+◌, ◌<◌, ◌^◌, false,
 ghost use Rattle.std.specs.Io.KnownBytes.{Consumes};
 ghost use Rattle.zone_states.specs.Geometry.{IsInRange};
 ghost use Rattle.drive_images.specs.Reading.{TellsFirst, is_over_limit, short_of, zone_fault};
-ghost use Rattle.drive_images.specs.Steps.{ReadsMore, ReadsZone};
+ghost use Rattle.drive_images.specs.Steps.{ReadsMore, ReadsStoredZone};
 
 use crate::counts::ZoneCounts;
 use crate::fault::ImageFault;
@@ -56,7 +56,7 @@ pub fn read_zone<R: Read>(
     requires in_range { IsInRange geometry.now }
     requires within { is_over_limit geometry.now counts.old ≡ false }
     ensures ok { IfOk result (λ zone.
-        ReadsZone geometry.now (R.remaining reader.old)
+        ReadsStoredZone geometry.now (R.remaining reader.old)
         (R.remaining reader.new) counts.old zone counts.new) }
     ensures err { IfErr result (λ fault.
         IfSome (R.remaining reader.old)
