@@ -37,11 +37,11 @@ abbrev pub shown_drive : Loss → DriveState → List Zone → DriveState
 shown_drive loss inner next = record inner { zones = shown_zones loss inner.zones next; stopped = is_lost loss || inner.stopped }
 
 -- the entry and the data of a change, by its bytes
-abbrev pub entry_in : List ℕ → List ℕ
-entry_in bytes = take 64 (drop 8 bytes)
+abbrev pub changed_entry_in : List ℕ → List ℕ
+changed_entry_in bytes = take 64 (drop 8 bytes)
 
-abbrev pub data_in : List ℕ → List ℕ
-data_in bytes = take (length bytes - 80) (drop 72 bytes)
+abbrev pub changed_data_in : List ℕ → List ℕ
+changed_data_in bytes = take (length bytes - 80) (drop 72 bytes)
 
 -- What is always so: the bytes of the store, where they are known, store the drive that is shown, and while nothing was lost no change in them is cut off.
 -- A device that lost something has stopped.
@@ -91,7 +91,7 @@ pub record WritesChange (old : Journaled) (entry bytes : List ℕ) (result : Res
   pub written : Writes old held entry bytes result new
 
 -- an answer to an entry, whose bytes come after those that were held
-pub record Answers (old : Journaled) (entry bytes held : List ℕ) (result : Result (List ℕ) Halt) (items : List ℕ) (new : Journaled) : Type 0 where
+pub record AnswersEntry (old : Journaled) (entry bytes held : List ℕ) (result : Result (List ℕ) Halt) (items : List ℕ) (new : Journaled) : Type 0 where
   pub gives : SubmitAdds old.drive entry bytes held result items new.drive
   pub was_lawful : IsLawful old.drive
   pub lawful : IsLawful new.drive

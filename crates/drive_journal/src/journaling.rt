@@ -2,7 +2,7 @@ ghost use Rattle.std.specs.Prelude.{◌≡◌, [], IfSome, false};
 ghost use Rattle.drive_port.specs.Drive.{IsLawful};
 ghost use Rattle.drive_port.specs.Halting.{SubmitAdds, SubmitGives};
 ghost use Rattle.drive_journal.specs.File.{IsStoredWhole};
-ghost use Rattle.drive_journal.specs.Journaling.{Answers, IsInStep, WritesChange};
+ghost use Rattle.drive_journal.specs.Journaling.{AnswersEntry, IsInStep, WritesChange};
 
 use crate::change::{make_ready, will_change};
 use crate::foreseeing::Foreseeing;
@@ -29,13 +29,13 @@ pub struct Journaling<D: Foreseeing + Drop, S: Store<D> + Drop> {
 
 impl<D: Foreseeing + Drop, S: Store<D> + Drop> Model for Journaling<D, S> {
     ghost use Rattle.std.specs.Prelude.{◌≡◌, true};
-    ghost use Rattle.drive_journal.specs.Journaling.{IsInStep, Journaled, data_in, entry_in, is_lost, shown_drive};
+    ghost use Rattle.drive_journal.specs.Journaling.{IsInStep, Journaled, changed_data_in, changed_entry_in, is_lost, shown_drive};
 
     ghost Value = { Journaled };
 
     ghost view = { λ j. record {
       drive = shown_drive j.loss (D.drive j.device)
-          (D.foreseen j.device (entry_in j.change.items) (data_in j.change.items)).zones;
+          (D.foreseen j.device (changed_entry_in j.change.items) (changed_data_in j.change.items)).zones;
       lost = is_lost j.loss;
       contents = S.held j.store;
     } };
@@ -43,7 +43,7 @@ impl<D: Foreseeing + Drop, S: Store<D> + Drop> Model for Journaling<D, S> {
     // A device that lost something has told its store.
     ghost invariant = { λ j. IsInStep (record {
       drive = shown_drive j.loss (D.drive j.device)
-          (D.foreseen j.device (entry_in j.change.items) (data_in j.change.items)).zones;
+          (D.foreseen j.device (changed_entry_in j.change.items) (changed_data_in j.change.items)).zones;
       lost = is_lost j.loss;
       contents = S.held j.store;
     }) × (is_lost j.loss ≡ true → S.failed j.store ≡ true) };
@@ -90,7 +90,7 @@ impl<D: Foreseeing + Drop, S: Store<D> + Drop> Journaling<D, S> {
         bytes: &[u8],
         into: &mut Vec<u8>,
     ) -> Result<[u8; 16], Halt>
-        ensures { Answers self.old entry.now bytes.now into.old.items result into.new.items self.new }
+        ensures { AnswersEntry self.old entry.now bytes.now into.old.items result into.new.items self.new }
     {
         if self.stopped() {
             return Err(Halt::Stopped);

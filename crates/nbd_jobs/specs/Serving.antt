@@ -119,12 +119,12 @@ HoldsNoDrive file bytes ended = ⊥
 
 -- What is saved of a session: the drive that it left, also after a fault. Nothing is saved where the file stays as it is, nor where it failed: then
 -- the file has all changes before.
-abbrev pub drive_to_save : Result (Unit {0}) NbdFault → Bool → Option Left → Option MemoryDrive
-drive_to_save ended stays None = None
-drive_to_save (Err (File fault)) stays (Some left) = None
-drive_to_save ended stays (Some left) = if (left.failed || stays) then None else Some left.drive
+abbrev pub served_drive_to_save : Result (Unit {0}) NbdFault → Bool → Option Left → Option MemoryDrive
+served_drive_to_save ended stays None = None
+served_drive_to_save (Err (File fault)) stays (Some left) = None
+served_drive_to_save ended stays (Some left) = if (left.failed || stays) then None else Some left.drive
 
 -- a session whose file failed is told by that fault
-abbrev pub first_told : Result (Unit {0}) NbdFault → Option FileFault → Result (Unit {0}) NbdFault
-first_told ended (Some failed) = Err (File failed)
-first_told ended None = ended
+abbrev pub session_told : Result (Unit {0}) NbdFault → Option FileFault → Result (Unit {0}) NbdFault
+session_told ended (Some failed) = Err (File failed)
+session_told ended None = ended

@@ -3,7 +3,7 @@
 use crate::fault::NbdFault;
 use crate::job::NbdJob;
 use crate::left::Left;
-use crate::saving::{drive_to_save, first_told};
+use crate::saving::{served_drive_to_save, session_told};
 use crate::serving::{ServedFile, serve_drive};
 use drive_store::{
     ChangesFile, ChangesOutput, FileFault, ImageFile, Saving, SentAfter, SystemError, open_to_save,
@@ -127,12 +127,12 @@ pub fn do_nbd_job<F: Files<File = File>, R: Read + Drop, W: Write>(
     };
     let file = ChangesFile::new(&saving, image);
     let (mut left, result) = serve_file(alloc, job, (&file, bytes), input, output);
-    let session = first_told(result, file.write_out().err());
+    let session = session_told(result, file.write_out().err());
     let statistics = match &mut left {
         Some(left) => left.statistics.take(),
         None => None,
     };
-    let drive = drive_to_save(session, file.stays(), left);
+    let drive = served_drive_to_save(session, file.stays(), left);
     Done {
         session,
         saved: save_if_any(&saving, drive, &file.into_image()),

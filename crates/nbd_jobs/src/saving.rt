@@ -1,5 +1,5 @@
 ghost use Rattle.std.specs.Prelude.{◌≡◌};
-ghost use Rattle.nbd_jobs.specs.Serving.{drive_to_save, first_told};
+ghost use Rattle.nbd_jobs.specs.Serving.{served_drive_to_save, session_told};
 
 use crate::fault::NbdFault;
 use crate::left::Left;
@@ -8,12 +8,12 @@ use zone_drive::Drive;
 
 /// What is saved of a session: the drive that it left, also after a fault. Nothing is saved if the file stays as it is, since it
 /// is unchanged or takes no more changes, nor if a change could not be written to it.
-pub(crate) fn drive_to_save(
+pub(crate) fn served_drive_to_save(
     ended: Result<(), NbdFault>,
     stays: bool,
     left: Option<Left>,
 ) -> Option<Drive>
-    ensures { result ≡ drive_to_save ended stays left }
+    ensures { result ≡ served_drive_to_save ended stays left }
 {
     let left = left?;
     match ended {
@@ -24,11 +24,11 @@ pub(crate) fn drive_to_save(
 }
 
 /// How a session ended: where its file failed, that is told.
-pub(crate) fn first_told(
+pub(crate) fn session_told(
     ended: Result<(), NbdFault>,
     failed: Option<FileFault>,
 ) -> Result<(), NbdFault>
-    ensures { result ≡ first_told ended failed }
+    ensures { result ≡ session_told ended failed }
 {
     match failed {
         Some(fault) => Err(NbdFault::File(fault)),
