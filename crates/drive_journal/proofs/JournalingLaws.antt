@@ -22,7 +22,7 @@ use Rattle.drive_port.proofs.StopLaws.{stops-already}
 use Rattle.zone_drive.specs.Foreseen.{CanGive}
 use Rattle.drive_journal.specs.Change.{beside_bytes, body_bytes, change_bytes, change_of, changes, mark, seal, written_for}
 use Rattle.drive_journal.specs.File.{IsStored, IsStoredWhole}
-use Rattle.drive_journal.specs.Journaling.{AnswersEntry, AreCutOff, IsInStep, Journaled, changed_data_in, changed_entry_in, is_lost, shown_drive, written_by}
+use Rattle.drive_journal.specs.Journaling.{AnswersInStep, AreCutOff, IsInStep, Journaled, changed_data_in, changed_entry_in, is_lost, shown_drive, written_by}
 use Rattle.drive_journal.specs.declared.loss.Loss.{Loss}
 use Rattle.drive_journal.specs.declared.loss.Loss.TheVariants as losses
 use Rattle.drive_journal.proofs.CutLaws.{cut-front, length-seal}
@@ -107,7 +107,7 @@ given-kept inner zones contents lawful stored = record {
 -- ---- answers
 
 -- the device had stopped
-pub answers-stopped : (old : Journaled) (entry bytes held : List ℕ) → old.drive.stopped ≡ true → IsLawful old.drive → IsInStep old → AnswersEntry old entry bytes held (Err Stopped) held old
+pub answers-stopped : (old : Journaled) (entry bytes held : List ℕ) → old.drive.stopped ≡ true → IsLawful old.drive → IsInStep old → AnswersInStep old entry bytes held (Err Stopped) held old
 answers-stopped old entry bytes held stopped lawful kept = record {
   gives = adds-nothing held (λ returned. SubmitGives old.drive entry bytes (Err Stopped) returned old.drive) (refl, stops-already old.drive (decode_of entry) bytes stopped);
   was_lawful = lawful;
@@ -130,7 +130,7 @@ written-not entry bytes completion good none code = rw code (by (changes (decode
 -- the device within answered, and nothing was to be written
 pub answers-plain : (inner new : DriveState) (contents : Option (List ℕ)) (entry bytes held items : List ℕ) (result : Result (List ℕ) Halt) → length entry ≡ 64 → inner.stopped ≡ false → IsLawful inner → IsLawful new
     → SubmitAdds inner entry bytes held result items new → IfOk result (λ completion. written_by completion entry bytes ≡ []) → OnErr result (new ≡ inner) → IsInStep (going_on inner contents)
-    → AnswersEntry (going_on inner contents) entry bytes held result items (going_on new contents)
+    → AnswersInStep (going_on inner contents) entry bytes held result items (going_on new contents)
 answers-plain inner new contents entry bytes held items (Ok completion) long runs was lawful gives none same kept = record {
   gives = gives;
   was_lawful = was;
@@ -164,7 +164,7 @@ module _ (inner : DriveState) (contents before : Option (List ℕ)) (entry bytes
       rw (written-yes entry bytes is_changing) (cut-front inner.geometry (change_of entry bytes) n (is-change inner.geometry inner.zones given.zones entry bytes given.returned given.value long is_changing effect) (rw (written-yes entry bytes is_changing) at short))
 
   -- there was no memory for it
-  pub answers-memory : AnswersEntry (going_on inner contents) entry bytes held (Err Memory) held (going_on inner before)
+  pub answers-memory : AnswersInStep (going_on inner contents) entry bytes held (Err Memory) held (going_on inner before)
   answers-memory = record {
     gives = adds-nothing held (λ returned. SubmitGives inner entry bytes (Err Memory) returned inner) (refl, (runs, refl));
     was_lawful = was;
@@ -175,7 +175,7 @@ module _ (inner : DriveState) (contents before : Option (List ℕ)) (entry bytes
   }
 
   -- the store failed
-  pub answers-cut : (now : Option (List ℕ)) → AppendsFront before now (written_for entry bytes) → is_some now ≡ is_some before → AnswersEntry (going_on inner contents) entry bytes held (Err Stopped) held (given_up inner inner.zones now)
+  pub answers-cut : (now : Option (List ℕ)) → AppendsFront before now (written_for entry bytes) → is_some now ≡ is_some before → AnswersInStep (going_on inner contents) entry bytes held (Err Stopped) held (given_up inner inner.zones now)
   answers-cut now front known = record {
     gives = adds-nothing held (λ returned. SubmitGives inner entry bytes (Err Stopped) returned (given_up inner inner.zones now).drive) (
       refl,
@@ -199,7 +199,7 @@ module _ (inner : DriveState) (contents before : Option (List ℕ)) (entry bytes
   module _ (now : Option (List ℕ)) (appends : Appends before now (written_for entry bytes)) (known : is_some now ≡ is_some before) where
     -- and the command was done
     pub answers-done : (new : DriveState) (completion items : List ℕ) → IsLawful new → SubmitAdds inner entry bytes held (Ok completion) items new → (code_in completion == 0) ≡ is_success given.status
-        → AnswersEntry (going_on inner contents) entry bytes held (Ok completion) items (going_on new now)
+        → AnswersInStep (going_on inner contents) entry bytes held (Ok completion) items (going_on new now)
     answers-done new completion items lawful gives code =
         let success : is_success given.status ≡ true = ap (λ (s : Status). is_success s) good in
         let all : written_by completion entry bytes ≡ written_for entry bytes = rw (code, success) refl in
@@ -214,7 +214,7 @@ module _ (inner : DriveState) (contents before : Option (List ℕ)) (entry bytes
         }
 
     -- and there was no memory to do the command
-    pub answers-behind : (halt : Halt) (items : List ℕ) → SubmitAdds inner entry bytes held (Err halt) items inner → AnswersEntry (going_on inner contents) entry bytes held (Err Stopped) items (given_up inner given.zones now)
+    pub answers-behind : (halt : Halt) (items : List ℕ) → SubmitAdds inner entry bytes held (Err halt) items inner → AnswersInStep (going_on inner contents) entry bytes held (Err Stopped) items (given_up inner given.zones now)
     answers-behind halt items gives = record {
       gives = adds-also held items (λ returned. SubmitGives inner entry bytes (Err halt) returned inner) (λ returned. SubmitGives inner entry bytes (Err Stopped) returned (given_up inner given.zones now).drive) (λ returned none. (
         none.0,
@@ -283,9 +283,9 @@ module _ (loss : Loss) (inner : DriveState) (next : List Zone) (contents : Optio
 
   pub shown-plain : (new : DriveState) (after : List Zone) (items : List ℕ) (result : Result (List ℕ) Halt) (given : Outcome) → false ≡ (changes (decode_of entry) && is_success given.status) → IsLawful new
       → SubmitAdds inner entry bytes held result items new → IfOk result (λ completion. (code_in completion == 0) ≡ is_success given.status) → OnErr result (new ≡ inner)
-      → AnswersEntry (journaled loss inner next contents) entry bytes held result items (journaled loss new after contents)
+      → AnswersInStep (journaled loss inner next contents) entry bytes held result items (journaled loss new after contents)
   shown-plain new after items result given none lawful gives code same =
-      subst (λ (l : Loss). AnswersEntry (journaled l inner next contents) entry bytes held result items (journaled l new after contents)) (sym ran.0)
+      subst (λ (l : Loss). AnswersInStep (journaled l inner next contents) entry bytes held result items (journaled l new after contents)) (sym ran.0)
       (answers-plain inner new contents entry bytes held items result long ran.1 was-within lawful gives (ok-so result code) same kept-within)
     where
       ok-so : (result : Result (List ℕ) Halt) → IfOk result (λ completion. (code_in completion == 0) ≡ is_success given.status) → IfOk result (λ completion. written_by completion entry bytes ≡ [])
@@ -299,30 +299,30 @@ module _ (loss : Loss) (inner : DriveState) (next : List Zone) (contents : Optio
     good : given.status ≡ Success
     good = success-is given.status (both (changes (decode_of entry)) (is_success given.status) willing).1
 
-    pub shown-memory : (after : List Zone) → AnswersEntry (journaled loss inner next contents) entry bytes held (Err Memory) held (journaled loss inner after before)
+    pub shown-memory : (after : List Zone) → AnswersInStep (journaled loss inner next contents) entry bytes held (Err Memory) held (journaled loss inner after before)
     shown-memory after =
-        subst (λ (l : Loss). AnswersEntry (journaled l inner next contents) entry bytes held (Err Memory) held (journaled l inner after before)) (sym ran.0)
+        subst (λ (l : Loss). AnswersInStep (journaled l inner next contents) entry bytes held (Err Memory) held (journaled l inner after before)) (sym ran.0)
         (answers-memory inner contents before entry bytes held given long ran.1 was-within kept-within changing good can stored)
 
     pub shown-cut : (after : List Zone) (now : Option (List ℕ)) (change : List ℕ) → change ≡ written_for entry bytes → AppendsFront before now change → is_some now ≡ is_some before
-        → AnswersEntry (journaled loss inner next contents) entry bytes held (Err Stopped) held (journaled losses.Change inner after now)
+        → AnswersInStep (journaled loss inner next contents) entry bytes held (Err Stopped) held (journaled losses.Change inner after now)
     shown-cut after now change is front known =
-        subst (λ (l : Loss). AnswersEntry (journaled l inner next contents) entry bytes held (Err Stopped) held (journaled losses.Change inner after now)) (sym ran.0)
+        subst (λ (l : Loss). AnswersInStep (journaled l inner next contents) entry bytes held (Err Stopped) held (journaled losses.Change inner after now)) (sym ran.0)
         (answers-cut inner contents before entry bytes held given long ran.1 was-within kept-within changing good can stored now (rw is at front) known)
 
     pub shown-done : (new : DriveState) (after : List Zone) (now : Option (List ℕ)) (change completion items : List ℕ) → change ≡ written_for entry bytes → Appends before now change → is_some now ≡ is_some before → IsLawful new
         → SubmitAdds inner entry bytes held (Ok completion) items new → (code_in completion == 0) ≡ is_success given.status
-        → AnswersEntry (journaled loss inner next contents) entry bytes held (Ok completion) items (journaled loss new after now)
+        → AnswersInStep (journaled loss inner next contents) entry bytes held (Ok completion) items (journaled loss new after now)
     shown-done new after now change completion items is appends known lawful gives code =
-        subst (λ (l : Loss). AnswersEntry (journaled l inner next contents) entry bytes held (Ok completion) items (journaled l new after now)) (sym ran.0)
+        subst (λ (l : Loss). AnswersInStep (journaled l inner next contents) entry bytes held (Ok completion) items (journaled l new after now)) (sym ran.0)
         (answers-done inner contents before entry bytes held given long ran.1 was-within kept-within changing good can stored now (rw is at appends) known new completion items lawful gives code)
 
     -- what is shown then is what was foreseen of the command
     pub shown-behind : (after : Outcome) (now : Option (List ℕ)) (change : List ℕ) (halt : Halt) (items : List ℕ) → change ≡ written_for entry bytes → Appends before now change → is_some now ≡ is_some before
         → SubmitAdds inner entry bytes held (Err halt) items inner → (changed_entry_in change ≡ entry → changed_data_in change ≡ beside_bytes (decode_of entry) bytes → after ≡ given)
-        → AnswersEntry (journaled loss inner next contents) entry bytes held (Err Stopped) items (journaled losses.Completion inner after.zones now)
+        → AnswersInStep (journaled loss inner next contents) entry bytes held (Err Stopped) items (journaled losses.Completion inner after.zones now)
     shown-behind after now change halt items is appends known gives same =
         let is_given = same (entry-written entry bytes change long changing is) (data-written entry bytes change long changing is) in
-        subst (λ (l : Loss). AnswersEntry (journaled l inner next contents) entry bytes held (Err Stopped) items (journaled losses.Completion inner after.zones now)) (sym ran.0)
-        (subst (λ (o : Outcome). AnswersEntry (going_on inner contents) entry bytes held (Err Stopped) items (journaled losses.Completion inner o.zones now)) (sym is_given)
+        subst (λ (l : Loss). AnswersInStep (journaled l inner next contents) entry bytes held (Err Stopped) items (journaled losses.Completion inner after.zones now)) (sym ran.0)
+        (subst (λ (o : Outcome). AnswersInStep (going_on inner contents) entry bytes held (Err Stopped) items (journaled losses.Completion inner o.zones now)) (sym is_given)
         (answers-behind inner contents before entry bytes held given long ran.1 was-within kept-within changing good can stored now (rw is at appends) known halt items gives))

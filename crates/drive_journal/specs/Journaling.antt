@@ -91,7 +91,7 @@ pub record WritesChange (old : Journaled) (entry bytes : List ℕ) (result : Res
   pub written : Writes old held entry bytes result new
 
 -- an answer to an entry, whose bytes come after those that were held
-pub record AnswersEntry (old : Journaled) (entry bytes held : List ℕ) (result : Result (List ℕ) Halt) (items : List ℕ) (new : Journaled) : Type 0 where
+pub record AnswersInStep (old : Journaled) (entry bytes held : List ℕ) (result : Result (List ℕ) Halt) (items : List ℕ) (new : Journaled) : Type 0 where
   pub gives : SubmitAdds old.drive entry bytes held result items new.drive
   pub was_lawful : IsLawful old.drive
   pub lawful : IsLawful new.drive

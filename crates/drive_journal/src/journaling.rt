@@ -2,7 +2,7 @@ ghost use Rattle.std.specs.Prelude.{◌≡◌, [], IfSome, false};
 ghost use Rattle.drive_port.specs.Drive.{IsLawful};
 ghost use Rattle.drive_port.specs.Halting.{SubmitAdds, SubmitGives};
 ghost use Rattle.drive_journal.specs.File.{IsStoredWhole};
-ghost use Rattle.drive_journal.specs.Journaling.{AnswersEntry, IsInStep, WritesChange};
+ghost use Rattle.drive_journal.specs.Journaling.{AnswersInStep, IsInStep, WritesChange};
 
 use crate::change::{make_ready, will_change};
 use crate::foreseeing::Foreseeing;
@@ -90,7 +90,7 @@ impl<D: Foreseeing + Drop, S: Store<D> + Drop> Journaling<D, S> {
         bytes: &[u8],
         into: &mut Vec<u8>,
     ) -> Result<[u8; 16], Halt>
-        ensures { AnswersEntry self.old entry.now bytes.now into.old.items result into.new.items self.new }
+        ensures { AnswersInStep self.old entry.now bytes.now into.old.items result into.new.items self.new }
     {
         if self.stopped() {
             return Err(Halt::Stopped);
