@@ -5,7 +5,7 @@
 //! findings.refusal;                                   // by what a mount is refused; None if it is not
 //! findings.batches;                                   // each zone whose batches have a fault by themselves
 //! findings.repeated;                                  // each sequence that an earlier batch has, too
-//! findings_text(alloc, &findings)?;                   // a line for each, that of the refusal first
+//! check_forms::findings_text(alloc, &findings)?;      // a line for each, that of the refusal first
 //! ```
 //!
 //! # What is promised
