@@ -1,5 +1,6 @@
-/* Reads a file into memory that was never touched, writes it to another file if one is named, and prints the seconds
-   that it took: what no program that holds a drive in memory can be faster than. */
+/* Reads a file into memory that was never touched, writes it to another file if one is named, which takes the place of
+   a third one if that is named, and prints the seconds that it took: what no program that holds a drive in memory can be
+   faster than. */
 #include <fcntl.h>
 #include <stdio.h>
 #include <stdlib.h>
@@ -25,7 +26,8 @@ int main(int argc, char **argv) {
         held += count;
     while (writes && written < held && (count = write(to, bytes + written, held - written)) > 0)
         written += count;
+    int replaced = argc > 3 ? rename(argv[2], argv[3]) : 0;
     clock_gettime(CLOCK_MONOTONIC, &end);
     printf("%.6f\n", (end.tv_sec - start.tv_sec) + (end.tv_nsec - start.tv_nsec) / 1e9);
-    return held != size || (writes && written != size);
+    return held != size || (writes && written != size) || replaced != 0;
 }

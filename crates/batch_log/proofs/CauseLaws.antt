@@ -1,5 +1,5 @@
 -- A block has no cause exactly where it is a header block.
-use Rattle.std.proofs.Common.{◌≡◌, ◌⊎◌, inl, inr, ℕ, zero, suc, ◌+◌, ◌-◌, ◌*◌, ◌<◌, ◌≤◌, ◌^◌, Bool, true, false, not, ◌&&◌, ◌||◌, eqb, ltb, List, [], ◌∷◌, ◌++◌, length, take, drop, replicate, Option, Some, None, refl, sym, ap, ◌∙◌, arith}
+use Rattle.std.proofs.Common.{◌≡◌, ◌⊎◌, inl, inr, ℕ, zero, suc, ◌+◌, ◌-◌, ◌*◌, ◌<◌, ◌≤◌, ◌^◌, Bool, true, false, not, ◌||◌, eqb, ltb, List, [], ◌∷◌, ◌++◌, length, take, drop, replicate, Option, Some, None, refl, sym, ap, ◌∙◌, arith}
 use Rattle.std.specs.Prelude.{nat_eq, nat_le, ◌==◌, IfSome}
 use Rattle.std.specs.List.{flat_map, list_any, starts_with, AllByRecursion, IsDistinct}
 use Rattle.std.specs.Cmp.Lexicographic.{same_text}
@@ -13,7 +13,7 @@ use Rattle.batch_log.specs.declared.header.Kind.TheVariants.{Host, Move}
 use Rattle.batch_log.specs.declared.header.Entry.{Entry}
 use Rattle.batch_log.specs.Header.{Heading, IsHeading, IsHeaderBlock, IsNoHeader, IsSize, entry_word_bytes, entry_room, entry_word, head_size, header_block, kind_code, header_magic, size_word, version_of}
 use Rattle.batch_log.specs.Reading.{IsView, count_in, entries_in, entries_of, entry_of, heading_in, kind_in, kind_of, sequence_in, said_size, size_word_in, source_in, version_in}
-use Rattle.batch_log.specs.Causes.{blocks_named, first_cause, has_early_size, has_host_source, has_odd_size, header_checks, header_fault, is_kind, is_size, is_version, is_zero, repeats, rest_in}
+use Rattle.batch_log.specs.Causes.{entry_blocks, first_cause, has_early_size, has_host_source, has_odd_size, header_checks, header_fault, is_kind, is_size, is_version, is_zero, repeats, rest_in}
 use Rattle.batch_log.proofs.HeaderLaws.{header_again, version_again, word_small}
 use Rattle.batch_log.proofs.EntryLaws.{entries_length}
 use Rattle.batch_log.proofs.NumberLaws.{AreBytes, drop-bytes, number-below, number_in_front}
@@ -75,12 +75,14 @@ distinct-back (x ∷ xs) all = rw (differ-back x xs all.0) (distinct-back xs all
 
 -- ---- zeros
 
+-- bytes that are found to be zeros are zeros
 pub all_zeros : (xs : List ℕ) → is_zero xs ≡ true → xs ≡ replicate (length xs) 0
 all_zeros [] e = refl
 all_zeros (x ∷ xs) e =
     let both = and_parts (eqb x 0) (is_zero xs) e in
     rw (eqb-true x 0 both.0) (ap (λ (ys : List ℕ). 0 ∷ ys) (all_zeros xs both.1))
 
+-- and zeros are found to be zeros
 pub zeros_zero : (n : ℕ) → is_zero (replicate n 0) ≡ true
 zeros_zero zero = refl
 zeros_zero (suc n) = zeros_zero n
@@ -179,6 +181,7 @@ host_back kind source (inl e) none host =
     eqb-true source 0 (not-false (eqb source 0) zero_source)
 host_back kind source (inr e) none host = let move : Move ≡ Host = rw e at host in absurd (cc)
 
+-- a block with no fault is the header of a view
 pub accepted : (block : List ℕ) → head_size ≤ length block → AreBytes block → header_fault block ≡ None → IsView block
 unfolding header_fault heading_in AllFail
 accepted block le all none =
@@ -205,7 +208,7 @@ accepted block le all none =
           host = host_back (kind_in block) (source_in block) kind passes.1.1.1.1.1.1.0;
           size = size_back (version_in block) (size_word_in block) version passes.1.1.1.1.0;
           blocks = blocks_small (count_in block) (drop head_size block) after;
-          distinct = distinct (blocks_named (entries_of block)) passes.1.1.1.1.1.1.1.1.0;
+          distinct = distinct (entry_blocks (entries_of block)) passes.1.1.1.1.1.1.1.1.0;
         };
         spelled = block_layout block le all begins
             ∙ same_layout _ _ _ _ _ _ _ _ _ _ _ _ _ _ (sym (version_back (version_in block) (size_word_in block) version)) (sym (kind_back (kind_in block) kind)) (sym long) refl refl
@@ -278,6 +281,7 @@ host_passes : (k : Kind) (source : ℕ) → (k ≡ Host → source ≡ 0) → ha
 host_passes Host source host = rw (host refl) refl
 host_passes Move source host = refl
 
+-- and a header has no fault
 pub no_fault : (block : List ℕ) (h : Heading) → length block < 2 ^ 32 → IsHeaderBlock (length block) block h → header_fault block ≡ None
 unfolding header_fault AllFail
 no_fault block h small is =
@@ -309,7 +313,7 @@ no_fault block h small is =
                   (
                     ap (λ (xs : List ℕ). not (is_zero xs)) rest ∙ ap not (zeros_zero (size - head_size - 8 * length h.entries)),
                     (
-                      ap (λ (es : List Entry). repeats (blocks_named es)) entries ∙ distinct-back (blocks_named h.entries) is.says.distinct,
+                      ap (λ (es : List Entry). repeats (entry_blocks es)) entries ∙ distinct-back (entry_blocks h.entries) is.says.distinct,
                       tt,
                     ),
                   ),

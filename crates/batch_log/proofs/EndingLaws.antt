@@ -1,5 +1,5 @@
 -- Blocks are read in one way, and how they end says whether they have a log.
-use Rattle.std.proofs.Common.{◌≡◌, inl, inr, ℕ, zero, suc, ◌<◌, ◌≤◌, ◌^◌, Bool, true, false, ◌&&◌, leb, List, [], ◌∷◌, ◌++◌, length, take, drop, replicate, Option, Some, None, refl, sym, ap, ◌∙◌, append_assoc, arith}
+use Rattle.std.proofs.Common.{◌≡◌, inl, inr, ℕ, zero, suc, ◌<◌, ◌≤◌, ◌^◌, Bool, true, false, leb, List, [], ◌∷◌, ◌++◌, length, take, drop, replicate, Option, Some, None, refl, sym, ap, ◌∙◌, append_assoc, arith}
 use Rattle.std.specs.List.{flat_map, list_all, AllByRecursion}
 use Rattle.std.proofs.lemmas.Bool.{leb-true, leb-false, and_parts}
 use Rattle.std.proofs.lemmas.List.{drop_at, length-append, length-take, take_at, take-append-drop}
@@ -28,6 +28,7 @@ same_first b c bs cs e1 e2 e3 =
     let head : c ≡ b = ap (λ (h : Heading). made h c.body) (sym e1) ∙ ap (made b.heading) (sym e2) in
     ap (λ (x : Batch). x ∷ cs) head ∙ ap (λ (xs : List Batch). b ∷ xs) e3
 
+-- blocks begin with the batches of one log alone, before what begins with none
 pub one_front : (size : ℕ) (log log' : List Batch) (tail tail' : List (List ℕ)) → size < 2 ^ 32 → AllByRecursion (IsBatch size) log → AllByRecursion (IsBatch size) log'
     → BeginsWithNoBatch size tail → BeginsWithNoBatch size tail' → flat_map (batch_blocks size) log ++ tail ≡ flat_map (batch_blocks size) log' ++ tail' → SameFront log log' tail tail'
 one_front size [] [] tail tail' small all all' none none' e = record { log_is = refl; tail_is = sym e }
@@ -50,6 +51,7 @@ one_front size (b ∷ bs) (c ∷ cs) tail tail' small all all' none none' e =
     let more = one_front size bs cs tail tail' small all.1 all'.1 none none' left in
     record { log_is = same_first b c bs cs heading body more.log_is; tail_is = more.tail_is }
 
+-- blocks are read in one way
 pub one_reading : OneReading
 one_reading size full blocks log other ending end small reads reads' =
     let same = one_front size log other reads.tail reads'.tail small reads.front.batches reads'.front.batches reads.no_more reads'.no_more (sym reads.front.spelled ∙ reads'.front.spelled) in
@@ -74,6 +76,7 @@ zeros_none : (size n : ℕ) (batch : Batch) (others : List (List ℕ)) → repli
 zeros_none size zero batch others e = absurd (cc)
 zeros_none size (suc n) batch others e = let first : zero_block size ≡ header_block size batch.heading = cc in not_zero size batch.heading (sym first)
 
+-- a tail begins with no batch
 pub tail_none : (size : ℕ) (full : Bool) (tail : List (List ℕ)) → size < 2 ^ 32 → IsTail size full tail → BeginsWithNoBatch size tail
 tail_none size false tail small (inl none) batch others fits e = let h : [] ≡ batch_blocks size batch ++ others = sym none ∙ e in absurd (cc)
 tail_none size false tail small (inr is) batch others fits e = torn_none size tail small is batch others fits e
@@ -91,6 +94,7 @@ zeros_end : (size n : ℕ) → ending_of true (replicate n (zero_block (suc size
 zeros_end size zero = refl
 zeros_end size (suc n) = rw (zero_fault size, zeros_zero size, zeros_all (suc size) n) refl
 
+-- and it is no fault
 pub never_fails : (size : ℕ) (full : Bool) (tail : List (List ℕ)) (fault : LogFault) → head_size ≤ size → size < 2 ^ 32 → IsTail size full tail → ending_of full tail ≡ failed fault → ⊥
 never_fails size false tail fault le small (inl none) e = let h : ended ≡ failed fault = rw none at e in absurd (cc)
 never_fails size false tail fault le small (inr is) e =
@@ -168,6 +172,7 @@ torn_tail size full (b ∷ bs) le small all none e = at (header_fault b) refl
             let whole : b ∷ bs ≡ header_block size (heading_in b) ∷ (take n bs ++ drop n bs) = ap (λ (y : List ℕ). y ∷ bs) is.spelled ∙ ap (λ (ys : List (List ℕ)). header_block size (heading_in b) ∷ ys) (sym (take-append-drop n bs)) in
             absurd (none (record { heading = heading_in b; body = take n bs }) (drop n bs) (record { heading = is.says; body = omega (arith, length-take n bs, enough) }) whole)
 
+-- what is read are the batches of the log, and whether its tail is torn
 pub reading_says : ReadingSays
 reading_says size full blocks log ended le small all reads =
     let tail = tail_blocks size (flat_map (batch_blocks size) log) reads.tail (rw reads.front.spelled at all) in

@@ -8,13 +8,14 @@ use Rattle.byteorder.specs.Endian.{little_from}
 use Rattle.batch_log.specs.declared.header.Entry.{Entry}
 use Rattle.batch_log.specs.Log.{data_count, one_unless}
 use Rattle.batch_log.specs.Reading.{number_at, entry_of, entries_in}
-use Rattle.batch_log.specs.Causes.{blocks_named, repeats}
+use Rattle.batch_log.specs.Causes.{entry_blocks, repeats}
 
 -- as many entries are read as the count says
 pub entries_length : (count : ℕ) (bytes : List ℕ) → length (entries_in count bytes) ≡ count
 entries_length zero bytes = refl
 entries_length (suc n) bytes = let rest = entries_length n (drop 8 bytes) in omega (arith, rest)
 
+-- the entries from one on are this one and those after it
 pub entries_more : (count i : ℕ) (bytes : List ℕ) → i < count
     → entries_in (count - i) (drop (8 * i) bytes) ≡ entry_of (number_at (8 * i) 8 bytes) ∷ entries_in (count - (i + 1)) (drop (8 * (i + 1)) bytes)
 entries_more count i bytes lt =
@@ -24,20 +25,23 @@ entries_more count i bytes lt =
 
 -- one of the entries from one on names the block
 abbrev pub named_from : ℕ → List ℕ → ℕ → ℕ → Bool
-named_from block bytes count i = list_any (λ y. nat_eq block y) (blocks_named (entries_in (count - i) (drop (8 * i) bytes)))
+named_from block bytes count i = list_any (λ y. nat_eq block y) (entry_blocks (entries_in (count - i) (drop (8 * i) bytes)))
 
 -- two of them name one block
 abbrev pub repeats_from : List ℕ → ℕ → ℕ → Bool
-repeats_from bytes count i = repeats (blocks_named (entries_in (count - i) (drop (8 * i) bytes)))
+repeats_from bytes count i = repeats (entry_blocks (entries_in (count - i) (drop (8 * i) bytes)))
 
+-- a block is named from an entry on by this entry, or by a later one
 pub named_more : (block count i : ℕ) (bytes : List ℕ) (e : Entry) → i < count → e ≡ entry_of (number_at (8 * i) 8 bytes)
     → named_from block bytes count i ≡ (nat_eq block e.block || named_from block bytes count (i + 1))
-named_more block count i bytes e lt is = ap (λ (es : List Entry). list_any (λ y. nat_eq block y) (blocks_named es)) (entries_more count i bytes lt) ∙ rw is refl
+named_more block count i bytes e lt is = ap (λ (es : List Entry). list_any (λ y. nat_eq block y) (entry_blocks es)) (entries_more count i bytes lt) ∙ rw is refl
 
+-- a block is named twice from an entry on if that of this one is, or a later one
 pub repeats_more : (count i : ℕ) (bytes : List ℕ) (e : Entry) → i < count → e ≡ entry_of (number_at (8 * i) 8 bytes)
     → repeats_from bytes count i ≡ (named_from e.block bytes count (i + 1) || repeats_from bytes count (i + 1))
-repeats_more count i bytes e lt is = ap (λ (es : List Entry). repeats (blocks_named es)) (entries_more count i bytes lt) ∙ rw is refl
+repeats_more count i bytes e lt is = ap (λ (es : List Entry). repeats (entry_blocks es)) (entries_more count i bytes lt) ∙ rw is refl
 
+-- the entry with a number is where its bytes are
 pub entry_there : (count i : ℕ) (bytes : List ℕ) → i < count → slice_get (entries_in count bytes) i ≡ Some (entry_of (number_at (8 * i) 8 bytes))
 entry_there zero i bytes lt = absurd (omega arith)
 entry_there (suc n) zero bytes lt = refl
@@ -49,6 +53,7 @@ entry_there (suc n) (suc i) bytes lt =
 abbrev pub data_from : List ℕ → ℕ → ℕ → ℕ
 data_from bytes count i = data_count (entries_in (count - i) (drop (8 * i) bytes))
 
+-- the data blocks from an entry on are its own and those of later ones
 pub data_more : (count i : ℕ) (bytes : List ℕ) (e : Entry) → i < count → e ≡ entry_of (number_at (8 * i) 8 bytes) → data_from bytes count i ≡ one_unless e.trim + data_from bytes count (i + 1)
 data_more count i bytes e lt is = ap data_count (entries_more count i bytes lt) ∙ rw is refl
 
@@ -59,16 +64,19 @@ few-data false = omega arith
 
 -- ---- entries in ascending order
 
+-- each number is above the one before it
 abbrev pub ascends : ℕ → List ℕ → Bool
 ascends least [] = true
 ascends least (x ∷ xs) = nat_le least x && ascends (x + 1) xs
 
+-- the blocks of the entries from one on ascend
 abbrev pub ascends_from : List ℕ → ℕ → ℕ → ℕ → Bool
-ascends_from bytes count least i = ascends least (blocks_named (entries_in (count - i) (drop (8 * i) bytes)))
+ascends_from bytes count least i = ascends least (entry_blocks (entries_in (count - i) (drop (8 * i) bytes)))
 
+-- they do if this one is no less than the least, and those after it are above it
 pub ascends_more : (count i least : ℕ) (bytes : List ℕ) (e : Entry) → i < count → e ≡ entry_of (number_at (8 * i) 8 bytes)
     → ascends_from bytes count least i ≡ (nat_le least e.block && ascends_from bytes count (e.block + 1) (i + 1))
-ascends_more count i least bytes e lt is = ap (λ (es : List Entry). ascends least (blocks_named es)) (entries_more count i bytes lt) ∙ rw is refl
+ascends_more count i least bytes e lt is = ap (λ (es : List Entry). ascends least (entry_blocks es)) (entries_more count i bytes lt) ∙ rw is refl
 
 -- numbers from one on, none of them twice
 record AreApart (least : ℕ) (xs : List ℕ) : Type 0 where
@@ -89,5 +97,6 @@ apart least (x ∷ xs) e = by (leb least x) refl e (apart (x + 1) xs)
           above = λ y lt. rw (ne_eqb y x (λ same. omega (arith, same, le, lt))) (others.above y (omega (arith, le, lt)));
         }
 
+-- numbers that ascend do not repeat
 pub ascending : (xs : List ℕ) → ascends 0 xs ≡ true → repeats xs ≡ false
 ascending xs e = (apart 0 xs e).once

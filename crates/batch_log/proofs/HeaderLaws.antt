@@ -38,10 +38,12 @@ entries_again (e ∷ es) rest all =
     let others = entries_again es rest all.1 in
     ap (λ (w : ℕ). entry_of w ∷ entries_in (length es) behind) word ∙ rw (entry_again e all.0, others) refl
 
-pub kind_again : (k : Kind) → kind_of (little_from 0 2 (little_bytes 2 (kind_code k))) ≡ k
+-- a kind is read back from its code
+kind_again : (k : Kind) → kind_of (little_from 0 2 (little_bytes 2 (kind_code k))) ≡ k
 kind_again Host = refl
 kind_again Move = refl
 
+-- and a version from its bytes
 pub version_again : (size : Option ℕ) → little_from 0 2 (little_bytes 2 (version_of size)) ≡ version_of size
 version_again None = refl
 version_again (Some n) = refl
@@ -50,6 +52,7 @@ size_again : (size : Option ℕ) (version word : ℕ) → version ≡ version_of
 size_again None version word e h = rw e refl
 size_again (Some n) version word e h = rw (e, h) refl
 
+-- the size of a disk fits its word
 pub word_small : (size : Option ℕ) → IfSome size IsSize → size_word size < 256 ^ 4
 word_small None is = omega arith
 word_small (Some n) is = omega (arith, is.1)
@@ -58,9 +61,11 @@ word_small (Some n) is = omega (arith, is.1)
 abbrev pub made : Kind → ℕ → ℕ → Option ℕ → List Entry → Heading
 made kind sequence source size entries = record { kind = kind; sequence = sequence; source = source; size = size; entries = entries }
 
+-- headings with the same parts are the same
 pub same_heading : (k k' : Kind) (s s' o o' : ℕ) (n n' : Option ℕ) (es es' : List Entry) → k ≡ k' → s ≡ s' → o ≡ o' → n ≡ n' → es ≡ es' → made k s o n es ≡ made k' s' o' n' es'
 same_heading k k' s s' o o' n n' es es' e1 e2 e3 e4 e5 = rw (e1, e2, e3, e4, e5) refl
 
+-- a header is read back from its block
 pub header_again : HeaderAgain
 unfolding heading_in header_block
 header_again size h small is =
@@ -76,9 +81,11 @@ header_again size h small is =
     let entries = ap (λ (n : ℕ). entries_in n more) count ∙ entries_again h.entries zeros is.blocks in
     same_heading _ _ _ _ _ _ _ _ _ _ (kind_again h.kind) sequence source (size_again h.size _ _ (version_again h.size) word) entries
 
+-- a block is the header of one heading at most
 pub one_header : OneHeader
 one_header size h k small is is' same = sym (header_again size h small is) ∙ ap heading_in same ∙ header_again size k small is'
 
+-- a header has the length of a block
 pub header_length : HeaderLength
 unfolding header_block
 header_length size h le is =

@@ -25,6 +25,7 @@ skipped size full offset (suc n) (b ∷ bs) = skipped size full offset n bs
 abbrev pub at_end : ℕ → Ending → Reading
 at_end offset ending = record { batches = []; offset = offset; ending = ending }
 
+-- where no batch begins, reading ends, or fails there
 pub no_batch : (size : ℕ) (full : Bool) (offset : ℕ) (bytes : List ℕ) → bytes ≢ [] → begins size bytes ≡ false → read_from size full offset 0 bytes ≡ at_end offset (ending_at size full bytes)
 no_batch size full offset [] some none = absurd (some refl)
 no_batch size full offset (b ∷ bs) some none = rw none refl
@@ -71,22 +72,28 @@ lent size full offset bytes block others body after heading count next positive 
 
 -- ---- what is left at an end
 
+-- what an iterator lends of a reading: its batches, and the fault that ended it
 abbrev pub items : Reading → List Item
 items r = items_of r.batches r.offset r.ending
 
+-- where the torn tail begins that ended it
 abbrev pub tail : Reading → Option ℕ
 tail r = torn_of r.offset r.ending
 
+-- a reading that fails lends its fault last
 pub fails : (r : Reading) (offset : ℕ) (fault : LogFault) (told : Option ℕ) (result : FaultAt) → r ≡ at_end offset (failed fault) → result ≡ record { offset = offset; fault = fault }
     → (items r ≡ Err result ∷ []) × (told ≡ or_else (tail r) told)
 fails r offset fault told result e is = rw (e, is) (refl, refl)
 
+-- one that ends lends nothing more
 pub ends : (r : Reading) (offset : ℕ) (told : Option ℕ) → r ≡ at_end offset ended → (items r ≡ []) × (told ≡ or_else (tail r) told)
 ends r offset told e = rw e (refl, refl)
 
+-- nor does one that finds a torn tail, and tells where
 pub tears : (r : Reading) (offset : ℕ) (told : Option ℕ) → r ≡ at_end offset torn → (items r ≡ []) × (Some offset ≡ or_else (tail r) told)
 tears r offset told e = rw e (refl, refl)
 
+-- one that finds a batch lends it, and then what follows
 pub goes_on : (r next : Reading) (batch : LentBatch) (told : Option ℕ) → r ≡ with_batch batch next → (items r ≡ Ok batch ∷ items next) × (or_else (tail next) told ≡ or_else (tail r) told)
 goes_on r next batch told e = rw e (refl, refl)
 
@@ -104,9 +111,11 @@ ends_within size bytes offset end count positive total fits = by (ltb end (offse
         absurd (omega (arith, more, add-mul offset count size, total, fits, positive))
     by false e = ltb-false end (offset + 1 + count) e
 
+-- how many bytes are left after a batch
 pub left_after : (size bytes offset end count after : ℕ) → bytes + offset * size ≡ end * size → size + count * size ≤ bytes → after ≡ bytes - size - count * size → after + (offset + 1 + count) * size ≡ end * size
 left_after size bytes offset end count after total fits is = omega (arith, is, total, fits, add-mul (offset + 1) count size, add-mul offset 1 size)
 
+-- so many bytes fit 64 bits
 pub few_bytes : (count size : ℕ) → count ≤ 2 ^ 29 → size < 2 ^ 32 → count * size < 2 ^ 64
 few_bytes count size few small = let most : count * size ≤ 2 ^ 29 * 2 ^ 32 = mul-le count size (2 ^ 29) (2 ^ 32) few (omega arith) in omega (arith, most)
 

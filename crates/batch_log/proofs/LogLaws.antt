@@ -71,6 +71,7 @@ tail_ends size false tail small (inl none) = rw none refl
 tail_ends size false tail small (inr torn) = torn_ends size tail small torn
 tail_ends size true tail small end = ap (log_from 0) end ∙ zeros_end size (length tail)
 
+-- blocks have at most one log
 pub one_log : OneLog
 one_log size is_full blocks log small is =
     ap log_of is.front.spelled ∙ log_from-spelled size log is.tail small is.front.batches ∙ ap (λ (more : List Batch). log ++ more) (tail_ends size is_full is.tail small is.end) ∙ append-nil log
@@ -82,12 +83,14 @@ pub spelled_length : (size : ℕ) (log : List Batch) → AllByRecursion (IsBatch
 spelled_length size [] all = refl
 spelled_length size (b ∷ bs) all = omega (arith, length-append b.body (flat_map (batch_blocks size) bs), all.0.body, spelled_length size bs all.1)
 
+-- and at most one tail
 pub one_tail : OneTail
 one_tail size is_full blocks log small is =
     let read : log_size (log_of blocks) ≡ log_size log = ap log_size (one_log size is_full blocks log small is) in
     let long = spelled_length size log is.front.batches in
     sym (ap (λ (k : ℕ). drop k blocks) read ∙ ap (drop (log_size log)) is.front.spelled ∙ drop_at (flat_map (batch_blocks size) log) is.tail (log_size log) long)
 
+-- a log with no tail is all of the blocks
 pub whole_log : WholeLog
 whole_log size is_full blocks log is = record { tail = []; front = is; end = none is_full }
   where
@@ -99,6 +102,7 @@ whole_log size is_full blocks log is = record { tail = []; front = is; end = non
 pub count_tail : (size : ℕ) (blocks tail : List (List ℕ)) (log : List Batch) → BeginsWith size blocks log tail → log_of blocks ≡ log → length blocks ≡ log_size (log_of blocks) + length tail
 count_tail size blocks tail log front read = omega (arith, ap length front.spelled, length-append (flat_map (batch_blocks size) log) tail, spelled_length size log front.batches, ap log_size read)
 
+-- blocks that are batches alone have no tail
 pub no_tail : NoTail
 no_tail size blocks log small is = record {
   whole = λ none.
@@ -113,6 +117,7 @@ no_tail size blocks log small is = record {
     torn_part (inl nil) lt = absurd (omega (arith, lt, ap length nil, count_tail size blocks is.tail log is.front (one_log size false blocks log small is)))
     torn_part (inr torn) lt = rw (← one_tail size false blocks log small is) torn
 
+-- a full zone has no torn tail
 pub untorn_log : UntornLog
 untorn_log size is_full blocks log = record {
   log_of_it = λ is. record { tail = is.tail; front = is.front; end = end is_full is.tail is.end };
@@ -139,6 +144,7 @@ all_more size (l ∷ ls) b all is = (all.0, all_more size ls b all.1 is)
 spelled_alone : (size : ℕ) (blocks : List (List ℕ)) (log : List Batch) → IsWholeLog size blocks log → blocks ≡ flat_map (batch_blocks size) log
 spelled_alone size blocks log is = is.spelled ∙ append-nil (flat_map (batch_blocks size) log)
 
+-- an Append of a batch leaves the log with that batch
 pub append_batch : AppendBatch
 append_batch size blocks log b is batch = record {
   spelled = rw (spelled_alone size blocks log is) (sym (append-nil _ ∙ flat_map-append (batch_blocks size) log (b ∷ []) ∙ simp append-nil));
@@ -171,6 +177,7 @@ front_tail size (suc j) b is lt = inr (record {
     length_take (suc k) [] le = absurd (omega arith)
     length_take (suc k) (x ∷ xs) le = omega (arith, length_take k xs (omega arith))
 
+-- an Append that was torn leaves the log, and a torn tail
 pub append_front : AppendFront
 append_front size j blocks log b small is batch lt =
     let tail = take j (batch_blocks size b) in
@@ -182,5 +189,6 @@ append_front size j blocks log b small is batch lt =
     positive zero le = absurd (omega arith)
     positive (suc k) le = omega arith
 
+-- a Finish leaves the log
 pub finish : Finish
 finish size rest blocks log is = with_tail size true blocks (replicate rest (zero_block size)) log is (rw length-replicate refl)

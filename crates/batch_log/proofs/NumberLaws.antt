@@ -8,13 +8,16 @@ use Rattle.byteorder.specs.Endian.{little_from}
 use Rattle.byteorder.specs.Numbers.{little_from-cons}
 use Rattle.batch_log.specs.Reading.{number_at}
 
+-- each number is a byte
 abbrev pub AreBytes : List ℕ → Type 0
 AreBytes xs = AllByRecursion (λ (b : ℕ). b < 256) xs
 
+-- they are bytes if each one is
 pub bytes-all : (xs : List ℕ) → ((k : ℕ) → get_or xs k 0 < 256) → AreBytes xs
 bytes-all [] h = tt
 bytes-all (x ∷ xs) h = (h 0, bytes-all xs (λ k. h (suc k)))
 
+-- what is left of bytes are bytes
 pub drop-bytes : (n : ℕ) (xs : List ℕ) → AreBytes xs → AreBytes (drop n xs)
 drop-bytes zero xs all = all
 drop-bytes (suc n) [] all = tt
@@ -36,7 +39,8 @@ bytes_above : (n i b r : ℕ) → b < 256 → bytes_low_first (suc i) n (b + 256
 bytes_above zero i b r lt = refl
 bytes_above (suc n) i b r lt = rw (byte_above i b r lt, bytes_above n (suc i) b r lt) refl
 
-pub number_again : (n : ℕ) (xs : List ℕ) → n ≤ length xs → AreBytes xs → bytes_low_first 0 n (little_from 0 n xs) ≡ take n xs
+-- the bytes of a number that was read are those that it was read from
+number_again : (n : ℕ) (xs : List ℕ) → n ≤ length xs → AreBytes xs → bytes_low_first 0 n (little_from 0 n xs) ≡ take n xs
 number_again zero xs le all = refl
 number_again (suc n) [] le all = absurd (omega arith)
 number_again (suc n) (x ∷ xs) le all =
@@ -45,6 +49,7 @@ number_again (suc n) (x ∷ xs) le all =
     let first : (x + 256 * little_from 0 n xs) % 256 ≡ x = omega (arith, all.0) in
     rw (moved, first, bytes_above n 0 x (little_from 0 n xs) all.0, rest) refl
 
+-- a number of n bytes is below 256 to the power of n
 pub number-below : (n : ℕ) (xs : List ℕ) → AreBytes xs → little_from 0 n xs < 256 ^ n
 number-below zero xs all = omega arith
 number-below (suc n) [] all =

@@ -142,6 +142,7 @@ batch_read size full offset count b bs le all e count-is enough rest =
 reading-nil : (size : ℕ) (full : Bool) (offset : ℕ) → ReadsFrom size full offset [] (read_from size full offset 0 [])
 reading-nil size full offset = none_read size full offset [] _ (λ batch others is h. absurd (cc)) refl
 
+-- what is read of these bytes is what the blocks say, from an offset on
 pub reading : (size : ℕ) (full : Bool) (offset skip : ℕ) (blocks : List (List ℕ)) → head_size ≤ size → size < 2 ^ 32 → AreBlocks size blocks
     → ReadsFrom size full offset (drop skip blocks) (read_from size full offset 0 (bytes_of_blocks (drop skip blocks)))
 reading size full offset zero [] le small all = reading-nil size full offset

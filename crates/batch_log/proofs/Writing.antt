@@ -7,13 +7,14 @@ use Rattle.batch_log.specs.declared.header.Entry.{Entry}
 use Rattle.batch_log.specs.Header.{entry_word_bytes}
 
 -- the write goes after `done`, over the first of what is left
-pub written_behind : (a k n : ℕ) (done more word ys : List ℕ) → length done ≡ a → length more ≡ k → n ≤ k → ys ≡ word ++ drop n (take k (drop a (done ++ more))) → put_mid a k (done ++ more) ys ≡ (done ++ word) ++ drop n more
+written_behind : (a k n : ℕ) (done more word ys : List ℕ) → length done ≡ a → length more ≡ k → n ≤ k → ys ≡ word ++ drop n (take k (drop a (done ++ more))) → put_mid a k (done ++ more) ys ≡ (done ++ word) ++ drop n more
 written_behind a k n done more word ys len all le e =
     let rest : take k (drop a (done ++ more)) ≡ more = rw (drop_at done more a len) (take_all k more (omega arith)) in
     let new : ys ≡ word ++ drop n more = e ∙ rw rest refl in
     let behind : drop k (drop a (done ++ more)) ≡ [] = rw (drop_at done more a len) (drop_all k more (omega arith)) in
     rw (take_at done more a len, new) (ap (λ (t : List ℕ). done ++ ((word ++ drop n more) ++ t)) behind ∙ simp (append_assoc, append-nil))
 
+-- an entry has eight bytes
 pub length-entries : (entries : List Entry) → length (flat_map entry_word_bytes entries) ≡ 8 * length entries
 length-entries [] = refl
 length-entries (e ∷ es) = let rest = length-entries es in omega (arith, rest)

@@ -41,8 +41,8 @@ repeats (x ∷ xs) = list_any (λ y. nat_eq x y) xs || repeats xs
 abbrev pub rest_in : List ℕ → List ℕ
 rest_in block = drop (head_size + 8 * count_in block) block
 
-abbrev pub blocks_named : List Entry → List ℕ
-blocks_named entries = map (λ (e : Entry). e.block) entries
+abbrev pub entry_blocks : List Entry → List ℕ
+entry_blocks entries = map (λ (e : Entry). e.block) entries
 
 -- the tests of a block in their order, each with the cause where it holds
 abbrev pub header_checks : List ℕ → List (Bool × LogFault)
@@ -55,7 +55,7 @@ header_checks block =
     ∷ (has_early_size (version_in block) (size_word_in block), RestNotZero)
     ∷ (has_host_source (kind_in block) (source_in block), RestNotZero)
     ∷ (not (is_zero (rest_in block)), RestNotZero)
-    ∷ (repeats (blocks_named (entries_of block)), BlockRepeated)
+    ∷ (repeats (entry_blocks (entries_of block)), BlockRepeated)
     ∷ []
 
 -- the cause of the first test that holds

@@ -4,7 +4,7 @@ ghost use Rattle.std.specs.List.{list_any};
 ghost use Rattle.byteorder.specs.Endian.{little_from};
 ghost use Rattle.batch_log.specs.Header.{IsHeaderBlock, IsNoHeader, head_size, entry_room};
 ghost use Rattle.batch_log.specs.Reading.{number_at, entry_of, entries_in, kind_of, said_size, count_in, heading_in};
-ghost use Rattle.batch_log.specs.Causes.{blocks_named, header_fault, has_early_size, has_host_source, has_odd_size};
+ghost use Rattle.batch_log.specs.Causes.{entry_blocks, header_fault, has_early_size, has_host_source, has_odd_size};
 ghost use Rattle.batch_log.specs.Causes.{is_kind, is_size, is_version, is_zero, repeats};
 ghost use Rattle.batch_log.specs.Log.{data_count, one_unless};
 
@@ -118,7 +118,7 @@ pub(crate) fn is_zero(bytes: &[u8]) -> bool
 fn is_named(block: u64, bytes: &[u8], first: usize, count: usize) -> bool
     requires { 8 * count ≤ length bytes.now }
     ensures { let later = entries_in (count - first) (drop (8 * first) bytes.now) in
-        result ≡ list_any (λ y. nat_eq block y) (blocks_named later) }
+        result ≡ list_any (λ y. nat_eq block y) (entry_blocks later) }
 {
     for i in first..count {
         if block == entry_at(bytes, i).block {
@@ -131,7 +131,7 @@ fn is_named(block: u64, bytes: &[u8], first: usize, count: usize) -> bool
 /// Whether each entry names a later block than the one before, so that none repeats another.
 fn ascend(bytes: &[u8], count: usize) -> bool
     requires { 8 * count ≤ length bytes.now }
-    ensures { IsTrue result → repeats (blocks_named (entries_in count bytes.now)) ≡ false }
+    ensures { IsTrue result → repeats (entry_blocks (entries_in count bytes.now)) ≡ false }
 {
     let mut least = 0;
     for i in 0..count {
@@ -148,7 +148,7 @@ fn ascend(bytes: &[u8], count: usize) -> bool
 /// others each is compared with each, 508 * 507 / 2 times at most.
 fn repeats(bytes: &[u8], count: usize) -> bool
     requires { 8 * count ≤ length bytes.now }
-    ensures { result ≡ repeats (blocks_named (entries_in count bytes.now)) }
+    ensures { result ≡ repeats (entry_blocks (entries_in count bytes.now)) }
 {
     if ascend(bytes, count) {
         return false;
@@ -164,7 +164,7 @@ fn repeats(bytes: &[u8], count: usize) -> bool
 /// Whether two of the entries of a block that has `count` of them name one block.
 fn has_repeats(block: &[u8], count: usize) -> bool
     requires { head_size + 8 * count ≤ length block.now }
-    ensures { result ≡ repeats (blocks_named (entries_in count (drop head_size block.now))) }
+    ensures { result ≡ repeats (entry_blocks (entries_in count (drop head_size block.now))) }
 {
     repeats(&block[HEAD_SIZE..], count)
 }

@@ -3,7 +3,7 @@
 
 use crate::fakes::FullWriter;
 use disk_files::{FailAfter, LineReader, WriteFault};
-use disk_jobs::{Job, DriveFile, ProgramFault, run_job, write_program_fault};
+use disk_jobs::{DriveFile, Job, ProgramFault, run_job, write_program_fault};
 use drive_images::{ImageFault, read_image, write_image};
 use drive_journal::{FileFault, Unknown};
 use std::alloc::{AllocError, Global};

@@ -4,8 +4,7 @@
 use crate::runs::FINISH;
 use clap::error::ErrorKind;
 use command_line::job_of;
-use disk_files::LineReader;
-use disk_jobs::{Job, do_job, explain, write_program_fault};
+use disk_jobs::{Gate, Job, JobInput, do_job, explain, write_program_fault};
 use std::alloc::{AllocError, Global};
 use std::fs;
 use std::fs::File;
@@ -49,7 +48,8 @@ fn answer<R: Files<File = File> + Abort>(
     lines: &[u8],
 ) -> (Vec<u8>, String) {
     let job = job(rt, alloc, line).ok().expect(rt, "a job");
-    let mut input = LineReader::new(alloc, lines);
+    let gate = Gate::open();
+    let mut input = JobInput::new(alloc, &gate, lines);
     let mut written = Vec::new(alloc);
     let done = do_job(rt, alloc, &job, &mut input, &mut written);
     let mut told = String::new(alloc);
@@ -58,7 +58,9 @@ fn answer<R: Files<File = File> + Abort>(
     }
     for ended in [done.job, done.saved] {
         if let Err(fault) = ended {
-            let text = explain(alloc, &job, fault, input.line()).expect(rt, "memory");
+            let text = explain(alloc, &job, fault, input.line(), done.mounting).expect(
+                rt, "memory",
+            );
             told.push_str(&text).expect(rt, "memory");
             told.push('\n').expect(rt, "memory");
         }
@@ -209,10 +211,12 @@ fn does_its_jobs(rt: HostRuntime) {
 }
 
 const STOPPED_AT_ONCE: &str =
-    "zonedisk fresh --block 512 --zones 4 --size 8 --capacity 6 --transfer 4 --active 2 --open 2 --blocks 9 --stop-after 0";
+    "zonedisk fresh --block 512 --zones 4 --size 8 --capacity 6 --transfer 4 \
+     --active 2 --open 2 --blocks 9 --stop-after 0";
 
 const STOPPED_LATER: &str =
-    "zonedisk fresh --block 512 --zones 4 --size 8 --capacity 6 --transfer 4 --active 2 --open 2 --blocks 9 --stop-after 2";
+    "zonedisk fresh --block 512 --zones 4 --size 8 --capacity 6 --transfer 4 \
+     --active 2 --open 2 --blocks 9 --stop-after 2";
 
 // What standard error says of a fault: with a byte order mark, a carriage return, a tab, and words that are wrong.
 const TOLD: [(&str, &[u8], &str); 13] = [
@@ -220,12 +224,12 @@ const TOLD: [(&str, &[u8], &str); 13] = [
     (
         STOPPED_AT_ONCE,
         b"read 0 1\n",
-        "before the first line: the drive has stopped",
+        "before the first line: the drive has stopped, after 0 commands, of which the mount took 0",
     ),
     (
         STOPPED_LATER,
         b"fill 0 1 aa\nfill 0 1 bb\n",
-        "at the line `fill 0 1 bb`: the drive has stopped",
+        "at the line `fill 0 1 bb`: the drive has stopped, after 2 commands, of which the mount took 1",
     ),
     (
         "zonedisk report --image missing.image",
@@ -436,10 +440,12 @@ const FORMAT_KEPT: &str =
     "zonedisk format --image kept.image --block 512 --zones 4 --size 8 --capacity 6 --transfer 4 --active 2 --open 2";
 
 const FORMAT_MISSING: &str =
-    "zonedisk format --image missing/kept.image --block 512 --zones 4 --size 8 --capacity 6 --transfer 4 --active 2 --open 2";
+    "zonedisk format --image missing/kept.image --block 512 --zones 4 --size 8 --capacity 6 --transfer 4 \
+     --active 2 --open 2";
 
 const FORMAT_FOLDER: &str =
-    "zonedisk format --image kept.image.new --block 512 --zones 4 --size 8 --capacity 6 --transfer 4 --active 2 --open 2";
+    "zonedisk format --image kept.image.new --block 512 --zones 4 --size 8 --capacity 6 --transfer 4 \
+     --active 2 --open 2";
 
 const RUN_KEPT: &str = "zonedisk run --image kept.image --blocks 9";
 
@@ -490,8 +496,8 @@ start 16 state Full pointer - capacity 6
 start 24 state Empty pointer 24 capacity 6
 ";
 
-// The replies come before the fault. The changes are kept after the image, and the next job finds them. Both the fault of
-// a line and the save are told.
+// The replies come before the fault. The changes are kept after the image, and the next job finds them. Both the fault
+// of a line and the save are told.
 #[test]
 fn keeps_the_changes_where_a_save_fails(rt: HostRuntime) -> Result<(), Fail> {
     let alloc = rt.alloc();
@@ -558,7 +564,8 @@ const FORMAT_TEXT: &str =
     "zonedisk format --image text.image --block 512 --zones 4 --size 8 --capacity 6 --transfer 4 --active 2 --open 2";
 
 const FORCE_TEXT: &str =
-    "zonedisk format --force --image text.image --block 512 --zones 4 --size 8 --capacity 6 --transfer 4 --active 2 --open 2";
+    "zonedisk format --force --image text.image --block 512 --zones 4 --size 8 --capacity 6 --transfer 4 \
+     --active 2 --open 2";
 
 // A file that is no image is replaced only by force, and one that is locked not at all.
 #[test]

@@ -1,5 +1,5 @@
 -- What clap makes of the words of the program, and what refutes each job.
-use Rattle.std.proofs.Common.{◌≡◌, ◌∙◌, ◌⊎◌, ◌≢◌, inl, inr, ℕ, ◌<◌, ◌≤◌, ◌^◌, Bool, true, false, ◌&&◌, List, [], ◌∷◌, ap, refl, sym, subst, Option, Some, None, Result, Ok, Err, IsErrAnd, IsSomeAnd, arith, ne_eqb, leb-true}
+use Rattle.std.proofs.Common.{◌≡◌, ◌∙◌, ◌⊎◌, ◌≢◌, inl, inr, ℕ, ◌<◌, ◌≤◌, ◌^◌, Bool, true, false, ◌&&◌, List, [], ◌∷◌, ap, refl, sym, subst, Option, Some, None, Result, Ok, Err, IsErrAnd, IsSomeAnd, arith, ne_eqb, leb-true, codes}
 use Rattle.std.proofs.lemmas.Result.{err_from_is_err_and}
 use Rattle.std.specs.Borrow.{Bor}
 use Rattle.std.specs.Char.{digit_value, is_ascii_digit}
@@ -13,10 +13,12 @@ use Rattle.clap.specs.declared.error.kind.ErrorKind.TheVariants.{OutOfMemory}
 use Rattle.clap.specs.declared.parser.matches.ArgMatches.{ArgMatches}
 use Rattle.clap.proofs.OnLiterals.{clap_on_literals}
 use Rattle.disk_jobs.specs.declared.job.Job.{Job}
+use Rattle.command_line.specs.declared.task.Task.{Task}
+use Rattle.command_line.specs.declared.task.Task.TheVariants.{Lines, Nbd}
 use Rattle.command_line.specs.declared.words.WordFault.{WordFault}
 use Rattle.command_line.specs.declared.words.WordFault.TheVariants.{Memory}
 use Rattle.command_line.specs.Program.{habit_names, program}
-use Rattle.command_line.specs.Words.{AskFor, AsksFor, Finds, HasNumber, IsAnswerTo, IsNumber}
+use Rattle.command_line.specs.Words.{AskFor, AsksFor, AsksForJob, Finds, HasNumber, IsAnswerTo, IsNumber}
 
 -- ---- the program
 
@@ -33,13 +35,13 @@ met : (names : Bor (List (Bor Text))) (command : Command) (words : List Text) (m
 met names command words matches is has =
     (has (ap is_simple is ∙ simple names)).1 ∙ ap (λ (a : App). subcommand_of a words) is
 
--- this is the job of the subcommand
-abbrev pub Asks : Job → Option (Text × List Row) → Type 0
-Asks job rows = IsSomeAnd rows (λ found. AsksFor found.0 found.1 job)
+-- this is the task of the subcommand
+abbrev pub Asks : Task → Option (Text × List Row) → Type 0
+Asks task rows = IsSomeAnd rows (λ found. AsksFor found.0 found.1 task)
 
--- so the words ask for the job of the matches' subcommand
-pub asks_too : (names : Bor (List (Bor Text))) (command : Command) (words : List Text) (matches : ArgMatches) (job : Job) → app_of command ≡ program names → HasMatchesOf (app_of command) words matches → Asks job (subcommand_rows_of matches) → Asks job (subcommand_of (program names) words)
-asks_too names command words matches job is has asks = subst (Asks job) (met names command words matches is has) asks
+-- so the words ask for the task of the matches' subcommand
+pub asks_too : (names : Bor (List (Bor Text))) (command : Command) (words : List Text) (matches : ArgMatches) (task : Task) → app_of command ≡ program names → HasMatchesOf (app_of command) words matches → Asks task (subcommand_rows_of matches) → Asks task (subcommand_of (program names) words)
+asks_too names command words matches task is has asks = subst (Asks task) (met names command words matches is has) asks
 
 -- the faults of the words are those of the command
 pub fails : (names : Bor (List (Bor Text))) (command : Command) (words : List Text) (r : Result ArgMatches Error) → app_of command ≡ program names → (is_simple_and_free (app_of command) ≡ true → FailsBy (fault_of (app_of command) words) r) → FailsBy (fault_of (program names) words) r
@@ -51,27 +53,27 @@ fails names command words r is kinds = subst (λ (a : App). FailsBy (fault_of a 
 abbrev pub Faults : {A : Type 0} → (A → Type 0) → WordFault → Type 0
 Faults {A} Is fault = (fault ≡ Memory) ⊎ ((value : A) → Is value → ⊥)
 
--- memory ran out, or these words ask for no job
+-- memory ran out, or these words ask for no task
 abbrev pub Refuses : Bor (List (Bor Text)) → List Text → Error → Type 0
-Refuses names words error = (kind_of error ≡ OutOfMemory) ⊎ ((job : Job) → AskFor names words job → ⊥)
+Refuses names words error = (kind_of error ≡ OutOfMemory) ⊎ ((task : Task) → AskFor names words task → ⊥)
 
--- clap takes the words of each job
+-- clap takes the words of each task
 pub refused_by_clap : (names : Bor (List (Bor Text))) (words : List Text) (error : Error) → HasKind (fault_of (program names) words) error → Refuses names words error
 refused_by_clap names words error (inl memory) = inl memory
-refused_by_clap names words error (inr among) = inr (λ job ask. rw ask.taken at among)
+refused_by_clap names words error (inr among) = inr (λ task ask. rw ask.taken at among)
 
--- the matches have what each job of the words asks
-pub refused_by_matches : (names : Bor (List (Bor Text))) (command : Command) (words : List Text) (matches : ArgMatches) (fault : WordFault) (error : Error) → app_of command ≡ program names → HasMatchesOf (app_of command) words matches → fault ≢ Memory → Faults (λ (job : Job). Asks job (subcommand_rows_of matches)) fault → Refuses names words error
+-- the matches have what each task of the words asks
+pub refused_by_matches : (names : Bor (List (Bor Text))) (command : Command) (words : List Text) (matches : ArgMatches) (fault : WordFault) (error : Error) → app_of command ≡ program names → HasMatchesOf (app_of command) words matches → fault ≢ Memory → Faults (λ (task : Task). Asks task (subcommand_rows_of matches)) fault → Refuses names words error
 refused_by_matches names command words matches fault error is has other (inl memory) = absurd (other memory)
 refused_by_matches names command words matches fault error is has other (inr none) =
-    inr (λ job ask. none job (subst (Asks job) (sym (met names command words matches is has)) ask.asks))
+    inr (λ task ask. none task (subst (Asks task) (sym (met names command words matches is has)) ask.asks))
 
 module _ (names : Bor (List (Bor Text))) (words : List Text) (error : Error) (are_habits : texts names.now ≡ habit_names) (refuses : Refuses names words error) where
   pub refusal_is : IsAnswerTo words (Err error)
-  refusal_is = record { names = names; are_habits = are_habits; job = tt; refusal = refuses }
+  refusal_is = record { names = names; are_habits = are_habits; task = tt; refusal = refuses }
 
   -- an error that is handed on
-  pub refusal_exits : (answer : Result Job Error) → IsErrAnd answer (λ e. e ≡ error) → IsAnswerTo words answer
+  pub refusal_exits : (answer : Result Task Error) → IsErrAnd answer (λ e. e ≡ error) → IsAnswerTo words answer
   refusal_exits answer is = let e = err_from_is_err_and answer is in rw (e.1, e.2) refusal_is
 
 -- ---- a number
@@ -134,3 +136,8 @@ exits IsPart Is (Err f) fault is part why = record {
 -- a fault where there is no such value
 pub refuted : {B : Type 0} (Is : B → Type 0) (fault : WordFault) → ((value : B) → Is value → ⊥) → Finds Is (Err fault)
 refuted Is fault none = record { value = tt; fault = inr none }
+
+-- what asks for a task that is not served asks for a job
+pub asks_for_job : (name : Text) (rows : List Row) → name ≢ codes "nbd" → (task : Task) → AsksFor name rows task → (job : Job) × AsksForJob name rows job
+asks_for_job name rows other (Lines job) asks = (job, asks)
+asks_for_job name rows other (Nbd job) asks = absurd (other asks.0)

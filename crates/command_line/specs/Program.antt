@@ -80,6 +80,9 @@ report_words = with_options (codes "report") (image ∷ [])
 abbrev pub nvme : Bor (List (Bor Text)) → Shape
 nvme names = with_options (codes "nvme") (image ∷ flag (codes "sync") ∷ habit names ∷ [])
 
+abbrev pub nbd : Bor (List (Bor Text)) → Shape
+nbd names = with_options (codes "nbd") (image ∷ optional blocks ∷ flag (codes "statistics") ∷ flag (codes "idle") ∷ habit names ∷ stops)
+
 abbrev pub fresh_words : Bor (List (Bor Text)) → Shape
 fresh_words names = with_options (codes "fresh") (parts ++ blocks ∷ flag (codes "report") ∷ flag (codes "statistics") ∷ habit names ∷ stops)
 
@@ -90,7 +93,7 @@ fresh_raw names = with_options (codes "fresh-raw") (parts ++ habit names ∷ [])
 abbrev pub program : Bor (List (Bor Text)) → App
 program names = record {
   top = record (new_shape (codes "zonedisk")) { is_leaf = false; has_version = true; subcommand_required = true };
-  subs = format ∷ run names ∷ report_words ∷ nvme names ∷ fresh_words names ∷ fresh_raw names ∷ [];
+  subs = format ∷ run names ∷ nbd names ∷ report_words ∷ nvme names ∷ fresh_words names ∷ fresh_raw names ∷ [];
 }
 
 -- these options are added to a command, none of which its subcommands inherit

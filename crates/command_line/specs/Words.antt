@@ -1,5 +1,5 @@
--- The job that words ask for.
-use Rattle.std.specs.Prelude.{◌≡◌, ◌⊎◌, ◌<◌, ◌^◌, ℕ, Bool, true, false, if◌then◌else◌, List, [], Some, None, IfErr, IfOk, IsSomeAnd, MatchOption, Result, codes, length, min, string_bytes}
+-- The task that words ask for.
+use Rattle.std.specs.Prelude.{◌≡◌, ◌⊎◌, ◌<◌, ◌^◌, ℕ, Bool, true, false, if◌then◌else◌, List, [], Option, Some, None, IfErr, IfOk, IsSomeAnd, MatchOption, Result, codes, length, min, string_bytes}
 use Rattle.std.specs.List.{list_all}
 use Rattle.std.specs.Borrow.{Bor}
 use Rattle.std.specs.Char.{is_ascii_digit}
@@ -15,6 +15,9 @@ use Rattle.zone_drive.specs.declared.habit.Habit.TheVariants as habits
 use Rattle.disk_jobs.specs.declared.job.Stop.{Stop}
 use Rattle.disk_jobs.specs.declared.job.Job.{Job}
 use Rattle.disk_jobs.specs.declared.job.Job.TheVariants.{Format, Run, Report, Nvme, Fresh, FreshRaw}
+use Rattle.nbd_jobs.specs.declared.job.NbdJob.{NbdJob}
+use Rattle.command_line.specs.declared.task.Task.{Task}
+use Rattle.command_line.specs.declared.task.Task.TheVariants.{Lines, Nbd}
 use Rattle.command_line.specs.declared.words.WordFault.{WordFault}
 use Rattle.command_line.specs.declared.words.WordFault.TheVariants.{Memory}
 use Rattle.command_line.specs.Program.{habit_names, program}
@@ -35,6 +38,10 @@ HasNumber bits rows name n = IsSomeAnd (first_of name rows) (λ text. IsNumber b
 -- the same, or this where it was given none
 abbrev pub HasNumberOr : ℕ → List Row → Text → ℕ → Type 0
 HasNumberOr missing rows name n = MatchOption (first_of name rows) (n ≡ missing) (λ text. IsNumber 64 text n)
+
+-- the number that an option was given, if it was given one
+abbrev pub HasNumberIf : List Row → Text → Option ℕ → Type 0
+HasNumberIf rows name value = MatchOption (first_of name rows) (value ≡ None) (λ text. IsSomeAnd value (IsNumber 64 text))
 
 -- whether a flag was given
 pub record HasFlag (rows : List Row) (name : Text) (flag : Bool) : Type 0 where
@@ -67,35 +74,48 @@ pub record HasStop (rows : List Row) (stop : Stop) : Type 0 where
 abbrev pub HasImage : List Row → Text → Type 0
 HasImage rows path = first_of (codes "image") rows ≡ Some path
 
--- ---- the job
+-- ---- the task
 
 -- what the job of a subcommand holds is what its options were given
-abbrev pub AsksFor : Text → List Row → Job → Type 0
-AsksFor name rows (Format path geometry force) =
+abbrev pub AsksForJob : Text → List Row → Job → Type 0
+AsksForJob name rows (Format path geometry force) =
     (name ≡ codes "format") × HasImage rows (string_bytes path) × HasGeometry rows geometry × HasFlag rows (codes "force") force
-AsksFor name rows (Run path blocks zones stop habit sync) =
+AsksForJob name rows (Run path blocks zones stop habit sync) =
     (name ≡ codes "run") × HasImage rows (string_bytes path) × HasNumber 64 rows (codes "blocks") blocks
     × HasFlag rows (codes "zones") zones × HasStop rows stop × HasHabit rows habit × HasFlag rows (codes "sync") sync
-AsksFor name rows (Report path) = (name ≡ codes "report") × HasImage rows (string_bytes path)
-AsksFor name rows (Nvme path habit sync) =
+AsksForJob name rows (Report path) = (name ≡ codes "report") × HasImage rows (string_bytes path)
+AsksForJob name rows (Nvme path habit sync) =
     (name ≡ codes "nvme") × HasImage rows (string_bytes path) × HasHabit rows habit × HasFlag rows (codes "sync") sync
-AsksFor name rows (Fresh geometry blocks report statistics stop habit) =
+AsksForJob name rows (Fresh geometry blocks report statistics stop habit) =
     (name ≡ codes "fresh") × HasGeometry rows geometry × HasNumber 64 rows (codes "blocks") blocks
     × HasFlag rows (codes "report") report × HasFlag rows (codes "statistics") statistics
     × HasStop rows stop × HasHabit rows habit
-AsksFor name rows (FreshRaw geometry habit) = (name ≡ codes "fresh-raw") × HasGeometry rows geometry × HasHabit rows habit
+AsksForJob name rows (FreshRaw geometry habit) = (name ≡ codes "fresh-raw") × HasGeometry rows geometry × HasHabit rows habit
 
--- clap refuses none of these words, which name a subcommand of the program, and this is its job
-pub record AskFor (names : Bor (List (Bor Text))) (words : List Text) (job : Job) : Type 0 where
+pub record AsksForNbd (rows : List Row) (job : NbdJob) : Type 0 where
+  pub image : HasImage rows (string_bytes job.image)
+  pub blocks : HasNumberIf rows (codes "blocks") job.blocks
+  pub stop : HasStop rows job.stop
+  pub habit : HasHabit rows job.habit
+  pub statistics : HasFlag rows (codes "statistics") job.statistics
+  pub idle : HasFlag rows (codes "idle") job.idle
+
+-- what the task of a subcommand holds is what its options were given
+abbrev pub AsksFor : Text → List Row → Task → Type 0
+AsksFor name rows (Lines job) = AsksForJob name rows job
+AsksFor name rows (Nbd job) = (name ≡ codes "nbd") × AsksForNbd rows job
+
+-- clap refuses none of these words, which name a subcommand of the program, and this is its task
+pub record AskFor (names : Bor (List (Bor Text))) (words : List Text) (task : Task) : Type 0 where
   pub taken : fault_of (program names) words ≡ []
-  pub asks : IsSomeAnd (subcommand_of (program names) words) (λ met. AsksFor met.0 met.1 job)
+  pub asks : IsSomeAnd (subcommand_of (program names) words) (λ met. AsksFor met.0 met.1 task)
 
--- a job that the words ask for; or they are refused, since they ask for none, or memory ran out
-pub record IsAnswerTo (words : List Text) (answer : Result Job Error) : Type 0 where
+-- a task that the words ask for; or they are refused, since they ask for none, or memory ran out
+pub record IsAnswerTo (words : List Text) (answer : Result Task Error) : Type 0 where
   pub names : Bor (List (Bor Text))
   pub are_habits : texts names.now ≡ habit_names
-  pub job : IfOk answer (AskFor names words)
-  pub refusal : IfErr answer (λ error. (kind_of error ≡ OutOfMemory) ⊎ ((job : Job) → AskFor names words job → ⊥))
+  pub task : IfOk answer (AskFor names words)
+  pub refusal : IfErr answer (λ error. (kind_of error ≡ OutOfMemory) ⊎ ((task : Task) → AskFor names words task → ⊥))
 
 -- ---- steps of the reading
 

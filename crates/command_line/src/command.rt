@@ -1,6 +1,6 @@
 ghost use Rattle.std.specs.Prelude.{◌≡◌, [], ◌∷◌, ◌++◌, false, IfOk, codes};
 ghost use Rattle.clap.specs.Words.{Shape, app_of, rule_of};
-ghost use Rattle.command_line.specs.Program.{AddsOptions, AddsSubcommand, IsCommand, below_2_63, blocks, flag, format, fresh_words, fresh_raw, habit, image, limits, number, nvme, optional, part, parts, program, report_words, run, shape, stops};
+ghost use Rattle.command_line.specs.Program.{AddsOptions, AddsSubcommand, IsCommand, below_2_63, blocks, flag, format, fresh_words, fresh_raw, habit, image, limits, nbd, number, nvme, optional, part, parts, program, report_words, run, shape, stops};
 
 use clap::builder::ValueParser;
 use clap::{Arg, ArgAction, Command, value_parser};
@@ -14,6 +14,9 @@ const FORMAT_EXAMPLE: &str = "Example:
 
 const RUN_EXAMPLE: &str = "Example:
   printf 'fill 0 5 aa\\nread 4 1\\n' | zonedisk run --image my.drive --blocks 9";
+
+const NBD_EXAMPLE: &str = "Example:
+  nbdfuse disk --command zonedisk nbd --image my.drive --blocks 9";
 
 const REPORT_EXAMPLE: &str = "Example:
   zonedisk report --image my.drive";
@@ -130,6 +133,15 @@ fn blocks_option<'a>(alloc: Global) -> Arg<'a>
     number_option(alloc, "blocks", "N", help, count_parser())
 }
 
+/// The same, for a drive that may say it.
+fn blocks_if_fresh_option<'a>(alloc: Global) -> Arg<'a>
+    ensures rule { rule_of result ≡ optional blocks }
+    ensures local { result.global ≡ false }
+{
+    let help = "Logical blocks; a drive that was written says how many it has";
+    number_option(alloc, "blocks", "N", help, count_parser()).required(false)
+}
+
 /// An option that takes a number below 2^63.
 fn stop_option<'a>(alloc: Global, name: &'a str, letter: &'a str, help: &'a str) -> Arg<'a>
     ensures rule { rule_of result ≡ optional (number name.entry.now below_2_63) }
@@ -187,6 +199,24 @@ fn run_command<'a>(alloc: Global, habits: &'a [&'a str]) -> Result<Command<'a>, 
         .arg(blocks_option(alloc))?
         .arg(flag(alloc, "zones", zones))?
         .arg(flag(alloc, "sync", SYNC_HELP))?
+        .arg(habit_option(alloc, habits))?;
+    stop_options(alloc, command)
+}
+
+fn nbd_command<'a>(alloc: Global, habits: &'a [&'a str]) -> Result<Command<'a>, AllocError>
+    ensures { IfOk result (λ new. IsCommand (nbd habits.entry) new) }
+{
+    let statistics = "Shows what was written and moved on standard error at the end";
+    let idle = "Takes a turn of cleaning after each request, if one is due";
+    let command = Command::new(alloc, "nbd")
+        .about(
+            "Serves the drive in a file by the Network Block Device protocol, on standard input and output",
+        )
+        .after_help(NBD_EXAMPLE)
+        .arg(image_option(alloc))?
+        .arg(blocks_if_fresh_option(alloc))?
+        .arg(flag(alloc, "statistics", statistics))?
+        .arg(flag(alloc, "idle", idle))?
         .arg(habit_option(alloc, habits))?;
     stop_options(alloc, command)
 }
@@ -256,6 +286,7 @@ pub fn program<'a>(alloc: Global, habits: &'a [&'a str]) -> Result<Command<'a>, 
         .subcommand_required(true);
     let command = with_subcommand(command, format_command(alloc))?;
     let command = with_subcommand(command, run_command(alloc, habits))?;
+    let command = with_subcommand(command, nbd_command(alloc, habits))?;
     let command = with_subcommand(command, report_command(alloc))?;
     let command = with_subcommand(command, nvme_command(alloc, habits))?;
     let command = with_subcommand(command, fresh_command(alloc, habits))?;

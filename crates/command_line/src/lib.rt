@@ -1,20 +1,25 @@
-//! The command line of the program: the words that it takes, and the job that they ask for.
+//! The command line of the program: the words that it takes, and the task that they ask for.
 //!
 //! ```text
-//! let job = job_of(rt.alloc(), &words)?;
+//! match task_of(rt.alloc(), &words)? {
+//!     Task::Lines(job) => run_lines(job),
+//!     Task::Nbd(job) => serve(job),
+//! }
 //! ```
 //!
 //! # What is promised
 //!
-//! * A job holds what clap's matches of the words have: the subcommand and, for each of its options, the value under
+//! * A task holds what clap's matches of the words have: the subcommand and, for each of its options, the value under
 //!   its name; a number is spelled in digits alone. Clap refuses none of these words (`specs/Program.antt` has the words
-//!   that the program takes, `specs/Words.antt` the job that they ask for).
-//! * Words are refused only where clap refuses them, where they ask for no job in this sense, or where memory runs out.
+//!   that the program takes, `specs/Words.antt` the task that they ask for).
+//! * Words are refused only where clap refuses them, where they ask for no task in this sense, or where memory runs out.
 //!
 //! The texts of clap, and the error kinds of refused words, are tested in `call_tests`.
 #![tactic(auto)]
 
 mod command;
+mod task;
 mod words;
 
-pub use words::job_of;
+pub use task::Task;
+pub use words::task_of;

@@ -2,17 +2,19 @@ ghost use Rattle.std.specs.Prelude.{◌≡◌, ◌≢◌, IfOk, IsSomeAnd, codes
 ghost use Rattle.std.specs.List.{list_all};
 ghost use Rattle.std.specs.Char.{is_ascii_digit};
 ghost use Rattle.clap.specs.Words.{first_of, found_of, rows_of, subcommand_rows_of};
-ghost use Rattle.command_line.specs.Words.{AsksFor, Finds, HasFlag, HasGeometry, HasHabit, HasImage, HasNumber, HasNumberOr, HasStop, IsAnswerTo};
+ghost use Rattle.command_line.specs.Words.{AsksFor, AsksForJob, AsksForNbd, Finds, HasFlag, HasGeometry, HasHabit, HasImage, HasNumber, HasNumberIf, HasNumberOr, HasStop, IsAnswerTo};
 ghost use Rattle.command_line.specs.declared.words.WordFault.TheVariants.{Memory};
 
 use crate::command::{HABITS, program};
+use crate::task::Task;
 use clap::error::ErrorKind;
 use clap::{ArgMatches, Command, Error};
 use disk_jobs::{Habit, Job, Stop};
+use nbd_jobs::NbdJob;
 use std::alloc::{AllocError, Global};
 use zone_states::Geometry;
 
-/// Why words that the program takes are no job.
+/// Why words that the program takes are no task.
 #[derive(Clone, Copy)]
 enum WordFault {
     /// They lack a subcommand or an option. The parser refuses such words before.
@@ -86,6 +88,16 @@ fn number_or(matches: &ArgMatches<'_>, name: &'static str, missing: u64) -> Resu
     number(matches, name)
 }
 
+/// The number that an option was given, if it was given one.
+fn number_if_given(matches: &ArgMatches<'_>, name: &'static str) -> Result<Option<u64>, WordFault>
+    ensures { Finds (HasNumberIf (rows_of (found_of matches.now)) name.entry.now) result }
+{
+    if given(matches, name).is_none() {
+        return Ok(None);
+    }
+    Ok(Some(number(matches, name)?))
+}
+
 /// When the drive stops. No Append has more blocks than 32 bits can count.
 fn stop_of(matches: &ArgMatches<'_>) -> Result<Stop, WordFault>
     ensures { Finds (HasStop (rows_of (found_of matches.now))) result }
@@ -134,7 +146,7 @@ fn image(alloc: Global, matches: &ArgMatches<'_>) -> Result<String, WordFault>
 
 /// The job of `format`.
 fn format_job(alloc: Global, matches: &ArgMatches<'_>) -> Result<Job, WordFault>
-    ensures { Finds (AsksFor (codes "format") (rows_of (found_of matches.now))) result }
+    ensures { Finds (AsksForJob (codes "format") (rows_of (found_of matches.now))) result }
 {
     Ok(Job::Format {
         image: image(alloc, matches)?,
@@ -145,7 +157,7 @@ fn format_job(alloc: Global, matches: &ArgMatches<'_>) -> Result<Job, WordFault>
 
 /// The job of `run`.
 fn run_job(alloc: Global, matches: &ArgMatches<'_>) -> Result<Job, WordFault>
-    ensures { Finds (AsksFor (codes "run") (rows_of (found_of matches.now))) result }
+    ensures { Finds (AsksForJob (codes "run") (rows_of (found_of matches.now))) result }
 {
     let blocks = number(matches, "blocks")?;
     let stop = stop_of(matches)?;
@@ -161,7 +173,7 @@ fn run_job(alloc: Global, matches: &ArgMatches<'_>) -> Result<Job, WordFault>
 
 /// The job of `report`.
 fn report_job(alloc: Global, matches: &ArgMatches<'_>) -> Result<Job, WordFault>
-    ensures { Finds (AsksFor (codes "report") (rows_of (found_of matches.now))) result }
+    ensures { Finds (AsksForJob (codes "report") (rows_of (found_of matches.now))) result }
 {
     Ok(Job::Report {
         image: image(alloc, matches)?,
@@ -170,7 +182,7 @@ fn report_job(alloc: Global, matches: &ArgMatches<'_>) -> Result<Job, WordFault>
 
 /// The job of `nvme`.
 fn nvme_job(alloc: Global, matches: &ArgMatches<'_>) -> Result<Job, WordFault>
-    ensures { Finds (AsksFor (codes "nvme") (rows_of (found_of matches.now))) result }
+    ensures { Finds (AsksForJob (codes "nvme") (rows_of (found_of matches.now))) result }
 {
     Ok(Job::Nvme {
         image: image(alloc, matches)?,
@@ -181,7 +193,7 @@ fn nvme_job(alloc: Global, matches: &ArgMatches<'_>) -> Result<Job, WordFault>
 
 /// The job of `fresh`.
 fn fresh_job(matches: &ArgMatches<'_>) -> Result<Job, WordFault>
-    ensures { Finds (AsksFor (codes "fresh") (rows_of (found_of matches.now))) result }
+    ensures { Finds (AsksForJob (codes "fresh") (rows_of (found_of matches.now))) result }
 {
     Ok(Job::Fresh {
         geometry: geometry(matches)?,
@@ -195,7 +207,7 @@ fn fresh_job(matches: &ArgMatches<'_>) -> Result<Job, WordFault>
 
 /// The job of `fresh-raw`.
 fn fresh_raw_job(matches: &ArgMatches<'_>) -> Result<Job, WordFault>
-    ensures { Finds (AsksFor (codes "fresh-raw") (rows_of (found_of matches.now))) result }
+    ensures { Finds (AsksForJob (codes "fresh-raw") (rows_of (found_of matches.now))) result }
 {
     Ok(Job::FreshRaw {
         geometry: geometry(matches)?,
@@ -203,9 +215,9 @@ fn fresh_raw_job(matches: &ArgMatches<'_>) -> Result<Job, WordFault>
     })
 }
 
-/// The job of a subcommand.
+/// The job of a subcommand that has one.
 fn subcommand_job(alloc: Global, name: &str, matches: &ArgMatches<'_>) -> Result<Job, WordFault>
-    ensures { Finds (AsksFor name.now (rows_of (found_of matches.now))) result }
+    ensures { Finds (AsksForJob name.now (rows_of (found_of matches.now))) result }
 {
     match name {
         "format" => format_job(alloc, matches),
@@ -218,12 +230,38 @@ fn subcommand_job(alloc: Global, name: &str, matches: &ArgMatches<'_>) -> Result
     }
 }
 
-/// The job of the subcommand, if there is one.
-fn asked(alloc: Global, matches: &ArgMatches<'_>) -> Result<Job, WordFault>
-    ensures { Finds (λ job. IsSomeAnd (subcommand_rows_of matches.now) (λ met. AsksFor met.0 met.1 job)) result }
+/// The job of `nbd`.
+fn nbd_job(alloc: Global, matches: &ArgMatches<'_>) -> Result<NbdJob, WordFault>
+    ensures { Finds (AsksForNbd (rows_of (found_of matches.now))) result }
+{
+    let blocks = number_if_given(matches, "blocks")?;
+    let stop = stop_of(matches)?;
+    Ok(NbdJob {
+        image: image(alloc, matches)?,
+        blocks,
+        stop,
+        habit: habit_of(matches),
+        statistics: has_flag(matches, "statistics"),
+        idle: has_flag(matches, "idle"),
+    })
+}
+
+/// What a subcommand asks for.
+fn subcommand_task(alloc: Global, name: &str, matches: &ArgMatches<'_>) -> Result<Task, WordFault>
+    ensures { Finds (AsksFor name.now (rows_of (found_of matches.now))) result }
+{
+    if name == "nbd" {
+        return Ok(Task::Nbd(nbd_job(alloc, matches)?));
+    }
+    Ok(Task::Lines(subcommand_job(alloc, name, matches)?))
+}
+
+/// What the subcommand asks for, if there is one.
+fn asked(alloc: Global, matches: &ArgMatches<'_>) -> Result<Task, WordFault>
+    ensures { Finds (λ task. IsSomeAnd (subcommand_rows_of matches.now) (λ met. AsksFor met.0 met.1 task)) result }
 {
     match matches.subcommand() {
-        Some((name, matches)) => subcommand_job(alloc, name, matches),
+        Some((name, matches)) => subcommand_task(alloc, name, matches),
         None => Err(WordFault::Missing),
     }
 }
@@ -247,16 +285,16 @@ fn refusal(alloc: Global, program: &mut Command<'_>, fault: WordFault) -> Result
     }
 }
 
-/// The job that the words ask for; the first word is the program's name.
+/// The task that the words ask for; the first word is the program's name.
 ///
-/// Words that ask for no job, a request for help among them, are refused with the text to show.
-pub fn job_of(alloc: Global, words: &[String]) -> Result<Job, Error>
+/// Words that ask for no task, a request for help among them, are refused with the text to show.
+pub fn task_of(alloc: Global, words: &[String]) -> Result<Task, Error>
     ensures { IsAnswerTo (map string_bytes words.now) result }
 {
     let mut program = program(alloc, HABITS.as_slice())?;
     let matches = program.try_get_matches_from_mut(words)?;
     match asked(alloc, &matches) {
-        Ok(job) => Ok(job),
+        Ok(task) => Ok(task),
         Err(fault) => Err(refusal(alloc, &mut program, fault)?),
     }
 }

@@ -79,13 +79,6 @@ module _ (bytes : List ℕ) (first last start end : ℕ) (begins : first ≤ las
 
 -- ---- a read after a line
 
--- the bytes from the end on are those that were read
-read_part : (bytes read rest : List ℕ) (end n : ℕ) → end ≤ length bytes → n ≤ length read → slice_range (take end bytes ++ (read ++ rest)) end (end + n) ≡ take n read
-read_part bytes read rest end n inside fits =
-    let size : length (take end bytes) ≡ end = omega (arith, length-take end bytes) in
-    let count : end + n - end ≡ n = omega arith in
-    rw (count, drop_at (take end bytes) (read ++ rest) end size) (take-append-le n read rest fits)
-
 -- what stands before the end stays
 pub same_front : (old new : List ℕ) (first last end : ℕ) → take end new ≡ take end old → first ≤ last → last ≤ end → slice_range new first last ≡ slice_range old first last
 same_front old new first last end same order inside =

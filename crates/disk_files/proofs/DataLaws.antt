@@ -30,6 +30,7 @@ none_after : (byte : Option ℕ) (bytes : Option (List ℕ)) → bytes ≡ None 
 none_after None bytes e = refl
 none_after (Some b) bytes e = rw e refl
 
+-- an odd number of digits is no bytes
 pub bytes_of-odd : (word : List ℕ) → length word % 2 ≢ 0 → hex_bytes word ≡ None
 bytes_of-odd [] odd = absurd (odd refl)
 bytes_of-odd (high ∷ []) odd = refl
@@ -60,15 +61,18 @@ module _ (word : List ℕ) (count : ℕ) (result : Result (Unit {0}) FromHexErro
 
 -- ---- data
 
+-- a word that is not empty is data by its digits
 pub data_of-some : (word : List ℕ) → length word ≢ 0 → data_of word ≡ hex_bytes word
 data_of-some [] some = absurd (some refl)
 data_of-some (digit ∷ digits) some = refl
 
 -- ---- bytes that are encoded
 
+-- bytes are read back from their digits
 pub bytes_of-encode_lower : (bytes : List ℕ) → IsBytes bytes → hex_bytes (encode_lower bytes) ≡ Some bytes
 bytes_of-encode_lower bytes fits = bytes_of-decoded 0 (encode_lower bytes) ∙ rw (decode_pairs-encode_with lower_digits IsDigits-lower_digits 0 bytes fits) refl
 
+-- and so are data
 pub data_of-encode_lower : (bytes : List ℕ) → IsBytes bytes → 1 ≤ length bytes → data_of (encode_lower bytes) ≡ Some bytes
 data_of-encode_lower bytes fits some =
     let digits : length (encode_lower bytes) ≢ 0 = λ none. absurd (omega (arith, some, none, length-encode_with lower_digits bytes)) in

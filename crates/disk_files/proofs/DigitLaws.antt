@@ -98,6 +98,7 @@ values-are xs long fits tens bounded numbers letters small et eb en el es =
 
 -- ---- whether all are values of digits
 
+-- values that are capped pass the same test
 pub all_below-capped : (vs : List ℕ) → all_below 16 (map capped vs) ≡ all_below 16 vs
 all_below-capped [] = refl
 all_below-capped (v ∷ vs) = elim (cases_lt v 16) [
@@ -105,6 +106,7 @@ all_below-capped (v ∷ vs) = elim (cases_lt v 16) [
   | inr above ↦ grind (arith, nat_tests, all_below-capped vs)
 ]
 
+-- and are the same where they pass it
 pub capped-below : (vs : List ℕ) → all_below 16 vs ≡ true → map capped vs ≡ vs
 capped-below [] good = refl
 capped-below (v ∷ vs) good =
@@ -118,6 +120,7 @@ all_below-bits (v ∷ vs) = elim (cases_lt v 16) [
   | inr above ↦ grind (arith, nat_tests, all_below-bits vs)
 ]
 
+-- the test of 64 values at once
 pub are_digits-is : (vs : List ℕ) → length vs ≡ 64 → (mask_l (map (top 7) (zip2 (λ x y. cond (ltb x y) 255 0) (replicate 64 15) vs)) % 2 ^ 64 == 0) ≡ all_below 16 vs
 are_digits-is vs long =
     let marks = map (λ v. ltb 15 v) vs in
@@ -241,6 +244,7 @@ module _ (digits bytes : List ℕ) (done : ℕ) (inside : 2 * done ≤ length di
   pub decoded-rest : (rest : List ℕ) → hex_bytes (take (2 * done) digits) ≡ Some (take done bytes) → hex_bytes (drop (2 * done) digits) ≡ Some rest → hex_bytes digits ≡ Some (take done bytes ++ rest)
   decoded-rest rest was is = ap hex_bytes (sym (take-append-drop (2 * done) digits)) ∙ bytes_of-append done (take (2 * done) digits) (drop (2 * done) digits) front ∙ rw (was, is) refl
 
+-- a part that is no digits makes the whole none
 pub part-none : (digits : List ℕ) (at : ℕ) → at + 64 ≤ length digits → all_below 16 (map value_or_none (chunk at 64 digits)) ≡ false → hex_bytes (drop at digits) ≡ None
 part-none digits at room bad =
     let part = chunk at 64 digits in

@@ -51,6 +51,7 @@ one_more n word large w =
 decimal-IsWordOf : (n : ℕ) → n < 2 ^ 64 → IsWordOf n (decimal n)
 decimal-IsWordOf n small = decimal_by_steps IsWordOf one_digit one_more n small
 
+-- a number is read back from its digits
 pub number_of-decimal : (n : ℕ) → n < 2 ^ 64 → number_of (decimal n) ≡ Some n
 number_of-decimal n small =
     let word = decimal n in
@@ -60,11 +61,13 @@ number_of-decimal n small =
     let below : nat_lt n (2 ^ 64) ≡ true = grind (arith, nat_tests) in
     rw (fits, (decimal-IsWordOf n small).value, below) refl
 
+-- which have no space
 pub NoSpace-decimal : (n : ℕ) → n < 2 ^ 64 → NoSpace (decimal n)
 NoSpace-decimal n small = (decimal-IsWordOf n small).no_space
 
 -- ---- bytes
 
+-- a byte is read back from its digits
 pub byte_of-encode_lower : (b : ℕ) → b < 2 ^ 8 → byte_of (encode_lower (b ∷ [])) ≡ Some b
 unfolding encode_with
 byte_of-encode_lower b small =
@@ -78,6 +81,7 @@ AboveSpaces word = All (λ b. 48 ≤ b) word
 digit-large : (b d : ℕ) → hex_digit_value b ≡ Some d → 48 ≤ b
 digit-large b d e = grind (arith)
 
+-- which are above spaces
 pub AboveSpaces-encode_lower : (bytes : List ℕ) → IsBytes bytes → AboveSpaces (encode_lower bytes)
 unfolding encode_with
 AboveSpaces-encode_lower [] fits = All-nil (λ b. 48 ≤ b)
@@ -91,21 +95,26 @@ AboveSpaces-encode_lower (b ∷ bytes) fits =
     All-cons P high (low ∷ rest) (digit-large high (b / 16) (IsDigits-lower_digits (b / 16) (omega arith)))
     (All-cons P low rest (digit-large low (b % 16) (IsDigits-lower_digits (b % 16) (omega arith))) after)
 
+-- and have none
 pub NoSpace-encode_lower : (bytes : List ℕ) → IsBytes bytes → NoSpace (encode_lower bytes)
 NoSpace-encode_lower bytes fits = λ k d lt. let large = AboveSpaces-encode_lower bytes fits k d lt in grind (arith, nat_tests)
 
+-- one byte is bytes
 pub IsBytes-one : (b : ℕ) → b < 2 ^ 8 → IsBytes (b ∷ [])
 IsBytes-one b small zero = small
 IsBytes-one b small (suc i) = omega arith
 
 -- ---- words
 
+-- a text without a space is one word
 pub one_word : (a : List ℕ) → NoSpace a → words_of a ≡ a ∷ []
 one_word a p = slice_split_none is_space a p
 
+-- two with a space between them are two
 pub two_words : (a b : List ℕ) → NoSpace a → NoSpace b → words_of (a ++ codes " " ++ b) ≡ a ∷ b ∷ []
 two_words a b p q = rw (append_assoc a (codes " ") b, slice_split_at is_space a 32 b p refl, slice_split_none is_space b q) refl
 
+-- and three are three
 pub three_words : (a b c : List ℕ) → NoSpace a → NoSpace b → NoSpace c → words_of (a ++ codes " " ++ b ++ codes " " ++ c) ≡ a ∷ b ∷ c ∷ []
 three_words a b c p q r =
     rw (append_assoc (a ++ codes " ") b (codes " "), append_assoc (a ++ codes " ") (b ++ codes " ") c, append_assoc a (codes " ") (b ++ codes " " ++ c), slice_split_at is_space a 32 (b ++ codes " " ++ c) p refl, two_words b c q r) refl

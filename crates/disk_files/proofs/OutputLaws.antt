@@ -38,6 +38,7 @@ unfolding encode_with
 encode_lower-append [] ys = refl
 encode_lower-append (x ∷ xs) ys = rw (encode_lower-append xs ys) refl
 
+-- no bytes have no digits
 pub digits-none : (a : Option (List ℕ)) → Appends a a (encode_lower [])
 unfolding encode_with
 digits-none a = Appends-nil a
@@ -68,14 +69,13 @@ raw_parts completion (b ∷ bs) some =
     let bytes = encode_lower (b ∷ bs) in
     append_assoc digits (32 ∷ bytes) (10 ∷ []) ∙ sym (append_assoc digits (32 ∷ []) (bytes ++ 10 ∷ []))
 
-reply-front : (old new : Option (List ℕ)) (completion bytes : List ℕ) → (length bytes == 0) ≡ false → AppendsFront old new (encode_lower completion ++ 32 ∷ []) → AppendsFront old new (raw_reply_text completion bytes)
-reply-front old new completion bytes some front = rw (raw_parts completion bytes some) (front_first old new (encode_lower completion ++ 32 ∷ []) (encode_lower bytes ++ 10 ∷ []) front)
-
+-- the digits of a completion, and a front of those of its data
 pub reply-digits : (old middle new : Option (List ℕ)) (completion bytes : List ℕ) → (length bytes == 0) ≡ false → Appends old middle (encode_lower completion ++ 32 ∷ []) → AppendsFront middle new (encode_lower bytes)
     → AppendsFront old new (raw_reply_text completion bytes)
 reply-digits old middle new completion bytes some first front =
     rw (raw_parts completion bytes some) (front_second old middle new (encode_lower completion ++ 32 ∷ []) (encode_lower bytes ++ 10 ∷ []) first (front_first middle new (encode_lower bytes) (10 ∷ []) front))
 
+-- and then the end of the line
 pub reply-end : (old middle last new : Option (List ℕ)) (completion bytes : List ℕ) → (length bytes == 0) ≡ false → Appends old middle (encode_lower completion ++ 32 ∷ []) → Appends middle last (encode_lower bytes) → AppendsFront last new (10 ∷ [])
     → AppendsFront old new (raw_reply_text completion bytes)
 reply-end old middle last new completion bytes some first second front =
@@ -83,10 +83,12 @@ reply-end old middle last new completion bytes some first second front =
 
 -- ---- results
 
+-- what always holds holds after a fault
 pub on_err : {T E : Type 0} (r : Result T E) (P : Type 0) → P → OnErr r P
 on_err (Ok x) P p = tt
 on_err (Err e) P p = p
 
+-- and so does what follows
 pub err-so : {T E : Type 0} (r : Result T E) (P Q : Type 0) → (P → Q) → OnErr r P → OnErr r Q
 err-so (Ok x) P Q f p = tt
 err-so (Err e) P Q f p = f p

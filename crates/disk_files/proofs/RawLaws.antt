@@ -21,6 +21,7 @@ exact_bytes_of-decoded count word = elim (cases_eq (length word % 2) 1) [
       ]
 ]
 
+-- a word of so many bytes has twice as many digits
 pub length-exact_bytes_of : (count : ℕ) (word bytes : List ℕ) → exact_bytes_of count word ≡ Some bytes → length word ≡ 2 * count
 length-exact_bytes_of count word bytes e = elim (eqb_tells (length word) (2 * count)) [
   | inl same ↦ same.1

@@ -25,6 +25,7 @@ exact_bytes_of-encode_lower bytes fits =
 
 -- ---- lines
 
+-- a raw text is read back
 pub raw_of-raw_text : (head bytes : List ℕ) → IsBytes head → IsBytes bytes → raw_of (length head) (words_of (raw_text head bytes)) ≡ Some (head, bytes)
 raw_of-raw_text head [] fits clean = rw (append-nil (encode_lower head), slice_split_none is_space (encode_lower head) (NoSpace-encode_lower head fits), exact_bytes_of-encode_lower head fits) refl
 raw_of-raw_text head (b ∷ bytes) fits clean =
@@ -36,6 +37,7 @@ NoFeed-beside_text : (bytes : List ℕ) → IsBytes bytes → NoFeed (beside_tex
 NoFeed-beside_text [] clean = All-nil (λ b. is_feed b ≡ false)
 NoFeed-beside_text (b ∷ bytes) clean = All-cons (λ c. is_feed c ≡ false) 32 (encode_lower (b ∷ bytes)) refl (NoFeed-encode_lower (b ∷ bytes) clean)
 
+-- a raw reply is one line
 pub first_line-raw_reply : (completion bytes : List ℕ) → IsBytes completion → IsBytes bytes → first_line (raw_reply_text completion bytes) ≡ raw_text completion bytes
 first_line-raw_reply completion bytes fits clean =
     let none = All-append (λ b. is_feed b ≡ false) (encode_lower completion) (beside_text bytes) (NoFeed-encode_lower completion fits) (NoFeed-beside_text bytes clean) in

@@ -22,6 +22,7 @@ onto_first-IsCons : (x : ℕ) (parts : List (List ℕ)) → IsCons (onto_first x
 onto_first-IsCons x [] = record { first = x ∷ []; rest = []; is = refl }
 onto_first-IsCons x (part ∷ parts) = record { first = x ∷ part; rest = parts; is = refl }
 
+-- a line has a word
 pub words_of-IsCons : (line : List ℕ) → IsCons (words_of line)
 words_of-IsCons [] = record { first = []; rest = []; is = refl }
 words_of-IsCons (x ∷ xs) = elim (is_space x) as (λ b. IsCons (if b then [] ∷ words_of xs else onto_first x (words_of xs))) [
@@ -29,11 +30,13 @@ words_of-IsCons (x ∷ xs) = elim (is_space x) as (λ b. IsCons (if b then [] �
   | false ↦ onto_first-IsCons x (words_of xs)
 ]
 
+-- a word with words after it is not the last
 pub HasMore-rest : (line word rest : List ℕ) → words_of line ≡ word ∷ words_of rest → HasMore (words_of line)
 HasMore-rest line word rest e = let more = words_of-IsCons rest in record { first = word; second = more.first; rest = more.rest; are = rw (e, more.is) refl }
 
 -- ---- lengths
 
+-- how long a line is, by its first word
 pub length-rest : (line word rest : List ℕ) → words_of line ≡ word ∷ words_of rest → length line ≡ length word + 1 + length rest
 length-rest line word rest e =
     let more = words_of-IsCons rest in
@@ -41,6 +44,7 @@ length-rest line word rest e =
     let text : line ≡ word ++ 32 ∷ rest = sym (join_with_byte-slice_split 32 line) ∙ ap (join_with_byte 32) e ∙ joined ∙ ap (λ (xs : List ℕ). word ++ 32 ∷ xs) (join_with_byte-slice_split 32 rest) in
     omega (arith, ap length text, length-append word (32 ∷ rest))
 
+-- and by two words
 pub length-two_words : (line word digits : List ℕ) → words_of line ≡ word ∷ digits ∷ [] → length line ≡ length word + 1 + length digits
 length-two_words line word digits e =
     let text = sym (join_with_byte-slice_split 32 line) ∙ ap (join_with_byte 32) e in
@@ -65,6 +69,7 @@ too_many : (odd pair : Bool) (decoded : Result (List ℕ) FromHexError) → pair
 too_many true pair decoded e = refl
 too_many false pair decoded e = rw e refl
 
+-- a byte is decoded from its word
 pub byte_of-decoded : (word : List ℕ) → byte_of word ≡ byte_in (result_ok (decode_sized word 1))
 unfolding decode_pairs
 byte_of-decoded [] = refl

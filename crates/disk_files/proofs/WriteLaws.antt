@@ -52,6 +52,7 @@ none-write first [] more = absurd (let e = more.are in cc)
 none-write first (word ∷ []) more = absurd (let e = more.are in cc)
 none-write first (word ∷ other ∷ rest) more = refl
 
+-- words that are no data are no write
 pub write-none : (first digits : List ℕ) → data_of digits ≡ None → write_of (first ∷ words_of digits) ≡ None
 write-none first digits none = elim (words-of digits) [
   | inl one ↦ rw one (none-data (number_of first) (data_of digits) none)
@@ -65,5 +66,6 @@ one-word (digit ∷ digits) bytes e = elim (words-of (digit ∷ digits)) [
   | inr more ↦ absurd (let none = more.none in cc)
 ]
 
+-- a number and data are one
 pub write-some : (first digits bytes : List ℕ) (number : ℕ) → number_of first ≡ Some number → data_of digits ≡ Some bytes → write_of (first ∷ words_of digits) ≡ Some (Write number, bytes)
 write-some first digits bytes number n e = rw (one-word digits bytes e, n, e) refl

@@ -185,20 +185,21 @@ IsHandedBack failed drive back = failed ≡ false → (back.geometry ≡ drive.g
 
 -- ---- the job
 
--- What the lines of a job leave of its drive, whatever ended them, and what its store holds then.
-pub record LeavesDrive (job : Job) (bytes : Exchange) (old : DriveState) (ended : Result (Unit {0}) RunFault) (left : Left) (before held : Known) : Type 0 where
+-- What the lines of a job leave of its drive, whatever ended them, and what its store holds then. Whether the store failed is told.
+pub record LeavesDrive (job : Job) (bytes : Exchange) (old : DriveState) (ended : Result (Unit {0}) RunFault) (left : Left) (before held : Known) (failed : Bool) : Type 0 where
   pub drive : DriveState
   pub answers : AnswersLines job bytes old ended drive left.drive.state
-  pub back : IsHandedBack left.failed drive left.drive.state
+  pub failed_is : left.failed ≡ failed
+  pub back : IsHandedBack failed drive left.drive.state
   pub stored : StoresDrive job before held drive
 
 -- What a job leaves of the drive that it began with.
-pub record LeftByLines (job : Job) (file : Known) (bytes : Exchange) (ended : Result (Unit {0}) RunFault) (left : Left) (before held : Known) : Type 0 where
+pub record LeftByLines (job : Job) (file : Known) (bytes : Exchange) (ended : Result (Unit {0}) RunFault) (left : Left) (before held : Known) (failed : Bool) : Type 0 where
   pub first : Begun
   pub begins : BeginsOn job file first
   pub told : Known
   pub says : SaysFirst job bytes.written told
-  pub leaves : LeavesDrive job (record bytes { written = told }) first.drive.state ended left before held
+  pub leaves : LeavesDrive job (record bytes { written = told }) first.drive.state ended left before held failed
 
 -- ---- the file
 

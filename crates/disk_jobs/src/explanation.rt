@@ -4,6 +4,7 @@ use crate::line_problem::{raw_problem, trace_problem};
 use disk_files::LONGEST_LINE;
 use disk_runs::RunFault;
 use std::alloc::{AllocError, Global};
+use zone_translator::{DiskFault, MountFault};
 
 /// What is wrong with the line of this number.
 fn explain_line(alloc: Global, job: &Job, number: u64, line: &[u8]) -> Result<String, AllocError> {
@@ -30,6 +31,22 @@ fn place(alloc: Global, line: &[u8]) -> Result<String, AllocError> {
     }
 }
 
+/// What a stop comes to that the job asks for: how many of the commands before it the mount took.
+fn explain_stop(
+    alloc: Global,
+    job: &Job,
+    fault: RunFault,
+    mounting: u64,
+) -> Result<String, AllocError> {
+    match (job.stop(), fault) {
+        (
+            Some(commands),
+            RunFault::Disk(DiskFault::Stopped) | RunFault::Mount(MountFault::Halted),
+        ) => format!(in alloc; ", after {commands} commands, of which the mount took {mounting}"),
+        _ => Ok(String::new(alloc)),
+    }
+}
+
 fn explain_run(
     alloc: Global,
     job: &Job,
@@ -50,16 +67,24 @@ fn explain_run(
     }
 }
 
-/// One line for people that says what a fault is, without a line feed. `line` is the line that the job read last.
+/// One line for people that says what a fault is, without a line feed. `line` is the line that the job read last, and
+/// `mounting` how many commands its mount took.
 pub fn explain(
     alloc: Global,
     job: &Job,
     fault: ProgramFault,
     line: &[u8],
+    mounting: u64,
 ) -> Result<String, AllocError> {
     let path = job.image().unwrap_or("the file");
     match fault {
-        ProgramFault::Run(fault) => explain_run(alloc, job, fault, line),
+        ProgramFault::Run(fault) => {
+            let (told, stop) = (
+                explain_run(alloc, job, fault, line)?,
+                explain_stop(alloc, job, fault, mounting)?,
+            );
+            format!(in alloc; "{told}{stop}")
+        }
         ProgramFault::Reserve { most } => {
             format!(in alloc; "the drive has room for 1 to {most} logical blocks")
         }

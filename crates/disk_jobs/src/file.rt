@@ -1,13 +1,15 @@
 use crate::fault::ProgramFault;
+use crate::input::JobInput;
 use crate::job::Job;
+use crate::lines::Left;
 use crate::program::run_job;
 use crate::saving::{drive_to_save, first_told};
 use disk_files::LineReader;
 use disk_runs::RunFault;
 use drive_journal::Unknown;
 use drive_store::{
-    ChangesFile, DriveFile, FileFault, ImageFile, Saving, SyncedOutput, SystemError, open_to_format,
-    open_to_read, open_to_save, reader_of, save,
+    ChangesFile, ChangesOutput, DriveFile, FileFault, ImageFile, Saving, SentAfter, SystemError,
+    open_to_format, open_to_read, open_to_save, reader_of, save,
 };
 use std::alloc::Global;
 use std::fs::File;
@@ -23,12 +25,18 @@ pub struct Done {
     pub job: Result<(), ProgramFault>,
     /// Of the drive. It is `Ok` where the job leaves none to save.
     pub saved: Result<(), ProgramFault>,
+    /// How many commands the mount took, if there was one.
+    pub mounting: u64,
 }
 
 impl Done {
     /// A job that leaves no drive to save.
     fn unsaved(job: Result<(), ProgramFault>) -> Done {
-        Done { job, saved: Ok(()) }
+        Done {
+            job,
+            saved: Ok(()),
+            mounting: 0,
+        }
     }
 
     /// The fault that the program ends with: the first one.
@@ -37,8 +45,16 @@ impl Done {
     }
 }
 
-/// What a job left to be saved, and how it ended.
-type Ran = (Option<Drive>, Result<(), ProgramFault>);
+/// What the lines of a job left, and how they ended.
+type Ran = (Option<Left>, Result<(), ProgramFault>);
+
+/// How many commands the mount of a job took, if there was one.
+fn mounting(left: &Option<Left>) -> u64 {
+    match left {
+        Some(left) => left.mounting,
+        None => 0,
+    }
+}
 
 /// What a fault of a file is to the program: that memory ran out is told as in a run.
 fn told(fault: FileFault) -> ProgramFault {
@@ -78,8 +94,7 @@ fn run_without_file<R: Read + Drop, W: Write>(
         store: Unknown::new(io::sink()),
     };
     let (left, _, ran) = run_job(alloc, job, file, input, output);
-    let sent = ran.and(send(output));
-    (drive_to_save(job, sent, false, left), sent)
+    (left, ran.and(send(output)))
 }
 
 /// Saves a drive in the place of an image, if there is one to save.
@@ -92,9 +107,39 @@ fn save_if_any<F: Files<File = File>>(
         return Ok(());
     };
     match save(saving, &drive, image) {
-        Ok(_) => Ok(()),
+        Ok(()) => Ok(()),
         Err(fault) => Err(told(fault)),
     }
+}
+
+/// Does a job whose changes are gathered for a file, and sends what it wrote. A reply is sent once the file has the
+/// changes before it.
+fn run_over<F: Files<File = File>, I: Read + Drop, R: Read + Drop, W: Write>(
+    saving: &Saving<'_, F>,
+    job: &Job,
+    bytes: I,
+    file: &ChangesFile<'_, F>,
+    input: &mut LineReader<R>,
+    output: &mut W,
+) -> Ran {
+    let after = if job.sync() {
+        SentAfter::Sync
+    } else {
+        SentAfter::Write
+    };
+    let waiting = ChangesOutput::new(file, after, output);
+    let Ok(mut output) = BufWriter::new(saving.alloc, waiting) else {
+        return (None, Err(ProgramFault::Run(RunFault::Memory)));
+    };
+    let store = file.store();
+    let (left, _, ran) = run_job(
+        saving.alloc,
+        job,
+        DriveFile { bytes, store },
+        input,
+        &mut output,
+    );
+    (left, ran.and(send(&mut output)))
 }
 
 /// Does a job on the drive in a file, sends what it wrote, and saves the drive. Its changes go to the file.
@@ -102,44 +147,23 @@ fn run_with_changes<F: Files<File = File>, R: Read + Drop, W: Write>(
     saving: &Saving<'_, F>,
     job: &Job,
     image: ImageFile,
-    input: &mut LineReader<R>,
+    input: &mut JobInput<'_, R>,
     output: &mut W,
 ) -> Done {
     let bytes = match reader_of(saving.alloc, &image.file) {
         Ok(bytes) => bytes,
         Err(error) => return Done::unsaved(Err(told(FileFault::Open(SystemError::from(error))))),
     };
-    let store = ChangesFile::new(saving, image);
-    let (left, store, ran) = run_job(saving.alloc, job, DriveFile { bytes, store }, input, output);
-    let failed = store.error().map(FileFault::Change);
-    let sent = first_told(ran.and(send(output)), failed);
-    let drive = drive_to_save(job, sent, store.is_unchanged(), left);
+    let file = ChangesFile::with_gate(saving, image, input.gate);
+    let (left, ran) = run_over(saving, job, bytes, &file, &mut input.lines, output);
+    let _ = file.write_out();
+    let sent = first_told(ran, file.fault());
+    let mounting = mounting(&left);
+    let drive = drive_to_save(job, sent, file.stays(), left);
     Done {
         job: sent,
-        saved: save_if_any(saving, drive, &store.into_image()),
-    }
-}
-
-/// The same, and before something is sent the changes are on the disk.
-fn run_with_syncs<F: Files<File = File>, R: Read + Drop, W: Write>(
-    saving: &Saving<'_, F>,
-    job: &Job,
-    image: ImageFile,
-    input: &mut LineReader<R>,
-    output: &mut W,
-) -> Done {
-    let Ok(path) = String::from_str(saving.alloc, &image.path) else {
-        return Done::unsaved(Err(ProgramFault::Run(RunFault::Memory)));
-    };
-    let synced = SyncedOutput::new(saving.files, &path, output);
-    let Ok(mut buffered) = BufWriter::new(saving.alloc, synced) else {
-        return Done::unsaved(Err(ProgramFault::Run(RunFault::Memory)));
-    };
-    let done = run_with_changes(saving, job, image, input, &mut buffered);
-    let failed = buffered.get_ref().error().map(FileFault::Sync);
-    Done {
-        job: first_told(done.job, failed),
-        saved: done.saved,
+        saved: save_if_any(saving, drive, &file.into_image()),
+        mounting,
     }
 }
 
@@ -155,18 +179,18 @@ fn save_fresh<F: Files<File = File>>(
     if saved.is_err() {
         image.discard(saving.files);
     }
-    saved?;
-    Ok(())
+    saved
 }
 
 /// Makes a fresh drive, says `ok`, and saves the drive. The file is opened after the `ok`, so its faults follow it.
 fn format<F: Files<File = File>, R: Read + Drop, W: Write>(
     saving: &Saving<'_, F>,
     job: &Job,
-    input: &mut LineReader<R>,
+    input: &mut JobInput<'_, R>,
     output: &mut W,
 ) -> Done {
-    let (drive, sent) = run_without_file(saving.alloc, job, input, output);
+    let (left, sent) = run_without_file(saving.alloc, job, &mut input.lines, output);
+    let drive = drive_to_save(job, sent, false, left);
     let (Job::Format { image, force, .. }, Some(drive)) = (job, &drive) else {
         return Done::unsaved(sent);
     };
@@ -174,6 +198,7 @@ fn format<F: Files<File = File>, R: Read + Drop, W: Write>(
     Done {
         job: sent,
         saved: saved.map_err(told),
+        mounting: 0,
     }
 }
 
@@ -184,11 +209,16 @@ pub fn do_job<F: Files<File = File>, R: Read + Drop, W: Write>(
     files: &F,
     alloc: Global,
     job: &Job,
-    input: &mut LineReader<R>,
+    input: &mut JobInput<'_, R>,
     output: &mut W,
 ) -> Done {
     let Some(path) = job.image() else {
-        return Done::unsaved(run_without_file(alloc, job, input, output).1);
+        let (left, sent) = run_without_file(alloc, job, &mut input.lines, output);
+        return Done {
+            job: sent,
+            saved: Ok(()),
+            mounting: mounting(&left),
+        };
     };
     let saving = Saving {
         files,
@@ -202,8 +232,5 @@ pub fn do_job<F: Files<File = File>, R: Read + Drop, W: Write>(
         Ok(image) => image,
         Err(fault) => return Done::unsaved(Err(told(fault))),
     };
-    if job.sync() {
-        return run_with_syncs(&saving, job, image, input, output);
-    }
     run_with_changes(&saving, job, image, input, output)
 }

@@ -77,6 +77,16 @@ impl Job {
         }
     }
 
+    /// After how many commands the drive of the job stops, if the job asks for that.
+    pub fn stop(&self) -> Option<u64> {
+        match self {
+            Job::Run { stop, .. } | Job::Fresh { stop, .. } if *stop != Stop::NEVER => {
+                Some(stop.commands)
+            }
+            _ => None,
+        }
+    }
+
     /// The path of the image file, if the job has one.
     pub fn image(&self) -> Option<&str> {
         match self {

@@ -1,20 +1,21 @@
 //! The jobs of the program, and doing them.
 //!
 //! ```text
-//! let mut input = LineReader::new(alloc, rt.reader());
+//! let gate = Gate::open();
+//! let mut input = JobInput::new(alloc, &gate, rt.reader());
 //! let done = do_job(&rt, alloc, &job, &mut input, &mut output);
 //! if let Err(fault) = done.job {
-//!     let text = explain(alloc, &job, fault, input.line())?;
+//!     let text = explain(alloc, &job, fault, input.line(), done.mounting)?;
 //! }
 //! if let Err(fault) = done.saved {
-//!     let text = explain(alloc, &job, fault, input.line())?;
+//!     let text = explain(alloc, &job, fault, input.line(), done.mounting)?;
 //! }
 //! ```
 //!
 //! A [`Job`] is what the words of the command line ask for (`command_line` reads them). [`run_job`] does it, and
 //! [`do_job`] does it on the drive of its file: it locks the file, and saves the drive. [`Done`] says how the job ended
-//! and how the save did. [`explain`] says what a fault is in a line for people; the reader of the lines has the one at
-//! which a run ended.
+//! and how the save did. [`explain`] says what a fault is in a line for people; the input has the one at which a
+//! run ended.
 //!
 //! # What is promised
 //!
@@ -40,6 +41,7 @@ mod begun;
 mod explanation;
 mod fault;
 mod file;
+mod input;
 mod job;
 mod line_problem;
 mod lines;
@@ -47,11 +49,13 @@ mod program;
 mod saving;
 mod statistics;
 
-pub use drive_store::{DriveFile, FileFault, SystemError};
+pub use drive_store::{DriveFile, FileFault, Gate, SystemError};
 pub use explanation::explain;
 pub use fault::{ProgramFault, write_program_fault};
 pub use file::{Done, do_job};
+pub use input::JobInput;
 pub use job::{Job, Stop};
-pub use lines::Left;
+pub use lines::{Left, stopping};
 pub use program::run_job;
+pub use statistics::statistics_of;
 pub use zone_drive::Habit;

@@ -1,27 +1,30 @@
 // The lines of a job, answered over its drive.
 
-ghost use Rattle.std.specs.Prelude.{◌≡◌, true};
+ghost use Rattle.std.specs.Prelude.{◌≡◌, false, true};
 ghost use Rattle.disk_runs.specs.Run.{exchange};
-ghost use Rattle.disk_jobs.specs.Saved.{AnswersLines, LeavesDrive, RunsLines, RunsTrace, ThenShows, has_changes, shows_zones, stopping};
+ghost use Rattle.disk_jobs.specs.Saved.{LeavesDrive, RunsLines, RunsTrace, ThenShows, has_changes, shows_zones, stopping};
 
 use crate::begun::show_zones;
 use crate::job::{Job, Stop};
 use crate::statistics::run_counted;
 use disk_files::LineReader;
-use disk_runs::{RunFault, run_raw, run_trace};
+use disk_runs::{RunFault, answer_trace, run_raw};
 use drive_journal::{Journaling, Store};
 use drive_port::{Device, StopAfter};
 use std::alloc::Global;
 use std::io::{Read, Write};
 use zone_drive::Drive;
+use zone_translator::Disk;
 
 /// What the lines of a job left.
 #[derive(Drop)]
 pub struct Left {
     pub drive: Drive,
-    /// Whether a change could not be written to the file. Then the file has all changes before it, and the drive that
-    /// counts is the one in the file.
+    /// Whether the store failed. Then it has all changes before that one, and the drive that counts is the one that it
+    /// holds.
     pub failed: bool,
+    /// How many commands the mount took, if there was one.
+    pub mounting: u64,
 }
 
 /// How a trace is run: the number of logical blocks that the mount is given, and when the device stops.
@@ -33,26 +36,33 @@ struct TraceRun {
 
 /// A device that stops after the commands of a stop, or inside the Append after them. Then the first blocks of the
 /// Append are written.
-fn stopping<D: Device + Drop>(device: D, stop: Stop) -> StopAfter<D>
+pub fn stopping<D: Device + Drop>(device: D, stop: Stop) -> StopAfter<D>
     ensures { result ≡ stopping stop (D.drive device) }
 {
     StopAfter::tearing(device, stop.commands, stop.tear)
 }
 
-/// Answers a trace over a device that stops.
+/// Answers a trace over a device that stops. It tells how many commands the mount took.
 fn run_stopping<D: Device + Drop, R: Read + Drop, W: Write>(
     alloc: Global,
     device: D,
     how: TraceRun,
     input: &mut LineReader<R>,
     output: &mut W,
-) -> (D, Result<(), RunFault>)
+) -> (D, u64, Result<(), RunFault>)
     ensures { RunsTrace how.blocks (stopping how.stop (D.drive device))
-        (exchange input.old.left (W.contents output.old) (W.contents output.new)) result.1 (D.drive result.0) }
+        (exchange input.old.left (W.contents output.old) (W.contents output.new)) result.2 (D.drive result.0) }
 {
-    let device = stopping(device, how.stop);
-    let (device, result) = run_trace(alloc, input, output, device, how.blocks);
-    (device.into_inner(), result)
+    let disk = match Disk::mount(alloc, stopping(device, how.stop), how.blocks) {
+        Ok(disk) => disk,
+        Err((fault, device)) => {
+            let mounting = device.completed();
+            return (device.into_inner(), mounting, Err(RunFault::Mount(fault)));
+        }
+    };
+    let mounting = disk.device().completed();
+    let (disk, result) = answer_trace(alloc, input, output, disk);
+    (disk.into_device().into_inner(), mounting, result)
 }
 
 /// Answers a trace over a device that stops and whose commands are counted, and then shows what was counted.
@@ -62,22 +72,22 @@ fn run_with_statistics<D: Device + Drop, R: Read + Drop, W: Write>(
     how: TraceRun,
     input: &mut LineReader<R>,
     output: &mut W,
-) -> (D, Result<(), RunFault>) {
+) -> (D, u64, Result<(), RunFault>) {
     let device = stopping(device, how.stop);
-    let (device, result) = run_counted(alloc, input, output, device, how.blocks);
-    (device.into_inner(), result)
+    let (device, mounting, result) = run_counted(alloc, input, output, device, how.blocks);
+    (device.into_inner(), mounting, result)
 }
 
-/// Answers the lines of a job over a device.
+/// Answers the lines of a job over a device. It tells how many commands the mount took, if there was one.
 fn run_lines<D: Device + Drop, R: Read + Drop, W: Write>(
     alloc: Global,
     job: &Job,
     device: D,
     input: &mut LineReader<R>,
     output: &mut W,
-) -> (D, Result<(), RunFault>)
+) -> (D, u64, Result<(), RunFault>)
     ensures { RunsLines job.now (exchange input.old.left (W.contents output.old) (W.contents output.new))
-        (D.drive device) result.1 (D.drive result.0) }
+        (D.drive device) result.2 (D.drive result.0) }
 {
     match job {
         Job::Run { blocks, stop, .. } => {
@@ -103,8 +113,11 @@ fn run_lines<D: Device + Drop, R: Read + Drop, W: Write>(
                 run_stopping(alloc, device, how, input, output)
             }
         }
-        Job::Nvme { .. } | Job::FreshRaw { .. } => run_raw(alloc, input, output, device),
-        Job::Format { .. } | Job::Report { .. } => (device, Ok(())),
+        Job::Nvme { .. } | Job::FreshRaw { .. } => {
+            let (device, result) = run_raw(alloc, input, output, device);
+            (device, 0, result)
+        }
+        Job::Format { .. } | Job::Report { .. } => (device, 0, Ok(())),
     }
 }
 
@@ -135,20 +148,27 @@ fn show_after<W: Write>(
     show_zones(alloc, drive, output)
 }
 
-/// Answers the lines of a job over a drive that no file keeps.
-pub(crate) fn answer_in_memory<R: Read + Drop, W: Write>(
+/// Answers the lines of a job over a drive that no store keeps.
+pub(crate) fn answer_in_memory<S: Store<Drive>, R: Read + Drop, W: Write>(
     alloc: Global,
     job: &Job,
     drive: Drive,
+    store: &S,
     input: &mut LineReader<R>,
     output: &mut W,
-) -> (Drive, Result<(), RunFault>)
-    ensures { AnswersLines job.now (exchange input.old.left (W.contents output.old) (W.contents output.new))
-        drive.state result.1 result.0.state result.0.state }
+) -> (Left, Result<(), RunFault>)
+    requires { has_changes job.now ≡ false }
+    ensures { LeavesDrive job.now (exchange input.old.left (W.contents output.old) (W.contents output.new))
+        drive.state result.1 result.0 (S.held store.now) (S.held store.now) (S.failed store.now) }
 {
-    let (drive, ran) = run_lines(alloc, job, drive, input, output);
+    let (drive, mounting, ran) = run_lines(alloc, job, drive, input, output);
     let shown = show_after(alloc, job, &drive, ran, output);
-    (drive, shown)
+    let left = Left {
+        drive,
+        failed: store.has_failed(),
+        mounting,
+    };
+    (left, shown)
 }
 
 /// Answers the lines of a job over a drive whose changes go to a store.
@@ -161,11 +181,16 @@ pub(crate) fn answer_kept<S: Store<Drive> + Drop, R: Read + Drop, W: Write>(
 ) -> (Left, S, Result<(), RunFault>)
     requires { has_changes job.now ≡ true }
     ensures { LeavesDrive job.now (exchange input.old.left (W.contents output.old) (W.contents output.new))
-        device.drive result.2 result.0 device.contents (S.held result.1) }
+        device.drive result.2 result.0 device.contents (S.held result.1) (S.failed result.1) }
 {
-    let (device, ran) = run_lines(alloc, job, device, input, output);
-    let failed = device.store_failed();
+    let (device, mounting, ran) = run_lines(alloc, job, device, input, output);
     let (drive, store) = device.into_parts();
+    let failed = store.has_failed();
     let shown = show_after(alloc, job, &drive, ran, output);
-    (Left { drive, failed }, store, shown)
+    let left = Left {
+        drive,
+        failed,
+        mounting,
+    };
+    (left, store, shown)
 }

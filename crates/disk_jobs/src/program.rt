@@ -62,15 +62,11 @@ fn answer<S: Store<Drive> + Drop, R: Read + Drop, W: Write>(
     requires { has_changes job.now ≡ true → IfSome (front_of start.begun.whole (S.held start.store))
         (λ bytes. IsStoredWhole bytes start.begun.drive.state) }
     ensures { LeavesDrive job.now (exchange input.old.left (W.contents output.old) (W.contents output.new))
-        start.begun.drive.state result.2 result.0 (S.held start.store) (S.held result.1) }
+        start.begun.drive.state result.2 result.0 (S.held start.store) (S.held result.1) (S.failed result.1) }
 {
     let Start { begun, store } = start;
     if !has_changes(job) {
-        let (drive, result) = answer_in_memory(alloc, job, begun.drive, input, output);
-        let left = Left {
-            drive,
-            failed: false,
-        };
+        let (left, result) = answer_in_memory(alloc, job, begun.drive, &store, input, output);
         return (left, store, result);
     }
     let device = keep(alloc, begun, store);
@@ -87,11 +83,11 @@ pub fn run_job<I: Read + Drop, S: Store<Drive> + Drop, R: Read + Drop, W: Write>
     output: &mut W,
 ) -> (Option<Left>, S, Result<(), ProgramFault>)
     requires { HoldsFile (S.held file.store) (I.remaining file.bytes) }
-    // A drive that is handed back is the one that the lines left, whatever ended them, and the store has it too. The
-    // fault comes from the run of the lines.
+    // A drive that is handed back is the one that the lines left, whatever ended them, and the store has it too; it is
+    // said to be that of the store alone only if the store failed. The fault comes from the run of the lines.
     ensures left { IfSome result.0 (λ left. LeftByLines job.now (I.remaining file.bytes)
         (exchange input.old.left (W.contents output.old) (W.contents output.new))
-        (ended_by result.2) left (S.held file.store) (S.held result.1)) }
+        (ended_by result.2) left (S.held file.store) (S.held result.1) (S.failed result.1)) }
     ensures told { IfSome result.0 (λ left. IfErr result.2 (TellsRun left.drive.state.geometry)) }
     // Without a drive no line was read and no change written, and of what the job writes at most a beginning is written:
     // the fault says why there is no drive, by the bytes of the file. Only a report is done without one.

@@ -18,33 +18,46 @@ fn live_blocks<D: Device + Drop>(
     Ok(live)
 }
 
+/// What was counted of a disk, and how many blocks are live in its zones, as text.
+pub fn statistics_of<D: Device + Drop>(
+    alloc: Global,
+    disk: &Disk<Counter<D>>,
+) -> Result<String, AllocError> {
+    let mut live = live_blocks(alloc, disk)?;
+    statistics_text(alloc, &disk.device().counts(), &Spread::of(&mut live))
+}
+
 /// Writes what was counted of a disk, without a command.
 fn show_statistics<W: Write, D: Device + Drop>(
     alloc: Global,
     disk: &Disk<Counter<D>>,
     output: &mut W,
 ) -> Result<(), RunFault> {
-    let mut live = live_blocks(alloc, disk)?;
-    let text = statistics_text(alloc, &disk.device().counts(), &Spread::of(&mut live))?;
+    let text = statistics_of(alloc, disk)?;
     write_out(output, text.as_bytes())?;
     Ok(())
 }
 
-/// Answers a trace over a device whose commands are counted, and then shows what was counted.
+/// Answers a trace over a device whose commands are counted, and then shows what was counted. It tells how many commands
+/// the mount took.
 pub fn run_counted<R: Read + Drop, W: Write, D: Device + Drop>(
     alloc: Global,
     input: &mut LineReader<R>,
     output: &mut W,
     device: D,
     blocks: u64,
-) -> (D, Result<(), RunFault>) {
+) -> (D, u64, Result<(), RunFault>) {
     let disk = match Disk::mount(alloc, Counter::new(device), blocks) {
         Ok(disk) => disk,
-        Err((fault, counter)) => return (counter.into_inner(), Err(RunFault::Mount(fault))),
+        Err((fault, counter)) => {
+            let mounting = counter.completed();
+            return (counter.into_inner(), mounting, Err(RunFault::Mount(fault)));
+        }
     };
+    let mounting = disk.device().completed();
     let (disk, mut result) = answer_trace(alloc, input, output, disk);
     if result.is_ok() {
         result = show_statistics(alloc, &disk, output);
     }
-    (disk.into_device().into_inner(), result)
+    (disk.into_device().into_inner(), mounting, result)
 }

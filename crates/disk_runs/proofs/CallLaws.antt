@@ -113,6 +113,7 @@ block_shown old middle new first i n bytes lt fits same reads =
     let within = fits (omega (arith, lt)) in
     shows_block old new (first + i) bytes (omega (arith, within, lt)) (subst (λ (d : FlatDisk). Reads d (first + i) 1 (Ok tt) bytes new) same reads)
 
+-- a block of a read was refused
 pub block_refused : (old middle new : FlatDisk) (first i n : ℕ) (bytes : List ℕ) (fault : DiskFault) → i < n → (0 < n → first + n ≤ old.size) → middle ≡ old → Reads middle (first + i) 1 (Err fault) bytes new → IsRefused old (single (read first n)) fault new
 block_refused old middle new first i n bytes fault lt fits same reads =
     let within = fits (omega (arith, lt)) in
@@ -147,6 +148,7 @@ inside size first n e some = grind (arith, nat_tests)
 pub in-range : (size first n long : ℕ) → size ≡ long → false ≡ (nat_lt 0 n && nat_lt size (first + n)) → 0 < n → first + n ≤ long
 in-range size first n long same fits some = let within = inside size first n fits some in omega (arith, within, same)
 
+-- a read past the end has this reply
 pub replies_past : (disk : FlatDisk) (size first n : ℕ) (was reply : List ℕ) → size ≡ disk.size → true ≡ (nat_lt 0 n && nat_lt size (first + n)) → was ≡ [] → reply ≡ was ++ out_of_range_text
     → RepliesTo disk (single (read first n)) reply disk
 replies_past disk size first n was reply long past none is =
@@ -157,6 +159,7 @@ replies_past disk size first n was reply long past none is =
       reply_is = ap (λ (xs : List ℕ). Some xs) (sym (is ∙ ap (λ (xs : List ℕ). xs ++ out_of_range_text) none));
     }
 
+-- and one within it these lines
 pub replies_shown : (old new : FlatDisk) (size first n : ℕ) (was text reply : List ℕ) → size ≡ old.size → false ≡ (nat_lt 0 n && nat_lt size (first + n)) → new ≡ old → (0 < n → old.status ≡ statuses.Serving)
     → was ≡ [] → text ≡ was ++ block_lines first (blocks_from old.array first n) → reply ≡ text ++ ok_text → RepliesTo old (single (read first n)) reply new
 replies_shown old new size first n was text reply long fits same serves none shown is =

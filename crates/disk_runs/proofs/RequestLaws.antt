@@ -95,6 +95,7 @@ turns_told P n old new (Err fault) (Ok v) reply turns told p = let none = idle_u
 
 -- ---- what is told
 
+-- what follows after success
 pub on-ok : {T : Type 0} {P Q : Type 0} (r : Result T RunFault) → (P → Q) → OnOk r P → OnOk r Q
 on-ok (Ok x) f h = f h
 on-ok (Err fault) f h = tt
@@ -114,6 +115,7 @@ never_memory (Err fault) P other = λ e. absurd (other e)
 
 -- ---- what a write keeps
 
+-- what always holds
 pub always : {T : Type 0} {P : Type 0} (result : Result T RunFault) → P → OnOk result P
 always (Ok x) p = p
 always (Err fault) p = tt

@@ -119,6 +119,7 @@ pub record SoFar {S : Type 0} (language : Language S) (bytes : Exchange) (old : 
   pub number_is : number ≡ length lines + 1
   pub written : Appends bytes.written bytes.contents text
 
+-- no line was read yet
 pub begins : {S : Type 0} (language : Language S) (input written : Known) (state : S) → SoFar language (exchange input written written) state 1 input state
 begins language input written state = record {
   lines = [];
@@ -129,6 +130,7 @@ begins language input written state = record {
   written = appends_none written;
 }
 
+-- one line more was answered
 pub goes_on : {S : Type 0} (language : Language S) (input written : Known) (old : S) (number : ℕ) (left left' contents contents' : Known) (line reply : List ℕ) (middle new : S)
     → ReadsLine left left' line (Ok true) → IsLine language middle line → language.Answers middle line reply new → Appends contents contents' reply
     → SoFar language (exchange input written contents) old number left middle → SoFar language (exchange input written contents') old (number + 1) left' new
@@ -141,6 +143,7 @@ goes_on language input written old number left left' contents contents' line rep
   written = appends_more written contents contents' s.text reply s.written w;
 }
 
+-- no line is left
 pub ends : {S : Type 0} (language : Language S) (bytes : Exchange) (old : S) (number : ℕ) (left left' : Known) (line : List ℕ) (new : S)
     → ReadsLine left left' line (Ok false) → SoFar language bytes old number left new → Ran language bytes old new
 ends language bytes old number left left' line new r s =
@@ -207,6 +210,7 @@ not_answered language old new left left' line number (Long m) r short why = absu
 not_answered language old new left left' line number Input r short why = absurd why
 not_answered language old new left left' line number Output r short why = absurd why
 
+-- a line that was answered is one of the language
 pub line_of : {S : Type 0} (language : Language S) (old new : S) (line reply : List ℕ) → length line ≤ LONGEST_LINE → IsAnswered language old line reply new → IsLine language old line
 line_of language old new line reply short answered = record { short = short; legal = answered.legal }
 

@@ -205,6 +205,7 @@ cause_of_end : (bytes : Exchange) (first last : DiskView) (ended : Result (Unit 
 cause_of_end bytes first last (Ok done) can serves r = tt
 cause_of_end bytes first last (Err fault) can serves r = run_cause bytes first last fault can serves r
 
+-- a run was mounted, and led on
 pub led : (n : ℕ) (bytes : Exchange) (old : DriveState) (first last : DiskView) (ended : Result (Unit {0}) RunFault) → MountsDisk old n first → KeepsMountable n old first.drive → IsMountable first.drive (given_size first)
     → Runs trace bytes first ended last → Led n bytes old ended last.drive
 led n bytes old first last ended mounted kept can r =
@@ -233,6 +234,7 @@ led n bytes old first last ended mounted kept can r =
       };
     }
 
+-- what such a run gives
 pub led_gives : (n : ℕ) (bytes : Exchange) (old : DriveState) (ended : Result (Unit {0}) RunFault) (new : DriveState) → Led n bytes old ended new → RunGives n bytes old ended new
 led_gives n bytes old (Ok done) new l = l.flat
 led_gives n bytes old (Err (Line m)) new l = l.flat
@@ -244,6 +246,7 @@ led_gives n bytes old (Err Input) new l = l.flat
 led_gives n bytes old (Err Output) new l = l.flat
 led_gives n bytes old (Err Memory) new l = l.flat
 
+-- and what it leaves
 pub led_leaves : (n : ℕ) (bytes : Exchange) (old : DriveState) (ended : Result (Unit {0}) RunFault) (new : DriveState) → Led n bytes old ended new → RunLeaves n bytes old ended new
 led_leaves n bytes old (Ok done) new l = l.keeps
 led_leaves n bytes old (Err (Line m)) new l = l.keeps

@@ -16,6 +16,7 @@ one_lowest block_bytes n logs a b is is' =
       | inr ge ↦ (elim (cases_lt b a) as (λ _. a ≡ b) [ inl lt ↦ absurd (is.lowest b lt is'.half_clean) | inr le ↦ omega arith ])
     ]
 
+-- a drive has at most one list of zones to clear
 pub one_clearing : (block_bytes n : ℕ) (logs : List (List Batch)) (zones others : List ℕ) → IsClearing block_bytes n logs zones → IsClearing block_bytes n logs others → zones ≡ others
 one_clearing block_bytes n logs [] [] is is' = refl
 one_clearing block_bytes n logs [] (z ∷ zs) is is' = absurd (is z is'.0.in_range is'.0.half_clean)
@@ -33,12 +34,14 @@ without-same [] zone = refl
 without-same (l ∷ ls) zero = refl
 without-same (l ∷ ls) (suc zone) = without-same ls zone
 
-pub without-part : (logs : List (List Batch)) (zone : ℕ) → IsPart logs (without logs zone)
+-- logs without a zone are a part of the logs
+without-part : (logs : List (List Batch)) (zone : ℕ) → IsPart logs (without logs zone)
 without-part logs zone other = elim (cases_eq other zone) as (λ _. (log_at (without logs zone) other ≡ log_at logs other) ⊎ (log_at (without logs zone) other ≡ [])) [
   | inl e ↦ inr (rw e (without-same logs zone))
   | inr apart ↦ inl (get_or-set_other logs zone other [] [] apart)
 ]
 
+-- a part of a part is one
 pub part-trans : (a b c : List (List Batch)) → IsPart a b → IsPart b c → IsPart a c
 part-trans a b c ab bc zone = joined (ab zone) (bc zone)
   where
@@ -48,6 +51,7 @@ part-trans a b c ab bc zone = joined (ab zone) (bc zone)
     joined (inl e) (inr f) = inr f
     joined (inr e) (inr f) = inr f
 
+-- cleared logs are a part
 pub clearing-part : (logs : List (List Batch)) (zones : List ℕ) → IsPart logs (cleared logs zones)
 clearing-part logs [] = λ zone. inl refl
 clearing-part logs (z ∷ zs) = part-trans logs (without logs z) (cleared (without logs z) zs) (without-part logs z) (clearing-part (without logs z) zs)
@@ -69,6 +73,7 @@ with_batch [] = 0
 with_batch ([] ∷ logs) = with_batch logs
 with_batch ((b ∷ bs) ∷ logs) = suc (with_batch logs)
 
+-- without a zone that has a batch, one zone less has one
 pub fewer : (logs : List (List Batch)) (zone : ℕ) → log_at logs zone ≢ [] → suc (with_batch (without logs zone)) ≡ with_batch logs
 fewer [] zone some = absurd (some refl)
 fewer ([] ∷ ls) zero some = absurd (some refl)
@@ -76,6 +81,7 @@ fewer ((b ∷ bs) ∷ ls) zero some = refl
 fewer ([] ∷ ls) (suc zone) some = fewer ls zone some
 fewer ((b ∷ bs) ∷ ls) (suc zone) some = ap suc (fewer ls zone some)
 
+-- clearing keeps the array
 pub clearing_keeps : ClearingKeeps
 clearing_keeps block_bytes limit n logs [] sound is = record { array_is = refl; size_is = refl; sound = sound; part = λ zone. inl refl }
 clearing_keeps block_bytes limit n logs (z ∷ zs) sound is =

@@ -14,10 +14,12 @@ use Rattle.drive_array.proofs.SizeLaws.{larger-assoc, larger-comm}
 
 -- ---- what holds of all records holds of the newest
 
+-- a fact of a record, if there is one
 abbrev pub OnRecord : (Record → Type 0) → Option Record → Type 0
 OnRecord P None = Unit {0}
 OnRecord P (Some r) = P r
 
+-- it holds of the newer of two of which it holds
 pub on-newer : (P : Record → Type 0) (x y : Option Record) → OnRecord P x → OnRecord P y → OnRecord P (newer x y)
 on-newer P None y h k = k
 on-newer P (Some x) None h k = h
@@ -27,6 +29,7 @@ on-one : (P : Record → Type 0) (b : Bool) (r : Record) → P r → OnRecord P 
 on-one P true r h = h
 on-one P false r h = tt
 
+-- and of the newest of a list
 pub on-newest : (P : Record → Type 0) (block : ℕ) (rs : List Record) → AllByRecursion P rs → OnRecord P (newest block rs)
 on-newest P block [] all = tt
 on-newest P block (r ∷ rs) all = on-newer P (cond (eqb r.block block) (Some r) None) (newest block rs) (on-one P (eqb r.block block) r all.0) (on-newest P block rs all.1)
@@ -46,6 +49,7 @@ log-zone zone offset (b ∷ bs) =
 
 -- ---- records that are not the newest can go
 
+-- a record, if there is one, does not lie in a zone
 abbrev pub NotIn : ℕ → Option Record → Type 0
 NotIn zone r = OnRecord (λ (one : Record). one.zone ≢ zone) r
 
@@ -94,6 +98,7 @@ newest-rest block first (suc index) zone x (log ∷ logs) e lt out =
     let split' : newer x (newest block (records first (log ∷ without logs index))) ≡ newer (newer x mine) (newest block less) = ap (newer x) (newest-append block (log_records first 0 log) less) ∙ newer-assoc x mine (newest block less) in
     split' ∙ newest-rest block (suc first) index zone (newer x mine) logs (omega (arith, e)) (omega arith) (rw split at out) ∙ sym split
 
+-- a block whose newest record lies elsewhere is the same without the zone
 pub newest-without : (block zone : ℕ) (logs : List (List Batch)) → zone < length logs → NotIn zone (newest block (records 0 logs)) → newest block (records 0 (without logs zone)) ≡ newest block (records 0 logs)
 newest-without block zone logs lt out = newest-rest block 0 zone zone None logs (omega arith) lt out
 
@@ -103,6 +108,7 @@ larger-same : (x : Option ℕ) → larger x x ≡ x
 larger-same None = refl
 larger-same (Some a) = ap (λ (n : ℕ). Some n) (omega arith)
 
+-- the greatest size is that of one zone or that of the others
 pub greatest-split : (logs : List (List Batch)) (zone : ℕ) → zone < length logs → greatest logs ≡ larger (log_greatest (log_at logs zone)) (greatest (without logs zone))
 greatest-split [] zone lt = absurd (omega arith)
 greatest-split (log ∷ logs) zero lt = refl
@@ -134,6 +140,7 @@ greatest-without logs zone other lt lt' apart covers =
 
 -- ---- what is told of all blocks
 
+-- two functions that agree on a range give the same list
 pub map-range_same : {X : Type 0} (f g : ℕ → X) (a n : ℕ) → ((k : ℕ) → a ≤ k → k < a + n → f k ≡ g k) → map f (range_with_len a n) ≡ map g (range_with_len a n)
 map-range_same f g a zero same = refl
 map-range_same {X} f g a (suc n) same =

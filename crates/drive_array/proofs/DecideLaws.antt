@@ -104,6 +104,7 @@ clearing-for block_bytes n (suc fuel) logs le =
         let rest = more found.0 (omega (arith, le, fewer logs found.0 (has_batch block_bytes n logs found.0 found.1.half_clean))) in
         (found.0 ∷ rest.0, (found.1, rest.1))
 
+-- there is at most one clearing
 pub has_clearing : OneClearing
 has_clearing block_bytes n logs =
     let found = clearing-for block_bytes n (with_batch logs) logs (omega arith) in

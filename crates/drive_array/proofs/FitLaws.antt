@@ -2,13 +2,12 @@
 use Rattle.std.proofs.Common.{◌≡◌, ◌≢◌, inl, inr, ℕ, zero, suc, ◌+◌, ◌*◌, ◌<◌, ◌≤◌, Bool, true, false, cond, eqb, ◌&&◌, ◌||◌, List, [], ◌∷◌, ◌++◌, length, get_or, Option, Some, None, is_some, refl, sym, ap, subst, ◌∙◌, arith}
 use Rattle.std.specs.List.{AllByRecursion, count_by, range_with_len}
 use Rattle.std.proofs.lemmas.Bool.{cases_eq, ne_eqb, eq-eqb, eqb-true, and_parts}
-use Rattle.std.proofs.lemmas.List.Sums.{sum_by-append, sum_by-cons}
+use Rattle.std.proofs.lemmas.List.Sums.{sum_by-append}
 use Rattle.batch_log.specs.declared.header.Entry.{Entry}
 use Rattle.batch_log.specs.Log.{Batch, batch_size, data_count, log_size, one_unless}
 use Rattle.drive_array.specs.Records.{IsNewest, Record, batch_records, entry_content, entry_records, log_records, newest, record_of, records}
-use Rattle.std.specs.Prelude.{Contains}
 use Rattle.std.proofs.Math.Nat.{add-mul}
-use Rattle.drive_array.proofs.AllLaws.{all-append, all-at, all-weaker}
+use Rattle.drive_array.proofs.AllLaws.{all-append, all-weaker}
 use Rattle.drive_array.proofs.NewestLaws.{newest-is, all-among}
 use Rattle.drive_array.specs.ZoneLogs.{log_at}
 use Rattle.drive_array.specs.Repair.{HasAtMost, is_any, is_data, kept_in, live_records, live_by}
@@ -118,7 +117,8 @@ in-zone keep first (suc index) zone (log ∷ logs) e =
     let rs = log_records zone 0 (get_or logs index []) in
     all-append (IsNamed keep zone rs) (log_records first 0 log) (records (suc first) logs) (elsewhere keep first zone rs (log_records first 0 log) (λ same. omega arith) (log-zone first 0 log)) (in-zone keep (suc first) index zone logs (omega arith))
 
-pub live-le : (keep : Record → Bool) (size zone : ℕ) (logs : List (List Batch)) → live_by keep size logs zone ≤ count_by keep (log_records zone 0 (log_at logs zone))
+-- a zone has no more live records than records
+live-le : (keep : Record → Bool) (size zone : ℕ) (logs : List (List Batch)) → live_by keep size logs zone ≤ count_by keep (log_records zone 0 (log_at logs zone))
 live-le keep size zone logs =
     omega (arith, count-le (λ block. kept_in keep zone (newest block rs)) (names keep log) (range_with_len 0 size) (λ block h. found block (newest block rs) (newest-is block rs) h), names-le keep log size)
   where
@@ -175,10 +175,12 @@ log-data zone offset (b ∷ bs) =
     let rest = log_records zone (offset + batch_size b) bs in
     omega (arith, count-append is_data (batch_records zone offset b) rest, entries-data b.heading.sequence zone offset 0 b.body b.heading.entries, log-data zone (offset + batch_size b) bs)
 
+-- a log that is not empty has a batch
 pub some-length : (log : List Batch) → log ≢ [] → 1 ≤ length log
 some-length [] some = absurd (some refl)
 some-length (b ∷ bs) some = omega arith
 
+-- records no more than a quota fit a zone
 pub few_fit : FewFit
 few_fit most size zone logs pos some few =
     let log = log_at logs zone in

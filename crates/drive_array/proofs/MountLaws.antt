@@ -27,7 +27,8 @@ use Rattle.drive_array.proofs.ZoneLogLaws.{finish_logs}
 abbrev pub NoTails : List Content → Type 0
 NoTails zones = (zone : ℕ) → get_or (zone_tails zones) zone false ≡ false
 
-pub none-repair : (geometry : Geometry) (limit size : ℕ) (logs : List (List Batch)) (zones : List Content) → NoTails zones → CanRepair geometry limit size logs (zone_tails zones)
+-- without torn tails nothing has to be repaired
+none-repair : (geometry : Geometry) (limit size : ℕ) (logs : List (List Batch)) (zones : List Content) → NoTails zones → CanRepair geometry limit size logs (zone_tails zones)
 none-repair geometry limit size logs zones none = record {
   one = λ a b is is'. absurd (let no_tail = none a in let tail = is.tail in cc);
   fits = λ a is. absurd (let no_tail = none a in let tail = is.tail in cc);
@@ -61,6 +62,7 @@ torn-before logs part tails zone is torn = record {
   tail = torn.tail;
 }
 
+-- a torn Append leaves a drive that can be mounted
 pub torn_mounts : TornMounts
 torn_mounts geometry zones n zone some high sound few small only disk = record {
   disk = disk;
@@ -92,7 +94,8 @@ torn_mounts geometry zones n zone some high sound few small only disk = record {
 
 -- ---- Resets
 
-pub logs-set : (geometry : Geometry) (zones : List Content) (zone : ℕ) → zone_logs geometry (set zones zone emptied) ≡ without (zone_logs geometry zones) zone
+-- a zone that is emptied has no batch
+logs-set : (geometry : Geometry) (zones : List Content) (zone : ℕ) → zone_logs geometry (set zones zone emptied) ≡ without (zone_logs geometry zones) zone
 unfolding zone_log
 logs-set geometry zones zone = map-set (zone_log geometry) zones zone emptied
 
@@ -132,6 +135,7 @@ tails-left (z ∷ zs) zero (suc other) e = (e, λ same. absurd (omega arith))
 tails-left (z ∷ zs) (suc zone) zero e = (e, λ same. absurd (omega arith))
 tails-left (z ∷ zs) (suc zone) (suc other) e = let rest = tails-left zs zone other e in (rest.0, λ same. rest.1 (omega arith))
 
+-- the lowest half clean zone can be reset
 pub lowest_resets : LowestResets
 lowest_resets geometry old new n zone mountable lowest resets =
     let disk = mountable.disk in
@@ -149,6 +153,7 @@ lowest_resets geometry old new n zone mountable lowest resets =
       };
     }
 
+-- a zone without a batch can be reset
 pub vacant_resets : VacantResets
 vacant_resets geometry old new n zone mountable vacant resets =
     let disk = mountable.disk in
@@ -166,6 +171,7 @@ vacant_resets geometry old new n zone mountable vacant resets =
       };
     }
 
+-- a spare zone can be reset
 pub spare_resets : SpareResets
 spare_resets geometry old new n zone mountable spare only resets =
     let disk = mountable.disk in
@@ -192,9 +198,7 @@ spare_resets geometry old new n zone mountable spare only resets =
 
 -- ---- a Finish and a restart
 
-finished-whole : (content : Content) → is_partly_written (finished content) ≡ false
-finished-whole content = refl
-
+-- a Finish leaves a drive that can be mounted
 pub finish_mounts : FinishMounts
 finish_mounts geometry old new n zone small mountable writable untorn finishes =
     let disk = mountable.disk in
@@ -215,5 +219,6 @@ finish_mounts geometry old new n zone small mountable writable untorn finishes =
       repair = rw (kept.logs, kept.tails_are) mountable.repair;
     }
 
+-- and so does a restart
 pub restart_mounts : RestartMounts
 restart_mounts drive n mountable = record { lawful = lawful-restarted drive mountable.lawful; holds = rw (contents-restarted drive.zones) mountable.holds }

@@ -14,16 +14,19 @@ use Rattle.drive_array.proofs.AllLaws.{all-at}
 newer-assoc_some : (x y z : Record) → newer (Some x) (newer (Some y) (Some z)) ≡ newer (newer (Some x) (Some y)) (Some z)
 newer-assoc_some x y z = grind (arith, nat_tests)
 
+-- no record changes nothing
 pub newer-none : (x : Option Record) → newer x None ≡ x
 newer-none None = refl
 newer-none (Some x) = refl
 
+-- of three records the newest, however they are grouped
 pub newer-assoc : (x y z : Option Record) → newer x (newer y z) ≡ newer (newer x y) z
 newer-assoc None y z = refl
 newer-assoc (Some x) None z = refl
 newer-assoc (Some x) (Some y) None = sym (newer-none (newer (Some x) (Some y)))
 newer-assoc (Some x) (Some y) (Some z) = newer-assoc_some x y z
 
+-- the newest of two lists
 pub newest-append : (block : ℕ) (xs ys : List Record) → newest block (xs ++ ys) ≡ newer (newest block xs) (newest block ys)
 newest-append block [] ys = refl
 newest-append block (x ∷ xs) ys =
@@ -87,6 +90,7 @@ to_front s block older new rest all from =
     let swap : newer x y ≡ newer y x = newer-commute s x y (newest-below s block older all) from in
     left ∙ newer-assoc x y z ∙ ap (λ (r : Option Record). newer r z) swap ∙ sym (newer-assoc y x z) ∙ sym right
 
+-- what is below a bound in a list is so in its parts
 pub AllBelow-parts : (s : ℕ) (xs ys : List Record) → AllBelow s (xs ++ ys) → AllBelow s xs × AllBelow s ys
 AllBelow-parts s [] ys all = (tt, all)
 AllBelow-parts s (x ∷ xs) ys all = let rest = AllBelow-parts s xs ys all.1 in ((all.0, rest.0), rest.1)
@@ -120,6 +124,7 @@ newest-append_log block first (z ∷ zs) (suc index) zone b e lt all =
 
 -- ---- the array
 
+-- two functions that agree give the same list
 pub map_same : {X Y : Type 0} (f g : X → Y) → ((x : X) → f x ≡ g x) → (xs : List X) → map f xs ≡ map g xs
 map_same f g h [] = refl
 map_same f g h (x ∷ xs) = rw (h x, map_same f g h xs) refl
@@ -130,6 +135,7 @@ map-range_above f k v a (suc n) lt =
     let no : eqb k a ≡ false = ne_eqb k a (λ same. omega arith) in
     rw (no, map-range_above f k v (a + 1) n (omega arith)) refl
 
+-- one number of a range is given another value
 pub map-range_set : {Y : Type 0} (f : ℕ → Y) (k : ℕ) (v : Y) (a n j : ℕ) → k ≡ a + j → map (λ b. cond (eqb k b) v (f b)) (range_with_len a n) ≡ set (map f (range_with_len a n)) j v
 map-range_set f k v a zero j e = refl
 map-range_set f k v a (suc n) zero e =
@@ -203,6 +209,7 @@ live-behind first r rs no_later live = record {
 live-first : (r : Record) (rs : List Record) → AllByRecursion (λ other. other.block ≡ r.block → other.sequence ≤ r.sequence) rs → IsLive (r ∷ rs) r
 live-first r rs all = record { among = (0, omega arith, refl); greatest = ((λ same. omega arith), all) }
 
+-- the newest record of a block is one that is as new as each
 pub newest-is : (block : ℕ) (rs : List Record) → IsNewest rs block (newest block rs)
 newest-is block [] = tt
 newest-is block (r ∷ rs) = step (eqb r.block block) refl (newest block rs) (newest-is block rs)

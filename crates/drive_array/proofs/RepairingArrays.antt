@@ -15,11 +15,13 @@ use Rattle.drive_array.proofs.SizeLaws.{larger-assoc, same-size}
 
 -- ---- sizes
 
+-- a zone that has a batch is one of the drive
 pub in-range : (logs : List (List Batch)) (zone : ℕ) → log_at logs zone ≢ [] → zone < length logs
 in-range [] zone some = absurd (some refl)
 in-range (log ∷ logs) zero some = omega arith
 in-range (log ∷ logs) (suc zone) some = let lt = in-range logs zone some in omega arith
 
+-- the greatest size, with a log put in a zone that had none
 pub greatest-put : (logs : List (List Batch)) (zone : ℕ) (log : List Batch) → zone < length logs → IsVacant logs zone → greatest (set logs zone log) ≡ larger (log_greatest log) (greatest logs)
 greatest-put logs zone log lt vacant =
     greatest-split (set logs zone log) zone (omega (arith, lt, length-set logs zone log))
@@ -38,6 +40,7 @@ greatest-within logs zone other log lt lt' vacant within =
 
 -- ---- arrays, block by block
 
+-- arrays are the same if their sizes are, and each block is
 pub array-same : (block_bytes n : ℕ) (a b : List (List Batch)) → encoded_size n a ≡ encoded_size n b
     → ((block : ℕ) → block < encoded_size n b → shown block_bytes (newest block (records 0 a)) ≡ shown block_bytes (newest block (records 0 b))) → array_of block_bytes n a ≡ array_of block_bytes n b
 array-same block_bytes n a b e each =

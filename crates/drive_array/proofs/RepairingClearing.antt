@@ -21,6 +21,7 @@ use Rattle.drive_array.proofs.SizeLaws.{same-size}
 
 -- ---- the Moves come after all batches
 
+-- the torn zone is one of the drive
 pub torn-below : (block_bytes n torn into : ℕ) (logs : List (List Batch)) (moves : List Batch) → IsRepairing block_bytes n logs torn into moves → torn < length logs
 torn-below block_bytes n torn into logs moves is = in-range logs torn is.has_batch
 
@@ -29,6 +30,7 @@ older-first logs zone [] later some some' = absurd (some' refl)
 older-first logs zone (b ∷ bs) later some some' =
     first-below b.heading.sequence (log_at logs zone) (zone-sequences (λ s. s < b.heading.sequence) logs zone later.0) (some-length (log_at logs zone) some)
 
+-- Moves above all sequences are before none of them
 pub no-later : (logs : List (List Batch)) (zone : ℕ) (moves : List Batch) → AllByRecursion (IsAbove (sequences logs)) moves → IsBefore (first_sequence moves) (first_sequence (log_at logs zone)) → ⊥
 no-later logs zone [] later before = before
 no-later logs zone (b ∷ bs) later before = by (log_at logs zone) (zone-sequences (λ s. s < b.heading.sequence) logs zone later.0) before
@@ -39,7 +41,8 @@ no-later logs zone (b ∷ bs) later before = by (log_at logs zone) (zone-sequenc
 
 -- ---- no other zone gets half clean
 
-pub not-in : (zone torn : ℕ) (r : Option Record) → zone ≢ torn → LiesIn torn r → NotIn zone r
+-- a record that lies in another zone does not lie in this one
+not-in : (zone torn : ℕ) (r : Option Record) → zone ≢ torn → LiesIn torn r → NotIn zone r
 not-in zone torn None apart is = tt
 not-in zone torn (Some r) apart is = λ here. apart (sym here ∙ is)
 
@@ -101,9 +104,11 @@ not-half block_bytes n torn into zone logs moves is lt off_into off_torn half =
 
 -- ---- the zone of the Moves is half clean
 
+-- a zone without a batch is as it was, once its Moves are taken away
 pub put-back : (logs : List (List Batch)) (into : ℕ) (moves : List Batch) → IsVacant logs into → without (set logs into moves) into ≡ logs
 put-back logs into moves vacant = set-set logs into moves [] ∙ put-none logs into vacant
 
+-- the Moves of a repair can be taken away again
 pub moves-half : (block_bytes n torn into : ℕ) (logs : List (List Batch)) (moves : List Batch) → IsRepairing block_bytes n logs torn into moves → moves ≢ [] → IsHalfClean block_bytes n (set logs into moves) into
 moves-half block_bytes n torn into logs moves is some =
     let here = get_or-set_same logs into moves [] is.in_range in

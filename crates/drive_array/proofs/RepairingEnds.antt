@@ -83,6 +83,7 @@ torn-spare block_bytes n torn into logs moves is named says =
         let elsewhere : NotIn torn (newest block (records 0 logs)) = elim (lies-or torn (newest block (records 0 logs))) as (λ _. NotIn torn (newest block (records 0 logs))) [ inl there ↦ absurd (named block there none) | inr out ↦ out ] in
         newest-unsaid block into less moves others.range others.vacant none ∙ newest-without block torn logs torn_below elsewhere ∙ sym (newest-unsaid block into logs moves is.in_range is.vacant none)
 
+-- a repair ends with the torn zone emptied, and the same array
 pub repair_ends : RepairEnds
 repair_ends geometry n torn into base now small is named says =
     let there = made-there geometry n torn into base now is in
@@ -103,6 +104,7 @@ still-moved block_bytes n torn into logs moves is half =
       ];
     }
 
+-- what is still to be moved stays the same while Moves are appended
 pub needed_stays : NeededStays
 needed_stays block_bytes n torn into logs moves is (inl not_moved) half = not_moved (still-moved block_bytes n torn into logs moves is half)
 needed_stays block_bytes n torn into logs moves is (inr (inl (block, needs, none))) half =

@@ -7,7 +7,6 @@ use Rattle.std.proofs.lemmas.List.Sums.{sum_by-cons, sum_by-set}
 use Rattle.zone_states.specs.declared.geometry.Geometry.{Geometry}
 use Rattle.drive_port.specs.Contents.{Content, content_at, emptied, is_usable, nothing}
 use Rattle.batch_log.specs.Log.{Batch}
-use Rattle.drive_array.specs.Laws.{OnlyTorn}
 use Rattle.drive_array.specs.Mountable.{is_partly_written}
 use Rattle.drive_array.specs.Repairing.{IsOnRepair, IsRepairing, RepairBegins, RepairMounts}
 use Rattle.drive_array.specs.Sizes.{array_of}
@@ -23,9 +22,11 @@ use Rattle.drive_array.proofs.ZoneLogLaws.{log_at-zone, tails-set}
 
 -- ---- the logs of a drive on repair
 
-pub logs-put : (geometry : Geometry) (zones : List Content) (zone : ℕ) (made : Content) → zone_logs geometry (set zones zone made) ≡ set (zone_logs geometry zones) zone (zone_log geometry made)
+-- one zone changes, and so does its log
+logs-put : (geometry : Geometry) (zones : List Content) (zone : ℕ) (made : Content) → zone_logs geometry (set zones zone made) ≡ set (zone_logs geometry zones) zone (zone_log geometry made)
 logs-put geometry zones zone made = map-set (zone_log geometry) zones zone made
 
+-- the zone that takes the Moves is one of the drive
 pub into-below : (geometry : Geometry) (n torn into : ℕ) (base now : List Content) → IsOnRepair geometry n base now torn into → into < length base
 into-below geometry n torn into base now is = omega (arith, is.repairing.in_range, length-map base (zone_log geometry))
 
@@ -33,6 +34,7 @@ into-below geometry n torn into base now is = omega (arith, is.repairing.in_rang
 pub made-there : (geometry : Geometry) (n torn into : ℕ) (base now : List Content) → (is : IsOnRepair geometry n base now torn into) → content_at now into ≡ is.made
 made-there geometry n torn into base now is = rw is.zones (get_or-set_same base into is.made nothing (into-below geometry n torn into base now is))
 
+-- its log is that of the Moves that were made
 pub logs-now : (geometry : Geometry) (n torn into : ℕ) (base now : List Content) → (is : IsOnRepair geometry n base now torn into) → zone_logs geometry now ≡ set (zone_logs geometry base) into (zone_log geometry is.made)
 logs-now geometry n torn into base now is = ap (zone_logs geometry) is.zones ∙ logs-put geometry base into is.made
 
@@ -43,6 +45,7 @@ pub emptied-nothing : (geometry : Geometry) → zone_log geometry emptied ≡ []
 unfolding zone_log
 emptied-nothing geometry = refl
 
+-- a repair begins with no Move
 pub repair_begins : RepairBegins
 repair_begins geometry n torn into zones small mountable none_left alone only some lt is = record {
   mountable = mountable;
@@ -104,6 +107,7 @@ set-here [] into b e = absurd (cc)
 set-here (t ∷ ts) zero b e = e
 set-here (t ∷ ts) (suc into) b e = set-here ts into b e
 
+-- a drive on its repair can be mounted
 pub repair_mounts : RepairMounts
 unfolding spelled_array
 repair_mounts geometry n torn into base now small is whole =
@@ -132,16 +136,3 @@ repair_mounts geometry n torn into base now small is whole =
       };
       array = ap (array_of geometry.block n) now_logs ∙ repairing.array_is;
     }
-
--- where no Append was torn on the way, no zone but the torn one is torn
-pub only_torn : (geometry : Geometry) (n torn into : ℕ) (base now : List Content) → IsOnRepair geometry n base now torn into → has_torn_tail (content_at now into) ≡ false → OnlyTorn geometry now torn
-only_torn geometry n torn into base now is whole other at = elim (set-other (zone_tails base) into (has_torn_tail is.made) other tail) as (λ _. other ≡ torn) [
-  | inl before ↦ is.only other before
-  | inr here ↦ absurd (untorn (set-here (zone_tails base) into (has_torn_tail is.made) (rw here at tail)))
-]
-  where
-    tail : get_or (set (zone_tails base) into (has_torn_tail is.made)) other false ≡ true
-    tail = rw (tails-set base now into is.made is.zones) at at.tail
-
-    untorn : has_torn_tail is.made ≡ true → ⊥
-    untorn e = let whole_there = rw (made-there geometry n torn into base now is) at whole in cc

@@ -203,6 +203,7 @@ old-below geometry n torn into base old is = rw is.zones (omega (arith, into-bel
 old-logs : (geometry : Geometry) (n torn into : ℕ) (base old : List Content) → IsOnRepair geometry n base old torn into → AllByRecursion (HasLog geometry) old
 old-logs geometry n torn into base old is = rw is.zones (all-set (HasLog geometry) base into is.made is.mountable.disk.logs is.has)
 
+-- a Move of a repair keeps the array, and goes on with it
 pub move_repairs : MoveRepairs
 move_repairs geometry n torn into base old new batch small is is_batch move untorn appends =
     let was = content_at old into in
@@ -225,6 +226,7 @@ move_repairs geometry n torn into base old new batch small is is_batch move unto
       whole = sym (tail-at new into lt_now) ∙ ap (λ (ts : List Bool). get_or ts into false) kept.tails ∙ tail-at old into lt ∙ untorn;
     }
 
+-- and so does one that was torn
 pub torn_move_repairs : TornMoveRepairs
 torn_move_repairs geometry n torn into j base old new batch small is is_batch untorn few room appends =
     let was = content_at old into in

@@ -13,6 +13,7 @@ use Rattle.drive_array.proofs.DeadLaws.{OnRecord, on-newer, on-newest}
 use Rattle.drive_array.proofs.NewestLaws.{AllBelow-parts, newer-assoc, newest-append}
 use Rattle.drive_array.proofs.SequenceLaws.{records-below}
 
+-- a record, if there is one, is older than a sequence
 abbrev pub OlderThan : ℕ → Option Record → Type 0
 OlderThan s x = OnRecord (λ (r : Record). r.sequence < s) x
 
@@ -62,6 +63,7 @@ newest-unsaid block zone logs log lt vacant none =
     let at = around block 0 zone zone logs (omega arith) lt in
     at.both log ∙ ap (λ (r : Option Record). newer at.before (newer r at.behind)) none ∙ sym (at.both []) ∙ ap (λ (ls : List (List Batch)). newest block (records 0 ls)) (put-none logs zone vacant)
 
+-- a record is the newest that the others are older than
 pub newer-older : (s : ℕ) (before behind : Option Record) (r : Record) → s ≤ r.sequence → OlderThan s before → OlderThan s behind → newer before (newer (Some r) behind) ≡ Some r
 newer-older s before behind r le old old' = ap (newer before) (front behind old') ∙ back before old
   where
@@ -79,6 +81,7 @@ newer-older s before behind r le old old' = ap (newer before) (front behind old'
 abbrev pub IsAbove : List ℕ → Batch → Type 0
 IsAbove numbers batch = AllByRecursion (λ sequence. sequence < batch.heading.sequence) numbers
 
+-- the records of a batch are above all sequences that are below its own
 pub entries-above : (numbers : List ℕ) (s zone header k : ℕ) (body : List (List ℕ)) (es : List Entry) → AllByRecursion (λ n. n < s) numbers
     → AllByRecursion (λ (r : Record). AllByRecursion (λ n. n < r.sequence) numbers) (entry_records s body zone header k es)
 entries-above numbers s zone header k body [] above = tt

@@ -1,5 +1,5 @@
 -- Quotients rounded up, and what moves take of a zone.
-use Rattle.std.proofs.Common.{◌≡◌, ℕ, ◌+◌, ◌-◌, ◌*◌, ◌^◌, ◌<◌, ◌≤◌, min, refl, inl, inr, arith}
+use Rattle.std.proofs.Common.{◌≡◌, ℕ, ◌+◌, ◌-◌, ◌*◌, ◌^◌, ◌<◌, ◌≤◌, min, inl, inr, arith}
 use Rattle.std.specs.Int.{div_ceil}
 use Rattle.std.proofs.lemmas.Grind.{div_ceil_times}
 use Rattle.std.proofs.lemmas.Nat.{mul-le}
@@ -7,18 +7,21 @@ use Rattle.std.proofs.lemmas.Bool.{cases_lt}
 use Rattle.std.proofs.Math.Nat.{add-mul, add-div_right, add-mod_right}
 use Rattle.zone_states.specs.declared.geometry.Geometry.{Geometry}
 use Rattle.zone_states.specs.Geometry.{IsInRange}
-use Rattle.drive_array.specs.Reserve.{batch_most, move_blocks, FitsReserve, IsQuota, most_size, quota_of}
+use Rattle.drive_array.specs.Reserve.{batch_most, move_blocks, FitsReserve, IsQuota}
 
 -- no more than m batches of k are wanted for at most m * k records
 pub div_ceil-le : (a k m : ℕ) → 0 < k → a ≤ m * k → div_ceil a k ≤ m
 div_ceil-le a k m pos h = elim (cases_lt m (div_ceil a k)) as (λ _. div_ceil a k ≤ m) [ inl more ↦ absurd (omega (arith, div_ceil_times a k pos, mul-le (m + 1) k (div_ceil a k) k (omega arith) (omega arith), add-mul m 1 k)) | inr le ↦ le ]
 
+-- a quotient rounded up is enough
 pub div_ceil-enough : (a k : ℕ) → 0 < k → a ≤ div_ceil a k * k
 div_ceil-enough a k pos = (div_ceil_times a k pos).0
 
+-- it rises with the dividend
 pub div_ceil-mono : (a b k : ℕ) → 0 < k → a ≤ b → div_ceil a k ≤ div_ceil b k
 div_ceil-mono a b k pos h = div_ceil-le a k (div_ceil b k) pos (omega (arith, div_ceil-enough b k pos))
 
+-- it is no 0 unless the dividend is
 pub div_ceil-positive : (a k : ℕ) → 0 < k → 0 < a → 0 < div_ceil a k
 div_ceil-positive a k pos some =
     elim (cases_lt 0 (div_ceil a k)) as (λ _. 0 < div_ceil a k) [ inl p ↦ p | inr none ↦ absurd (omega (arith, div_ceil-enough a k pos, mul-le (div_ceil a k) k 0 k none (omega arith))) ]
@@ -31,12 +34,15 @@ div_ceil-add a k pos = omega (arith, add-div_right a pos, add-mod_right a k)
 pub div_ceil-last : (a k : ℕ) → 0 < a → a ≤ k → div_ceil a k ≡ 1
 div_ceil-last a k some h = omega (arith, div_ceil-le a k 1 (omega arith) (omega arith), div_ceil-positive a k (omega arith) some)
 
+-- that of 0 is 0
 pub div_ceil-none : (k : ℕ) → 0 < k → div_ceil 0 k ≡ 0
 div_ceil-none k pos = omega (arith, div_ceil-le 0 k 0 pos (omega arith))
 
+-- more records take no fewer blocks
 pub fill-mono : (a b k : ℕ) → 0 < k → a ≤ b → move_blocks k a ≤ move_blocks k b
 fill-mono a b k pos h = omega (arith, div_ceil-mono a b k pos h)
 
+-- records that fit a zone are no more than its quota
 pub fill-quota : (k c q records : ℕ) → 0 < k → move_blocks k q + 2 ≤ c → c < move_blocks k (q + 1) + 2 → move_blocks k records + 2 ≤ c → records ≤ q
 fill-quota k c q records pos fits more h =
     elim (cases_lt q records) as (λ _. records ≤ q) [ inl above ↦ absurd (omega (arith, fill-mono (q + 1) records k pos (omega arith))) | inr le ↦ le ]
@@ -63,6 +69,7 @@ quota-greatest k room t q records pos t-is total fits =
       | inr more ↦ omega arith
     ]
 
+-- the quota of a zone, by one division
 pub quota-is : (k capacity t q : ℕ) → 0 < k → 4 ≤ capacity → t ≡ div_ceil (capacity - 2) (k + 1) → q + t ≡ capacity - 2 → IsQuota k capacity q
 quota-is k capacity t q pos some t-is total = record {
   fits = omega (arith, quota-fits k (capacity - 2) t q pos (omega arith) t-is total);
@@ -75,22 +82,11 @@ quota-is k capacity t q pos some t-is total = record {
 pub positive-most : (geometry : Geometry) → IsInRange geometry → 1 ≤ batch_most geometry
 positive-most geometry range = elim range.block as (λ _. 1 ≤ batch_most geometry) [ inl e ↦ rw e (omega (arith, range.transfer)) | inr e ↦ rw e (omega (arith, range.transfer)) ]
 
--- the quota of a drive is one
-pub quota-of : (geometry : Geometry) → IsInRange geometry → IsQuota (batch_most geometry) geometry.capacity (quota_of geometry)
-quota-of geometry range =
-    let room = geometry.capacity - 2 in
-    let headers = div_ceil room (batch_most geometry + 1) in
-    let few : headers ≤ room = div_ceil-le room (batch_most geometry + 1) room (omega arith) (omega (arith, mul-le room 1 room (batch_most geometry + 1) (omega arith) (omega arith))) in
-    quota-is (batch_most geometry) geometry.capacity headers (quota_of geometry) (omega (arith, positive-most geometry range)) range.capacity.0 refl (omega (arith, few))
-
--- each number up to the greatest is within the reserve
-pub fits-most : (geometry : Geometry) (n : ℕ) → IsInRange geometry → 1 ≤ n → n ≤ most_size geometry → FitsReserve geometry n
-fits-most geometry n range some le = (some, omega (arith, le), (quota_of geometry, quota-of geometry range, omega (arith, le)))
-
 -- a quota is one at least
 quota-some : (k capacity q : ℕ) → 0 < k → 4 ≤ capacity → IsQuota k capacity q → 1 ≤ q
 quota-some k capacity q pos some is = is.greatest 1 (omega (arith, div_ceil-last 1 k (omega arith) pos))
 
+-- so many logical blocks fit the reserve
 pub most-fits : (geometry : Geometry) (q n : ℕ) → 1 ≤ batch_most geometry → 4 ≤ geometry.capacity → 3 ≤ geometry.zones → IsQuota (batch_most geometry) geometry.capacity q → n ≡ min (q * (geometry.zones - 1)) (2 ^ 31) → FitsReserve geometry n
 most-fits geometry q n most room zones quota is =
     let some = quota-some (batch_most geometry) geometry.capacity q most room quota in

@@ -52,16 +52,6 @@ distinct-append_log logs index b lt below distinct =
     let puts = append_log-puts logs index b lt in
     rw puts.new_is (distinct-put puts.front puts.behind b.heading.sequence (rw puts.old_is at below) (rw puts.old_is at distinct))
 
--- and all below the next one
-pub older-append_log : (logs : List (List Batch)) (index : ℕ) (b : Batch) → index < length logs → AllByRecursion (λ s. s < b.heading.sequence) (sequences logs)
-    → AllByRecursion (λ s. s < b.heading.sequence + 1) (sequences (append_log logs index b))
-older-append_log logs index b lt below =
-    let next = b.heading.sequence in
-    let puts = append_log-puts logs index b lt in
-    let parts = all-parts (λ (s : ℕ). s < next) puts.front puts.behind (rw puts.old_is at below) in
-    let more = λ (xs : List ℕ) (all : AllByRecursion (λ s. s < next) xs). all-weaker (λ (s : ℕ). s < next) (λ (s : ℕ). s < next + 1) xs (λ s h. omega arith) all in
-    rw puts.new_is (all-append (λ (s : ℕ). s < next + 1) puts.front (next ∷ puts.behind) (more puts.front parts.0) (omega arith, more puts.behind parts.1))
-
 -- ---- a record has the sequence of its batch
 
 entries-below : (s : ℕ) (limit : ℕ) (body : List (List ℕ)) (zone header k : ℕ) (es : List Entry) → s < limit → AllBelow limit (entry_records s body zone header k es)
@@ -74,6 +64,7 @@ log-below limit zone offset (b ∷ bs) all =
     all-append (λ r. r.sequence < limit) (batch_records zone offset b) (log_records zone (offset + batch_size b) bs)
     (entries-below b.heading.sequence limit b.body zone offset 0 b.heading.entries all.0) (log-below limit zone (offset + batch_size b) bs all.1)
 
+-- records have sequences below a bound of all sequences
 pub records-below : (limit first : ℕ) (logs : List (List Batch)) → AllByRecursion (λ s. s < limit) (sequences logs) → AllBelow limit (records first logs)
 records-below limit first [] all = tt
 records-below limit first (z ∷ zs) all =
@@ -82,6 +73,7 @@ records-below limit first (z ∷ zs) all =
 
 -- ---- the sequences of one zone
 
+-- what holds of all sequences holds of those of a zone
 pub zone-sequences : (P : ℕ → Type 0) (logs : List (List Batch)) (zone : ℕ) → AllByRecursion P (sequences logs) → AllByRecursion P (log_sequences (log_at logs zone))
 zone-sequences P [] zone all = tt
 zone-sequences P (log ∷ logs) zero all = (all-parts P (log_sequences log) (sequences logs) all).0

@@ -20,25 +20,30 @@ use Rattle.drive_array.proofs.SequenceLaws.{distinct-append_log, records-below}
 
 -- ---- the greatest size
 
+-- no size changes nothing
 pub larger-none : (x : Option ℕ) → larger x None ≡ x
 larger-none None = refl
 larger-none (Some a) = refl
 
+-- of three sizes the largest, however they are grouped
 pub larger-assoc : (x y z : Option ℕ) → larger x (larger y z) ≡ larger (larger x y) z
 larger-assoc None y z = refl
 larger-assoc (Some a) None z = refl
 larger-assoc (Some a) (Some b) None = refl
 larger-assoc (Some a) (Some b) (Some c) = ap (λ (n : ℕ). Some n) (omega arith)
 
+-- and in whichever order
 pub larger-comm : (x y : Option ℕ) → larger x y ≡ larger y x
 larger-comm None y = sym (larger-none y)
 larger-comm (Some a) None = refl
 larger-comm (Some a) (Some b) = ap (λ (n : ℕ). Some n) (omega arith)
 
+-- a batch more has its size
 pub log_greatest-more : (log : List Batch) (b : Batch) → log_greatest (log ++ b ∷ []) ≡ larger (log_greatest log) b.heading.size
 log_greatest-more [] b = larger-none b.heading.size
 log_greatest-more (x ∷ log) b = ap (larger x.heading.size) (log_greatest-more log b) ∙ larger-assoc x.heading.size (log_greatest log) b.heading.size
 
+-- and so on a drive
 pub greatest-append_log : (logs : List (List Batch)) (zone : ℕ) (b : Batch) → zone < length logs → greatest (append_log logs zone b) ≡ larger (greatest logs) b.heading.size
 greatest-append_log [] zone b lt = absurd (omega arith)
 greatest-append_log (log ∷ logs) zero b lt =
@@ -49,7 +54,8 @@ greatest-append_log (log ∷ logs) zero b lt =
 greatest-append_log (log ∷ logs) (suc zone) b lt =
     ap (larger (log_greatest log)) (greatest-append_log logs zone b (omega arith)) ∙ larger-assoc (log_greatest log) (greatest logs) b.heading.size
 
-pub size-append_log : (n zone size : ℕ) (logs : List (List Batch)) (b : Batch) → zone < length logs → b.heading.size ≡ Some size → encoded_size n logs ≤ size → encoded_size n (append_log logs zone b) ≡ size
+-- a batch that says a size makes the disk that size
+size-append_log : (n zone size : ℕ) (logs : List (List Batch)) (b : Batch) → zone < length logs → b.heading.size ≡ Some size → encoded_size n logs ≤ size → encoded_size n (append_log logs zone b) ≡ size
 size-append_log n zone size logs b lt has le = ap (size_or n) (greatest-append_log logs zone b lt ∙ ap (larger (greatest logs)) has) ∙ grows (greatest logs) le
   where
     grows : (g : Option ℕ) → size_or n g ≤ size → size_or n (larger g (Some size)) ≡ size
@@ -133,6 +139,7 @@ all-none : (logs : List (List Batch)) → greatest logs ≡ None → AllByRecurs
 all-none [] e = tt
 all-none (log ∷ logs) e = let parts = none-parts (log_greatest log) (greatest logs) e in (log-none log parts.0, all-none logs parts.1)
 
+-- what the greatest size is
 pub greatest_is : GreatestIs
 greatest_is logs = by (greatest logs) refl
   where
@@ -153,6 +160,7 @@ inside-log size zone offset (b ∷ bs) all =
     all-append (λ r. r.block < size) (batch_records zone offset b) (log_records zone (offset + batch_size b) bs)
     (inside-entries size b.heading.sequence zone offset 0 b.body b.heading.entries all.0) (inside-log size zone (offset + batch_size b) bs all.1)
 
+-- records of batches within a size name blocks below it
 pub inside-records : (size first : ℕ) (logs : List (List Batch)) → AllByRecursion (AllByRecursion (IsInside size)) logs → AllByRecursion (λ r. r.block < size) (records first logs)
 inside-records size first [] all = tt
 inside-records size first (log ∷ logs) all =
@@ -174,7 +182,7 @@ told-split {X} g a (suc n) k zero start e e' = absurd (omega arith)
 told-split {X} g a (suc n) k (suc total) start e e' = ap (λ (xs : List X). g a ∷ xs) (told-split g (a + 1) n k total start (omega arith) (omega arith))
 
 -- what is told of more blocks than the records have
-pub told-grown : {X : Type 0} (f : Option Record → X) (old size : ℕ) (rs : List Record) → old ≤ size → AllByRecursion (λ r. r.block < old) rs
+told-grown : {X : Type 0} (f : Option Record → X) (old size : ℕ) (rs : List Record) → old ≤ size → AllByRecursion (λ r. r.block < old) rs
     → told f size rs ≡ extended (f None) size (told f old rs)
 told-grown {X} f old size rs le all =
     let more = size - old in
@@ -183,15 +191,18 @@ told-grown {X} f old size rs le all =
     let split : map g (range_with_len 0 size) ≡ map g (range_with_len 0 old) ++ map g (range_with_len old more) = told-split g 0 old more size old (omega arith) (omega arith) in
     split ∙ ap (λ (xs : List X). map g (range_with_len 0 old) ++ xs) (told-past f old old more rs (omega arith) all ∙ ap (λ (k : ℕ). replicate (size - k) (f None)) (sym long))
 
+-- as much is told as there are blocks
 pub told-length : {X : Type 0} (f : Option Record → X) (n : ℕ) (logs : List (List Batch)) → length (told_of f n logs) ≡ encoded_size n logs
 told-length f n logs = length-map-range_with_len (λ block. f (newest block (records 0 logs))) 0 (encoded_size n logs)
 
+-- an array has as many blocks as its size
 pub array_length : (block_bytes n : ℕ) (logs : List (List Batch)) → length (array_of block_bytes n logs) ≡ encoded_size n logs
 array_length block_bytes n logs = told-length (shown block_bytes) n logs
 
 -- ---- an Append
 
-pub append_tells : (X : Type 0) (f : Option Record → X) (limit n zone size : ℕ) (logs : List (List Batch)) (batch : Batch) → zone < length logs → AreSound limit n logs → IsLast limit n logs zone size batch
+-- what is told after a batch: what its records say, and else what was told before
+append_tells : (X : Type 0) (f : Option Record → X) (limit n zone size : ℕ) (logs : List (List Batch)) (batch : Batch) → zone < length logs → AreSound limit n logs → IsLast limit n logs zone size batch
     → told_of f n (append_log logs zone batch) ≡ over f (new_records logs zone batch) (extended (f None) size (told_of f n logs))
 append_tells X f limit n zone size logs batch lt sound last =
     let below = records-below batch.heading.sequence 0 logs last.greatest in
@@ -199,6 +210,7 @@ append_tells X f limit n zone size logs batch lt sound last =
     ∙ told-append_log f size zone logs batch lt below
     ∙ ap (over f (new_records logs zone batch)) (told-grown f (encoded_size n logs) size (records 0 logs) last.grows (inside-records (encoded_size n logs) 0 logs sound.inside))
 
+-- a batch with the next sequence is the last one
 pub next_is_last : NextIsLast
 next_is_last limit n zone size logs batch lt next = record {
   size_is = size-append_log n zone size logs batch lt next.has next.grows;
@@ -232,6 +244,7 @@ numbers-append_log P (log ∷ logs) (suc zone) b all one =
     let parts = all-parts P (log_sequences log) (sequences logs) all in
     all-append P (log_sequences log) (sequences (append_log logs zone b)) parts.0 (numbers-append_log P logs zone b parts.1 one)
 
+-- an Append of the last batch writes its records over the array
 pub append_writes : AppendWrites
 append_writes block_bytes zone_size limit n zone size logs batch lt sound last = record {
   array_is = append_tells (List ℕ) (shown block_bytes) limit n zone size logs batch lt sound last;
@@ -245,6 +258,7 @@ append_writes block_bytes zone_size limit n zone size logs batch lt sound last =
 
 -- ---- a zone is emptied
 
+-- what holds of all sequences holds of those that are left
 pub without-numbers : (P : ℕ → Type 0) (logs : List (List Batch)) (zone : ℕ) → AllByRecursion P (sequences logs) → AllByRecursion P (sequences (without logs zone))
 without-numbers P [] zone all = tt
 without-numbers P (log ∷ logs) zero all = (all-parts P (log_sequences log) (sequences logs) all).1
@@ -265,7 +279,8 @@ less-distinct (x ∷ xs) old new among then d =
     let parts = all-parts (λ (y : ℕ). eqb x y ≡ false) xs old d.0 in
     (all-append (λ (y : ℕ). eqb x y ≡ false) xs new parts.0 (among (λ y. eqb x y ≡ false) parts.1), less-distinct xs old new among then d.1)
 
-pub without-distinct : (logs : List (List Batch)) (zone : ℕ) → IsDistinct nat_eq (sequences logs) → IsDistinct nat_eq (sequences (without logs zone))
+-- sequences that are left are distinct
+without-distinct : (logs : List (List Batch)) (zone : ℕ) → IsDistinct nat_eq (sequences logs) → IsDistinct nat_eq (sequences (without logs zone))
 without-distinct [] zone d = d
 without-distinct (log ∷ logs) zero d = drop-distinct (log_sequences log) (sequences logs) d
 without-distinct (log ∷ logs) (suc zone) d =
@@ -275,6 +290,7 @@ without-distinct (log ∷ logs) (suc zone) d =
 pub same-size : (block_bytes n : ℕ) (logs other : List (List Batch)) → array_of block_bytes n logs ≡ array_of block_bytes n other → encoded_size n logs ≡ encoded_size n other
 same-size block_bytes n logs other e = sym (array_length block_bytes n logs) ∙ ap length e ∙ array_length block_bytes n other
 
+-- an empty zone is spare
 pub empty_spare : EmptySpare
 empty_spare block_bytes limit n zone logs sound spare =
     let size = same-size block_bytes n (without logs zone) logs spare in
@@ -315,10 +331,11 @@ keeps-spare block_bytes limit n zone spare size logs batch lt apart sound next i
     ∙ ap (λ (xs : List (List ℕ)). over (shown block_bytes) (new_records logs zone batch) (extended (shown block_bytes None) size xs)) is ∙ sym b
 
 -- the first batch of a zone that has one stays the first
-pub first-append : (log : List Batch) (b : Batch) (before : Option ℕ) → IsBefore (first_sequence log) before → first_sequence (log ++ b ∷ []) ≡ first_sequence log
+first-append : (log : List Batch) (b : Batch) (before : Option ℕ) → IsBefore (first_sequence log) before → first_sequence (log ++ b ∷ []) ≡ first_sequence log
 first-append [] b before is = absurd is
 first-append (x ∷ log) b before is = refl
 
+-- an Append keeps another spare zone
 pub append_keeps_spare : AppendKeepsSpare
 append_keeps_spare block_bytes limit n zone spare size logs batch lt apart sound next = record {
   spare_is = kept;

@@ -18,6 +18,7 @@ use Rattle.drive_array.proofs.SizeLaws.{array_length}
 
 -- ---- its size
 
+-- a spelled array has the size of the disk
 pub length-spelled : (drive : DriveState) (n : ℕ) → length (spelled drive n) ≡ encoded_size n (drive_logs drive)
 unfolding spelled_array
 length-spelled drive n = array_length drive.geometry.block n (drive_logs drive)
@@ -81,6 +82,7 @@ all-mapped : {X Y : Type 0} (P : Y → Type 0) (f : X → Y) (xs : List X) → (
 all-mapped P f [] each = tt
 all-mapped P f (x ∷ xs) each = (each x, all-mapped P f xs each)
 
+-- and each of its blocks is whole
 pub whole-spelled : SpelledWhole
 unfolding spelled_array
 whole-spelled drive n mountable =

@@ -12,12 +12,13 @@ use Rattle.drive_array.specs.Laws.{AppendLogs, FinishLogs, SameLogs, TornLogs}
 use Rattle.drive_array.proofs.AllLaws.{all-set}
 
 -- nothing follows the blocks of a zone that isn't full
-pub writable-not_full : (usage : Usage) → is_writable usage ≡ true → is_full usage ≡ false
+writable-not_full : (usage : Usage) → is_writable usage ≡ true → is_full usage ≡ false
 writable-not_full empty w = refl
 writable-not_full active w = refl
 writable-not_full full w = absurd (cc)
 writable-not_full unusable w = absurd (cc)
 
+-- of a zone that is not full its blocks can be read
 pub readable-not_full : (geometry : Geometry) (content : Content) → is_full content.usage ≡ false → readable geometry content ≡ content.blocks
 readable-not_full geometry content e = rw e (append-nil content.blocks)
 
@@ -32,7 +33,7 @@ readable-filled geometry blocks = at (eqb (length blocks) geometry.capacity) ref
     at false e = append-nil blocks
 
 -- so the log of a zone that isn't full is one of its blocks
-pub has_log-blocks : (geometry : Geometry) (content : Content) → is_full content.usage ≡ false → HasLog geometry content → IsLog geometry.block false content.blocks (zone_log geometry content)
+has_log-blocks : (geometry : Geometry) (content : Content) → is_full content.usage ≡ false → HasLog geometry content → IsLog geometry.block false content.blocks (zone_log geometry content)
 has_log-blocks geometry content e has = rw (e, append-nil content.blocks) at has
 
 -- and where no torn tail stands there, it is its batches alone
@@ -41,12 +42,13 @@ unfolding has_torn_tail
 whole-blocks geometry content small e has untorn = (no_tail geometry.block content.blocks (zone_log geometry content) small (has_log-blocks geometry content e has)).whole (rw e at untorn)
 
 -- what is whole has no torn tail
-pub whole-untorn : (geometry : Geometry) (content : Content) → geometry.block < 2 ^ 32 → is_full content.usage ≡ false → IsWholeLog geometry.block content.blocks (zone_log geometry content) → has_torn_tail content ≡ false
+whole-untorn : (geometry : Geometry) (content : Content) → geometry.block < 2 ^ 32 → is_full content.usage ≡ false → IsWholeLog geometry.block content.blocks (zone_log geometry content) → has_torn_tail content ≡ false
 unfolding has_torn_tail
 whole-untorn geometry content small e whole =
     let log = zone_log geometry content in
     rw (e, (no_tail geometry.block content.blocks log small (whole_log geometry.block false content.blocks log whole)).back whole) refl
 
+-- a full zone has no torn tail
 pub full-untorn : (content : Content) → is_full content.usage ≡ true → has_torn_tail content ≡ false
 unfolding has_torn_tail
 full-untorn content e = rw e refl
@@ -65,6 +67,7 @@ untorn-if geometry content small whole = by (is_full content.usage) refl
 
 -- ---- tails
 
+-- the tails of all zones have each zone's own
 pub tail-at : (zones : List Content) (zone : ℕ) → zone < length zones → get_or (zone_tails zones) zone false ≡ has_torn_tail (content_at zones zone)
 tail-at [] zone lt = absurd (omega arith)
 tail-at (z ∷ zs) zero lt = refl
@@ -74,6 +77,7 @@ tail-at (z ∷ zs) (suc zone) lt = tail-at zs zone (omega arith)
 tails-kept : (zones : List Content) (zone : ℕ) → zone < length zones → has_torn_tail (content_at zones zone) ≡ false → set (zone_tails zones) zone false ≡ zone_tails zones
 tails-kept zones zone lt untorn = let here : get_or (zone_tails zones) zone false ≡ false = tail-at zones zone lt ∙ untorn in rw here at (set-get_or (zone_tails zones) zone false)
 
+-- one zone changes, and so does its tail
 pub tails-set : (old new : List Content) (zone : ℕ) (made : Content) → new ≡ set old zone made → zone_tails new ≡ set (zone_tails old) zone (has_torn_tail made)
 tails-set old new zone made zones = ap zone_tails zones ∙ map-set has_torn_tail old zone made
 
@@ -123,10 +127,12 @@ zone_log-torn geometry was j batch small is old few room =
     let nothing_left : j ≤ 0 → has_torn_tail new ≡ false = λ le. (let none : j ≡ 0 = omega (arith, le) in untorn-if geometry new small (rw (read, none, append-nil was.blocks) old)) in
     record { log_is = read; has = rw (same, read) front; tail = torn-tail new j open_zone left.torn nothing_left }
 
+-- the logs of all zones have each zone's own
 pub log_at-zone : (geometry : Geometry) (zones : List Content) (zone : ℕ) → get_or (zone_logs geometry zones) zone [] ≡ zone_log geometry (content_at zones zone)
 unfolding zone_log
 log_at-zone geometry zones zone = get_or-map (zone_log geometry) zones zone nothing
 
+-- an Append of a batch adds it to the log of its zone
 pub append_logs : AppendLogs
 append_logs geometry old new zone batch small is has untorn appends =
     let was = content_at old zone in
@@ -147,6 +153,7 @@ same-logs geometry old new zone made torn zones kept = record {
   tails_are = tails-set old new zone made zones ∙ ap (set (zone_tails old) zone) kept.tail;
 }
 
+-- one that was torn leaves all logs, and a torn tail
 pub torn_logs : TornLogs
 torn_logs geometry old new zone j batch small is has untorn few room appends =
     let was = content_at old zone in
@@ -164,6 +171,7 @@ zone_log-finish geometry was small old =
     let read : zone_log geometry (finished was) ≡ log = zone_log-read geometry (finished was) all refl ∙ one_log size true all log small made in
     record { log_is = read; has = rw read made; tail = full-untorn (finished was) refl }
 
+-- a Finish leaves all logs
 pub finish_logs : FinishLogs
 finish_logs geometry old new zone small has writable untorn finishes =
     let was = content_at old zone in

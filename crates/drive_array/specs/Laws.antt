@@ -43,7 +43,7 @@ pub record IsLast (limit n : ℕ) (logs : List (List Batch)) (zone size : ℕ) (
   pub greatest : AllByRecursion (λ sequence. sequence < batch.heading.sequence) (sequences logs)
 
 -- it grows the array to that size by zeros, and then changes it by its records alone; the map grows by places of none, and changes likewise
-pub record Writes (block_bytes zone_size limit n : ℕ) (logs : List (List Batch)) (zone size : ℕ) (batch : Batch) : Type 0 where
+pub record WritesRecords (block_bytes zone_size limit n : ℕ) (logs : List (List Batch)) (zone size : ℕ) (batch : Batch) : Type 0 where
   pub array_is : array_of block_bytes n (append_log logs zone batch) ≡ over (shown block_bytes) (new_records logs zone batch)
       (extended (shown block_bytes None) size (array_of block_bytes n logs))
   pub map_is : map_of zone_size n (append_log logs zone batch)
@@ -54,7 +54,7 @@ abbrev pub AppendWrites : Type 0
 AppendWrites =
     (block_bytes zone_size limit n zone size : ℕ) (logs : List (List Batch)) (batch : Batch) → zone < length logs
     → AreSound limit n logs → IsLast limit n logs zone size batch
-    → Writes block_bytes zone_size limit n logs zone size batch
+    → WritesRecords block_bytes zone_size limit n logs zone size batch
 
 -- a batch that a disk writes: with a size that is not below the old one, with blocks below it, and a sequence above all others
 pub record IsNext (limit n : ℕ) (logs : List (List Batch)) (size : ℕ) (batch : Batch) : Type 0 where

@@ -38,6 +38,7 @@ shorter first second x y a b is_first is_second short same =
     let none = no_more first more a b is_first (rw longer at is_second) in
     sym (longer ∙ ap (λ (l : List ℕ). first ++ l) none ∙ append-nil first)
 
+-- bytes begin with one image at most
 pub one-image : (first second x y : List ℕ) (a b : DriveState) → IsImage first a → IsImage second b → first ++ x ≡ second ++ y → (first ≡ second) × (x ≡ y)
 one-image first second x y a b is_first is_second same = by (leb (length first) (length second)) refl
   where

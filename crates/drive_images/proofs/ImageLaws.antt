@@ -26,6 +26,7 @@ module _ (head : List ℕ) (long : length head ≡ 64) where
   pub bad_head : (rest : List ℕ) (fault : ImageFault) → first_failing (head_checks head) ≡ Some fault → IsFrontFault (head ++ rest) fault
   bad_head rest fault e = inl (tells_first (head_fault (head ++ rest)) fault (head_fault-at rest ∙ e))
 
+-- a fault in the zones is one of the image
 pub fails_after_head : (geometry : Geometry) (head rest : List ℕ) (fault : ImageFault) → IsInRange geometry → head ≡ head_bytes geometry → FailsInZone geometry rest fault → IsFrontFault (head ++ rest) fault
 fails_after_head geometry head rest fault in_range same fails = inr (record { geometry = geometry; rest = rest; text = ap (λ xs. xs ++ rest) same; in_range = in_range; fails = fails })
 

@@ -300,6 +300,7 @@ meaning-fault bytes fault of (inr fails) =
 ok_same : {T : Type 0} (a b : T) (r : Result T ImageFault) → r ≡ Ok a → r ≡ Ok b → a ≡ b
 ok_same a b r e f = cc
 
+-- bytes are the image of one drive at most
 pub one-drive : (bytes : List ℕ) (a b : DriveState) → IsImage bytes a → IsImage bytes b → a ≡ b
 one-drive bytes a b x y =
     let first = meaning-image bytes a x in
@@ -308,6 +309,7 @@ one-drive bytes a b x y =
     let geometry = sym first.1 ∙ second.1 in
     x.unused ∙ rw (geometry, zones) (sym y.unused)
 
+-- an image has no fault
 pub no-fault : (bytes : List ℕ) (drive : DriveState) (fault : ImageFault) → IsImage bytes drive → IsImageFault bytes fault → is_of_bytes fault ≡ false
 no-fault bytes drive fault image fails = by_kind (is_of_bytes fault) refl
   where
@@ -318,5 +320,6 @@ no-fault bytes drive fault image fails = by_kind (is_of_bytes fault) refl
 err_same : {T : Type 0} (a b : ImageFault) (r : Result T ImageFault) → r ≡ Err a → r ≡ Err b → a ≡ b
 err_same a b r e f = cc
 
+-- and bytes have one first fault at most
 pub one-fault : (bytes : List ℕ) (a b : ImageFault) → is_of_bytes a ≡ true → is_of_bytes b ≡ true → IsImageFault bytes a → IsImageFault bytes b → a ≡ b
 one-fault bytes a b of_a of_b x y = err_same a b (meaning bytes) (meaning-fault bytes a of_a x) (meaning-fault bytes b of_b y)

@@ -15,10 +15,12 @@ use Rattle.zone_states.specs.declared.geometry.Geometry.{Geometry}
 use Rattle.zone_states.proofs.Cutting.{concat-cut}
 use Rattle.drive_images.specs.Image.{head_bytes, image_bytes, zone_bytes, zone_head_bytes, zones_bytes}
 
+-- what follows after success
 pub ok_so : {T E : Type 0} (r : Result T E) (P Q : Type 0) → (P → Q) → OnOk r P → OnOk r Q
 ok_so (Ok x) P Q f p = f p
 ok_so (Err e) P Q f p = tt
 
+-- a zone's bytes are its head and its blocks
 pub zone_text : (block : ℕ) (zone : StoredZone) → AreWholeBlocks block zone.bytes → zone_bytes (zone_stored block zone) ≡ zone_head_bytes zone.state (length (zone_stored block zone).blocks) ++ zone.bytes
 zone_text block zone whole = ap (λ xs. zone_head_bytes zone.state (length (zone_stored block zone).blocks) ++ xs) (concat-cut block _ zone.bytes whole)
 
@@ -52,5 +54,6 @@ module _ (geometry : Geometry) (zones : List Zone) (old mid new : Option (List �
 pub zone_here : (block : ℕ) (stored : List StoredZone) (zones : List Zone) (i : ℕ) (zone : StoredZone) → zones_of block stored ≡ zones → zone ≡ get_or stored i zone → i < length stored → zone_stored block zone ≡ get_or zones i (zone_stored block zone)
 zone_here block stored zones i zone same is lt = ap (zone_stored block) is ∙ sym (get_or-map (zone_stored block) stored i zone (zone_stored block zone) lt) ∙ ap (λ zs. get_or zs i (zone_stored block zone)) same
 
+-- a zone that is stored is one of the zones
 pub stored-less : (block : ℕ) (stored : List StoredZone) (zones : List Zone) (i : ℕ) → zones_of block stored ≡ zones → i < length stored → i < length zones
 stored-less block stored zones i same lt = rw (← same, length-map stored (zone_stored block)) lt

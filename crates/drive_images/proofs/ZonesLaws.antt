@@ -30,6 +30,7 @@ count-more : {X : Type 0} (p : X → Bool) (xs : List X) (x : X) → count_by p 
 count-more p [] x = count-cons p x [] ∙ omega arith
 count-more p (y ∷ xs) x = count-cons p y (xs ++ x ∷ []) ∙ omega (arith, count-more p xs x, count-cons p y xs)
 
+-- one zone more is counted
 pub counts-more : (zones : List Zone) (zone : Zone) → counts_of (zones ++ zone ∷ []) ≡ counts_with (counts_of zones) zone.state
 counts-more zones zone = rw (count-more (λ (z : Zone). is_active z.state) zones zone, count-more (λ (z : Zone). is_open z.state) zones zone) refl
 
@@ -43,6 +44,7 @@ begins-more geometry zones zone begins lawful within =
       open_zones = ltb-false geometry.open (open_count all) parts.1;
     }
 
+-- zones that may begin an image are within the limits
 pub within_limits : (geometry : Geometry) (zones : List Zone) (counts : ZoneCounts) → counts ≡ counts_of zones → MayBegin geometry zones → is_over_limit geometry counts ≡ false
 within_limits geometry zones counts same begins = rw (same, le-ltb geometry.active (active_count zones) begins.active, le-ltb geometry.open (open_count zones) begins.open_zones) refl
 
@@ -65,6 +67,7 @@ module _ (geometry : Geometry) (zones : List StoredZone) (zone : StoredZone) (co
         begins = rw (zones_of-more geometry.block zones zone) (begins-more geometry before here read.begins next.lawful within);
       }
 
+-- no zone was read yet
 pub no_zones : (geometry : Geometry) (old : Option (List ℕ)) → ReadsZones geometry old old []
 no_zones geometry old = record { text = Consumes-nil old; whole = tt; begins = record { lawful = tt; active = omega arith; open_zones = omega arith } }
 

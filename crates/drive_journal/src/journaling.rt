@@ -28,6 +28,7 @@ pub struct Journaling<D: Foreseeing + Drop, S: Store<D> + Drop> {
 }
 
 impl<D: Foreseeing + Drop, S: Store<D> + Drop> Model for Journaling<D, S> {
+    ghost use Rattle.std.specs.Prelude.{◌≡◌, true};
     ghost use Rattle.drive_journal.specs.Journaling.{IsInStep, Journaled, data_in, entry_in, is_lost, shown_drive};
 
     ghost Value = { Journaled };
@@ -39,12 +40,13 @@ impl<D: Foreseeing + Drop, S: Store<D> + Drop> Model for Journaling<D, S> {
       contents = S.held j.store;
     } };
 
+    // A device that lost something has told its store.
     ghost invariant = { λ j. IsInStep (record {
       drive = shown_drive j.loss (D.drive j.device)
           (D.foreseen j.device (entry_in j.change.items) (data_in j.change.items)).zones;
       lost = is_lost j.loss;
       contents = S.held j.store;
-    }) };
+    }) × (is_lost j.loss ≡ true → S.failed j.store ≡ true) };
 }
 
 impl<D: Foreseeing + Drop, S: Store<D> + Drop> Journaling<D, S> {
@@ -62,21 +64,13 @@ impl<D: Foreseeing + Drop, S: Store<D> + Drop> Journaling<D, S> {
     }
 
     /// The device within and the store, as they are. The store holds the drive that was shown. So does the device,
-    /// unless the store failed or there was no memory for a change that the store has.
+    /// unless the store failed: it refused a change, or there was no memory for one that it has.
     pub fn into_parts(self) -> (D, S)
-        ensures device { self.lost ≡ false → D.drive result.0 ≡ self.drive }
+        ensures device { S.failed result.1 ≡ false → D.drive result.0 ≡ self.drive }
         ensures store { S.held result.1 ≡ self.contents }
         ensures kept { IsInStep self }
     {
         (self.device, self.store)
-    }
-
-    /// Whether the device has stopped because the store failed, or because there was no memory for a change that the
-    /// store has.
-    pub fn store_failed(&self) -> bool
-        ensures { result ≡ self.now.lost }
-    {
-        self.is_lost()
     }
 
     // Whether a change or a completion was lost.
@@ -115,6 +109,7 @@ impl<D: Foreseeing + Drop, S: Store<D> + Drop> Journaling<D, S> {
         match self.device.answer(entry, bytes, into) {
             Ok(completion) => Ok(completion),
             Err(_) => {
+                self.store.fail();
                 self.loss = Loss::Completion;
                 Err(Halt::Stopped)
             }

@@ -1,8 +1,7 @@
-ghost use Rattle.std.specs.Prelude.{◌≡◌, ◌≤◌, ◌==◌, IfErr, IfOk, IfSome, OnOk, if◌then◌else◌, map};
+ghost use Rattle.std.specs.Prelude.{◌≡◌, ◌≤◌, ◌==◌, IfErr, IfOk, IfSome, OnOk, if◌then◌else◌};
 ghost use Rattle.zone_states.specs.Geometry.{IsInRange};
-ghost use Rattle.drive_port.specs.Step.{is_selected};
 ghost use Rattle.zone_drive.specs.Stored.{zones_of};
-ghost use Rattle.zone_drive.specs.Table.{sent_in, sent_stored};
+ghost use Rattle.zone_drive.specs.Table.{sent_in};
 ghost use Rattle.drive_journal.specs.FileFaults.{IsJournalFault};
 ghost use Rattle.drive_journal.specs.Reading.{Replays};
 ghost use Rattle.drive_journal.specs.Replay.{HaveWholeBlocks, at_rest, stored_changed, written_in};
@@ -11,9 +10,10 @@ use crate::fault::FileFault;
 use crate::found::Found;
 use crate::read::read_change;
 use drive_images::ImageFault;
-use nvme_wire::{Action, Command, DecodeFault, ZoneState};
+use nvme_wire::{Action, Command, DecodeFault};
 use std::alloc::{AllocError, Global};
 use std::io::Read;
+use zone_drive::apply_to_each;
 use zone_states::{Geometry, Zone};
 
 /// Writes bytes after those of the zone with a number, if there is one.
@@ -43,36 +43,6 @@ fn send_in(zones: &mut [Zone], index: u64, action: Action)
     let _ = zones[index].apply(action);
 }
 
-fn selects(action: Action, state: ZoneState) -> bool
-    ensures { result ≡ is_selected action state }
-{
-    match state {
-        ZoneState::ImplicitlyOpened | ZoneState::ExplicitlyOpened => {
-            action != Action::Open && action != Action::Offline
-        }
-        ZoneState::Closed => action == Action::Finish || action == Action::Reset,
-        ZoneState::Full => action == Action::Reset,
-        ZoneState::ReadOnly => action == Action::Offline,
-        ZoneState::Empty | ZoneState::Offline => false,
-    }
-}
-
-fn send_if_selected(zone: &mut Zone, action: Action)
-    ensures { zone.new ≡ sent_stored action zone.old }
-{
-    if selects(action, zone.state()) {
-        let _ = zone.apply(action);
-    }
-}
-
-fn send_to_each(zones: &mut [Zone], action: Action)
-    ensures { zones.new ≡ map (sent_stored action) zones.old }
-{
-    for zone in zones.iter_mut() {
-        send_if_selected(zone, action);
-    }
-}
-
 /// Does a change again.
 fn apply_change(
     geometry: &Geometry,
@@ -94,7 +64,7 @@ fn apply_change(
                 ..
             },
         ) => {
-            send_to_each(zones, action);
+            apply_to_each(zones, action);
             Ok(())
         }
         Ok(
@@ -116,7 +86,7 @@ pub(crate) fn close_zones(block: u32, zones: &mut [Zone])
     ensures zones { zones_of block zones.new ≡ at_rest (zones_of block zones.old) }
     ensures whole { HaveWholeBlocks block zones.old → HaveWholeBlocks block zones.new }
 {
-    send_to_each(zones, Action::Close);
+    apply_to_each(zones, Action::Close);
 }
 
 /// The fault of bytes that do not begin as a change does, after an image that ends at `from`.

@@ -1,4 +1,4 @@
-ghost use Rattle.std.specs.Prelude.{◌≡◌, List, IfOk, IfSome, OnErr, OnOk, Option, Some, None, is_some, ℕ};
+ghost use Rattle.std.specs.Prelude.{◌≡◌, Bool, List, IfOk, IfSome, OnErr, OnOk, Option, Some, None, is_some, true, ℕ};
 ghost use Rattle.drive_journal.specs.Cut.{front_of};
 ghost use Rattle.std.specs.Io.KnownBytes.{Appends};
 ghost use Rattle.disk_files.specs.Output.{AppendsFront};
@@ -17,34 +17,54 @@ pub trait Store<D: Device> {
     /// The bytes that it holds, where they are known.
     ghost held: { Self → Option (List ℕ) };
 
+    /// Whether it refused bytes, or has a change that the device could not make.
+    ghost failed: { Self → Bool };
+
+    /// Whether it refused bytes, or has a change that the device could not make.
+    fn has_failed(&self) -> bool
+        ensures { result ≡ failed self.now };
+
     /// Writes bytes after those that it holds. After a fault a beginning of them is written.
     fn append(&mut self, bytes: &[u8]) -> Result<(), WriteFault>
         ensures ok { OnOk result (Appends (held self.old) (held self.new) bytes.now) }
         ensures err { OnErr result (AppendsFront (held self.old) (held self.new) bytes.now) }
-        ensures known { is_some (held self.new) ≡ is_some (held self.old) };
+        ensures known { is_some (held self.new) ≡ is_some (held self.old) }
+        ensures failed { OnErr result (failed self.new ≡ true) }
+        ensures as_before { OnOk result (failed self.new ≡ failed self.old) };
+
+    /// Notes that the device cannot make the change that was written last.
+    fn fail(&mut self)
+        ensures held { held self.new ≡ held self.old }
+        ensures failed { failed self.new ≡ true };
 
     /// May put others in the place of the bytes that it holds, which store the same drive, as its image does. It is
     /// called before a change is written. Where the others cannot be written, the bytes stay.
     fn renew(&mut self, device: &D)
         requires { IfSome (held self.old) (λ bytes. IsStoredWhole bytes (D.drive device.now)) }
         ensures stored { IfSome (held self.new) (λ bytes. IsStoredWhole bytes (D.drive device.now)) }
-        ensures known { is_some (held self.new) ≡ is_some (held self.old) };
+        ensures known { is_some (held self.new) ≡ is_some (held self.old) }
+        ensures failed { failed self.new ≡ failed self.old };
 
     /// Drops all bytes after the first `whole`. A store that cannot do it at once does it before it appends more.
     fn cut(&mut self, whole: u64)
-        ensures { held self.new ≡ front_of whole (held self.old) };
+        ensures held { held self.new ≡ front_of whole (held self.old) }
+        ensures failed { failed self.new ≡ failed self.old };
 }
 
 /// A writer of whose bytes no contract says anything, as a file. It writes nothing anew.
 #[derive(Drop)]
 pub struct Unknown<W: Write + Drop> {
     writer: W,
+    failed: bool,
 }
 
 impl<W: Write + Drop> Unknown<W> {
     /// This writer.
     pub fn new(writer: W) -> Self {
-        Unknown { writer }
+        Unknown {
+            writer,
+            failed: false,
+        }
     }
 
     /// The writer within.
@@ -56,8 +76,22 @@ impl<W: Write + Drop> Unknown<W> {
 impl<W: Write + Drop, D: Device> Store<D> for Unknown<W> {
     ghost held = { λ _. None };
 
+    ghost failed = { λ u. u.failed };
+
+    fn has_failed(&self) -> bool {
+        self.failed
+    }
+
     fn append(&mut self, bytes: &[u8]) -> Result<(), WriteFault> {
-        write_out(&mut self.writer, bytes)
+        let written = write_out(&mut self.writer, bytes);
+        if written.is_err() {
+            self.failed = true;
+        }
+        written
+    }
+
+    fn fail(&mut self) {
+        self.failed = true;
     }
 
     fn renew(&mut self, _device: &D) {}
@@ -73,6 +107,7 @@ pub struct Held {
     alloc: Global,
     bytes: Vec<u8>,
     limit: usize,
+    failed: bool,
 }
 
 impl Held {
@@ -86,6 +121,7 @@ impl Held {
             alloc,
             bytes,
             limit,
+            failed: false,
         }
     }
 
@@ -117,8 +153,22 @@ fn image_of(alloc: Global, drive: &Drive) -> Result<Vec<u8>, WriteFault>
 impl Store<Drive> for Held {
     ghost held = { λ h. Some h.bytes.items };
 
+    ghost failed = { λ h. h.failed };
+
+    fn has_failed(&self) -> bool {
+        self.failed
+    }
+
     fn append(&mut self, bytes: &[u8]) -> Result<(), WriteFault> {
-        write_out(&mut self.bytes, bytes)
+        let written = write_out(&mut self.bytes, bytes);
+        if written.is_err() {
+            self.failed = true;
+        }
+        written
+    }
+
+    fn fail(&mut self) {
+        self.failed = true;
     }
 
     fn renew(&mut self, drive: &Drive) {

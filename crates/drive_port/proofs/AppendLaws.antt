@@ -1,5 +1,5 @@
 -- What an Append left, and which Append a drive can't refuse.
-use Rattle.std.proofs.Common.{◌≡◌, ℕ, zero, suc, ◌+◌, ◌/◌, ◌%◌, ◌*◌, ◌<◌, ◌⊎◌, Bool, true, false, not, eqb, cond, List, ◌++◌, length, drop, take, Result, Ok, Err, refl, ap, ◌∙◌, inl, inr, arith}
+use Rattle.std.proofs.Common.{◌≡◌, ℕ, ◌+◌, ◌/◌, ◌%◌, ◌*◌, ◌<◌, ◌⊎◌, Bool, true, false, not, eqb, cond, List, ◌++◌, length, take, Result, Ok, Err, refl, ap, ◌∙◌, inl, inr, arith}
 use Rattle.std.specs.Prelude.{IfOk, nat_lt, slice_set, ◌==◌}
 use Rattle.std.proofs.lemmas.Bool.{eq-eqb, leb-false, le-ltb, lt-leb, ltb-false}
 use Rattle.std.proofs.lemmas.List.{length-map, map-set, take_all}
@@ -49,7 +49,7 @@ zone-in_range drive start lawful lt =
     omega (arith, below, lawful.count)
 
 -- the contents that it leaves
-pub effect-appends : (old : DriveState) (new : List Zone) (start blocks : ℕ) (bytes returned : List ℕ) (value : ℕ) → IsLawful old
+effect-appends : (old : DriveState) (new : List Zone) (start blocks : ℕ) (bytes returned : List ℕ) (value : ℕ) → IsLawful old
     → Effect old.geometry old.zones (Ok (Append start blocks)) bytes Success value returned new
     → Appends (contents old.zones) (contents new) old.geometry.capacity (start / old.geometry.size) (cut_blocks old.geometry.block blocks bytes)
 effect-appends old new start blocks bytes returned value lawful effect =
@@ -70,7 +70,8 @@ effect-appends old new start blocks bytes returned value lawful effect =
           ∙ rw (s.before, content_of-written old.geometry.capacity zone cut writable, at) refl;
     }
 
-pub append-succeeded : (old new : DriveState) (start : ℕ) (bytes returned : List ℕ) (value : ℕ) → IsLawful old
+-- an Append that succeeded
+append-succeeded : (old new : DriveState) (start : ℕ) (bytes returned : List ℕ) (value : ℕ) → IsLawful old
     → Performs old (Ok (Append start (block_count old.geometry bytes))) bytes Success value returned new → Appended old new start bytes value
 append-succeeded old new start bytes returned value lawful step =
     let blocks = block_count old.geometry bytes in
@@ -94,7 +95,8 @@ written-closes capacity zone closed blocks one =
       | inr closing ↦ rw (closing.0, closing.1, one.blocks) refl
     ]
 
-pub effect-written : (geometry : Geometry) (old new : List Zone) (start blocks : ℕ) (bytes returned : List ℕ) (value : ℕ)
+-- its zone has the blocks, up to closings
+effect-written : (geometry : Geometry) (old new : List Zone) (start blocks : ℕ) (bytes returned : List ℕ) (value : ℕ)
     → Effect geometry old (Ok (Append start blocks)) bytes Success value returned new
     → IsClosing (slice_set old (start / geometry.size) (written_zone geometry.capacity (zone_at old (start / geometry.size)) (cut_blocks geometry.block blocks bytes))) new
 effect-written geometry old new start blocks bytes returned value effect =
@@ -112,6 +114,7 @@ front-of : (old : DriveState) (new : List Zone) (start : ℕ) (bytes : List ℕ)
 front-of old new start bytes whole left =
     left-front old.geometry old.zones new start (block_count old.geometry bytes) bytes whole.some (take_all _ bytes (omega (arith, whole.whole))) left
 
+-- what an Append leaves of the zones
 pub append-leaves : (old new : DriveState) (start : ℕ) (bytes : List ℕ) (result : Result ℕ PortFault) → IsWholeBlocks old.geometry.block bytes
     → AppendGives old start bytes result new → AppendLeaves old start bytes result new
 append-leaves old new start bytes (Ok value) whole gives =
@@ -131,6 +134,7 @@ append-leaves old new start bytes (Err Stopped) whole gives =
       })
     ]
 
+-- an Append that did not succeed
 pub append-keeps : (old new : DriveState) (start : ℕ) (bytes : List ℕ) (result : Result ℕ PortFault) → IsLawful old → new.geometry ≡ old.geometry
     → IsWholeBlocks old.geometry.block bytes → AppendGives old start bytes result new → AppendKeeps old start bytes result new
 append-keeps old new start bytes (Ok value) lawful geometry whole gives = tt
@@ -170,11 +174,13 @@ append-passes old start bytes middle lawful closing whole can =
     let fits = data-pass old.geometry bytes whole can.few in
     (fits.0, (fits.1.0, (aligned, (lt-leb _ _ can.in_range, (states.0, (states.1.0, (states.1.1.0, (room, resources))))))))
 
+-- one that did, by the answer
 pub append-if_ok : (old new : DriveState) (start : ℕ) (bytes : List ℕ) (result : Result ℕ PortFault) → IsLawful old
     → AppendGives old start bytes result new → IfOk result (λ address. Appended old new start bytes address)
 append-if_ok old new start bytes (Ok value) lawful gives = append-succeeded old new start bytes gives.0 value lawful gives.1.1
 append-if_ok old new start bytes (Err fault) lawful gives = tt
 
+-- blocks that can be appended are not refused
 pub append-is_taken : (old new : DriveState) (start : ℕ) (bytes : List ℕ) (result : Result ℕ PortFault) → IsLawful old
     → IsWholeBlocks old.geometry.block bytes → AppendGives old start bytes result new → CanAppend old start (block_count old.geometry bytes) → IsNotRefused result
 append-is_taken old new start bytes (Ok value) lawful whole gives can = tt

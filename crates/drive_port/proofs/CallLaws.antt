@@ -19,9 +19,11 @@ use Rattle.drive_port.proofs.HaltLaws.{success_or}
 pub adds-nothing : (held : List ℕ) (Given : List ℕ → Type 0) → Given [] → Adds held Given held
 adds-nothing held Given given = record { returned = []; joined = sym (append-nil held); given = given }
 
+-- where nothing is returned, the buffer holds what it held
 pub adds-none : (held items : List ℕ) (Given : List ℕ → Type 0) → ((returned : List ℕ) → Given returned → returned ≡ []) → Adds held Given items → items ≡ held
 adds-none held items Given none adds = adds.joined ∙ ap (λ (xs : List ℕ). held ++ xs) (none adds.returned adds.given) ∙ append-nil held
 
+-- what was returned has also what follows from it
 pub adds-also : (held items : List ℕ) (Given Other : List ℕ → Type 0) → ((returned : List ℕ) → Given returned → Other returned) → Adds held Given items → Adds held Other items
 adds-also held items Given Other also adds = record { returned = adds.returned; joined = adds.joined; given = also adds.returned adds.given }
 
@@ -31,6 +33,7 @@ adds-also held items Given Other also adds = record { returned = adds.returned; 
 abbrev completion_of : (old new : DriveState) (entry bytes completion returned : List ℕ) → Completes old entry bytes completion returned new → Completion
 completion_of old new entry bytes completion returned done = record { result = done.value; id = id_of entry; status = done.status }
 
+-- a submit that completes gives the bytes of a completion
 pub is-completion : (old new : DriveState) (entry bytes completion returned : List ℕ) → id_of entry ≡ 0 → Completes old entry bytes completion returned new → IsCompletion completion
 is-completion old new entry bytes completion returned id done = record {
   completion = completion_of old new entry bytes completion returned done;
@@ -38,6 +41,7 @@ is-completion old new entry bytes completion returned id done = record {
   encoded = done.encoded;
 }
 
+-- what the call answers then is what the completion says
 pub call-completed : (old new : DriveState) (entry : List ℕ) (command : Command) (bytes completion returned : List ℕ) (result : Result ℕ PortFault) → id_of entry ≡ 0 → decode_of entry ≡ Ok command
     → ((c : Completion) → IsEncodable c → completion ≡ completion_bytes c → result ≡ answer_of c)
     → SubmitGives old entry bytes (Ok completion) returned new → CallGives old command bytes result returned new

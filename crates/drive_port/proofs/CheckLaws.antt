@@ -22,12 +22,14 @@ AllPass (check ∷ checks) = (check.0 ≡ false) × AllPass checks
 
 -- ---- data
 
+-- whole blocks, no more than one transfer moves, pass the checks of data
 pub data-pass : (geometry : Geometry) (bytes : List ℕ) → IsWholeBlocks geometry.block bytes → block_count geometry bytes ≤ geometry.transfer
     → AllPass (data_checks geometry (block_count geometry bytes) bytes)
 data-pass geometry bytes whole few = (le-ltb _ _ few, (rw (eq-eqb _ _ whole.whole) refl, tt))
 
 -- ---- the state of the zone
 
+-- a zone whose state passes its checks is one that can be written
 pub state-passed : (zone : Zone) → AllPass (state_checks zone) → is_writable (usage_of zone.state) ≡ true
 state-passed zone all = writable zone.state all.0 all.1.0 all.1.1.0
   where
@@ -40,6 +42,7 @@ state-passed zone all = writable zone.state all.0 all.1.0 all.1.1.0
     writable Full f r o = sym f
     writable Offline f r o = sym o
 
+-- and the other way round
 pub state-pass : (zone : Zone) → is_writable (usage_of zone.state) ≡ true → AllPass (state_checks zone)
 state-pass zone w = passes zone.state w
   where

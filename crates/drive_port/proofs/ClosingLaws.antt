@@ -37,6 +37,7 @@ ClosesOne-trans a b c p q = record {
   ];
 }
 
+-- a closing of a closing is one
 pub IsClosing-trans : (a b c : List Zone) → IsClosing a b → IsClosing b c → IsClosing a c
 IsClosing-trans [] [] [] p q = tt
 IsClosing-trans (x ∷ xs) (y ∷ ys) (z ∷ zs) p q = (ClosesOne-trans x y z p.0 q.0, IsClosing-trans xs ys zs p.1 q.1)
@@ -45,6 +46,7 @@ IsClosing-trans (x ∷ xs) [] c p q = absurd p
 IsClosing-trans [] [] (z ∷ zs) p q = absurd q
 IsClosing-trans (x ∷ xs) (y ∷ ys) [] p q = absurd q
 
+-- a closing of the other zones, without one
 pub IsClosing-remove : (a b : List Zone) (i : ℕ) → IsClosing a b → IsClosing (remove a i) (remove b i)
 IsClosing-remove [] [] zero h = tt
 IsClosing-remove [] [] (suc i) h = tt
@@ -53,6 +55,7 @@ IsClosing-remove (x ∷ xs) (y ∷ ys) (suc i) h = (h.0, IsClosing-remove xs ys 
 IsClosing-remove [] (y ∷ ys) i h = absurd h
 IsClosing-remove (x ∷ xs) [] i h = absurd h
 
+-- one zone is set on both sides
 pub IsClosing-set : (a b : List Zone) (i : ℕ) (z y : Zone) → IsClosing a b → ClosesOne z y → IsClosing (slice_set a i z) (slice_set b i y)
 IsClosing-set [] [] i z y h one = tt
 IsClosing-set (u ∷ us) (v ∷ vs) zero z y h one = (one, h.1)
@@ -67,6 +70,7 @@ IsClosing-set_after old middle new i zone before after =
 
 -- ---- contents
 
+-- a zone that is closed has the same content
 pub content_of-closes : (z y : Zone) → ClosesOne z y → content_of y ≡ content_of z
 content_of-closes z y one =
     elim one.state [
@@ -74,6 +78,7 @@ content_of-closes z y one =
       | inr closed ↦ rw (closed.0, closed.1, one.blocks) refl
     ]
 
+-- so a closing keeps the contents
 pub contents-closing : (a b : List Zone) → IsClosing a b → contents b ≡ contents a
 contents-closing [] [] h = refl
 contents-closing (z ∷ zs) (y ∷ ys) h = rw (content_of-closes z y h.0, contents-closing zs ys h.1) refl
@@ -89,12 +94,14 @@ usage-restarted ReadOnly = refl
 usage-restarted Full = refl
 usage-restarted Offline = refl
 
+-- and so does a restart
 pub contents-restarted : (zones : List Zone) → contents (map restarted_zone zones) ≡ contents zones
 contents-restarted [] = refl
 contents-restarted (z ∷ zs) = rw (usage-restarted z.state, contents-restarted zs) refl
 
 -- ---- resources
 
+-- a zone that is closed is as active as before
 pub active-closes : (z y : Zone) → ClosesOne z y → is_active y.state ≡ is_active z.state
 active-closes z y one =
     elim one.state [
@@ -102,6 +109,7 @@ active-closes z y one =
       | inr closed ↦ rw (closed.0, closed.1) refl
     ]
 
+-- so as many zones are active
 pub active_count-closing : (a b : List Zone) → IsClosing a b → active_count b ≡ active_count a
 active_count-closing [] [] h = refl
 active_count-closing (z ∷ zs) (y ∷ ys) h =
@@ -120,6 +128,7 @@ open-closes z y one =
       | inr closed ↦ rw (closed.0, closed.1) (omega arith)
     ]
 
+-- and no more are open
 pub open_count-closing : (a b : List Zone) → IsClosing a b → open_count b ≤ open_count a
 open_count-closing [] [] h = omega arith
 open_count-closing (z ∷ zs) (y ∷ ys) h =
@@ -176,6 +185,7 @@ open_count-restarted (z ∷ zs) =
     let one = ap {B = ℕ} (λ (b : Bool). cond b 1 0) (open-restarted z.state) in
     omega (arith, one, open_count-restarted zs, sum_by-cons (λ (zone : Zone). cond (is_open zone.state) 1 0) (restarted_zone z) (map restarted_zone zs))
 
+-- a restart leaves a lawful drive
 pub lawful-restarted : (drive : DriveState) → IsLawful drive → IsLawful (restarted drive)
 lawful-restarted drive lawful = record {
   geometry = lawful.geometry;
@@ -189,6 +199,7 @@ lawful-restarted drive lawful = record {
 
 -- ---- one zone
 
+-- each zone of a closing is the same, or closed
 pub zone_at-closing : (a b : List Zone) (i : ℕ) → IsClosing a b → ClosesOne (zone_at a i) (zone_at b i)
 zone_at-closing [] [] i h = record { blocks = refl; state = inl refl }
 zone_at-closing (x ∷ xs) (y ∷ ys) zero h = h.0
@@ -204,6 +215,7 @@ content_at-contents zones i = get_or-map content_of zones i nowhere
 pub content_at-closing : (a b : List Zone) (i : ℕ) → IsClosing a b → content_at (contents a) i ≡ content_of (zone_at b i)
 content_at-closing a b i h = content_at-contents a i ∙ sym (content_of-closes (zone_at a i) (zone_at b i) (zone_at-closing a b i h))
 
+-- a closing has as many zones
 pub length-closing : (a b : List Zone) → IsClosing a b → length b ≡ length a
 length-closing [] [] h = refl
 length-closing (x ∷ xs) (y ∷ ys) h = let rest = length-closing xs ys h.1 in omega (arith, rest)

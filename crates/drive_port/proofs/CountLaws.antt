@@ -35,14 +35,17 @@ length-matching geometry options number (z ∷ zs) =
 report-head : (geometry : Geometry) (options : ReportingOptions) (zones : List Zone) → report geometry zones 0 options false 16 ≡ report_head_bytes (record { zones = chosen_count options zones })
 report-head geometry options zones = rw (zero-div geometry.size, length-matching geometry options 0 zones) refl
 
+-- a report with room for its head alone is the head, which has the number of the chosen zones
 pub reported-head : (old new : DriveState) (options : ReportingOptions) (bytes : List ℕ) → (r : Reported old new 0 options false 16 bytes)
     → bytes ≡ report_head_bytes (record { zones = chosen_count options r.zones })
 reported-head old new options bytes r = r.bytes_are ∙ report-head old.geometry options r.zones
 
+-- this number fits 64 bits
 pub chosen-fits : (old : DriveState) (options : ReportingOptions) (zones : List Zone) → IsLawful old → IsClosing old.zones zones → chosen_count options zones < 2 ^ 64
 chosen-fits old options zones lawful closing =
     omega (arith, count_by-le-length (λ (zone : Zone). is_chosen options zone.state) zones, length-closing old.zones zones closing, lawful.count, lawful.geometry.zones)
 
+-- so the number that was read counts them
 pub reported-counts : (old new : DriveState) (options : ReportingOptions) (bytes : List ℕ) (number : ℕ) → (r : Reported old new 0 options false 16 bytes)
     → number ≡ chosen_count options r.zones → Counted old new options number
 reported-counts old new options bytes number r is = record { geometry = r.geometry; counts = r.counts; zones = r.zones; before = r.before; number_is = is; after = r.after }

@@ -68,6 +68,7 @@ effect-finishes old new start bytes returned value lawful effect =
           ∙ rw (s.before, content_of-finished zone usable, at) refl;
     }
 
+-- a Finish that succeeded
 pub finish-if_ok : {V : Type 0} (old new : DriveState) (start : ℕ) (result : Result V PortFault) → IsLawful old
     → FinishGives old start result new → OnOk result (Finished old new start)
 finish-if_ok old new start (Ok value) lawful gives =
@@ -79,6 +80,7 @@ finish-if_ok old new start (Ok value) lawful gives =
     }
 finish-if_ok old new start (Err fault) lawful gives = tt
 
+-- a Finish that did not
 pub finish-keeps : {V : Type 0} (old new : DriveState) (start : ℕ) (result : Result V PortFault) → IsLawful old → new.geometry ≡ old.geometry
     → FinishGives old start result new → FinishKeeps old start result new
 finish-keeps old new start (Ok value) lawful geometry gives = tt
@@ -91,6 +93,7 @@ finish-keeps old new start (Err Stopped) lawful geometry gives =
       | inr done ↦ inr (record { geometry = geometry; contents = effect-finishes old new.zones start [] done.returned done.value lawful done.effect })
     ]
 
+-- what a Finish leaves of the zones
 pub finish-leaves : {V : Type 0} (old new : DriveState) (start : ℕ) (result : Result V PortFault) → FinishGives old start result new → FinishLeaves old start result new
 finish-leaves {V = V} old new start result gives = send-leaves {V = V} old new start actions.Finish Full result finishes gives
 
@@ -106,6 +109,7 @@ finish-passes old start middle closing can =
     let next = usable-passes zone.state (rw usage can.usable) in
     (rw (eq-eqb _ _ can.aligned) refl, (lt-leb _ _ can.in_range, (rw next refl, tt)))
 
+-- a zone that can be finished is not refused
 pub finish-is_taken : {V : Type 0} (old new : DriveState) (start : ℕ) (result : Result V PortFault)
     → FinishGives old start result new → CanFinish old start → IsNotRefused result
 finish-is_taken old new start (Ok value) gives can = tt

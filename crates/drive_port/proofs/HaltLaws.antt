@@ -1,12 +1,11 @@
 -- What a stop inside a command leaves.
-use Rattle.std.proofs.Common.{◌≡◌, ◌≢◌, ◌⊎◌, ℕ, zero, suc, ◌+◌, ◌*◌, ◌≤◌, Bool, true, false, List, take, drop, Result, Ok, Err, refl, ap, ◌∙◌, inl, inr, arith}
-use Rattle.std.proofs.lemmas.List.{drop-take, take-take}
+use Rattle.std.proofs.Common.{◌≡◌, ◌≢◌, ◌⊎◌, ℕ, ◌*◌, ◌≤◌, Bool, true, false, List, take, Result, Ok, Err, refl, ap, ◌∙◌, inl, inr, arith}
 use Rattle.nvme_wire.specs.declared.command.Command.{Command}
 use Rattle.nvme_wire.specs.declared.command.Command.TheVariants.{Flush, Read, Write, Append, Send, Receive}
 use Rattle.nvme_wire.specs.declared.status.Status.{Status}
 use Rattle.nvme_wire.specs.declared.status.Status.TheVariants.{Success, InvalidCommandOpcode, InvalidField, InvalidNamespace, LbaOutOfRange, ZoneBoundaryError, ZoneIsFull, ZoneIsReadOnly, ZoneIsOffline, ZoneInvalidWrite, TooManyActiveZones, TooManyOpenZones, InvalidZoneStateTransition}
 use Rattle.zone_states.specs.declared.geometry.Geometry.{Geometry}
-use Rattle.zone_states.specs.Zone.{Zone, cut_blocks}
+use Rattle.zone_states.specs.Zone.{Zone}
 use Rattle.drive_port.specs.declared.calls.PortFault.{PortFault}
 use Rattle.drive_port.specs.declared.calls.PortFault.TheVariants.{Refused, Memory, Stopped}
 use Rattle.drive_port.specs.Drive.{DriveState, IsClosing}
@@ -21,6 +20,7 @@ use Rattle.drive_port.proofs.StepLaws.{effect-refused, effect_of, outcome-passes
 abbrev Refusal : Status → Type 0
 Refusal status = (status ≢ Success) × (is_success status ≡ false)
 
+-- a status is Success or a refusal
 pub success_or : (status : Status) → (status ≡ Success) ⊎ Refusal status
 success_or Success = inl refl
 success_or InvalidCommandOpcode = inr (λ e. cc, refl)
@@ -80,6 +80,7 @@ left-front geometry old new start blocks bytes some all left =
 
 -- ---- a command that changes no zone
 
+-- commands that change no zone
 abbrev pub is_query : Command → Bool
 is_query Flush = true
 is_query (Read slba blocks) = true

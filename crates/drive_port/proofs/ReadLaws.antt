@@ -74,6 +74,7 @@ read-passes old address blocks middle closing can =
     let readable = offline-closes (zone_at old.zones index) (zone_at middle index) (zone_at-closing old.zones middle index closing) can.readable in
     (le-ltb _ _ can.few, (le-ltb _ _ can.in_range, (rw (eq-eqb _ _ can.one_zone) refl, (readable, tt))))
 
+-- blocks that can be read are not refused
 pub read-is_taken : {V : Type 0} (old new : DriveState) (address blocks : ℕ) (returned : List ℕ) (result : Result V PortFault)
     → ReadGives old address blocks result returned new → CanRead old address blocks → IsNotRefused result
 read-is_taken old new address blocks returned (Ok value) gives can = tt

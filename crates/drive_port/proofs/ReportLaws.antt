@@ -39,6 +39,7 @@ length-report geometry zones address options partial dwords low =
 
 -- ---- a report that succeeded
 
+-- a report that succeeded
 pub report-succeeded : (old new : DriveState) (address : ℕ) (options : ReportingOptions) (partial : Bool) (dwords : ℕ) (bytes returned : List ℕ) (value : ℕ) → 16 ≤ dwords
     → Performs old (Ok (Receive address dwords options partial)) bytes Success value returned new → Reported old new address options partial dwords returned
 report-succeeded old new address options partial dwords bytes returned value low step =
@@ -57,6 +58,7 @@ report-succeeded old new address options partial dwords bytes returned value low
 
 -- ---- a report that isn't refused
 
+-- a report from a zone that is there is not refused
 pub report-is_taken : {V : Type 0} (old new : DriveState) (address : ℕ) (options : ReportingOptions) (partial : Bool) (dwords : ℕ) (returned : List ℕ) (result : Result V PortFault)
     → ReportGives old address options partial dwords result returned new → address < end_of old.geometry → IsNotRefused result
 report-is_taken old new address options partial dwords returned (Ok value) gives low = tt

@@ -103,9 +103,11 @@ send-leaves old new start action next (Err Stopped) is gives =
       | inr done ↦ inr (sent-zones old.geometry old.zones new.zones start action next [] done.returned done.value is done.effect)
     ]
 
+-- what a Close leaves of the zones
 pub close-leaves : {V : Type 0} (old new : DriveState) (start : ℕ) (result : Result V PortFault) → CloseGives old start result new → CloseLeaves old start result new
 close-leaves {V = V} old new start result gives = send-leaves {V = V} old new start actions.Close Closed result closes gives
 
+-- what a Reset leaves of the zones
 pub reset-leaves : {V : Type 0} (old new : DriveState) (start : ℕ) (result : Result V PortFault) → ResetGives old start result new → ResetLeaves old start result new
 reset-leaves {V = V} old new start result gives = send-leaves {V = V} old new start actions.Reset Empty result resets gives
 
@@ -127,6 +129,7 @@ effect-resets old new start bytes returned value lawful effect =
       zones = contents-closing _ _ zones ∙ map-set content_of old.zones index (record { state = Empty; blocks = [] });
     }
 
+-- a Reset that succeeded
 pub reset-if_ok : {V : Type 0} (old new : DriveState) (start : ℕ) (result : Result V PortFault) → IsLawful old
     → ResetGives old start result new → OnOk result (ResetZone old new start)
 reset-if_ok old new start (Ok value) lawful gives =
@@ -138,6 +141,7 @@ reset-if_ok old new start (Ok value) lawful gives =
     }
 reset-if_ok old new start (Err fault) lawful gives = tt
 
+-- a Reset that did not
 pub reset-keeps : {V : Type 0} (old new : DriveState) (start : ℕ) (result : Result V PortFault) → IsLawful old → new.geometry ≡ old.geometry
     → ResetGives old start result new → ResetKeeps old start result new
 reset-keeps old new start (Ok value) lawful geometry gives = tt
@@ -161,6 +165,7 @@ effect-closes old new start bytes returned value lawful effect =
     let closable = closable-passed (zone_at effect.middle index).state s.passed.1.1.0 in
     (zone-in_range old start lawful (leb-false _ _ s.passed.1.0), sym (active-closes _ _ (zone_at-closing old.zones effect.middle index effect.before)) ∙ closable)
 
+-- a Close that succeeded
 pub close-if_ok : {V : Type 0} (old new : DriveState) (start : ℕ) (result : Result V PortFault) → IsLawful old
     → CloseGives old start result new → OnOk result (ClosedZone old new start)
 close-if_ok old new start (Ok value) lawful gives =
@@ -198,6 +203,7 @@ effect-kept old new start bytes returned value lawful effect =
     contents-closing _ _ (sent-zones old.geometry old.zones new start actions.Close Closed bytes returned value closes effect)
     ∙ contents-closed old.zones (start / old.geometry.size) found.1
 
+-- a Close keeps the contents, whatever it answers
 pub close-kept : {V : Type 0} (old new : DriveState) (start : ℕ) (result : Result V PortFault) → IsLawful old → new.geometry ≡ old.geometry
     → CloseGives old start result new → SameContents old new
 close-kept old new start (Ok value) lawful geometry gives =
@@ -221,6 +227,7 @@ close-passes old start middle closing can =
     let next = closable-passes (zone_at middle index).state is_active in
     (rw (eq-eqb _ _ can.aligned) refl, (lt-leb _ _ can.in_range, (rw next refl, tt)))
 
+-- a zone that can be closed is not refused
 pub close-is_taken : {V : Type 0} (old new : DriveState) (start : ℕ) (result : Result V PortFault)
     → CloseGives old start result new → CanClose old start → IsNotRefused result
 close-is_taken old new start (Ok value) gives can = tt
@@ -240,6 +247,7 @@ reset-passes old start middle closing can =
     let next = resettable-passes zone.state (rw usage can.usable) in
     (rw (eq-eqb _ _ can.aligned) refl, (lt-leb _ _ can.in_range, (rw next refl, tt)))
 
+-- a zone that can be reset is not refused
 pub reset-is_taken : {V : Type 0} (old new : DriveState) (start : ℕ) (result : Result V PortFault)
     → ResetGives old start result new → CanReset old start → IsNotRefused result
 reset-is_taken old new start (Ok value) gives can = tt

@@ -1,5 +1,5 @@
 -- What the status of a command says of its checks, its effect and the contents of the drive.
-use Rattle.std.proofs.Common.{◌≡◌, ◌≢◌, ℕ, ◌+◌, ◌/◌, ◌%◌, length, Bool, true, false, not, ◌&&◌, List, [], ◌∷◌, map, Option, Some, None, Result, Ok, Err, refl, sym, ap, ◌∙◌, arith}
+use Rattle.std.proofs.Common.{◌≡◌, ◌≢◌, ℕ, ◌+◌, ◌/◌, ◌%◌, length, Bool, true, false, not, ◌&&◌, List, [], ◌∷◌, map, Option, Some, None, Result, Ok, Err, refl, ap, ◌∙◌, arith}
 use Rattle.std.specs.Prelude.{OnErr, slice_set}
 use Rattle.std.proofs.lemmas.Bool.{and_parts}
 use Rattle.nvme_wire.specs.declared.command.Action.TheVariants as actions
@@ -21,10 +21,11 @@ use Rattle.drive_port.specs.Step.{Effect, Outcome, Performs, append_checks, byte
 use Rattle.drive_port.specs.Contents.{Counts, SameContents, contents}
 use Rattle.drive_port.specs.Calls.{CallGives}
 use Rattle.drive_port.proofs.CheckLaws.{AllPass}
-use Rattle.drive_port.proofs.ClosingLaws.{IsClosing-refl, IsClosing-trans, contents-closing}
+use Rattle.drive_port.proofs.ClosingLaws.{IsClosing-trans, contents-closing}
 
 -- ---- a command is its checks and its effect
 
+-- the checks of a command
 abbrev pub checks_of : Geometry → List Zone → Result Command DecodeFault → List ℕ → List (Bool × Status)
 checks_of geometry zones (Err fault) bytes = (true, decode_status fault) ∷ []
 checks_of geometry zones (Ok Flush) bytes = []
@@ -126,6 +127,7 @@ pub record Succeeded (geometry : Geometry) (old middle : List Zone) (command : R
   pub before : contents middle ≡ contents old
   pub after : contents new ≡ contents (effect_of geometry middle command bytes).zones
 
+-- a command that succeeded had its effect on the zones of some moment
 pub succeeded : (geometry : Geometry) (old new : List Zone) (command : Result Command DecodeFault) (bytes returned : List ℕ) (value : ℕ)
     → (effect : Effect geometry old command bytes Success value returned new) → Succeeded geometry old effect.middle command bytes value returned new
 succeeded geometry old new command bytes returned value effect =
@@ -146,6 +148,7 @@ one_if-true : (b : Bool) → one_if (b && true) ≡ one_if b
 one_if-true true = refl
 one_if-true false = refl
 
+-- a command that succeeded is counted once
 pub counts-success : (old new : DriveState) (command : Result Command DecodeFault) (bytes returned : List ℕ) (value : ℕ)
     → Performs old command bytes Success value returned new → Counts old new (one_if (is_append command))
 counts-success old new command bytes returned value step = record {
@@ -183,6 +186,7 @@ effect-refused geometry old new command bytes returned status value bad effect =
     let after : IsClosing effect.middle new = rw (is, nothing.1) at effect.after in
     (IsClosing-trans old effect.middle new effect.before after, effect.returned_is ∙ ap (λ (o : Outcome). o.returned) is ∙ nothing.0)
 
+-- a closing keeps the contents
 pub same_contents-closing : (old new : DriveState) → new.geometry ≡ old.geometry → IsClosing old.zones new.zones → SameContents old new
 same_contents-closing old new geometry closing = record { geometry = geometry; contents = contents-closing old.zones new.zones closing }
 
@@ -203,6 +207,7 @@ pub refused-closing : (old new : DriveState) (command : Command) (bytes returned
 refused-closing old new command bytes returned status gives =
     (effect-refused old.geometry old.zones new.zones (Ok command) bytes returned status gives.2 gives.1 gives.3.effect).0
 
+-- and so does the same drive
 pub same_contents-same : (old new : DriveState) → new ≡ old → SameContents old new
 same_contents-same old new same = rw same (record { geometry = refl; contents = refl })
 
@@ -216,6 +221,7 @@ effect-value geometry zones (Send slba action true) bytes e = refl
 effect-value geometry zones (Send slba action false) bytes e = refl
 effect-value geometry zones (Receive slba dwords options partial) bytes e = refl
 
+-- a command that is no Append gives 0
 pub call-zero : (old new : DriveState) (command : Command) (bytes returned : List ℕ) (value : ℕ) → is_append (Ok command) ≡ false
     → CallGives old command bytes (Ok value) returned new → CallGives old command bytes (Ok 0) returned new
 call-zero old new command bytes returned value other gives =
@@ -223,30 +229,7 @@ call-zero old new command bytes returned value other gives =
     let zero = (succeeded old.geometry old.zones new.zones (Ok command) bytes returned value effect).value_is ∙ effect-value old.geometry effect.middle command bytes other in
     rw zero at gives
 
+-- what always holds holds after a fault
 pub on_err : {T E : Type 0} (result : Result T E) (P : Type 0) → P → OnErr result P
 on_err (Ok value) P p = tt
 on_err (Err error) P p = p
-
--- ---- steps with no closing
-
-pub performs-plain : (old new : DriveState) (command : Result Command DecodeFault) (bytes returned : List ℕ) (status : Status) (value : ℕ)
-    → outcome old.geometry old.zones command bytes ≡ record { status = status; value = value; returned = returned; zones = new.zones }
-    → new.geometry ≡ old.geometry
-    → new.completed ≡ old.completed + 1
-    → new.refused ≡ old.refused + one_if (not (is_success status))
-    → new.appended ≡ old.appended + one_if (is_append command && is_success status)
-    → Performs old command bytes status value returned new
-performs-plain old new command bytes returned status value gives geometry completed refused appended = record {
-  effect = record {
-    middle = old.zones;
-    before = IsClosing-refl old.zones;
-    status_is = sym (ap (λ (o : Outcome). o.status) gives);
-    value_is = sym (ap (λ (o : Outcome). o.value) gives);
-    returned_is = sym (ap (λ (o : Outcome). o.returned) gives);
-    after = rw gives (IsClosing-refl new.zones);
-  };
-  geometry = geometry;
-  completed = completed;
-  refused = refused;
-  appended = appended;
-}

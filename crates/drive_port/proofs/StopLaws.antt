@@ -69,6 +69,7 @@ stops-here old new command bytes running over geometry completed refused appende
 abbrev pub stopping : DriveState → ℕ → ℕ → ℕ → Progress → Stopping
 stopping inner limit tear uncounted progress = record { inner = inner; limit = limit; tear = tear; completed = inner.completed - uncounted; progress = progress }
 
+-- a submit that is passed on
 pub passed-on : (old new : DriveState) (limit tear uncounted : ℕ) (progress : Progress) (entry bytes : List ℕ) (result : Result (List ℕ) Halt) (returned : List ℕ)
     → uncounted ≤ old.completed → (drive_of (stopping old limit tear uncounted progress)).stopped ≡ false → SubmitGives old entry bytes result returned new
     → SubmitGives (drive_of (stopping old limit tear uncounted progress)) entry bytes result returned (drive_of (stopping new limit tear uncounted progress))
@@ -119,6 +120,7 @@ torn-if true true false start found e = absurd (cc e)
 torn-if true false c start found e = absurd (cc e)
 torn-if false b c start found e = absurd (cc e)
 
+-- an Append that is to be torn
 pub torn_at-some : (block j : ℕ) (command : Result Command DecodeFault) (len found : ℕ) → torn_at block j command len ≡ Some found → IsTorn command found j
 torn_at-some block j (Err fault) len found e = absurd (cc e)
 torn_at-some block j (Ok Flush) len found e = absurd (cc e)
@@ -158,6 +160,7 @@ bad_is status bad = elim (success_or status) [
   | inr is ↦ is.1
 ]
 
+-- its front was appended
 pub stops-appended : (old : Stopping) (inner : DriveState) (uncounted : ℕ) (command : Result Command DecodeFault) (start block : ℕ) (bytes returned : List ℕ) (value : ℕ)
     → old.completed ≡ old.inner.completed - uncounted → (drive_of old).stopped ≡ false → IsTorn command start old.tear → block ≡ old.inner.geometry.block
     → CallGives old.inner (Append start old.tear) (take (old.tear * block) bytes) (Ok value) returned inner
@@ -168,6 +171,7 @@ stops-appended old inner uncounted command start block bytes returned value coun
     (omega (arith, p.completed, counted)) (omega (arith, p.refused)) (omega (arith, p.appended))
     (rw torn.command_is (inr (inr (record { j = old.tear; some = torn.some; few = torn.few; value = value; returned = returned; effect = rw block_is at p.effect }))))
 
+-- or its front was refused
 pub stops-refused : (old : Stopping) (inner : DriveState) (uncounted : ℕ) (command : Result Command DecodeFault) (start block : ℕ) (bytes returned : List ℕ) (status : Status)
     → old.completed ≡ old.inner.completed - uncounted → (drive_of old).stopped ≡ false
     → CallGives old.inner (Append start old.tear) (take (old.tear * block) bytes) (Err (Refused status)) returned inner
@@ -180,6 +184,7 @@ stops-refused old inner uncounted command start block bytes returned status coun
     stops-here old (record old { inner = inner; completed = inner.completed - (uncounted + 1); progress = OverRefused }) command bytes running refl p.geometry
     (omega (arith, p.completed, counted)) (omega (arith, refused)) (omega (arith, appended)) (inl closing)
 
+-- or the drive within stopped by itself
 pub stops-stopped : (old : Stopping) (inner : DriveState) (uncounted : ℕ) (command : Result Command DecodeFault) (start block : ℕ) (bytes returned : List ℕ)
     → old.completed ≡ old.inner.completed - uncounted → (drive_of old).stopped ≡ false → IsTorn command start old.tear → block ≡ old.inner.geometry.block
     → CallGives old.inner (Append start old.tear) (take (old.tear * block) bytes) (Err Stopped) returned inner

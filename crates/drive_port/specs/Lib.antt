@@ -4,6 +4,7 @@ pub mod Run
 pub mod Contents
 pub mod Halting
 pub mod Calls
+pub mod Answering
 pub mod Stop
 pub mod Record
 pub use Rattle.zone_states.specs.Zone

@@ -1,15 +1,10 @@
-ghost use Rattle.std.specs.Prelude.{◌≡◌, ◌<◌, ◌≤◌, ◌^◌, ◌↔◌, true, false, [], length, Err, IfOk, OnOk, OnErr};
+ghost use Rattle.std.specs.Prelude.{◌≡◌, ◌≤◌, ◌^◌, false, []};
 ghost use Rattle.nvme_wire.specs.Completion.{IsEncodable, completion_bytes};
 ghost use Rattle.nvme_wire.specs.Entry.{IsAdmitted};
 ghost use Rattle.drive_port.specs.Halting.{Adds};
-ghost use Rattle.drive_port.specs.Step.{end_of};
-ghost use Rattle.drive_port.specs.Contents.{AreEmpty, SameContents, contents};
-ghost use Rattle.drive_port.specs.Calls.{AppendGives, AppendKeeps, AppendLeaves, Appended, CallGives, CanAppend};
-ghost use Rattle.drive_port.specs.Calls.{CanClose, CanFinish, CanRead, CanReset, CloseGives, CloseLeaves, ClosedZone};
-ghost use Rattle.drive_port.specs.Calls.{Counted, FinishGives, FinishKeeps, FinishLeaves, Finished, IsCompletion};
-ghost use Rattle.drive_port.specs.Calls.{IsNotRefused, IsWholeBlocks, Obeys, OnlyCloses, ReadGives, ReadShows};
-ghost use Rattle.drive_port.specs.Calls.{ReportGives, Reported, ResetGives, ResetKeeps, ResetLeaves, ResetZone};
-ghost use Rattle.drive_port.specs.Calls.{SendGives, answer_of, block_count, fault_of};
+ghost use Rattle.drive_port.specs.Calls.{CallGives, IsCompletion, IsWholeBlocks, Obeys, SendGives, answer_of, fault_of};
+ghost use Rattle.drive_port.specs.Answering.{AppendAnswers, CloseAnswers, CountAnswers, FinishAnswers};
+ghost use Rattle.drive_port.specs.Answering.{ReadAnswers, ReadExtends, ReportAnswers, ResetAnswers};
 
 use crate::device::{Device, Halt};
 use nvme_wire::{Action, Command, Completion, ReportHead, ReportingOptions, Status, ZoneState};
@@ -100,17 +95,7 @@ pub fn append<D: Device>(
     bytes: &[u8],
 ) -> Result<u64, PortFault>
     requires whole { IsWholeBlocks (D.drive device.old).geometry.block bytes.now }
-    ensures gives { AppendGives (D.drive device.old) zone_start bytes.now result
-        (D.drive device.new) }
-    ensures appended { IfOk result (λ address.
-        Appended (D.drive device.old) (D.drive device.new) zone_start bytes.now address) }
-    ensures kept { AppendKeeps (D.drive device.old) zone_start bytes.now result
-        (D.drive device.new) }
-    ensures leaves { AppendLeaves (D.drive device.old) zone_start bytes.now result
-        (D.drive device.new) }
-    ensures taken { CanAppend (D.drive device.old) zone_start
-        (block_count (D.drive device.old).geometry bytes.now) → IsNotRefused result }
-    ensures obeys { Obeys (D.drive device.old) result (D.drive device.new) }
+    ensures { AppendAnswers (D.drive device.old) zone_start bytes.now result (D.drive device.new) }
 {
     let blocks = bytes.len() / device.geometry().block as usize;
     let command = Command::Append {
@@ -131,14 +116,8 @@ pub fn read<D: Device>(
 ) -> Result<(), PortFault>
     requires some { 1 ≤ blocks }
     requires few { blocks ≤ 65536 }
-    ensures gives { ReadGives (D.drive device.old) slba blocks result into.new.items
+    ensures { ReadAnswers (D.drive device.old) slba blocks result into.new.items
         (D.drive device.new) }
-    ensures shown { OnOk result
-        (ReadShows (D.drive device.old) (D.drive device.new) slba blocks [] into.new.items) }
-    ensures err { OnErr result (into.new.items ≡ []) }
-    ensures kept { OnlyCloses (D.drive device.old) (D.drive device.new) }
-    ensures taken { CanRead (D.drive device.old) slba blocks → IsNotRefused result }
-    ensures obeys { Obeys (D.drive device.old) result (D.drive device.new) }
 {
     into.clear();
     read_extending(device, slba, blocks, into)
@@ -155,16 +134,8 @@ pub fn read_extending<D: Device>(
 ) -> Result<(), PortFault>
     requires some { 1 ≤ blocks }
     requires few { blocks ≤ 65536 }
-    ensures gives { Adds into.old.items
-        (λ returned. ReadGives (D.drive device.old) slba blocks result returned
-        (D.drive device.new)) into.new.items }
-    ensures shown { OnOk result
-        (ReadShows (D.drive device.old)
-        (D.drive device.new) slba blocks into.old.items into.new.items) }
-    ensures err { OnErr result (into.new.items ≡ into.old.items) }
-    ensures kept { OnlyCloses (D.drive device.old) (D.drive device.new) }
-    ensures taken { CanRead (D.drive device.old) slba blocks → IsNotRefused result }
-    ensures obeys { Obeys (D.drive device.old) result (D.drive device.new) }
+    ensures { ReadExtends (D.drive device.old) slba blocks into.old.items result into.new.items
+        (D.drive device.new) }
 {
     call_extending(device, &Command::Read { slba, blocks }, into)?;
     Ok(())
@@ -194,12 +165,7 @@ fn send<D: Device>(
 /// Makes the zone that starts at `zone_start` Full, with the blocks that it has (Zoned Namespace Command
 /// Set 1.1, section 3.4.3).
 pub fn finish<D: Device>(alloc: Global, device: &mut D, zone_start: u64) -> Result<(), PortFault>
-    ensures gives { FinishGives (D.drive device.old) zone_start result (D.drive device.new) }
-    ensures finished { OnOk result (Finished (D.drive device.old) (D.drive device.new) zone_start) }
-    ensures kept { FinishKeeps (D.drive device.old) zone_start result (D.drive device.new) }
-    ensures leaves { FinishLeaves (D.drive device.old) zone_start result (D.drive device.new) }
-    ensures taken { CanFinish (D.drive device.old) zone_start → IsNotRefused result }
-    ensures obeys { Obeys (D.drive device.old) result (D.drive device.new) }
+    ensures { FinishAnswers (D.drive device.old) zone_start result (D.drive device.new) }
 {
     send(alloc, device, zone_start, Action::Finish)
 }
@@ -207,24 +173,14 @@ pub fn finish<D: Device>(alloc: Global, device: &mut D, zone_start: u64) -> Resu
 /// Closes the zone that starts at `zone_start`, which is opened or Closed (Zoned Namespace Command Set
 /// 1.1, section 3.4.3).
 pub fn close<D: Device>(alloc: Global, device: &mut D, zone_start: u64) -> Result<(), PortFault>
-    ensures gives { CloseGives (D.drive device.old) zone_start result (D.drive device.new) }
-    ensures closed { OnOk result (ClosedZone (D.drive device.old) (D.drive device.new) zone_start) }
-    ensures kept { SameContents (D.drive device.old) (D.drive device.new) }
-    ensures leaves { CloseLeaves (D.drive device.old) zone_start result (D.drive device.new) }
-    ensures taken { CanClose (D.drive device.old) zone_start → IsNotRefused result }
-    ensures obeys { Obeys (D.drive device.old) result (D.drive device.new) }
+    ensures { CloseAnswers (D.drive device.old) zone_start result (D.drive device.new) }
 {
     send(alloc, device, zone_start, Action::Close)
 }
 
 /// Makes the zone that starts at `zone_start` Empty (Zoned Namespace Command Set 1.1, section 3.4.3).
 pub fn reset<D: Device>(alloc: Global, device: &mut D, zone_start: u64) -> Result<(), PortFault>
-    ensures gives { ResetGives (D.drive device.old) zone_start result (D.drive device.new) }
-    ensures reset { OnOk result (ResetZone (D.drive device.old) (D.drive device.new) zone_start) }
-    ensures kept { ResetKeeps (D.drive device.old) zone_start result (D.drive device.new) }
-    ensures leaves { ResetLeaves (D.drive device.old) zone_start result (D.drive device.new) }
-    ensures taken { CanReset (D.drive device.old) zone_start → IsNotRefused result }
-    ensures obeys { Obeys (D.drive device.old) result (D.drive device.new) }
+    ensures { ResetAnswers (D.drive device.old) zone_start result (D.drive device.new) }
 {
     send(alloc, device, zone_start, Action::Reset)
 }
@@ -242,14 +198,8 @@ pub fn report<D: Device>(
 ) -> Result<(), PortFault>
     requires head { 16 ≤ dwords }
     requires few { dwords ≤ 2 ^ 32 }
-    ensures gives { ReportGives (D.drive device.old) slba options partial dwords result
-        into.new.items (D.drive device.new) }
-    ensures shown { OnOk result (Reported (D.drive device.old)
-        (D.drive device.new) slba options partial dwords into.new.items) }
-    ensures err { OnErr result (into.new.items ≡ []) }
-    ensures kept { OnlyCloses (D.drive device.old) (D.drive device.new) }
-    ensures taken { slba < end_of (D.drive device.old).geometry → IsNotRefused result }
-    ensures obeys { Obeys (D.drive device.old) result (D.drive device.new) }
+    ensures { ReportAnswers (D.drive device.old) slba options partial dwords result into.new.items
+        (D.drive device.new) }
 {
     let command = Command::Receive {
         slba,
@@ -268,17 +218,7 @@ pub fn count_zones<D: Device>(
     options: ReportingOptions,
     into: &mut Vec<u8>,
 ) -> Result<u64, PortFault>
-    ensures gives { ReportGives (D.drive device.old) 0 options false 16 result into.new.items
-        (D.drive device.new) }
-    ensures counted { IfOk result
-        (λ number. Counted (D.drive device.old) (D.drive device.new) options number) }
-    ensures empty { options ≡ ReportingOptions.InState ZoneState.Empty → IfOk result
-        (λ number. (number ≡ (D.drive device.old).geometry.zones)
-        ↔ AreEmpty (contents (D.drive device.old).zones)) }
-    ensures err { OnErr result (into.new.items ≡ []) }
-    ensures kept { OnlyCloses (D.drive device.old) (D.drive device.new) }
-    ensures taken { 0 < end_of (D.drive device.old).geometry → IsNotRefused result }
-    ensures obeys { Obeys (D.drive device.old) result (D.drive device.new) }
+    ensures { CountAnswers (D.drive device.old) options result into.new.items (D.drive device.new) }
 {
     report(device, 0, options, false, 16, into)?;
     let mut bytes = [0; 64];

@@ -1,146 +1,121 @@
-// The file of a drive as a store of its changes.
+// The file of a drive, shared by what appends changes to it and what waits until it has them.
 
-ghost use Rattle.std.specs.Prelude.{None};
-
-use crate::file_fault::SystemError;
+use crate::changes_store::ChangesStore;
+use crate::file_fault::{FileFault, SystemError};
+use crate::gathered_file::GatheredFile;
 use crate::image_file::ImageFile;
-use crate::new_file::{Saving, save};
-use disk_files::WriteFault;
-use drive_journal::Store;
+use crate::input_gate::Gate;
+use crate::new_file::Saving;
+use std::cell::RefCell;
 use std::fs::File;
 use std::io;
-use std::io::{Seek, SeekFrom, Write};
+use std::io::ErrorKind;
 use std::rt::Files;
 use zone_drive::Drive;
 
-/// How many bytes of changes follow an image at least before it is written anew.
-const LEAST: u64 = 1 << 20;
-
-/// The file of a drive, open and locked, to which changes are appended. Until the first one it is as it was. It is
-/// written anew once its changes are longer than its image and than 1 MiB.
+/// The file of a drive, open and locked, to which changes are appended. Until the first one it is as it was.
+///
+/// Changes are gathered, and written together: by [`write_out`](ChangesFile::write_out) at the latest, and before more
+/// than 256 KiB of them are held. After a fault the file takes no more of them. It has the first ones, in order, with all
+/// that were written out; and what needs others is refused by that fault.
+///
+/// The file is written anew as the image of the drive when it is more than 1 MiB longer than twice that image. So it is
+/// never longer than that and 1 MiB more, unless it cannot be written anew.
 #[derive(Drop)]
 pub struct ChangesFile<'a, F: Files<File = File>> {
-    saving: &'a Saving<'a, F>,
-    image: ImageFile,
-    /// How many bytes of the file are its image and whole changes. What follows is cut off before the first change.
-    whole: u64,
-    /// How many bytes of blocks its image has, once they were counted.
-    image_blocks: Option<u64>,
-    /// How many bytes of changes may follow an image that is not longer.
-    most: u64,
-    /// Whether a change was written.
-    is_changed: bool,
-    error: Option<SystemError>,
+    file: RefCell<GatheredFile<'a, F>>,
+}
+
+/// The fault of a file that is used within a use of it. That never is.
+fn busy() -> FileFault {
+    FileFault::Change(SystemError::from(io::Error::from(ErrorKind::ResourceBusy)))
 }
 
 impl<'a, F: Files<File = File>> ChangesFile<'a, F> {
+    /// The file of an image, of which nothing was read yet.
     pub fn new(saving: &'a Saving<'a, F>, image: ImageFile) -> Self {
-        let whole = image.metadata.len();
         ChangesFile {
-            saving,
-            image,
-            whole,
-            image_blocks: None,
-            most: LEAST,
-            is_changed: false,
-            error: None,
+            file: RefCell::new(GatheredFile::new(saving, image)),
         }
     }
 
-    /// Whether the file is as it was.
+    /// The same, and a gate is shut at the first fault of the file, so that the input that goes through it is read no
+    /// further.
+    pub fn with_gate(saving: &'a Saving<'a, F>, image: ImageFile, gate: &'a Gate) -> Self {
+        let mut file = GatheredFile::new(saving, image);
+        file.set_gate(gate);
+        ChangesFile {
+            file: RefCell::new(file),
+        }
+    }
+
+    /// The file as a store, which gathers the changes of a device.
+    pub fn store(&self) -> ChangesStore<'_, 'a, F> {
+        ChangesStore::new(self)
+    }
+
+    /// Writes all changes that were appended to the file.
+    pub fn write_out(&self) -> Result<(), FileFault> {
+        match self.file.try_borrow_mut() {
+            Ok(mut file) => file.write_out(),
+            Err(_) => Err(busy()),
+        }
+    }
+
+    /// Writes all changes that were appended to the file, and brings them to the disk, with all that it held before. If
+    /// nothing was written since the last time, it does nothing.
+    pub fn sync(&self) -> Result<(), FileFault> {
+        match self.file.try_borrow_mut() {
+            Ok(mut file) => file.sync(),
+            Err(_) => Err(busy()),
+        }
+    }
+
+    /// Whether no change was appended.
     pub fn is_unchanged(&self) -> bool {
-        !self.is_changed
+        match self.file.try_borrow() {
+            Ok(file) => file.is_unchanged(),
+            Err(_) => false,
+        }
     }
 
-    /// What the system said of the change that could not be written.
-    pub fn error(&self) -> Option<SystemError> {
-        self.error
+    /// Whether the file is to stay as it is, since no change was appended or it takes no more of them.
+    pub fn stays(&self) -> bool {
+        self.is_unchanged() || matches!(self.fault(), Some(FileFault::Change(_)))
     }
 
-    /// The file, as it is now.
+    /// Why the file takes no more changes, or why those that it has may not be on the disk.
+    pub fn fault(&self) -> Option<FileFault> {
+        match self.file.try_borrow() {
+            Ok(file) => file.fault(),
+            Err(_) => Some(busy()),
+        }
+    }
+
+    /// The file, as it is now. What is gathered is lost.
     pub fn into_image(self) -> ImageFile {
-        self.image
+        self.file.into_inner().into_image()
     }
 
-    // Cuts off what is not whole, and goes to the end of what is.
-    fn begin(&mut self) -> io::Result<()> {
-        if self.whole < self.image.metadata.len() {
-            self.image.file.set_len(self.whole)?;
-        }
-        self.image.file.seek(SeekFrom::Start(self.whole))?;
-        Ok(())
-    }
-
-    fn write(&mut self, bytes: &[u8]) -> Result<(), SystemError> {
-        if let Some(error) = self.image.read_only {
-            return Err(error);
-        }
-        if !self.is_changed {
-            self.begin()?;
-            self.is_changed = true;
-        }
-        self.image.file.write_all(bytes)?;
-        self.whole = self.whole.saturating_add(bytes.len() as u64);
-        Ok(())
-    }
-
-    // Whether the changes after the image are longer than may be. The blocks of the image are counted once.
-    fn is_long(&mut self, drive: &Drive) -> bool {
-        let blocks = match self.image_blocks {
-            Some(bytes) => bytes,
-            None => written_bytes(drive),
-        };
-        self.image_blocks = Some(blocks);
-        self.whole.saturating_sub(blocks) > self.most.max(blocks)
-    }
-
-    // Writes the image of the drive into a new file, which takes the place of this one. If that fails, the changes may
-    // grow twice as long before it is tried again.
-    fn write_anew(&mut self, drive: &Drive) {
-        match save(self.saving, drive, &self.image) {
-            Ok(image) => {
-                self.whole = image.metadata.len();
-                self.image = image;
-                self.image_blocks = None;
-                self.most = LEAST;
-            }
-            Err(_) => self.most = self.whole.saturating_mul(2),
-        }
-    }
-}
-
-/// How many bytes are written in the zones of a drive.
-fn written_bytes(drive: &Drive) -> u64 {
-    let mut bytes: u64 = 0;
-    for zone in drive.zones() {
-        bytes = bytes.saturating_add(zone.written().len() as u64);
-    }
-    bytes
-}
-
-impl<F: Files<File = File>> Store<Drive> for ChangesFile<'_, F> {
-    ghost held = { λ _. None };
-
-    fn append(&mut self, bytes: &[u8]) -> Result<(), WriteFault> {
-        if bytes.is_empty() {
-            return Ok(());
-        }
-        match self.write(bytes) {
-            Ok(()) => Ok(()),
-            Err(error) => {
-                self.error = Some(error);
-                Err(WriteFault)
-            }
+    // Appends a change. It may be gathered.
+    pub(crate) fn append(&self, change: &[u8]) -> Result<(), FileFault> {
+        match self.file.try_borrow_mut() {
+            Ok(mut file) => file.append(change),
+            Err(_) => Err(busy()),
         }
     }
 
-    fn renew(&mut self, drive: &Drive) {
-        if self.image.read_only.is_none() && self.is_long(drive) {
-            self.write_anew(drive);
+    // Writes the file anew, if it is too long.
+    pub(crate) fn renew(&self, drive: &Drive) {
+        if let Ok(mut file) = self.file.try_borrow_mut() {
+            file.renew(drive);
         }
     }
 
-    fn cut(&mut self, whole: u64) {
-        self.whole = whole;
+    // Says how many bytes of the file are its image and whole changes.
+    pub(crate) fn cut(&self, whole: u64) {
+        if let Ok(mut file) = self.file.try_borrow_mut() {
+            file.cut(whole);
+        }
     }
 }

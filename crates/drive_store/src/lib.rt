@@ -5,10 +5,12 @@
 //! let image = open_to_save(files, alloc, path)?; // locked: no other program reads or changes it
 //! let mut bytes = reader_of(alloc, &image.file)?;
 //! let begun = restarted_drive(alloc, &mut bytes, Habit::Lazy)?; // the drive that the file holds
-//! let store = ChangesFile::new(&saving, image);
-//! let device = keep(alloc, begun, store); // each change is in the file before it is answered
-//! let (drive, store) = device.into_parts();
-//! save(&saving, &drive, &store.into_image())?; // the image of the drive takes the place of the file
+//! let file = ChangesFile::new(&saving, image);
+//! let device = keep(alloc, begun, file.store()); // its changes are gathered
+//! let output = ChangesOutput::new(&file, SentAfter::Write, &mut output); // and written before replies are sent
+//! file.sync()?; // all changes are on the disk
+//! let (drive, _) = device.into_parts();
+//! save(&saving, &drive, &file.into_image())?; // the image of the drive takes the place of the file
 //! ```
 //!
 //! # What is promised
@@ -23,15 +25,20 @@
 #![tactic(auto)]
 
 mod changes_file;
+mod changes_output;
+mod changes_store;
 mod file_fault;
+mod gathered_file;
 mod image_file;
+mod input_gate;
 mod kept_drive;
 mod new_file;
-mod synced_output;
 
 pub use changes_file::ChangesFile;
+pub use changes_output::{ChangesOutput, SentAfter};
+pub use changes_store::ChangesStore;
 pub use file_fault::{FileFault, SystemError};
 pub use image_file::{ImageFile, open_to_format, open_to_read, open_to_save, reader_of};
+pub use input_gate::{Gate, GatedInput};
 pub use kept_drive::{Begun, DriveFile, keep, restarted_drive, saved_drive};
 pub use new_file::{Saving, save};
-pub use synced_output::SyncedOutput;

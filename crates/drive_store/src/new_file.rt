@@ -117,7 +117,7 @@ fn folder(path: &str) -> &str {
 }
 
 /// Brings the name of a file to the disk.
-fn sync_name<F: Files<File = File>>(files: &F, path: &str) -> Result<(), FileFault> {
+pub fn sync_name<F: Files<File = File>>(files: &F, path: &str) -> Result<(), FileFault> {
     let synced = match fs::open(files, folder(path)) {
         Ok(folder) => folder.sync_all(),
         Err(error) => Err(error),
@@ -159,9 +159,9 @@ fn fill<F: Files<File = File>>(
     Ok(new)
 }
 
-/// Saves a drive in the place of an image, and hands back the new file. After a fault no new file is left, and the image
-/// is as before, unless its name could not be brought to the disk.
-pub fn save<F: Files<File = File>>(
+/// Puts a new file with the image of a drive in the place of an image, and hands it back. Its name is not brought to the
+/// disk. After a fault no new file is left, and the image is as before.
+pub fn replace<F: Files<File = File>>(
     how: &Saving<'_, F>,
     drive: &Drive,
     image: &ImageFile,
@@ -174,9 +174,19 @@ pub fn save<F: Files<File = File>>(
     if saved.is_err() {
         let _ = fs::remove_file(how.files, path.as_str());
     }
-    let new = saved?;
+    saved
+}
+
+/// Saves a drive in the place of an image. After a fault no new file is left, and the image is as before, unless its name
+/// could not be brought to the disk.
+pub fn save<F: Files<File = File>>(
+    how: &Saving<'_, F>,
+    drive: &Drive,
+    image: &ImageFile,
+) -> Result<(), FileFault> {
+    replace(how, drive, image)?;
     if how.sync {
         sync_name(how.files, &image.path)?;
     }
-    Ok(new)
+    Ok(())
 }

@@ -4,6 +4,7 @@ pub mod TakeLaws
 pub mod ZeroLaws
 pub mod NextLaws
 pub mod ScanLaws
+pub mod CountLaws
 pub mod AllScanLaws
 pub mod ReportLaws
 pub mod SoundLaws
@@ -11,8 +12,10 @@ pub mod HeadLaws
 pub mod SequenceLaws
 pub mod SurveyLaws
 pub mod RecordTableLaws
+pub mod NewestRecordLaws
 pub mod RecordHoldLaws
 pub mod RecordKeyLaws
+pub mod NewestListLaws
 pub mod RecordMapLaws
 pub mod RecordKnownLaws
 pub mod RecordNewestLaws

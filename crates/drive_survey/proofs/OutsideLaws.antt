@@ -2,9 +2,8 @@
 use Rattle.std.proofs.Common.{◌≡◌, ◌≢◌, ◌⊎◌, inl, inr, ℕ, zero, suc, ◌+◌, ◌<◌, ◌≤◌, not, Bool, true, false, cond, eqb, ltb, List, [], ◌∷◌, ◌++◌, Option, Some, None, refl, sym, ap, subst, ◌∙◌, arith}
 use Rattle.std.specs.List.{AllByRecursion, filter}
 use Rattle.std.proofs.lemmas.Bool.{eq-eqb, le-ltb, ltb-false, ltb-true, ne_eqb}
-use Rattle.batch_log.specs.declared.header.Entry.{Entry}
-use Rattle.batch_log.specs.Log.{Batch, batch_size, one_unless}
-use Rattle.drive_array.specs.Records.{Record, batch_records, entry_records, log_records, newer, newest, records, without}
+use Rattle.batch_log.specs.Log.{Batch}
+use Rattle.drive_array.specs.Records.{Record, log_records, newer, newest, records, without}
 use Rattle.drive_array.proofs.AllLaws.{all-append, all-weaker}
 use Rattle.drive_array.proofs.DeadLaws.{log-zone}
 

@@ -1,21 +1,16 @@
 -- One of the readable blocks of a zone is read.
-use Rattle.std.proofs.Common.{◌≡◌, ℕ, zero, suc, ◌+◌, ◌-◌, ◌*◌, ◌/◌, ◌%◌, ◌<◌, ◌≤◌, inl, inr, Bool, true, false, List, [], ◌∷◌, ◌++◌, length, get_or, replicate, Ok, Err, refl, sym, ap, ◌∙◌, arith, append-nil}
-use Rattle.std.proofs.lemmas.List.{length-append, length-replicate}
+use Rattle.std.proofs.Common.{◌≡◌, ℕ, zero, suc, ◌+◌, ◌-◌, ◌*◌, ◌/◌, ◌%◌, ◌<◌, ◌≤◌, inl, inr, List, [], ◌∷◌, length, get_or, Ok, Err, refl, sym, ap, ◌∙◌, arith, append-nil}
 use Rattle.std.proofs.lemmas.Nat.{div-mul-add, mod-mul-add, mul-le}
 use Rattle.std.proofs.Math.Nat.{add-mul}
-use Rattle.nvme_wire.specs.declared.zone_state.ZoneState.{ZoneState}
-use Rattle.nvme_wire.specs.declared.zone_state.ZoneState.TheVariants as states
-use Rattle.zone_states.specs.declared.geometry.Geometry.{Geometry}
 use Rattle.drive_port.specs.Calls.{CanRead, IsNotRefused, Obeys, ReadGives}
-use Rattle.drive_port.specs.Contents.{Content, Counts, block_at, bytes_at, content_at, contents, is_full, is_usable, usage_of}
+use Rattle.drive_port.specs.Contents.{Content, Counts, block_at, bytes_at, content_at, contents, usage_of}
 use Rattle.drive_port.specs.Drive.{DriveState, IsClosing, IsLawful}
-use Rattle.drive_port.specs.Step.{block_in, end_of, is_state, zone_at}
+use Rattle.drive_port.specs.Step.{end_of, zone_at}
 use Rattle.drive_port.specs.declared.calls.PortFault.{PortFault}
 use Rattle.drive_port.specs.declared.calls.PortFault.TheVariants as port
 use Rattle.drive_port.proofs.ClosingLaws.{IsClosing-refl, IsClosing-trans, contents-closing, length-closing, content_at-contents}
 use Rattle.batch_log.specs.Log.{zero_block}
 use Rattle.zone_choice.specs.Changes.{IsHalt}
-use Rattle.drive_array.specs.ZoneLogs.{padding, readable}
 use Rattle.zone_choice.proofs.CommandLaws.{zone-few}
 use Rattle.zone_choice.proofs.OpenLaws.{closing-opens}
 use Rattle.zone_choice.proofs.ReadLaws.{length-readable, readable-read, usable-online}

@@ -11,14 +11,16 @@ use Rattle.drive_array.specs.ZoneLogs.{log_at}
 use Rattle.drive_survey.specs.declared.clearing.block_records.BlockRecords.{BlockRecords}
 use Rattle.drive_survey.specs.declared.scan.ScannedZone.{ScannedZone}
 use Rattle.drive_survey.specs.declared.survey.Survey.{Survey}
-use Rattle.drive_survey.specs.BlockRecords.{HasNoRecord, HoldsBlocks, HoldsMore, HoldsRecords, forgets, notes}
+use Rattle.drive_survey.specs.BlockRecords.{HasNoRecord, HoldsBlocks, HoldsMore, HoldsRecords, NotesNewest, forgets}
 use Rattle.drive_survey.specs.Clearing.{AreOf, CoversMoved, CoversZone}
-use Rattle.drive_survey.specs.Heads.{heads_of}
-use Rattle.drive_survey.specs.KeptRecords.{kept_of_zone, kept_records}
+use Rattle.drive_survey.specs.Heads.{HeadsView, heads_of}
+use Rattle.drive_survey.specs.KeptRecords.{kept_of_zone}
+use Rattle.drive_survey.specs.NewestRecords.{AreNewestOfAll}
 use Rattle.drive_survey.specs.Known.{Knows}
 use Rattle.drive_survey.specs.Scan.{heads_in}
-use Rattle.drive_survey.proofs.HeadRecordLaws.{kept-are, kept-is}
+use Rattle.drive_survey.proofs.HeadRecordLaws.{kept-is}
 use Rattle.drive_survey.proofs.MovedLaws.{found-heads, there}
+use Rattle.drive_survey.proofs.NewestListLaws.{newest-list}
 use Rattle.drive_survey.proofs.RecordHoldLaws.{blocks-more}
 use Rattle.drive_survey.proofs.RecordKeyLaws.{knows-apart}
 use Rattle.drive_survey.proofs.RecordMapLaws.{holds-forgotten, holds-noted}
@@ -35,7 +37,7 @@ CoversAll survey table = length survey.scanned.items < 2 ^ 32 → (logs : List (
 
 -- all records are noted
 abbrev pub NotesAll : Survey → BlockRecords → BlockRecords → Type 0
-NotesAll survey old new = length survey.scanned.items < 2 ^ 32 → Changes notes old new (kept_records 0 (heads_in survey.scanned.items))
+NotesAll survey old new = length survey.scanned.items < 2 ^ 32 → NotesNewest (heads_in survey.scanned.items) old new
 
 pub known-covers : (drive : DriveState) (n : ℕ) (logs : List (List Batch)) (survey : Survey) (old new : BlockRecords) → CoversAll survey old → HoldsMore old new → Knows drive n logs survey → CoversMoved logs survey.scanned.items new
 known-covers drive n logs survey old new covers more known zone moved found there =
@@ -48,8 +50,10 @@ covers-one survey zone one old new there holds more found found_is =
 
 pub known-holds : (drive : DriveState) (n : ℕ) (logs : List (List Batch)) (survey : Survey) (old new : BlockRecords) → HasNoRecord old → NotesAll survey old new → Knows drive n logs survey → HoldsRecords logs new
 known-holds drive n logs survey old new none noted known =
-    let all = ap (kept_records 0) known.heads ∙ kept-are 0 logs (knows-small drive n logs survey known) in
-    holds-noted logs old new (knows-apart drive n logs survey known) none (subst (Changes notes old new) all (noted (few-zones drive n logs survey known)))
+    let done = noted (few-zones drive n logs survey known) in
+    let apart = knows-apart drive n logs survey known in
+    let newest = newest-list logs done.0 (knows-small drive n logs survey known) apart (subst (λ (views : List HeadsView). AreNewestOfAll 0 views done.0) known.heads done.1) in
+    holds-noted logs old new done.0 apart newest none done.2
 
 -- ---- a zone is forgotten
 

@@ -5,7 +5,8 @@ use Rattle.std.specs.List.{AllByRecursion, Contains}
 use Rattle.std.specs.Option.{option_map}
 use Rattle.std.specs.Ordering.{nat_cmp}
 use Rattle.std.proofs.lemmas.Bool.{eq-eqb, eqb-true, ne_eqb}
-use Rattle.std.proofs.lemmas.List.Elements.{Contains-append_left, Contains-append_right}
+use Rattle.std.proofs.lemmas.List.{map-id}
+use Rattle.std.proofs.lemmas.List.Elements.{All-contains, All-from_recursion, Contains-append_left, Contains-append_right}
 use Rattle.batch_log.specs.Log.{Batch}
 use Rattle.drive_array.specs.Records.{Record, log_records, records, without}
 use Rattle.drive_array.specs.ZoneLogs.{log_at}
@@ -14,46 +15,47 @@ use Rattle.drive_array.proofs.NewestLaws.{all-among}
 use Rattle.drive_array.proofs.DeadLaws.{log-zone}
 use Rattle.drive_survey.specs.declared.records.KeptRecord.{KeptRecord}
 use Rattle.drive_survey.specs.declared.clearing.block_records.BlockRecords.{BlockRecords}
-use Rattle.drive_survey.specs.BlockRecords.{AreRecords, HasNoRecord, HoldsRecords, forgets, held_of, notes, slot_after, slot_of}
+use Rattle.drive_survey.specs.BlockRecords.{AreRecords, HasNoRecord, HoldsRecords, IsNewestInZone, forgets, held_of, notes, slot_after, slot_of}
 use Rattle.drive_survey.specs.KeptRecords.{kept_record}
 use Rattle.drive_survey.proofs.OutsideLaws.{is_outside, outside, outside-is, records-from}
+use Rattle.drive_survey.proofs.NewestListLaws.{IsNewestList}
 use Rattle.drive_survey.proofs.RecordKeyLaws.{AreApart, same-record}
 use Rattle.drive_survey.proofs.RecordTableLaws.{Changes}
 
 -- ---- one place
 
--- no record of these has this block and this sequence
-abbrev NoneAt : ℕ → ℕ → List Record → Type 0
-NoneAt block sequence rs = AllByRecursion (λ (r : Record). r.block ≡ block → r.sequence ≡ sequence → ⊥) rs
+-- none of these has this block and this sequence
+abbrev NoneAt : {X : Type 0} → (X → KeptRecord) → ℕ → ℕ → List X → Type 0
+NoneAt of block sequence xs = AllByRecursion (λ x. (of x).block ≡ block → (of x).sequence ≡ sequence → ⊥) xs
 
--- what stands at a place comes from a record of these, or was there before
-abbrev Comes : (KeptRecord → Option KeptRecord) → ℕ → ℕ → Option KeptRecord → List Record → Option (Option KeptRecord) → Type 0
-Comes put block sequence found rs now =
-    ((r : Record) × Contains rs r × (r.block ≡ block) × (r.sequence ≡ sequence) × (now ≡ Some (put (kept_record r)))) ⊎ (NoneAt block sequence rs × (now ≡ Some found))
+-- what stands at a place comes from one of these, or was there before
+abbrev Comes : {X : Type 0} → (X → KeptRecord) → (KeptRecord → Option KeptRecord) → ℕ → ℕ → Option KeptRecord → List X → Option (Option KeptRecord) → Type 0
+Comes {X} of put block sequence found xs now =
+    ((x : X) × Contains xs x × ((of x).block ≡ block) × ((of x).sequence ≡ sequence) × (now ≡ Some (put (of x)))) ⊎ (NoneAt of block sequence xs × (now ≡ Some found))
 
-in-rest : (r x : Record) (rs : List Record) → Contains rs x → Contains (r ∷ rs) x
+in-rest : {X : Type 0} (r x : X) (rs : List X) → Contains rs x → Contains (r ∷ rs) x
 in-rest r x rs (k, lt, is) = (suc k, omega (arith, lt), is)
 
-comes : (put : KeptRecord → Option KeptRecord) (block sequence : ℕ) (found : Option KeptRecord) (rs : List Record) → Comes put block sequence found rs (slot_after put block sequence (Some found) (map kept_record rs))
-comes put block sequence found [] = inr (tt, refl)
-comes put block sequence found (r ∷ rs) = by (eqb r.block block) (eqb r.sequence sequence) refl refl (comes put block sequence found rs) (comes put block sequence (put (kept_record r)) rs)
+comes : {X : Type 0} (of : X → KeptRecord) (put : KeptRecord → Option KeptRecord) (block sequence : ℕ) (found : Option KeptRecord) (rs : List X) → Comes of put block sequence found rs (slot_after put block sequence (Some found) (map of rs))
+comes of put block sequence found [] = inr (tt, refl)
+comes {X} of put block sequence found (r ∷ rs) = by (eqb (of r).block block) (eqb (of r).sequence sequence) refl refl (comes of put block sequence found rs) (comes of put block sequence (put (of r)) rs)
   where
     after : Option KeptRecord → Option (Option KeptRecord)
-    after x = slot_after put block sequence (Some x) (map kept_record rs)
+    after x = slot_after put block sequence (Some x) (map of rs)
 
-    passed : (x : Option KeptRecord) → ((r.block ≡ block) → (r.sequence ≡ sequence) → ⊥) → Comes put block sequence found rs (after found) → Comes put block sequence found (r ∷ rs) (after found)
-    passed x other (inl here) = inl (here.0, in-rest r here.0 rs here.1, here.2, here.3, here.4)
-    passed x other (inr none) = inr ((other, none.0), none.1)
+    passed : ((of r).block ≡ block → (of r).sequence ≡ sequence → ⊥) → Comes of put block sequence found rs (after found) → Comes of put block sequence found (r ∷ rs) (after found)
+    passed other (inl here) = inl (here.0, in-rest r here.0 rs here.1, here.2, here.3, here.4)
+    passed other (inr none) = inr ((other, none.0), none.1)
 
-    taken : (r.block ≡ block) → (r.sequence ≡ sequence) → Comes put block sequence (put (kept_record r)) rs (after (put (kept_record r))) → Comes put block sequence found (r ∷ rs) (after (put (kept_record r)))
+    taken : (of r).block ≡ block → (of r).sequence ≡ sequence → Comes of put block sequence (put (of r)) rs (after (put (of r))) → Comes of put block sequence found (r ∷ rs) (after (put (of r)))
     taken e f (inl here) = inl (here.0, in-rest r here.0 rs here.1, here.2, here.3, here.4)
     taken e f (inr none) = inl (r, (0, omega arith, refl), e, f, none.1)
 
-    by : (s t : Bool) → eqb r.block block ≡ s → eqb r.sequence sequence ≡ t → Comes put block sequence found rs (after found) → Comes put block sequence (put (kept_record r)) rs (after (put (kept_record r)))
-        → Comes put block sequence found (r ∷ rs) (after (cond (s && t) (put (kept_record r)) found))
-    by true true e f first second = taken (eqb-true r.block block e) (eqb-true r.sequence sequence f) second
-    by true false e f first second = passed found (λ same_block same. let bad : eqb r.sequence sequence ≡ true = eq-eqb r.sequence sequence same in absurd (cc)) first
-    by false t e f first second = passed found (λ same same_sequence. let bad : eqb r.block block ≡ true = eq-eqb r.block block same in absurd (cc)) first
+    by : (s t : Bool) → eqb (of r).block block ≡ s → eqb (of r).sequence sequence ≡ t → Comes of put block sequence found rs (after found) → Comes of put block sequence (put (of r)) rs (after (put (of r)))
+        → Comes of put block sequence found (r ∷ rs) (after (cond (s && t) (put (of r)) found))
+    by true true e f first second = taken (eqb-true (of r).block block e) (eqb-true (of r).sequence sequence f) second
+    by true false e f first second = passed (λ same_block same. let bad : eqb (of r).sequence sequence ≡ true = eq-eqb (of r).sequence sequence same in absurd (cc)) first
+    by false t e f first second = passed (λ same same_sequence. let bad : eqb (of r).block block ≡ true = eq-eqb (of r).block block same in absurd (cc)) first
 
 -- ---- all records are put in
 
@@ -79,39 +81,50 @@ was-held put old new rs block held changes there = by (held_of old block) refl
     by (Some first) e = (first, e)
 
 -- what a changed table has of a block
-now-at : (put : KeptRecord → Option KeptRecord) (old new : BlockRecords) (rs : List Record) (block sequence : ℕ) (first held : BTreeMap ℕ KeptRecord) → Changes put old new (map kept_record rs) → held_of old block ≡ Some first → held_of new block ≡ Some held
-    → Comes put block sequence (get nat_cmp first sequence) rs (Some (get nat_cmp held sequence))
-now-at put old new rs block sequence first held changes was there =
-    let now : slot_after put block sequence (Some (get nat_cmp first sequence)) (map kept_record rs) ≡ Some (get nat_cmp held sequence) =
-    ap (λ (x : Option (Option KeptRecord)). slot_after put block sequence x (map kept_record rs)) (sym (slot-there old block sequence first was)) ∙ sym (changes block sequence) ∙ slot-there new block sequence held there in
-    subst (Comes put block sequence (get nat_cmp first sequence) rs) now (comes put block sequence (get nat_cmp first sequence) rs)
+now-at : {X : Type 0} (of : X → KeptRecord) (put : KeptRecord → Option KeptRecord) (old new : BlockRecords) (rs : List X) (block sequence : ℕ) (first held : BTreeMap ℕ KeptRecord) → Changes put old new (map of rs) → held_of old block ≡ Some first → held_of new block ≡ Some held
+    → Comes of put block sequence (get nat_cmp first sequence) rs (Some (get nat_cmp held sequence))
+now-at of put old new rs block sequence first held changes was there =
+    let now : slot_after put block sequence (Some (get nat_cmp first sequence)) (map of rs) ≡ Some (get nat_cmp held sequence) =
+    ap (λ (x : Option (Option KeptRecord)). slot_after put block sequence x (map of rs)) (sym (slot-there old block sequence first was)) ∙ sym (changes block sequence) ∙ slot-there new block sequence held there in
+    subst (Comes of put block sequence (get nat_cmp first sequence) rs) now (comes of put block sequence (get nat_cmp first sequence) rs)
 
-noted-records : (logs : List (List Batch)) (block : ℕ) (held : BTreeMap ℕ KeptRecord) → AreApart (records 0 logs) → ((sequence : ℕ) → Comes notes block sequence None (records 0 logs) (Some (get nat_cmp held sequence))) → AreRecords logs block held
-noted-records logs block held apart at = record {
-  all_held = all;
+abbrev itself : KeptRecord → KeptRecord
+itself k = k
+
+kept-among : (P : KeptRecord → Type 0) (ks : List KeptRecord) (k : KeptRecord) → AllByRecursion P ks → Contains ks k → P k
+kept-among P ks k all c = All-contains P ks k (All-from_recursion P ks all) c
+
+noted-records : (logs : List (List Batch)) (all : List KeptRecord) (block : ℕ) (held : BTreeMap ℕ KeptRecord) → AreApart (records 0 logs) → IsNewestList logs all → ((sequence : ℕ) → Comes itself notes block sequence None all (Some (get nat_cmp held sequence))) → AreRecords logs block held
+noted-records logs all block held apart newest at = record {
+  all_held = held-all;
   no_other = λ sequence found e. other sequence found e (at sequence);
 }
   where
-    all : (r : Record) → Contains (records 0 logs) r → r.block ≡ block → get nat_cmp held r.sequence ≡ Some (kept_record r)
-    all r c same = by (at r.sequence)
+    held-all : (r : Record) → Contains (records 0 logs) r → r.block ≡ block → IsNewestInZone logs r → get nat_cmp held r.sequence ≡ Some (kept_record r)
+    held-all r c same last = by (at r.sequence)
       where
-        by : Comes notes block r.sequence None (records 0 logs) (Some (get nat_cmp held r.sequence)) → get nat_cmp held r.sequence ≡ Some (kept_record r)
+        by : Comes itself notes block r.sequence None all (Some (get nat_cmp held r.sequence)) → get nat_cmp held r.sequence ≡ Some (kept_record r)
         by (inl x) =
-            let one : x.0 ≡ r = same-record (records 0 logs) x.0 r apart x.1 c (x.2 ∙ sym same) x.3 in
-            let now : get nat_cmp held r.sequence ≡ Some (kept_record x.0) = (let e = x.4 in cc) in
-            now ∙ ap (λ (y : Record). Some (kept_record y)) one
-        by (inr none) = absurd (all-among (λ (x : Record). x.block ≡ block → x.sequence ≡ r.sequence → ⊥) (records 0 logs) r none.0 c same refl)
+            let from = newest.from x.0 x.1 in
+            let one : from.0 ≡ r = same-record (records 0 logs) from.0 r apart from.1 c (ap (λ (k : KeptRecord). k.block) from.2 ∙ x.2 ∙ sym same) (ap (λ (k : KeptRecord). k.sequence) from.2 ∙ x.3) in
+            let now : get nat_cmp held r.sequence ≡ Some x.0 = (let e = x.4 in cc) in
+            now ∙ ap (λ (k : KeptRecord). Some k) (sym from.2) ∙ ap (λ (y : Record). Some (kept_record y)) one
+        by (inr none) = absurd (kept-among (λ (k : KeptRecord). k.block ≡ block → k.sequence ≡ r.sequence → ⊥) all (kept_record r) none.0 (newest.has r c last) same refl)
 
-    other : (sequence : ℕ) (found : KeptRecord) → get nat_cmp held sequence ≡ Some found → Comes notes block sequence None (records 0 logs) (Some (get nat_cmp held sequence)) → (r : Record) × Contains (records 0 logs) r × (r.block ≡ block) × (r.sequence ≡ sequence) × (kept_record r ≡ found)
-    other sequence found e (inl x) = (x.0, x.1, x.2, x.3, (let now = x.4 in cc))
+    other : (sequence : ℕ) (found : KeptRecord) → get nat_cmp held sequence ≡ Some found → Comes itself notes block sequence None all (Some (get nat_cmp held sequence)) → (r : Record) × Contains (records 0 logs) r × (r.block ≡ block) × (r.sequence ≡ sequence) × (kept_record r ≡ found)
+    other sequence found e (inl x) =
+        let from = newest.from x.0 x.1 in
+        let one : x.0 ≡ found = (let now = x.4 in cc) in
+        (from.0, from.1, ap (λ (k : KeptRecord). k.block) from.2 ∙ x.2, ap (λ (k : KeptRecord). k.sequence) from.2 ∙ x.3, from.2 ∙ one)
     other sequence found e (inr none) = absurd (let now = none.1 in cc)
 
-pub holds-noted : (logs : List (List Batch)) (old new : BlockRecords) → AreApart (records 0 logs) → HasNoRecord old → Changes notes old new (map kept_record (records 0 logs)) → HoldsRecords logs new
-holds-noted logs old new apart none changes block held there =
-    let was = was-held notes old new (map kept_record (records 0 logs)) block held changes there in
-    noted-records logs block held apart
-    (λ sequence. subst (λ (x : Option KeptRecord). Comes notes block sequence x (records 0 logs) (Some (get nat_cmp held sequence))) (empty-none was.0 sequence (none block was.0 was.1))
-    (now-at notes old new (records 0 logs) block sequence was.0 held changes was.1 there))
+pub holds-noted : (logs : List (List Batch)) (old new : BlockRecords) (all : List KeptRecord) → AreApart (records 0 logs) → IsNewestList logs all → HasNoRecord old → Changes notes old new all → HoldsRecords logs new
+holds-noted logs old new all apart newest none changes block held there =
+    let was = was-held notes old new all block held changes there in
+    let changes' : Changes notes old new (map itself all) = subst (Changes notes old new) (sym (map-id all)) changes in
+    noted-records logs all block held apart newest
+    (λ sequence. subst (λ (x : Option KeptRecord). Comes itself notes block sequence x all (Some (get nat_cmp held sequence))) (empty-none was.0 sequence (none block was.0 was.1))
+    (now-at itself notes old new all block sequence was.0 held changes' was.1 there))
 
 -- ---- those of a zone are taken out
 
@@ -166,9 +179,9 @@ zone-own P first (suc index) zone (log ∷ logs) e all =
     (zone-own P (suc first) index zone logs (omega (arith, e)) all)
 
 forgotten-records : (logs : List (List Batch)) (zone block : ℕ) (first held : BTreeMap ℕ KeptRecord) → AreApart (records 0 logs) → AreRecords logs block first
-    → ((sequence : ℕ) → Comes forgets block sequence (get nat_cmp first sequence) (log_records zone 0 (log_at logs zone)) (Some (get nat_cmp held sequence))) → AreRecords (without logs zone) block held
+    → ((sequence : ℕ) → Comes kept_record forgets block sequence (get nat_cmp first sequence) (log_records zone 0 (log_at logs zone)) (Some (get nat_cmp held sequence))) → AreRecords (without logs zone) block held
 forgotten-records logs zone block first held apart are at = record {
-  all_held = λ r c same. all r (among-outside zone all_records r (subst (λ (rs : List Record). Contains rs r) (sym others) c)) same (at r.sequence);
+  all_held = λ r c same last. all r (among-outside zone all_records r (subst (λ (rs : List Record). Contains rs r) (sym others) c)) same last (at r.sequence);
   no_other = λ sequence found e. other sequence found e (at sequence);
 }
   where
@@ -181,16 +194,19 @@ forgotten-records logs zone block first held apart are at = record {
     others : outside zone all_records ≡ records 0 (without logs zone)
     others = outside-is 0 zone zone logs (omega arith)
 
-    all : (r : Record) → Contains all_records r × (r.zone ≢ zone) → r.block ≡ block → Comes forgets block r.sequence (get nat_cmp first r.sequence) own (Some (get nat_cmp held r.sequence)) → get nat_cmp held r.sequence ≡ Some (kept_record r)
-    all r both same (inl x) =
+    still : (r : Record) → r.zone ≢ zone → IsNewestInZone (without logs zone) r → IsNewestInZone logs r
+    still r apart_zone last s c same here = last s (subst (λ (rs : List Record). Contains rs s) others (outside-among zone all_records s c (λ gone. apart_zone (sym here ∙ gone)))) same here
+
+    all : (r : Record) → Contains all_records r × (r.zone ≢ zone) → r.block ≡ block → IsNewestInZone (without logs zone) r → Comes kept_record forgets block r.sequence (get nat_cmp first r.sequence) own (Some (get nat_cmp held r.sequence)) → get nat_cmp held r.sequence ≡ Some (kept_record r)
+    all r both same last (inl x) =
         let one : x.0 ≡ r = same-record all_records x.0 r apart (own-among 0 zone zone logs x.0 (omega arith) x.1) both.0 (x.2 ∙ sym same) x.3 in
         let here : x.0.zone ≡ zone = all-among (λ (y : Record). y.zone ≡ zone) own x.0 (log-zone zone 0 (log_at logs zone)) x.1 in
         absurd (both.1 (ap (λ (y : Record). y.zone) (sym one) ∙ here))
-    all r both same (inr none) =
+    all r both same last (inr none) =
         let now : get nat_cmp held r.sequence ≡ get nat_cmp first r.sequence = (let e = none.1 in cc) in
-        now ∙ are.all_held r both.0 same
+        now ∙ are.all_held r both.0 same (still r both.1 last)
 
-    other : (sequence : ℕ) (found : KeptRecord) → get nat_cmp held sequence ≡ Some found → Comes forgets block sequence (get nat_cmp first sequence) own (Some (get nat_cmp held sequence))
+    other : (sequence : ℕ) (found : KeptRecord) → get nat_cmp held sequence ≡ Some found → Comes kept_record forgets block sequence (get nat_cmp first sequence) own (Some (get nat_cmp held sequence))
         → (r : Record) × Contains (records 0 (without logs zone)) r × (r.block ≡ block) × (r.sequence ≡ sequence) × (kept_record r ≡ found)
     other sequence found e (inl x) = absurd (let now = x.4 in cc)
     other sequence found e (inr none) =
@@ -204,4 +220,4 @@ pub holds-forgotten : (logs : List (List Batch)) (zone : ℕ) (old new : BlockRe
 holds-forgotten logs zone old new apart holds changes block held there =
     let own = log_records zone 0 (log_at logs zone) in
     let was = was-held forgets old new (map kept_record own) block held changes there in
-    forgotten-records logs zone block was.0 held apart (holds block was.0 was.1) (λ sequence. now-at forgets old new own block sequence was.0 held changes was.1 there)
+    forgotten-records logs zone block was.0 held apart (holds block was.0 was.1) (λ sequence. now-at kept_record forgets old new own block sequence was.0 held changes was.1 there)

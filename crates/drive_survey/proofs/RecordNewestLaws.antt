@@ -18,30 +18,33 @@ use Rattle.drive_array.specs.Records.{IsNewest, Record, newest, records, without
 use Rattle.drive_array.proofs.NewestLaws.{all-among, newest-is}
 use Rattle.drive_survey.specs.declared.records.KeptRecord.{KeptRecord}
 use Rattle.drive_survey.specs.declared.clearing.block_records.BlockRecords.{BlockRecords}
-use Rattle.drive_survey.specs.BlockRecords.{AreRecords, HoldsRecords, IsLastOutside, OthersIn, held_of}
+use Rattle.drive_survey.specs.BlockRecords.{AreRecords, HoldsRecords, IsLastOutside, IsNewestInZone, OthersIn, held_of}
 use Rattle.drive_survey.specs.KeptRecords.{kept_record}
 use Rattle.drive_survey.proofs.OutsideLaws.{outside, outside-is}
 use Rattle.drive_survey.proofs.RecordMapLaws.{among-outside, outside-among}
 
 -- ---- of some records of a block
 
--- of these records none of the block is later, and it is one of them
+-- of these records none of the block is later than this one
+abbrev IsLatest : List Record → Record → Type 0
+IsLatest rs b = (s : Record) → Contains rs s → s.block ≡ b.block → s.sequence ≤ b.sequence
+
 pub newest-found : (block : ℕ) (rs : List Record) (r : Record) (kept : KeptRecord) → Contains rs r → r.block ≡ block → kept_record r ≡ kept
-    → ((b : Record) → Contains rs b → b.block ≡ block → r.sequence ≤ b.sequence → kept_record b ≡ kept) → Some kept ≡ option_map kept_record (newest block rs)
+    → ((b : Record) → Contains rs b → b.block ≡ block → IsLatest rs b → r.sequence ≤ b.sequence → kept_record b ≡ kept) → Some kept ≡ option_map kept_record (newest block rs)
 newest-found block rs r kept c same is latest = by (newest block rs) (newest-is block rs)
   where
     by : (x : Option Record) → IsNewest rs block x → Some kept ≡ option_map kept_record x
     by None none = absurd (all-among (λ (other : Record). other.block ≡ block → ⊥) rs r none c same)
     by (Some b) live =
-        let le = all-among (λ (other : Record). other.block ≡ b.block → other.sequence ≤ b.sequence) rs r live.1.greatest c (same ∙ sym live.0) in
-        ap (λ (k : KeptRecord). Some k) (sym (latest b live.1.among live.0 le))
+        let top : IsLatest rs b = λ s d e. all-among (λ (other : Record). other.block ≡ b.block → other.sequence ≤ b.sequence) rs s live.1.greatest d e in
+        ap (λ (k : KeptRecord). Some k) (sym (latest b live.1.among live.0 top (top r c (same ∙ sym live.0))))
 
-pub newest-none : (block : ℕ) (rs : List Record) → ((b : Record) → Contains rs b → b.block ≡ block → ⊥) → None ≡ option_map kept_record (newest block rs)
+pub newest-none : (block : ℕ) (rs : List Record) → ((b : Record) → Contains rs b → b.block ≡ block → IsLatest rs b → ⊥) → None ≡ option_map kept_record (newest block rs)
 newest-none block rs none = by (newest block rs) (newest-is block rs)
   where
     by : (x : Option Record) → IsNewest rs block x → None ≡ option_map kept_record x
     by None is = refl
-    by (Some b) live = absurd (none b live.1.among live.0)
+    by (Some b) live = absurd (none b live.1.among live.0 (λ s d e. all-among (λ (other : Record). other.block ≡ b.block → other.sequence ≤ b.sequence) rs s live.1.greatest d e))
 
 -- ---- the last of all
 
@@ -50,7 +53,7 @@ pub last-newest : (logs : List (List Batch)) (table : BlockRecords) (block seque
 last-newest logs table block sequence held found there at last holds =
     let are = holds block held there in
     let r = are.no_other sequence found at in
-    newest-found block (records 0 logs) r.0 found r.1 r.2 r.4 (λ b c same le. here b (are.all_held b c same) r.0 r.3 le)
+    newest-found block (records 0 logs) r.0 found r.1 r.2 r.4 (λ b c same top le. here b (are.all_held b c same (λ s d e z. top s d e)) r.0 r.3 le)
   where
     here : (b : Record) → get nat_cmp held b.sequence ≡ Some (kept_record b) → (r : Record) → r.sequence ≡ sequence → r.sequence ≤ b.sequence → kept_record b ≡ found
     here b is r same le =
@@ -61,7 +64,7 @@ last-newest logs table block sequence held found there at last holds =
 
 pub empty-newest : (logs : List (List Batch)) (table : BlockRecords) (block : ℕ) (held : BTreeMap ℕ KeptRecord) → held_of table block ≡ Some held → IsEmpty held → HoldsRecords logs table → None ≡ option_map kept_record (newest block (records 0 logs))
 empty-newest logs table block held there empty holds =
-    newest-none block (records 0 logs) (λ b c same. let is = rw empty at ((holds block held there).all_held b c same) in cc)
+    newest-none block (records 0 logs) (λ b c same top. let is = rw empty at ((holds block held there).all_held b c same (λ s d e z. top s d e)) in cc)
 
 pub none-empty : (held : BTreeMap ℕ KeptRecord) → (0 < length held.entries → ⊥) → IsEmpty held
 none-empty held none = by held.entries none
@@ -94,18 +97,22 @@ entry-among P es e all c = All-contains P es e (All-from_recursion P es all) c
 in-zone : (zone : ℕ) (es : Entries) (b : Record) → AllByRecursion (λ (e : ℕ × KeptRecord). e.1.zone ≡ zone) es → Contains es (b.sequence, kept_record b) → b.zone ≢ zone → ⊥
 in-zone zone es b all c apart = apart (entry-among (λ (e : ℕ × KeptRecord). e.1.zone ≡ zone) es (b.sequence, kept_record b) all c)
 
+-- the latest outside a zone is the newest of its own zone
+outside-latest : (logs : List (List Batch)) (zone : ℕ) (b : Record) → b.zone ≢ zone → IsLatest (outside zone (records 0 logs)) b → IsNewestInZone logs b
+outside-latest logs zone b apart top s c same here = top s (outside-among zone (records 0 logs) s c (λ gone. apart (sym here ∙ gone))) same
+
 all-inside : (logs : List (List Batch)) (zone block : ℕ) (held : BTreeMap ℕ KeptRecord) → IsOrdered nat_cmp held → AreRecords logs block held → OthersIn held zone [] → None ≡ option_map kept_record (newest block (outside zone (records 0 logs)))
 all-inside logs zone block held ordered are others =
     newest-none block (outside zone (records 0 logs))
-    (λ b c same. let both = among-outside zone (records 0 logs) b c in
-    let there = (btree_map_get_iff nat_cmp_total exact_unsigned held ordered b.sequence (kept_record b)).0 (are.all_held b both.0 same) in
+    (λ b c same top. let both = among-outside zone (records 0 logs) b c in
+    let there = (btree_map_get_iff nat_cmp_total exact_unsigned held ordered b.sequence (kept_record b)).0 (are.all_held b both.0 same (outside-latest logs zone b both.1 top)) in
     in-zone zone others.after b others.inside (subst (λ (es : Entries). Contains es (b.sequence, kept_record b)) others.split there) both.1)
 
 last-is : (logs : List (List Batch)) (zone block : ℕ) (held : BTreeMap ℕ KeptRecord) (front : Entries) (sequence : ℕ) (found : KeptRecord) → IsOrdered nat_cmp held → AreRecords logs block held → found.zone ≢ zone → OthersIn held zone (front ++ (sequence, found) ∷ [])
     → Some found ≡ option_map kept_record (newest block (outside zone (records 0 logs)))
 last-is logs zone block held front sequence found ordered are apart others =
     newest-found block (outside zone (records 0 logs)) r.0 found (outside-among zone (records 0 logs) r.0 r.1 (λ here. apart (sym (ap (λ (k : KeptRecord). k.zone) r.4) ∙ here))) r.2 r.4
-    (λ b c same le. let both = among-outside zone (records 0 logs) b c in here b both.1 le ((get-is b.sequence (kept_record b)).0 (are.all_held b both.0 same)))
+    (λ b c same top le. let both = among-outside zone (records 0 logs) b c in here b both.1 le ((get-is b.sequence (kept_record b)).0 (are.all_held b both.0 same (outside-latest logs zone b both.1 top))))
   where
     e : ℕ × KeptRecord
     e = (sequence, found)

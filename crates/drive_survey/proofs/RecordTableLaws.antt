@@ -9,11 +9,9 @@ use Rattle.std.proofs.lemmas.List.{drop_all, take_min}
 use Rattle.std.proofs.Math.Seq.{drop-cons}
 use Rattle.drive_survey.specs.declared.heads.Head.{Head}
 use Rattle.drive_survey.specs.declared.records.KeptRecord.{KeptRecord}
-use Rattle.drive_survey.specs.declared.scan.ScannedZone.{ScannedZone}
 use Rattle.drive_survey.specs.declared.clearing.block_records.BlockRecords.{BlockRecords}
 use Rattle.drive_survey.specs.BlockRecords.{held_of, slot_after, slot_of}
-use Rattle.drive_survey.specs.KeptRecords.{kept_batches, kept_entries, kept_of_zone, kept_records}
-use Rattle.drive_survey.specs.Scan.{heads_in}
+use Rattle.drive_survey.specs.KeptRecords.{kept_batches, kept_entries}
 
 abbrev Put : Type 0
 Put = KeptRecord → Option KeptRecord
@@ -33,7 +31,7 @@ slot-append put block sequence slot [] ys = refl
 slot-append put block sequence slot (x ∷ xs) ys =
     slot-append put block sequence (option_map (λ (found : Option KeptRecord). cond (eqb x.block block && eqb x.sequence sequence) (put x) found) slot) xs ys
 
-drop-min : {X : Type 0} (n : ℕ) (xs : List X) → drop (min n (length xs)) xs ≡ drop n xs
+pub drop-min : {X : Type 0} (n : ℕ) (xs : List X) → drop (min n (length xs)) xs ≡ drop n xs
 drop-min {X} n xs = by (cases_lt n (length xs))
   where
     by : (n < length xs) ⊎ (length xs ≤ n) → drop (min n (length xs)) xs ≡ drop n xs
@@ -52,14 +50,12 @@ batch-step put block sequence zone from i i' k heads items head d rest own other
     let before' = rw next at before in
     rw (taken, own_is, others_is, more) (sym (slot-append put block sequence slot (kept_entries head.sequence zone head.offset 0 (take (head.end - from) rest)) (kept_batches zone head.end (drop (suc i) heads) (drop (head.end - from) rest))) ∙ before')
 
--- those of a zone are taken
-pub zone-step : (put : Put) (block sequence zone zone' : ℕ) (scanned : List ScannedZone) (found : ScannedZone) (slot slot' all : Slot)
-    → zone < length scanned → found ≡ get_or scanned zone found → zone' ≡ suc zone → slot' ≡ slot_after put block sequence slot (kept_of_zone zone found.heads)
-    → slot_after put block sequence slot (kept_records zone (heads_in (drop zone scanned))) ≡ all → slot_after put block sequence slot' (kept_records zone' (heads_in (drop zone' scanned))) ≡ all
-zone-step put block sequence zone zone' scanned found slot slot' all lt is more taken before =
-    let next : drop zone scanned ≡ found ∷ drop (suc zone) scanned = drop-cons scanned zone found lt ∙ ap (λ (s : ScannedZone). s ∷ drop (suc zone) scanned) (sym is) in
-    let before' = rw next at before in
-    rw (more, taken) (sym (slot-append put block sequence slot (kept_of_zone zone found.heads) (kept_records (suc zone) (heads_in (drop (suc zone) scanned)))) ∙ before')
+-- one of a list of records is taken
+pub each-step : (put : Put) (block sequence i i' : ℕ) (own : List KeptRecord) (d : KeptRecord) (slot slot' all : Slot) → i < length own → i' ≡ suc i → slot' ≡ slot_after put block sequence slot (get_or own i d ∷ [])
+    → slot_after put block sequence slot (drop i own) ≡ all → slot_after put block sequence slot' (drop i' own) ≡ all
+each-step put block sequence i i' own d slot slot' all lt next taken before =
+    let before' = rw (drop-cons own i d lt) at before in
+    rw (next, taken) before'
 
 -- ---- the blocks stay
 

@@ -32,7 +32,7 @@ use Rattle.drive_survey.specs.declared.scan.ScannedZone.{ScannedZone}
 use Rattle.drive_survey.specs.Heads.{HeadsView, heads_of}
 use Rattle.drive_survey.specs.Reported.{AreReported, IsKnown, IsReported, KeepsZones, ReportsZones}
 use Rattle.drive_survey.specs.Scan.{AreKnown, FailsBy, FailsFirst, ScansAll, ending_fault, heading_fault, heads_in, log_fault, fault_or, seen_after}
-use Rattle.drive_survey.specs.Survey.{AreBelow, AreReportedUsable, AreUsable, CanScan, HoldLogs, IsLowestReported, IsLowestUnusable, SurveyFails, drive_size, greatest_in, is_partly_reported}
+use Rattle.drive_survey.specs.Survey.{AreBelow, AreReportedUsable, AreUsable, CanScan, HoldLogs, IsLowestReported, IsLowestUnusable, SurveyFails, TellsShut, drive_size, greatest_in, is_partly_reported}
 use Rattle.drive_survey.proofs.ReadLaws.{kept-contents, kept-known}
 use Rattle.drive_survey.proofs.AllScanLaws.{there-is}
 use Rattle.drive_survey.proofs.HeadLaws.{highest-inside, inside-highest, size-is}
@@ -94,6 +94,12 @@ known-all old new reported range kept reports usable = record {
           blocks = f.is.blocks (rw f.is.state at can) ∙ sym (rw (same, kept.geometry, f.content) refl);
           shut = λ told. closing-opens reports.zones new.zones reports.after zone (ap (λ (z : Zone). is_open z.state) f.here ∙ ap is_open (sym f.is.state) ∙ told);
         }
+
+pub tells-shut : (old new : DriveState) (reported : List ReportedZone) → ReportsZones old reported new → TellsShut old reported
+tells-shut old new reported reports zone r there shut =
+    let f = found-at old.geometry reports.zones reported zone r reports.are there in
+    let now = closing-opens old.zones reports.zones reports.before zone shut in
+    ap is_open f.is.state ∙ sym (ap (λ (z : Zone). is_open z.state) f.here) ∙ now
 
 -- ---- usable zones
 

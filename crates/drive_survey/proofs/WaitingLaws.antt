@@ -1,5 +1,5 @@
 -- Which zones have to be looked at again once a half clean zone is forgotten.
-use Rattle.std.proofs.Common.{◌≡◌, ◌≢◌, ◌⊎◌, inl, inr, ℕ, zero, suc, ◌<◌, ◌≤◌, Bool, true, false, cond, List, [], ◌∷◌, length, map, drop, get_or, Option, Some, None, Result, Ok, Err, refl, sym, ap, subst, ◌∙◌, arith}
+use Rattle.std.proofs.Common.{◌≡◌, ◌≢◌, ◌⊎◌, inl, inr, ℕ, suc, ◌<◌, ◌≤◌, Bool, true, false, cond, List, [], length, map, drop, get_or, Option, Some, None, Result, Ok, Err, refl, sym, ap, subst, ◌∙◌, arith}
 use Rattle.std.specs.Prelude.{IsSome, IsTrue, OnOk, slice_get}
 use Rattle.std.specs.Option.{option_map}
 use Rattle.std.specs.BTreeSet.{BTreeSet, IsSubset, Updates, contains}
@@ -14,7 +14,7 @@ use Rattle.batch_log.specs.Log.{Batch}
 use Rattle.drive_array.specs.Records.{IsNewest, Record, newest, records, shown, without}
 use Rattle.drive_array.specs.Repairing.{IsMoved, NeedsItsBlock}
 use Rattle.drive_array.specs.Sizes.{encoded_size, size_or}
-use Rattle.drive_array.specs.Spare.{IsBefore, IsHalfClean, first_sequence}
+use Rattle.drive_array.specs.Spare.{IsHalfClean, first_sequence}
 use Rattle.drive_array.specs.ZoneLogs.{log_at}
 use Rattle.drive_array.proofs.AllLaws.{all-at, all-weaker}
 use Rattle.drive_array.proofs.NewestLaws.{all-among, newest-is}
@@ -39,7 +39,7 @@ use Rattle.drive_survey.proofs.ClearLaws.{Forgets, knows-less}
 use Rattle.drive_survey.proofs.FindLaws.{half-moved}
 use Rattle.drive_survey.proofs.HeadRecordLaws.{entries-are, entries_of}
 use Rattle.drive_survey.proofs.MovedLaws.{forgotten-are, found-heads, moved-batch, not-found, not-there, size-forgotten, none-before}
-use Rattle.drive_survey.proofs.OutsideLaws.{is_outside, none-outside, outside, outside-is, stays-outside}
+use Rattle.drive_survey.proofs.OutsideLaws.{none-outside, outside, outside-is, stays-outside}
 use Rattle.drive_survey.proofs.SizeCountLaws.{size-needs}
 use Rattle.drive_survey.proofs.SurveyLaws.{greatest-heads}
 use Rattle.drive_survey.proofs.SpareLaws.{knows-small, same-none, same-other, zone-named}

@@ -1,5 +1,5 @@
 -- The records of some blocks, each found by its block and its sequence.
-use Rattle.std.specs.Prelude.{◌≡◌, ◌≢◌, ◌++◌, ℕ, ◌==◌, ◌&&◌, if◌then◌else◌, List, [], ◌∷◌, Option, Some, None, IsSome, Contains}
+use Rattle.std.specs.Prelude.{◌≡◌, ◌≢◌, ◌≤◌, ◌++◌, ℕ, ◌==◌, ◌&&◌, if◌then◌else◌, List, [], ◌∷◌, Option, Some, None, IsSome, Contains}
 use Rattle.std.specs.BTreeMap.{BTreeMap, get, IsEmpty}
 use Rattle.std.specs.List.{AllByRecursion}
 use Rattle.std.specs.Option.{option_map}
@@ -8,7 +8,9 @@ use Rattle.batch_log.specs.Log.{Batch}
 use Rattle.drive_array.specs.Records.{Record, records}
 use Rattle.drive_survey.specs.declared.records.KeptRecord.{KeptRecord}
 use Rattle.drive_survey.specs.declared.clearing.block_records.BlockRecords.{BlockRecords}
+use Rattle.drive_survey.specs.Heads.{HeadsView}
 use Rattle.drive_survey.specs.KeptRecords.{block_of_kept, kept_record}
+use Rattle.drive_survey.specs.NewestRecords.{AreNewestOfAll}
 
 -- what a table holds of a block
 abbrev pub held_of : BlockRecords → ℕ → Option (BTreeMap ℕ KeptRecord)
@@ -22,9 +24,15 @@ HoldsBlocks table entries = AllByRecursion (λ entry. IsSome (held_of table (blo
 abbrev pub HasNoRecord : BlockRecords → Type 0
 HasNoRecord table = (block : ℕ) (held : BTreeMap ℕ KeptRecord) → held_of table block ≡ Some held → IsEmpty held
 
--- what is held of a block are all its records in these logs, each by its sequence
+-- no record of a block is newer than this one in its zone
+abbrev pub IsNewestInZone : List (List Batch) → Record → Type 0
+IsNewestInZone logs r =
+    (s : Record) → Contains (records 0 logs) s → s.block ≡ r.block → s.zone ≡ r.zone → s.sequence ≤ r.sequence
+
+-- What is held of a block are its records in these logs that are the newest of their zones, each by its sequence.
 pub record AreRecords (logs : List (List Batch)) (block : ℕ) (held : BTreeMap ℕ KeptRecord) : Type 0 where
-  pub all_held : (r : Record) → Contains (records 0 logs) r → r.block ≡ block → get nat_cmp held r.sequence ≡ Some (kept_record r)
+  pub all_held : (r : Record) → Contains (records 0 logs) r → r.block ≡ block → IsNewestInZone logs r
+      → get nat_cmp held r.sequence ≡ Some (kept_record r)
   pub no_other : (sequence : ℕ) (found : KeptRecord) → get nat_cmp held sequence ≡ Some found
       → (r : Record) × Contains (records 0 logs) r × (r.block ≡ block) × (r.sequence ≡ sequence) × (kept_record r ≡ found)
 
@@ -51,6 +59,12 @@ slot_after put block sequence slot (r ∷ rs) =
 -- a record is put in
 abbrev pub notes : KeptRecord → Option KeptRecord
 notes r = Some r
+
+-- the newest record of each block of each zone was put in
+abbrev pub NotesNewest : List HeadsView → BlockRecords → BlockRecords → Type 0
+NotesNewest views old new =
+    (all : List KeptRecord) × AreNewestOfAll 0 views all
+    × ((block sequence : ℕ) → slot_of new block sequence ≡ slot_after notes block sequence (slot_of old block sequence) all)
 
 -- a record is taken out
 abbrev pub forgets : KeptRecord → Option KeptRecord

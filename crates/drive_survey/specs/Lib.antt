@@ -1,9 +1,11 @@
 pub mod Reported
 pub mod Heads
 pub mod Scan
+pub mod Reads
 pub mod Survey
 pub mod Known
 pub mod KeptRecords
+pub mod NewestRecords
 pub mod BlockRecords
 pub mod SizeCounts
 pub mod Clearing

@@ -3,6 +3,8 @@ use Rattle.std.specs.Prelude.{◌≡◌, ◌⊎◌, ℕ, ◌<◌, ◌≤◌, ◌
 use Rattle.std.specs.List.{AllByRecursion}
 use Rattle.zone_states.specs.declared.geometry.Geometry.{Geometry}
 use Rattle.zone_states.specs.Geometry.{IsInRange}
+use Rattle.zone_states.specs.Transition.{is_open}
+use Rattle.zone_choice.specs.Agreement.{IsShut}
 use Rattle.drive_port.specs.Contents.{Content, content_at, contents, is_active_usage, is_usable, usage_of}
 use Rattle.drive_port.specs.Drive.{DriveState}
 use Rattle.drive_array.specs.Mountable.{AreSound, IsInside, is_partly_written}
@@ -71,6 +73,11 @@ SurveyFails drive n Halted = ⊥
 SurveyFails drive n OutOfMemory = ⊥
 SurveyFails drive n fault = CanScan drive n × FailsFirst drive.geometry (contents drive.zones) fault
 
+-- a zone that was not open is not reported open
+abbrev pub TellsShut : DriveState → List ReportedZone → Type 0
+TellsShut drive reported =
+    (zone : ℕ) (r : ReportedZone) → slice_get reported zone ≡ Some r → IsShut drive.zones zone → is_open r.state ≡ false
+
 -- What is known of a drive that is not refused so far: its logs are sound, the reserve allows its size, and the headers of all batches are kept.
 pub record Surveys (old new : DriveState) (n : ℕ) (survey : Survey) : Type 0 where
   pub can : CanScan old n
@@ -79,6 +86,7 @@ pub record Surveys (old new : DriveState) (n : ℕ) (survey : Survey) : Type 0 w
   pub given_is : survey.given ≡ n
   pub reserve : FitsReserve old.geometry (drive_size old n)
   pub zones : AreKnown new survey.zones.items
+  pub shut : TellsShut old survey.zones.items
   pub scans : ScansAll old.geometry (contents old.zones) survey.scanned.items
 
 -- ---- as it is found

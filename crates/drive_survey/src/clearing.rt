@@ -1,4 +1,5 @@
-ghost use Rattle.std.specs.Prelude.{◌≡◌, ◌≢◌, ◌<◌, ◌^◌, ℕ, List, Some, false, length, slice_get, IfErr, IfOk, IfSome, IsSome, OnOk};
+ghost use Rattle.std.specs.Prelude.{◌≡◌, ◌≢◌, ◌+◌, ◌*◌, ◌<◌, ◌≤◌, ◌^◌, ℕ, List, Some, false, length, slice_get};
+ghost use Rattle.std.specs.Prelude.{IfErr, IfOk, IfSome, IsSome, OnOk};
 ghost use Rattle.std.specs.BTreeSet.{IsSubset, contains};
 ghost use Rattle.std.specs.Ordering.{nat_cmp};
 ghost use Rattle.batch_log.specs.Log.{Batch};
@@ -10,15 +11,18 @@ ghost use Rattle.drive_array.specs.Spare.{HasSpare, IsClearing, IsHalfClean, cle
 ghost use Rattle.drive_survey.specs.declared.fault.MountFault.TheVariants.{NoSpare};
 ghost use Rattle.drive_survey.specs.declared.scan.ScannedZone.{ScannedZone};
 ghost use Rattle.drive_survey.specs.BlockRecords.{HoldsBlocks, HoldsRecords, held_of};
-ghost use Rattle.drive_survey.specs.Clearing.{AreOf, CoversZone, FindsLowest, Tells, without_heads};
+ghost use Rattle.drive_survey.specs.Clearing.{AreOf, CoversZone, FindsLowest, Tells, entries_at, without_heads};
 ghost use Rattle.drive_survey.specs.Known.{Finds, Knows};
+ghost use Rattle.drive_survey.specs.Reads.{SearchesBy, entries_kept};
 ghost use Rattle.drive_survey.specs.Reported.{KeepsZones};
 ghost use Rattle.drive_survey.specs.Scan.{AreKnown, FailsBy, IsInterruption, heads_in, tails_in};
 ghost use Rattle.drive_survey.specs.SizeCounts.{size_counts};
-ghost use Rattle.drive_survey.specs.Waiting.{AllWait, AreCandidates, FindsLowestWaiting, FindsOf, HolderWaits, HoldersWait, LastWaits, LeavesWaiting, OthersWait, TellsFinding};
+ghost use Rattle.drive_survey.specs.Waiting.{AllWait, AreCandidates, FindsLowestWaiting, FindsOf, HolderWaits};
+ghost use Rattle.drive_survey.specs.Waiting.{HoldersWait, LastWaits, LeavesWaiting, OthersWait, TellsFinding};
 
 mod block_records;
 mod moved;
+mod newest;
 mod shown;
 mod sizes;
 
@@ -70,6 +74,8 @@ fn examine_by<D: Device>(
     ensures ok { IfOk result (TellsFinding (D.drive device.old) survey.now.given survey.now candidates.now.records zone) }
     ensures err { IfErr result (IsInterruption (D.drive device.new)) }
     ensures kept { KeepsZones (D.drive device.old) (D.drive device.new) }
+    ensures completed { (D.drive device.new).completed
+        ≤ (D.drive device.old).completed + 2 * length (entries_at survey.now.scanned.items zone) }
 {
     if !is_moved(&survey.scanned, zone) {
         return Ok(Finding::NotMoves);
@@ -83,7 +89,7 @@ fn examine_by<D: Device>(
     Ok(Finding::HalfClean)
 }
 
-/// Whether a zone is half clean, and why it is not.
+/// Whether a zone is half clean, and why it is not. At most two Reads are sent for each entry of the zone.
 pub fn examine_zone<D: Device>(
     alloc: Global,
     device: &mut D,
@@ -94,6 +100,8 @@ pub fn examine_zone<D: Device>(
     ensures ok { IfOk result (FindsOf (D.drive device.old) survey.now.given survey.now zone) }
     ensures err { IfErr result (IsInterruption (D.drive device.new)) }
     ensures kept { KeepsZones (D.drive device.old) (D.drive device.new) }
+    ensures completed { (D.drive device.new).completed
+        ≤ (D.drive device.old).completed + 2 * length (entries_at survey.now.scanned.items zone) }
 {
     if !is_moved(&survey.scanned, zone) {
         return Ok(Finding::NotMoves);
@@ -173,6 +181,8 @@ fn next_half_clean<D: Device>(
     ensures sizes { candidates.new.sizes ≡ candidates.old.sizes }
     ensures err { IfErr result (IsInterruption (D.drive device.new)) }
     ensures kept { KeepsZones (D.drive device.old) (D.drive device.new) }
+    ensures completed { (D.drive device.new).completed
+        ≤ (D.drive device.old).completed + 2 * entries_kept survey.now.scanned.items }
 {
     let mut buffers = Buffers::new(alloc);
     while let Some(zone) = candidates.waiting.pop_first() {
@@ -302,6 +312,8 @@ fn clear_moved<D: Device>(
     ensures zones { survey.new.zones ≡ survey.old.zones }
     ensures err { IfErr result (IsInterruption (D.drive device.new)) }
     ensures kept { KeepsZones (D.drive device.old) (D.drive device.new) }
+    ensures completed { IfOk result (λ resets. (D.drive device.new).completed
+        ≤ (D.drive device.old).completed + 2 * ((length resets.items + 1) * entries_kept survey.old.scanned.items)) }
 {
     let mut resets = Vec::new(alloc);
     if !has_moved(&survey.scanned) {
@@ -318,7 +330,8 @@ fn clear_moved<D: Device>(
 }
 
 /// Finds the zones that a mount has to empty before it repairs the drive: the lowest half clean one, again and
-/// again. The headers of these zones are forgotten; the drive is not changed yet.
+/// again. The headers of these zones are forgotten; the drive is not changed yet. Of each zone that is looked at, two
+/// blocks at most are read for each entry. All zones are looked at once for each that is found, and once more.
 pub fn clear_zones<D: Device>(
     alloc: Global,
     device: &mut D,
@@ -336,6 +349,7 @@ pub fn clear_zones<D: Device>(
         × (HasSpare (D.drive device.old).geometry.block survey.old.given (drive_logs (D.drive device.old)) → ⊥))
         (D.drive device.new)) }
     ensures kept { KeepsZones (D.drive device.old) (D.drive device.new) }
+    ensures completed { SearchesBy survey.old.scanned.items result (D.drive device.old) (D.drive device.new) }
 {
     let resets = clear_moved(alloc, device, survey)?;
     if !resets.is_empty() {

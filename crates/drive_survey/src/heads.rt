@@ -1,6 +1,7 @@
 ghost use Rattle.std.specs.Prelude.{◌≡◌, ◌+◌, ◌<◌, ◌^◌, ◌++◌, length, map, OnOk};
 ghost use Rattle.batch_log.specs.Log.{data_count};
-ghost use Rattle.drive_survey.specs.Heads.{highest_of, is_move, kept_bit, kept_block, kept_entry, no_heads, sequence_at, source_with, with_heading};
+ghost use Rattle.drive_survey.specs.Heads.{highest_of, is_move, kept_bit, kept_block, kept_entry, no_heads};
+ghost use Rattle.drive_survey.specs.Heads.{sequence_at, source_with, with_heading};
 ghost use Rattle.drive_survey.specs.declared.heads.Head.{Head};
 ghost use Rattle.std.specs.List.Sorted.{IsNonDecreasingBy};
 ghost use Rattle.drive_array.specs.Sizes.{larger};

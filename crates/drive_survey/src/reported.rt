@@ -1,6 +1,7 @@
-ghost use Rattle.std.specs.Prelude.{◌≡◌, ◌<◌, ◌^◌, List, length, IfErr, IfOk};
+ghost use Rattle.std.specs.Prelude.{◌≡◌, ◌+◌, ◌<◌, ◌≤◌, ◌^◌, List, length, IfErr, IfOk};
 ghost use Rattle.drive_port.specs.Drive.{IsLawful};
-ghost use Rattle.drive_survey.specs.Reported.{AreReported, DescribesZone, IsReported, KeepsZones, ReportsZones, TellsZones};
+ghost use Rattle.drive_survey.specs.Reported.{AreReported, DescribesZone, IsReported, KeepsZones, ReportsZones};
+ghost use Rattle.drive_survey.specs.Reported.{TellsZones};
 ghost use Rattle.drive_survey.specs.Scan.{IsInterruption, mount_fault};
 ghost use Rattle.zone_choice.specs.Changes.{IsHalt};
 ghost use Rattle.zone_states.specs.Geometry.{IsInRange};
@@ -86,6 +87,7 @@ pub fn report_zones<D: Device>(
     ensures ok { IfOk result (λ reported. ReportsZones (D.drive device.old) reported.items (D.drive device.new)) }
     ensures err { IfErr result (IsInterruption (D.drive device.new)) }
     ensures kept { KeepsZones (D.drive device.old) (D.drive device.new) }
+    ensures completed { (D.drive device.new).completed ≤ (D.drive device.old).completed + 1 }
 {
     let geometry = device.geometry();
     let dwords = DESCRIPTOR_DWORDS * (1 + geometry.zones as u64);

@@ -1,4 +1,5 @@
-ghost use Rattle.std.specs.Prelude.{◌≡◌, ◌⊎◌, ◌+◌, ◌*◌, ◌<◌, ◌≤◌, ◌^◌, ℕ, List, [], length, drop, slice_index_or, None, Some, true, IfErr, IfOk, OnOk};
+ghost use Rattle.std.specs.Prelude.{◌≡◌, ◌⊎◌, ◌+◌, ◌-◌, ◌*◌, ◌<◌, ◌≤◌, ◌^◌, ℕ, List, [], length, drop};
+ghost use Rattle.std.specs.Prelude.{slice_index_or, None, Some, true, IfErr, IfOk, OnOk};
 ghost use Rattle.std.specs.List.{list_all};
 ghost use Rattle.std.specs.Ordering.{nat_cmp};
 ghost use Rattle.std.specs.BTreeSet.{insert_key};
@@ -7,8 +8,11 @@ ghost use Rattle.batch_log.specs.Header.{IsNoHeader};
 ghost use Rattle.drive_port.specs.Contents.{content_at, contents, is_full, is_usable, usage_of};
 ghost use Rattle.drive_port.specs.Drive.{IsLawful};
 ghost use Rattle.drive_survey.specs.Reported.{IsKnown, KeepsZones};
+ghost use Rattle.drive_survey.specs.Reads.{ReadsNext, ReadsZone, ReadsZones, blocks_reported};
 ghost use Rattle.drive_survey.specs.Heads.{no_heads, with_heading};
-ghost use Rattle.drive_survey.specs.Scan.{AreKnown, EndsZone, FailsBy, FailsFirst, FailsIn, IsInterruption, MeetsHeader, Scans, ScansAll, Takes, TakesNext, block_of, readable_at, ending_fault, heading_fault};
+ghost use Rattle.drive_survey.specs.Scan.{AreKnown, EndsZone, FailsBy, FailsFirst, FailsIn, IsInterruption};
+ghost use Rattle.drive_survey.specs.Scan.{MeetsHeader, Scans, ScansAll, Takes, TakesNext, block_of, readable_at};
+ghost use Rattle.drive_survey.specs.Scan.{ending_fault, heading_fault};
 ghost use Rattle.batch_log.specs.Ending.{Ending};
 ghost use Rattle.batch_log.specs.Log.{IsTail, data_count};
 ghost use Rattle.drive_array.specs.ZoneLogs.{readable};
@@ -67,6 +71,7 @@ pub fn read_block<D: Device>(
     ensures long { OnOk result (length block.new.items ≡ (D.drive device.old).geometry.block) }
     ensures err { IfErr result (IsInterruption (D.drive device.new)) }
     ensures kept { KeepsZones (D.drive device.old) (D.drive device.new) }
+    ensures completed { (D.drive device.new).completed ≤ (D.drive device.old).completed + 1 }
 {
     let start = device.geometry().start_of(zone.number);
     if let Err(fault) = read(device, start + offset as u64, 1, block) {
@@ -86,6 +91,8 @@ fn is_zero_from<D: Device>(
     ensures ok { IfOk result (λ b. b ≡ list_all is_zero (drop from (readable_at (D.drive device.old) zone.number))) }
     ensures err { IfErr result (IsInterruption (D.drive device.new)) }
     ensures kept { KeepsZones (D.drive device.old) (D.drive device.new) }
+    ensures completed { (D.drive device.new).completed
+        ≤ (D.drive device.old).completed + (zone.reported.blocks - from) }
 {
     for offset in from..zone.reported.blocks {
         read_block(device, zone, offset, block)?;
@@ -118,6 +125,8 @@ fn end_at<D: Device>(
         × EndsZone (D.drive device.old) zone.number offset ending
         × (ending_fault zone.number offset ending ≡ Some fault)) (D.drive device.new)) }
     ensures kept { KeepsZones (D.drive device.old) (D.drive device.new) }
+    ensures completed { (D.drive device.new).completed + offset + 1
+        ≤ (D.drive device.old).completed + zone.reported.blocks }
 {
     if !is_full(zone.reported.state) {
         return Err(MountFault::Log(zone.number, offset, cause));
@@ -197,6 +206,7 @@ fn next_head<D: Device>(
     ensures err { IfErr result (FailsBy (λ fault. (before : List ℕ) → Takes (D.drive device.old).geometry (content_at (contents (D.drive device.old).zones) zone.number) before heads.old seen.old.keys
         → FailsIn (D.drive device.old).geometry (content_at (contents (D.drive device.old).zones) zone.number) zone.number before fault) (D.drive device.new)) }
     ensures kept { KeepsZones (D.drive device.old) (D.drive device.new) }
+    ensures reads { ReadsNext zone.reported heads.old result heads.new (D.drive device.old) (D.drive device.new) }
 {
     let offset = heads.blocks();
     read_block(device, zone, offset, block)?;
@@ -224,6 +234,9 @@ pub fn scan_zone<D: Device>(
         (content_at (contents (D.drive device.old).zones) zone.number) zone.number seen.old.keys)
         (D.drive device.new)) }
     ensures kept { KeepsZones (D.drive device.old) (D.drive device.new) }
+    ensures reads { IfOk result (λ scanned. ReadsZone zone.reported scanned.heads (D.drive device.old)
+        (D.drive device.new)) }
+    ensures completed { (D.drive device.new).completed ≤ (D.drive device.old).completed + zone.reported.blocks }
 {
     let mut heads = ZoneHeads::new(alloc);
     while heads.blocks() < zone.reported.blocks {
@@ -249,6 +262,9 @@ pub fn scan_zones<D: Device>(
     ensures err { IfErr result (FailsBy (FailsFirst (D.drive device.old).geometry
         (contents (D.drive device.old).zones)) (D.drive device.new)) }
     ensures kept { KeepsZones (D.drive device.old) (D.drive device.new) }
+    ensures reads { IfOk result (λ scanned. ReadsZones zones.now scanned.items (D.drive device.old)
+        (D.drive device.new)) }
+    ensures completed { (D.drive device.new).completed ≤ (D.drive device.old).completed + blocks_reported zones.now }
 {
     let mut seen = BTreeSet::new(alloc);
     let mut block = Vec::new(alloc);

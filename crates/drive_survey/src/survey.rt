@@ -1,9 +1,13 @@
-ghost use Rattle.std.specs.Prelude.{◌≡◌, ◌≤◌, ◌<◌, ◌^◌, ◌↔◌, ℕ, count_by, length, IfErr, IfNone, IfOk, IfSome, IsTrue};
+ghost use Rattle.std.specs.Prelude.{◌≡◌, ◌+◌, ◌≤◌, ◌<◌, ◌^◌, ◌↔◌, ℕ, count_by, length, IfErr, IfNone, IfOk, IfSome};
+ghost use Rattle.std.specs.Prelude.{IsTrue};
 ghost use Rattle.drive_port.specs.Contents.{is_usable, usage_of};
 ghost use Rattle.drive_survey.specs.Heads.{HeadsView};
+ghost use Rattle.drive_survey.specs.Reads.{ReadsOnce, readable_count};
 ghost use Rattle.drive_survey.specs.Reported.{KeepsZones};
 ghost use Rattle.drive_survey.specs.Scan.{AreKnown, FailsBy, heads_in};
-ghost use Rattle.drive_survey.specs.Survey.{AreBelow, AreReportedUsable, CanScan, IsLowestReported, MayAsk, SurveyFails, Surveys, greatest_in, is_partly_reported};
+ghost use Rattle.drive_survey.specs.Survey.{AreBelow, AreReportedUsable, CanScan, IsLowestReported, MayAsk};
+ghost use Rattle.drive_survey.specs.Survey.{SurveyFails};
+ghost use Rattle.drive_survey.specs.Survey.{Surveys, TellsShut, greatest_in, is_partly_reported};
 ghost use Rattle.drive_array.specs.Sizes.{size_or};
 
 use crate::fault::MountFault;
@@ -105,10 +109,12 @@ fn usable_zones<D: Device>(
     device: &mut D,
     given: u64,
 ) -> Result<Vec<ReportedZone>, MountFault>
-    ensures ok { IfOk result (λ zones. CanScan (D.drive device.old) given × AreKnown (D.drive device.new) zones.items) }
+    ensures ok { IfOk result (λ zones. CanScan (D.drive device.old) given × AreKnown (D.drive device.new) zones.items
+        × TellsShut (D.drive device.old) zones.items) }
     ensures err { IfErr result (FailsBy (SurveyFails (D.drive device.old) given) (D.drive device.new)) }
     ensures kept { KeepsZones (D.drive device.old) (D.drive device.new) }
     ensures unsent { (MayAsk (D.drive device.old) given → ⊥) → D.drive device.new ≡ D.drive device.old }
+    ensures completed { (D.drive device.new).completed ≤ (D.drive device.old).completed + 1 }
 {
     let geometry = device.geometry();
     let Ok(()) = geometry.check() else {
@@ -128,7 +134,8 @@ fn usable_zones<D: Device>(
 }
 
 /// Reads the headers of all batches of a drive. `given` is how many logical blocks it has if no header says how many.
-/// One report and Reads are sent; nothing after `Limits`, nor where the reserve does not allow the given number.
+/// One report and Reads are sent: one Read for each batch, and at most one for each block after the last batch of its
+/// zone. Nothing is sent after `Limits`, nor where the reserve does not allow the given number.
 pub fn survey_drive<D: Device>(
     alloc: Global,
     device: &mut D,
@@ -138,6 +145,9 @@ pub fn survey_drive<D: Device>(
     ensures err { IfErr result (FailsBy (SurveyFails (D.drive device.old) given) (D.drive device.new)) }
     ensures kept { KeepsZones (D.drive device.old) (D.drive device.new) }
     ensures unsent { (MayAsk (D.drive device.old) given → ⊥) → D.drive device.new ≡ D.drive device.old }
+    ensures reads { IfOk result (ReadsOnce (D.drive device.old) (D.drive device.new)) }
+    ensures completed { (D.drive device.new).completed
+        ≤ (D.drive device.old).completed + 1 + readable_count (D.drive device.old) }
 {
     let zones = usable_zones(alloc, device, given)?;
     let scanned = scan_zones(alloc, device, &zones)?;

@@ -11,6 +11,7 @@ use Rattle.zone_translator.specs.Calls.{Reads}
 use Rattle.zone_translator.specs.Flat.{FlatCall, FlatDisk, with_nothing, write}
 use Rattle.zone_translator.specs.Laws.{WrittenReadsBack}
 
+-- what is shown is what was written
 pub shown-again : (old middle new : FlatDisk) (first n size : ℕ) (written : List ℕ) (result : Result (Unit {0}) DiskFault) (bytes : List ℕ) → WrittenReadsBack old → length written ≡ n * size
     → FlatCall old (write first (cut_blocks size n written)) (with_nothing (Ok tt)) middle → Reads middle first n result bytes new → OnOk result (bytes ≡ written)
 shown-again old middle new first n size written (Err fault) bytes law whole wrote reads = tt

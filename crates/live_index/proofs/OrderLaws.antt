@@ -16,6 +16,7 @@ range-at n k d h = omega (arith, get_or-range_with_len 0 n k d (omega (arith, le
 zero-at : (n k : ℕ) → k < length (range_with_len 0 n) → count_at (replicate n 0) (range_with_len 0 n) k ≡ 0
 zero-at n k h = ap (λ z. get_or (replicate n 0) z 0) (range-at n k 0 h) ∙ get_or-replicate n k 0 0 (omega (arith, length-range_with_len 0 n))
 
+-- where no zone has a live record, the zones stand in order by their numbers
 pub ordered-fresh : (n : ℕ) → IsOrdered (replicate n 0) (range_with_len 0 n)
 ordered-fresh n = record {
   as_many = length-range_with_len 0 n ∙ sym (length-replicate {A = ℕ} n 0);
@@ -26,6 +27,7 @@ ordered-fresh n = record {
 leads_back-fresh : (n : ℕ) → LeadsBack (range_with_len 0 n) (range_with_len 0 n)
 leads_back-fresh n = record { below = λ k h. omega (arith, range-at n k 0 h); back = λ k h. ap (λ z. get_or (range_with_len 0 n) z 0) (range-at n k 0 h) ∙ range-at n k 0 h }
 
+-- and each stands at its own number
 pub inverse-fresh : (n : ℕ) → AreInverse (range_with_len 0 n) (range_with_len 0 n)
 inverse-fresh n = record { as_many = refl; from_position = leads_back-fresh n; from_zone = leads_back-fresh n }
 

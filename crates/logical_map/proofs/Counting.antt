@@ -13,10 +13,12 @@ use Rattle.logical_map.specs.Live.{is_zone, lies_in, zone_of}
 use Rattle.logical_map.specs.Pages.{paged_places}
 use Rattle.logical_map.proofs.Showing.{length-shown, none-at, none_from-reserve, none_from-set, shown-empty, shown-grow, shown-reserve, shown-set}
 
+-- there are as many counts after one is raised
 pub length-raised : (here : Option ℕ) (counts : List ℕ) → length (raised here counts) ≡ length counts
 length-raised Option.None counts = refl
 length-raised (Some zone) counts = length-set counts zone (get_or counts zone 0 + 1)
 
+-- or lowered
 pub length-lowered : (here : Option ℕ) (counts : List ℕ) → length (lowered here counts) ≡ length counts
 length-lowered Option.None counts = refl
 length-lowered (Some zone) counts = length-set counts zone (get_or counts zone 0 - 1)
@@ -35,10 +37,12 @@ lowered-at (Some other) counts zone h = elim (cases_eq zone other) as (λ _. get
   | inr n ↦ rw (ne_eqb other zone (λ e. n (sym e)), get_or-set_other counts other zone (get_or counts other 0 - 1) 0 n) (omega arith)
 ]
 
-pub live-set : (size : ℕ) (all : List Place) (zone block : ℕ) (place : Place) → block < length all
+-- one place is set: a zone has one block less where the old place was, and one more where the new one is
+live-set : (size : ℕ) (all : List Place) (zone block : ℕ) (place : Place) → block < length all
     → count_by (lies_in size zone) (set all block place) + cond (lies_in size zone (get_or all block places.None)) 1 0 ≡ count_by (lies_in size zone) all + cond (lies_in size zone place) 1 0
 live-set size all zone block place h = sum_by-set (λ p. cond (lies_in size zone p) 1 0) all block place places.None h
 
+-- each count is how many places lie in its zone
 abbrev pub AreCounts : ℕ → List Place → List ℕ → Type 0
 AreCounts size all counts = (zone : ℕ) → zone < length counts → get_or counts zone 0 ≡ count_by (lies_in size zone) all
 
@@ -48,6 +52,7 @@ pub lowered-live : (size : ℕ) (all : List Place) (counts : List ℕ) (zone blo
 lowered-live size all counts zone block place are h below =
     omega (arith, lowered-at (zone_of size (get_or all block places.None)) counts zone below, are zone below, live-set size all zone block place h, get_or-le-sum_by (λ p. cond (lies_in size zone p) 1 0) all block places.None h)
 
+-- the counts of one place set: the old zone is lowered, and the new one raised
 pub counts-set : (size : ℕ) (all : List Place) (counts : List ℕ) (block : ℕ) (place : Place) → AreCounts size all counts → block < length all
     → AreCounts size (set all block place) (raised (zone_of size place) (lowered (zone_of size (get_or all block places.None)) counts))
 counts-set size all counts block place are h = λ zone below.
@@ -77,12 +82,14 @@ can_raise size all counts block place are h few = if_some (zone_of size place) (
 pub live-none : (size n zone : ℕ) → count_by (lies_in size zone) (replicate n places.None) ≡ 0
 live-none size n zone = omega (arith, sum_by-replicate (λ p. cond (lies_in size zone p) 1 0) n places.None)
 
+-- blocks that have no place lie in no zone, also after others
 pub live-grow : (size n zone : ℕ) (all : List Place) → count_by (lies_in size zone) (all ++ replicate n places.None) ≡ count_by (lies_in size zone) all
 live-grow size n zone all = omega (arith, sum_by-append (λ p. cond (lies_in size zone p) 1 0) all (replicate n places.None), live-none size n zone)
 
 live-same : (size zone : ℕ) (xs ys : List Place) → xs ≡ ys → count_by (lies_in size zone) xs ≡ count_by (lies_in size zone) ys
 live-same size zone xs ys e = ap (λ (all : List Place). count_by (lies_in size zone) all) e
 
+-- without pages the counts are empty
 pub kept-new : (page : ℕ → Option (List Place)) (n zones size : ℕ) → ((number : ℕ) → page number ≡ Option.None) → IsKept page n zones size []
 kept-new page n zones size none = record {
   past = λ k above. none-at page k (none (k / 256));
@@ -91,6 +98,7 @@ kept-new page n zones size none = record {
   few = omega arith;
 }
 
+-- more blocks need no more counts
 pub kept-grow : (page : ℕ → Option (List Place)) (n count zones size : ℕ) (counts : List ℕ) → IsKept page n zones size counts → n ≤ count → IsKept page count zones size counts
 kept-grow page n count zones size counts kept more = record {
   past = λ k above. kept.past k (omega arith);
@@ -119,11 +127,13 @@ widened-at counts zones new few e =
       | inr past ↦ get_or-append_right counts (replicate (zones - length counts) 0) (length counts) zone 0 refl past ∙ zeros (zones - length counts) (zone - length counts) ∙ sym (get_or_past counts zone 0 past)
     ]
 
+-- nor are they wrong with zeros after them
 pub kept-widen : (page : ℕ → Option (List Place)) (n zones size : ℕ) (counts new : List ℕ) → IsKept page n zones size counts → Widens counts zones new → IsKept page n zones size new
 kept-widen page n zones size counts new kept wide =
     let w = widened-at counts zones new kept.few wide in
     record { past = kept.past; counted = λ zone q. w.1 zone ∙ kept.counted zone q; made = λ m there. w.0; few = omega (arith, w.0) }
 
+-- a page that is made has no places, and the counts reach all zones
 pub kept-reserve : (page page' : ℕ → Option (List Place)) (n zones size number : ℕ) (counts new : List ℕ) → IsKept page n zones size counts → Widens counts zones new → page number ≡ Option.None → page' number ≡ Some (replicate 256 places.None) → ((m : ℕ) → m ≢ number → page' m ≡ page m)
     → IsKept page' n zones size new
 kept-reserve page page' n zones size number counts new kept wide none fresh others =
@@ -135,6 +145,7 @@ kept-reserve page page' n zones size number counts new kept wide none fresh othe
       few = omega (arith, w.0);
     }
 
+-- a place is set in its page, and the counts follow
 pub kept-set : (page page' : ℕ → Option (List Place)) (n zones size block : ℕ) (counts : List ℕ) (p : List Place) (place : Place) → IsKept page n zones size counts → block < n → length p ≡ 256 → page (block / 256) ≡ Some p → page' (block / 256) ≡ Some (set p (block % 256) place) → ((m : ℕ) → m ≢ block / 256 → page' m ≡ page m)
     → IsKept page' n zones size (raised (zone_of size place) (lowered (zone_of size (get_or (paged_places page n) block places.None)) counts))
 kept-set page page' n zones size block counts p place kept below long old new others =

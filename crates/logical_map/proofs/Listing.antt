@@ -63,11 +63,13 @@ first-at page n size zone from m past first =
     head-in size zone from m (drop from (paged_places page n)) (omega (arith, below-end page n size zone (from + m) past first.lies, length-drop from (paged_places page n), length-shown page n)) (λ k below. ap (lies_in size zone) (rest-at page n from k past) ∙ first.none (from + k) (omega arith) (omega (arith, below)))
     (ap (lies_in size zone) (rest-at page n from m past) ∙ first.lies)
 
+-- the first block from one on that lies in a zone is the first of the list
 pub first-is : (page : ℕ → Option (List Place)) (n size zone from block : ℕ) → HasNoneFrom page n → IsFirstBlock page size zone from block → slice_get (blocks_in size zone from (drop from (paged_places page n))) 0 ≡ Some block
 first-is page n size zone from block past first =
     let same : from + (block - from) ≡ block = omega (arith, first.after) in
     first-at page n size zone from (block - from) past (subst (IsFirstBlock page size zone from) (sym same) first) ∙ ap Some same
 
+-- where none lies there, the list is empty
 pub none-is : (page : ℕ → Option (List Place)) (n size zone from : ℕ) → HasNoneFrom page n → NoBlockLies page size zone from n → slice_get (blocks_in size zone from (drop from (paged_places page n))) 0 ≡ Option.None
 none-is page n size zone from past none = rw (none-in size zone from (drop from (paged_places page n)) (λ k below. ap (lies_in size zone) (rest-at page n from k past) ∙ none (from + k) (omega arith) (omega (arith, below, length-drop from (paged_places page n), length-shown page n)))) refl
 
@@ -121,7 +123,7 @@ whole-there lists i whole = elim (cases_lt i (length lists)) as (λ _. i < lengt
 ]
 
 -- the same blocks lie in the same zones
-pub listed-same : (page page' : ℕ → Option (List Place)) (size : ℕ) (lists : List ListView) → ((k : ℕ) → place_in page' k ≡ place_in page k) → AreListed page size lists → AreListed page' size lists
+listed-same : (page page' : ℕ → Option (List Place)) (size : ℕ) (lists : List ListView) → ((k : ℕ) → place_in page' k ≡ place_in page k) → AreListed page size lists → AreListed page' size lists
 listed-same page page' size lists same are = λ zone block whole lies. are zone block whole (sym (ap (lies_in size zone) (same block)) ∙ lies)
 
 -- a page is made
@@ -153,7 +155,8 @@ listed-set page page' n size block p place lists lists' below long old new other
 pub listed-at : (lists : List ListView) (i zone : ℕ) (list : ListView) → i < length lists → zone ≡ i → listed (set lists i list) zone ≡ list
 listed-at lists i zone list h e = rw e (get_or-set_same lists i list missing h)
 
-pub listed-other : (lists : List ListView) (i zone : ℕ) (list : ListView) → zone ≢ i → listed (set lists i list) zone ≡ listed lists zone
+-- the lists of other zones are the same
+listed-other : (lists : List ListView) (i zone : ℕ) (list : ListView) → zone ≢ i → listed (set lists i list) zone ≡ listed lists zone
 listed-other lists i zone list n = get_or-set_other lists i zone list missing n
 
 -- a list that has what the old one had, of the same wholeness
@@ -168,7 +171,7 @@ pub listed-made : (page : ℕ → Option (List Place)) (size : ℕ) (lists lists
 listed-made page size lists lists' same are = λ zone block whole lies. subst (λ (l : ListView). Contains l.blocks block) (sym (same zone)) (are zone block (sym (ap (λ (l : ListView). l.whole) (same zone)) ∙ whole) lies)
 
 -- a zone in which no block lies begins its list anew
-pub listed-fresh : (page : ℕ → Option (List Place)) (size i : ℕ) (lists : List ListView) → i < length lists → ((block : ℕ) → lies_in size i (place_in page block) ≡ false) → AreListed page size lists → AreListed page size (set lists i fresh_list)
+listed-fresh : (page : ℕ → Option (List Place)) (size i : ℕ) (lists : List ListView) → i < length lists → ((block : ℕ) → lies_in size i (place_in page block) ≡ false) → AreListed page size lists → AreListed page size (set lists i fresh_list)
 listed-fresh page size i lists h none are = λ zone block is_whole lies. elim (cases_eq zone i) as (λ _. Contains (listed (set lists i fresh_list) zone).blocks block) [
   | inl e ↦ absurd (false≢true (sym (none block) ∙ sym (ap (λ z. lies_in size z (place_in page block)) e) ∙ lies))
   | inr n ↦ subst (λ (l : ListView). Contains l.blocks block) (sym (listed-other lists i zone fresh_list n)) (are zone block (sym (ap (λ (l : ListView). l.whole) (listed-other lists i zone fresh_list n)) ∙ is_whole) lies)
@@ -183,6 +186,7 @@ listed-room page size i lists false list h none e are = rw e (listed-sort page s
 pub listed-shorter : (page : ℕ → Option (List Place)) (size : ℕ) (lists lists' : List ListView) → Shortens page size lists lists' → AreListed page size lists → AreListed page size lists'
 listed-shorter page size lists lists' shorter are = λ zone block whole lies. shorter.kept zone block lies (are zone block (shorter.whole zone whole) lies)
 
+-- one list was made shorter, by blocks that do not lie in its zone
 pub shorter-at : (page : ℕ → Option (List Place)) (size i : ℕ) (lists : List ListView) (list : ListView) → i < length lists → list.whole ≡ (listed lists i).whole → KeepsThere page size i (listed lists i).blocks list.blocks → Shortens page size lists (set lists i list)
 shorter-at page size i lists list h whole kept = record {
   whole = λ zone w. elim (cases_eq zone i) as (λ _. (listed lists zone).whole ≡ true) [
@@ -205,11 +209,13 @@ filter-keeps p (y ∷ xs) x (suc k) h same passes = either (filter-keeps p xs x 
     either rest true = Contains-append_right (y ∷ []) (filter p xs) x rest
     either rest false = rest
 
+-- what passes a test stays among what was filtered by it
 pub Contains-filter : (p : ℕ → Bool) (xs : List ℕ) (x : ℕ) → p x ≡ true → Contains xs x → Contains (filter p xs) x
 Contains-filter p xs x passes had = filter-keeps p xs x had.0 had.1 had.2 passes
 
 -- ---- what a note changes
 
+-- the list of a zone has a block that was moved there
 pub follows-noted : (lists : List ListView) (was : Option ℕ) (zone block : ℕ) (list : ListView) → zone < length lists → Notes (listed lists zone) block list → NotesMove lists was (Some zone) block (set lists zone list)
 follows-noted lists was zone block list h notes = record {
   whole = λ z w. elim (cases_eq z zone) as (λ _. (listed lists z).whole ≡ true) [

@@ -191,22 +191,26 @@ pub fn note(lists: &mut Vec<ZoneList>, was: Option<u64>, zone: Option<u64>, bloc
     lists[zone as usize].note(block);
 }
 
-/// Tidies the list of a zone that a block was moved out of, where it is longer than the zone and has more than twice
-/// the blocks that lie there.
+/// The zone that a block leaves, if its place moves it out of one.
+pub fn left_zone(was: Option<u64>, zone: Option<u64>) -> Option<u64> {
+    if was == zone {
+        return None;
+    }
+    was
+}
+
+/// Tidies the list of a zone that a block left, where it is longer than the zone and has more than twice the blocks
+/// that lie there.
 pub fn shorten(
     lists: &mut Vec<ZoneList>,
     pages: &Pages,
     counts: &[u32],
     zone_size: u32,
-    was: Option<u64>,
-    zone: Option<u64>,
+    left: Option<u64>,
 )
     ensures { Shortens (page_of pages.now.items) zone_size lists.old.items lists.new.items }
 {
-    if was == zone {
-        return;
-    }
-    let Some(was) = was else {
+    let Some(was) = left else {
         return;
     };
     if was >= lists.len() as u64 || was >= counts.len() as u64 {

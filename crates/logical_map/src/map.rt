@@ -7,7 +7,7 @@ ghost use Rattle.logical_map.specs.Pages.{page_of, place_in, place_of};
 ghost use Rattle.logical_map.specs.Places.{ArePlacedReady, MapGrows, IsReady, Reserves, place_address};
 ghost use Rattle.logical_map.specs.declared.place.Place.TheVariants as places;
 
-use crate::lists::{ZoneList, is_whole, make_lists, note, shorten};
+use crate::lists::{ZoneList, is_whole, left_zone, make_lists, note, shorten};
 use crate::pages::{PAGE, Pages, change, has_page, make_page, place_at, word_at, zone_of};
 use crate::place::Place;
 use crate::zone_words::ZoneWords;
@@ -171,8 +171,7 @@ impl Map {
             &self.pages,
             &self.counts,
             self.zone_size,
-            was,
-            zone,
+            left_zone(was, zone),
         );
         Moved {
             from: zone_below(self.zones, was),

@@ -6,19 +6,23 @@
 //!   drive stops after `K` commands, with the commands of the mount) and `worn` (the medium fails).
 //! - A line of words is what the client sends: hexadecimal digits, or `BB*N` for a byte that is repeated.
 //! - `end` runs the session. `cuts` runs it cut after each of its bytes, and with an output that fails after each byte.
+//! - `kept N` runs the session over the drive of a file, with N logical blocks, and cleans between requests; the file
+//!   keeps what it wrote. `again` runs it over the same file, and says no number. The first file has a fresh drive.
 //! - An empty line, and one that begins with `#`, says nothing.
 //!
 //! Shown are the lines `session`, a line for each reply, and how the session ended.
 #![tactic(auto)]
 
 mod fault;
+mod kept;
 mod run;
 mod show;
 mod words;
 
 use crate::fault::RowsFault;
+use crate::kept::{fresh_file, show_kept};
 use crate::run::{Setting, show_cuts, show_session};
-use crate::words::{put_bytes, setting_of};
+use crate::words::{number_of, put_bytes, setting_of};
 use std::alloc::Global;
 use std::io;
 use std::process::ExitCode;
@@ -28,6 +32,8 @@ use std::process::ExitCode;
 struct Recorded {
     setting: Setting,
     input: Vec<u8>,
+    /// What the file of a drive holds.
+    file: Vec<u8>,
 }
 
 impl Recorded {
@@ -39,6 +45,11 @@ impl Recorded {
         match line {
             "end" => show_session(alloc, self.setting, &self.input, out),
             "cuts" => show_cuts(alloc, self.setting, &self.input, out),
+            "again" => show_kept(alloc, None, &self.input, &mut self.file, out),
+            _ if line.starts_with("kept ") => {
+                let blocks = Some(number_of(line)?);
+                show_kept(alloc, blocks, &self.input, &mut self.file, out)
+            }
             _ => self.take_words(alloc, line, out),
         }
     }
@@ -61,6 +72,7 @@ fn run_rows(alloc: Global, text: &str, out: &mut String) -> Result<(), RowsFault
     let mut recorded = Recorded {
         setting: Setting::plain(),
         input: Vec::new(alloc),
+        file: fresh_file(alloc, Setting::plain())?,
     };
     for line in text.lines() {
         recorded.take(alloc, line, out)?;

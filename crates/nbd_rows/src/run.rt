@@ -35,7 +35,7 @@ impl Setting {
     }
 
     /// Four zones of 6 blocks, in steps of 8 addresses.
-    fn geometry(self) -> Geometry {
+    pub fn geometry(self) -> Geometry {
         Geometry {
             block: self.block,
             zones: 4,

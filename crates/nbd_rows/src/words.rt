@@ -21,6 +21,14 @@ pub fn setting_of(words: &str) -> Result<Setting, RowsFault> {
     Ok(setting)
 }
 
+/// The number after the first word of a line.
+pub fn number_of(line: &str) -> Result<u64, RowsFault> {
+    let Some((_, number)) = line.split_once(' ') else {
+        return Err(RowsFault::Words);
+    };
+    number.parse::<u64>().or(Err(RowsFault::Words))
+}
+
 /// Puts a byte that is repeated after `out`.
 fn put_run(alloc: Global, digits: &str, count: &str, out: &mut Vec<u8>) -> Result<(), RowsFault> {
     let count = count.parse::<usize>().or(Err(RowsFault::Words))?;

@@ -6,7 +6,7 @@ use Rattle.std.specs.Io.KnownBytes.{Keeps}
 use Rattle.std.proofs.KnownBytes.{Appends-nil, Appends-trans, Consumes-nil, Consumes-trans, Consumes-kept, Appends-kept, Keeps-refl}
 use Rattle.std.proofs.lemmas.List.{append-nil, length-append}
 use Rattle.nbd_session.specs.declared.fault.SessionFault.{SessionFault}
-use Rattle.nbd_session.specs.declared.fault.SessionFault.TheVariants.{Input, Magic, Output, TooMany}
+use Rattle.nbd_session.specs.declared.fault.SessionFault.TheVariants.{Input, Magic, Output, TooMany, Unsent}
 use Rattle.nbd_session.specs.Session.{AnswersEach, AnswersMessage, Dialogue, Served, Session}
 use Rattle.nbd_session.specs.Store.{StoreView}
 use Rattle.nbd_session.specs.Streams.{Streams, streams}
@@ -63,6 +63,7 @@ pub stops_after : (count : ℕ) (fault : SessionFault) (bytes : Streams) (old : 
 stops_after count Input bytes old new s = s
 stops_after count Magic bytes old new s = s
 stops_after count Output bytes old new s = s
+stops_after count Unsent bytes old new s = s
 stops_after count TooMany bytes old new s = absurd s
 
 -- a fault is handed on

@@ -3,7 +3,7 @@ use Rattle.std.proofs.Common.{◌≡◌, ℕ, zero, suc, List, [], ◌∷◌, le
 use Rattle.std.specs.Prelude.{◌⊎◌, Contains, MatchOption, Result}
 use Rattle.std.proofs.lemmas.List.{take_all}
 use Rattle.zone_translator.specs.Answers.{Answers}
-use Rattle.zone_translator.specs.Flat.{Begun, FlatDisk, IsFront, known_answer, replaced, with_nothing, write}
+use Rattle.zone_translator.specs.Flat.{Begun, FlatDisk, IsFront, idle, known_answer, replaced, with_nothing, write}
 use Rattle.zone_translator.specs.View.{DiskView, disk_array, flat_of}
 use Rattle.zone_translator.specs.declared.fault.DiskFault.{DiskFault}
 use Rattle.nbd_session.specs.Store.{Calls, StoreView}
@@ -45,3 +45,19 @@ write_called old new first blocks result a = record {
       → Contains (disk_array old ∷ []) array ⊎ IsFront (disk_array old) first blocks array
   since array is (inl same) = inl (contains-only (disk_array old) array (sym same ∙ is))
   since array is (inr front) = inr (rw is at front)
+
+-- the array after a turn of cleaning is the old one
+turn-kept : (known : Option (Result (Unit {0}) DiskFault)) (old : FlatDisk) (result : Result (Unit {0}) DiskFault) (new : FlatDisk)
+    → MatchOption known (Begun old idle result [] new) (λ r. (with_nothing result ≡ with_nothing r) × (new ≡ old)) → new.array ≡ old.array
+turn-kept (Some r) old result new c = ap (λ (d : FlatDisk). d.array) c.1
+turn-kept None old (Ok done) new c = ap (λ (d : FlatDisk). d.array) c.1
+turn-kept None old (Err fault) new c = c.2
+
+-- a turn of the disk is a turn of the store
+pub turn_called : (old new : DiskView) (result : Result (Unit {0}) DiskFault) → Answers old idle result new → Calls (served old) idle (with_nothing result) (served new)
+turn_called old new result a = record {
+  flat = a.flat;
+  kept = a.kept;
+  cause = a.cause;
+  since = λ array found. inr (sym (only (disk_array new) array found) ∙ turn-kept (known_answer (flat_of old) idle) (flat_of old) result (flat_of new) a.flat);
+}

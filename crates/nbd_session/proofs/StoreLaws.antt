@@ -10,14 +10,14 @@ use Rattle.zone_translator.specs.declared.fault.DiskFault.{DiskFault}
 use Rattle.nbd_session.specs.declared.asked.Asked.{Asked}
 use Rattle.nbd_session.specs.declared.asked.Asked.TheVariants.{Read, Write, Trim, WriteZeroes, Flush}
 use Rattle.nbd_session.specs.declared.fault.SessionFault.{SessionFault}
-use Rattle.nbd_session.specs.declared.fault.SessionFault.TheVariants.{Input, Magic, Output, TooMany}
+use Rattle.nbd_session.specs.declared.fault.SessionFault.TheVariants.{Input, Magic, Output, TooMany, Unsent}
 use Rattle.nbd_session.specs.declared.fault.StoreFault.{StoreFault}
 use Rattle.nbd_session.specs.declared.fault.StoreFault.TheVariants.{Disk, Medium}
 use Rattle.nbd_session.specs.declared.phase.Phase.{Phase}
 use Rattle.nbd_session.specs.declared.phase.Phase.TheVariants as phases
 use Rattle.nbd_session.specs.Requests.{AnswersAsked, Does, Forces}
 use Rattle.nbd_session.specs.Session.{AnswersBy, AnswersEach, AnswersIn, Dialogue, Session}
-use Rattle.nbd_session.specs.Store.{Calls, StoreView, Syncs}
+use Rattle.nbd_session.specs.Store.{Calls, Rests, StoreView, Syncs}
 use Rattle.nbd_session.specs.Streams.{Streams}
 use Rattle.nbd_session.specs.Turns.{Serves, StopsAfter}
 
@@ -51,9 +51,14 @@ asked_keeps old request (Err error) bytes reply new a = same_keeps old new a.1
 asked_keeps old request (Ok wanted) bytes reply new a =
     keeps_again old.disk a.middle.disk new.disk (does_keeps old wanted bytes a.answer a.middle a.does) (force_keeps _ a.middle a.answer.result a.result new a.forces)
 
+rests_keeps : (old new : StoreView) → Rests old new → KeepsServed old.disk new.disk
+rests_keeps old new (inl same) = same_keeps old new same
+rests_keeps old new (inr c) = call_keeps old _ _ new c.1
+
 by_keeps : (old : StoreView) (ends : Bool) (request : Request) (bytes reply : List ℕ) (new : Session) → AnswersBy old ends request bytes reply new → KeepsServed old.disk new.store.disk
 by_keeps old true request bytes reply new a = rw a.1 (keeps_same old.disk)
-by_keeps old false request bytes reply new a = asked_keeps old request _ bytes reply new.store a.1
+by_keeps old false request bytes reply new a =
+    keeps_again old.disk a.1.answered.disk new.store.disk (asked_keeps old request _ bytes reply a.1.answered a.1.answers) (rests_keeps a.1.answered new.store a.1.rests)
 
 answer_keeps : (phase : Phase) (old : StoreView) (message reply : List ℕ) (new : Session) → AnswersIn phase old message reply new → KeepsServed old.disk new.store.disk
 answer_keeps phases.Greeting old message reply new a = rw a.2 (keeps_same old.disk)
@@ -71,6 +76,7 @@ stops_keeps : (count : ℕ) (fault : SessionFault) (bytes : Streams) (old : Sess
 stops_keeps count Input bytes old new s = same_keeps old.store new s.new_is
 stops_keeps count Magic bytes old new s = same_keeps old.store new s.new_is
 stops_keeps count Output bytes old new s = answer_keeps old.phase old.store s.message s.reply _ s.answers
+stops_keeps count Unsent bytes old new s = answer_keeps old.phase old.store s.answers.message s.answers.reply _ s.answers.answers
 stops_keeps count TooMany bytes old new s = same_keeps old.store new s.1.new_is
 
 -- a whole session keeps the drive

@@ -1,8 +1,8 @@
 -- A message is its head and what follows it.
-use Rattle.std.proofs.Common.{◌≡◌, ℕ, ◌<◌, List, ◌++◌, length, Option, Ok, Err, false, refl, ap, inr, ◌∙◌}
+use Rattle.std.proofs.Common.{◌≡◌, ℕ, ◌<◌, List, ◌++◌, length, Option, Ok, Err, false, refl, ap, inl, inr, ◌∙◌}
 use Rattle.std.specs.Prelude.{Bool, IfErr, IsErrAnd, OnOk, Result, ⊤}
-use Rattle.std.specs.Io.KnownBytes.{Appends, Consumes}
-use Rattle.std.proofs.KnownBytes.{Consumes-trans}
+use Rattle.std.specs.Io.KnownBytes.{Appends, Consumes, Keeps}
+use Rattle.std.proofs.KnownBytes.{Appends-kept, Consumes-trans}
 use Rattle.disk_files.specs.Output.{AppendsFront}
 use Rattle.nbd_wire.specs.Handshake.{FitsHead, option_head_bytes, option_of}
 use Rattle.nbd_wire.specs.Transmission.{FitsRequest, request_bytes, simple_reply_bytes}
@@ -12,12 +12,12 @@ use Rattle.nbd_wire.specs.declared.option_kind.OptionKind.{OptionKind}
 use Rattle.nbd_wire.specs.declared.request.Request.{Request}
 use Rattle.nbd_session.specs.declared.asked.Asked.{Asked}
 use Rattle.nbd_session.specs.declared.fault.SessionFault.{SessionFault}
-use Rattle.nbd_session.specs.declared.fault.SessionFault.TheVariants.{Input, Magic, Output, TooMany}
+use Rattle.nbd_session.specs.declared.fault.SessionFault.TheVariants.{Input, Magic, Output, TooMany, Unsent}
 use Rattle.nbd_session.specs.declared.phase.Phase.{Phase}
 use Rattle.nbd_session.specs.declared.phase.Phase.TheVariants as phases
 use Rattle.nbd_session.specs.Requests.{AnswersAsked, asked_of, data_length, is_disconnect}
 use Rattle.nbd_session.specs.Session.{AnswersMessage, Session, answer_bytes, export_of, option_answer, phase_after, session}
-use Rattle.nbd_session.specs.Store.{StoreView}
+use Rattle.nbd_session.specs.Store.{Rests, StoreView}
 use Rattle.nbd_session.specs.Streams.{Drops, Streams, streams}
 use Rattle.nbd_session.specs.Turns.{AnswersOne, IsCutMessage, Replies, RepliesInPart, ReplyStops, StopsSession, TurnGives}
 
@@ -36,6 +36,7 @@ stops-so : (fault : SessionFault) (bytes : Streams) (count : ℕ) (A B : List �
     → ReplyStops fault bytes count A P → ReplyStops fault bytes count B Q
 stops-so Input bytes count A B P Q so nothing r = (r.0, r.1, nothing r.2)
 stops-so Magic bytes count A B P Q so nothing r = r
+stops-so Unsent bytes count A B P Q so nothing r = r
 stops-so TooMany bytes count A B P Q so nothing r = r
 stops-so Output bytes count A B P Q so nothing r = record {
   after = r.after;
@@ -72,6 +73,7 @@ stopped Input input middle rest written contents head count A P old phase new fi
   new_is = nothing r.2;
 }
 stopped Magic input middle rest written contents head count A P old phase new first nothing cut so r = absurd r
+stopped Unsent input middle rest written contents head count A P old phase new first nothing cut so r = absurd r
 stopped TooMany input middle rest written contents head count A P old phase new first nothing cut so r = absurd r
 stopped Output input middle rest written contents head count A P old phase new first nothing cut so r = record {
   message = head ++ r.after;
@@ -124,35 +126,50 @@ dropped-front input rest written contents n count reply wanted dropped same is s
 
 -- ---- a request that is no DISC
 
-request-answered : (old new : StoreView) (request : Request) (head : List ℕ) → (head ≡ request_bytes request) × FitsRequest request → is_disconnect request ≡ false
-    → (after reply : List ℕ) → length after ≡ data_length request → AnswersAsked old request (asked_of old.disk.drive.geometry.block request) after reply new
+request-answered : (old answered new : StoreView) (request : Request) (head : List ℕ) → (head ≡ request_bytes request) × FitsRequest request → is_disconnect request ≡ false → Rests answered new
+    → (after reply : List ℕ) → length after ≡ data_length request → AnswersAsked old request (asked_of old.disk.drive.geometry.block request) after reply answered
     → AnswersMessage (session phases.Transmission old) (head ++ after) reply (session phases.Transmission new)
-request-answered old new request head is goes_on after reply count a = record {
+request-answered old answered new request head is goes_on rests after reply count a = record {
   request = request;
   fits = is.1;
   bytes = after;
   message_is = ap (λ (h : List ℕ). h ++ after) is.0;
   length_is = count;
-  answer = rw goes_on (refl, a);
+  answer = rw goes_on (refl, record { answered = answered; answers = a; rests = rests });
 }
 
 request-cut : (request : Request) (head : List ℕ) → (head ≡ request_bytes request) × FitsRequest request → (front : List ℕ) → length front < data_length request → IsCutMessage phases.Transmission (head ++ front)
 request-cut request head is front fewer =
     inr (record { request = request; fits = is.1; front = front; bytes_are = ap (λ (h : List ℕ). h ++ front) is.0; fewer = fewer })
 
-pub request-exchanged : (input middle rest written contents : Option (List ℕ)) (old new : StoreView) (request : Request) (head : List ℕ) → Consumes input middle head → (head ≡ request_bytes request) × FitsRequest request → is_disconnect request ≡ false
-    → Replies (streams middle rest written contents) (data_length request) (λ after reply. AnswersAsked old request (asked_of old.disk.drive.geometry.block request) after reply new)
+-- a request is answered, its reply is written, and the store rests
+pub request-exchanged : (input middle rest written between contents : Option (List ℕ)) (old answered new : StoreView) (request : Request) (head : List ℕ) → Consumes input middle head
+    → (head ≡ request_bytes request) × FitsRequest request → is_disconnect request ≡ false → Rests answered new → Keeps between contents
+    → Replies (streams middle rest written between) (data_length request) (λ after reply. AnswersAsked old request (asked_of old.disk.drive.geometry.block request) after reply answered)
     → AnswersOne (streams input rest written contents) (session phases.Transmission old) (session phases.Transmission new)
-request-exchanged input middle rest written contents old new request head first is goes_on r =
-    exchanged input middle rest written contents head (data_length request) (λ after reply. AnswersAsked old request (asked_of old.disk.drive.geometry.block request) after reply new) (session phases.Transmission old) (session phases.Transmission new)
-    first (request-answered old new request head is goes_on) r
+request-exchanged input middle rest written between contents old answered new request head first is goes_on rests kept r = record {
+  message = head ++ r.after;
+  reply = r.reply;
+  read = Consumes-trans input middle rest head r.after first r.read;
+  written = Appends-kept written between contents r.reply r.written kept;
+  answers = request-answered old answered new request head is goes_on rests r.after r.reply r.count_is r.answer;
+}
 
 pub request-stopped : (fault : SessionFault) (input middle rest written contents : Option (List ℕ)) (old new : StoreView) (request : Request) (head : List ℕ) → Consumes input middle head → (head ≡ request_bytes request) × FitsRequest request → is_disconnect request ≡ false
     → ReplyStops fault (streams middle rest written contents) (data_length request) (λ after reply. AnswersAsked old request (asked_of old.disk.drive.geometry.block request) after reply new) (new ≡ old)
     → StopsSession fault (streams input rest written contents) (session phases.Transmission old) new
 request-stopped fault input middle rest written contents old new request head first is goes_on r =
     stopped fault input middle rest written contents head (data_length request) (λ after reply. AnswersAsked old request (asked_of old.disk.drive.geometry.block request) after reply new) (new ≡ old) (session phases.Transmission old) phases.Transmission new
-    first (λ same. same) (request-cut request head is) (request-answered old new request head is goes_on) r
+    first (λ same. same) (request-cut request head is) (request-answered old new new request head is goes_on (inl refl)) r
+
+-- a reply was written, and is not passed on
+pub request-unsent : (fault : SessionFault) (bytes : Streams) (old new : StoreView) → fault ≡ Unsent
+    → AnswersOne bytes (session phases.Transmission old) (session phases.Transmission new) → StopsSession fault bytes (session phases.Transmission old) new
+request-unsent Unsent bytes old new is a = record { phase = phases.Transmission; answers = a }
+request-unsent Input bytes old new is a = absurd (cc is)
+request-unsent Magic bytes old new is a = absurd (cc is)
+request-unsent Output bytes old new is a = absurd (cc is)
+request-unsent TooMany bytes old new is a = absurd (cc is)
 
 -- a fault is handed on
 pub turn-stops : (bytes : Streams) (old : Session) (r : Result (Option Phase) SessionFault) (fault : SessionFault) (new : StoreView) → IsErrAnd r (λ e. e ≡ fault)

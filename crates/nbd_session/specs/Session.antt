@@ -18,7 +18,7 @@ use Rattle.nbd_session.specs.declared.option_answer.OptionAnswer.TheVariants.{Sh
 use Rattle.nbd_session.specs.declared.phase.Phase.{Phase}
 use Rattle.nbd_session.specs.declared.phase.Phase.TheVariants as phases
 use Rattle.nbd_session.specs.Requests.{AnswersAsked, asked_of, data_length, is_disconnect}
-use Rattle.nbd_session.specs.Store.{StoreView}
+use Rattle.nbd_session.specs.Store.{Rests, StoreView}
 use Rattle.nbd_session.specs.Streams.{Streams}
 
 pub record Session : Type 0 where
@@ -74,11 +74,17 @@ pub record ServesOption (old : StoreView) (no_zeroes : Bool) (message reply : Li
 
 -- ---- requests
 
+-- a request is answered, and then the store rests
+pub record AnswersAndRests (old : StoreView) (request : Request) (bytes reply : List ℕ) (new : StoreView) : Type 0 where
+  pub answered : StoreView
+  pub answers : AnswersAsked old request (asked_of old.disk.drive.geometry.block request) bytes reply answered
+  pub rests : Rests answered new
+
 -- a DISC has no reply, and ends the session
 abbrev pub AnswersBy : StoreView → Bool → Request → List ℕ → List ℕ → Session → Type 0
 AnswersBy old true request bytes reply new = (reply ≡ []) × (new ≡ session phases.Ended old)
 AnswersBy old false request bytes reply new =
-    (new.phase ≡ phases.Transmission) × AnswersAsked old request (asked_of old.disk.drive.geometry.block request) bytes reply new.store
+    (new.phase ≡ phases.Transmission) × AnswersAndRests old request bytes reply new.store
 
 -- a message is the head of a request and its data
 pub record ServesRequest (old : StoreView) (message reply : List ℕ) (new : Session) : Type 0 where

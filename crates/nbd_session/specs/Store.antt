@@ -1,7 +1,7 @@
 -- A disk that is served, and what of it a loss of power leaves.
 use Rattle.std.specs.Prelude.{◌≡◌, ◌⊎◌, ℕ, List, Contains, Some, None, Result, Ok, Err, IfErr}
 use Rattle.std.specs.List.{concat}
-use Rattle.zone_translator.specs.Flat.{Answer, Call, FlatCall, FlatDisk, IsFront, answer_while, read, write}
+use Rattle.zone_translator.specs.Flat.{Answer, Call, FlatCall, FlatDisk, IsFront, answer_while, idle, read, with_nothing, write}
 use Rattle.zone_translator.specs.View.{DiskCause, DiskView, KeepsDisk, disk_array, flat_of}
 use Rattle.zone_translator.specs.declared.fault.DiskFault.{DiskFault}
 use Rattle.nbd_session.specs.declared.fault.StoreFault.{StoreFault}
@@ -40,3 +40,7 @@ Syncs old (Ok done) new =
 Syncs old (Err (Disk fault)) new = (answer_while old.disk.status ≡ Some (Err fault)) × (new ≡ old)
 Syncs old (Err Medium) new =
     (answer_while old.disk.status ≡ None) × (new.disk ≡ old.disk) × ((array : List (List ℕ)) → Contains new.since array → Contains old.since array)
+
+-- What is done between two requests: a turn of cleaning is taken, or nothing is done.
+abbrev pub Rests : StoreView → StoreView → Type 0
+Rests old new = (new ≡ old) ⊎ ((result : Result (Unit {0}) DiskFault) × Calls old idle (with_nothing result) new)

@@ -8,7 +8,7 @@ use Rattle.nbd_wire.specs.declared.client_flags.ClientFlags.{ClientFlags}
 use Rattle.nbd_wire.specs.declared.option_head.OptionHead.{OptionHead}
 use Rattle.nbd_wire.specs.declared.request.Request.{Request}
 use Rattle.nbd_session.specs.declared.fault.SessionFault.{SessionFault}
-use Rattle.nbd_session.specs.declared.fault.SessionFault.TheVariants.{Input, Magic, Output, TooMany}
+use Rattle.nbd_session.specs.declared.fault.SessionFault.TheVariants.{Input, Magic, Output, TooMany, Unsent}
 use Rattle.nbd_session.specs.declared.phase.Phase.{Phase}
 use Rattle.nbd_session.specs.declared.phase.Phase.TheVariants as phases
 use Rattle.nbd_session.specs.Requests.{data_length}
@@ -85,11 +85,18 @@ pub record Breaks (bytes : Streams) (old : Session) (new : StoreView) : Type 0 w
   pub written : AppendsFront bytes.written bytes.contents reply
   pub answers : AnswersMessage old message reply (session phase new)
 
--- Why a session stops at a message: the reader failed or ended before all of it was read, its head is foreign, or the writer failed in the reply.
+-- a message is answered, and its reply is written
+pub record AnswersUnsent (bytes : Streams) (old : Session) (new : StoreView) : Type 0 where
+  pub phase : Phase
+  pub answers : AnswersOne bytes old (session phase new)
+
+-- Why a session stops at a message: the reader failed or ended before all of it was read, its head is foreign, or the writer failed in the reply
+-- or did not pass it on.
 abbrev pub StopsSession : SessionFault → Streams → Session → StoreView → Type 0
 StopsSession Input bytes old new = ReadsOnly bytes (IsCutMessage old.phase) old new
 StopsSession Magic bytes old new = ReadsOnly bytes (IsForeign old.phase) old new
 StopsSession Output bytes old new = Breaks bytes old new
+StopsSession Unsent bytes old new = AnswersUnsent bytes old new
 StopsSession TooMany bytes old new = ⊥
 
 -- what came of one message: a session goes on in a phase, is over, or stops
@@ -123,6 +130,7 @@ abbrev pub ReplyStops : SessionFault → Streams → ℕ → (List ℕ → List 
 ReplyStops Input bytes count Answer Nothing = DropsFewer bytes.input bytes.rest count × Keeps bytes.written bytes.contents × Nothing
 ReplyStops Magic bytes count Answer Nothing = ⊥
 ReplyStops Output bytes count Answer Nothing = RepliesInPart bytes count Answer
+ReplyStops Unsent bytes count Answer Nothing = ⊥
 ReplyStops TooMany bytes count Answer Nothing = ⊥
 
 -- ---- a session

@@ -16,6 +16,9 @@ pub enum SessionFault {
     /// The output failed. The last message was done, and of its reply a beginning is written.
     #[error("the output failed")]
     Output,
+    /// The output failed to pass on a reply that was written. All messages were done.
+    #[error("the output did not pass on a reply")]
+    Unsent,
     /// 2^64 - 1 messages were answered.
     #[error("too many messages came")]
     TooMany,

@@ -17,14 +17,17 @@
 //!   is refused has its error, also one that is not aligned or past the end.
 //! - A FLUSH, and a write with FUA, is answered by success only after a sync. Then a loss of power leaves the array as
 //!   it is (`laws::forced_is_durable`). Until the next sync it leaves an array that the disk had since.
+//! - Between requests a store may clean ([`ServedDisk::cleaning`]). That changes no block.
 //! - After the drive has stopped each request that needs it is answered by `ESHUTDOWN`, and the session goes on.
 //! - After a fault all messages before are answered. Of the next one nothing is done, unless only its reply was cut.
+//! - Replies are passed on before the next request is waited for.
 //! - Whatever comes, the drive can be mounted again, and no command was refused.
 //!
 //! The bytes are promised where reader and writer say by contract which bytes they have left and hold.
 #![tactic(auto)]
 
 mod asked;
+mod client;
 mod fault;
 pub mod laws;
 mod option_answer;
@@ -38,6 +41,7 @@ mod serving;
 mod store;
 
 pub use asked::{Asked, MOST_BYTES};
+pub use client::Client;
 pub use fault::{MediumFault, SessionFault, StoreFault};
 pub use option_answer::OptionAnswer;
 pub use phase::Phase;

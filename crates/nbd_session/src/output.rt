@@ -5,19 +5,18 @@ ghost use Rattle.disk_files.specs.Output.{AppendsFront};
 use disk_files::{WriteFault, write_out};
 use std::io::Write;
 
-/// Writes the head of a reply and its data, and lets the writer pass them on. If that alone fails the reply is written,
-/// and the fault comes from the next write.
+/// Writes the head of a reply and its data.
 pub fn send_both<W: Write>(writer: &mut W, head: &[u8], bytes: &[u8]) -> Result<(), WriteFault>
     ensures ok { OnOk result (Appends (W.contents writer.old) (W.contents writer.new) (head.now ++ bytes.now)) }
     ensures err { OnErr result (AppendsFront (W.contents writer.old) (W.contents writer.new) (head.now ++ bytes.now)) }
 {
     write_out(writer, head)?;
     write_out(writer, bytes)?;
-    let _ = writer.flush();
     Ok(())
 }
 
-/// Writes a reply without data, as [`send_both`] does.
+/// Writes a reply without data, and lets the writer pass it on. If that alone fails the reply is written, and the fault
+/// comes from the next write.
 pub fn send<W: Write>(writer: &mut W, bytes: &[u8]) -> Result<(), WriteFault>
     ensures ok { OnOk result (Appends (W.contents writer.old) (W.contents writer.new) bytes.now) }
     ensures err { OnErr result (AppendsFront (W.contents writer.old) (W.contents writer.new) bytes.now) }

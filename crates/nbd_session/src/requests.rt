@@ -1,11 +1,14 @@
 ghost use Rattle.std.specs.Prelude.{◌≡◌, [], IfErr, OnOk, Ok, ⊤};
+ghost use Rattle.std.specs.Io.KnownBytes.{Keeps};
 ghost use Rattle.nbd_wire.specs.Transmission.{simple_reply_bytes};
 ghost use Rattle.nbd_session.specs.Requests.{AnswersAsked, Carries, DoesOrNot, Forces, asked_of, data_length};
 ghost use Rattle.nbd_session.specs.Session.{session};
+ghost use Rattle.nbd_session.specs.Store.{Rests};
 ghost use Rattle.nbd_session.specs.Streams.{streams};
 ghost use Rattle.nbd_session.specs.Turns.{Replies, ReplyStops, TurnGives};
 
 use crate::asked::{Asked, data_length, is_disconnect};
+use crate::client::Client;
 use crate::fault::{SessionFault, StoreFault};
 use crate::output::{send, send_both};
 use crate::phase::Phase;
@@ -174,8 +177,25 @@ fn answer_rest<R: Read, W: Write, S: Store>(
     }
 }
 
+/// Passes replies on, unless the next request has come whole, and then lets the store rest.
+fn pass_on<R: Client, W: Write, S: Store>(
+    reader: &R,
+    writer: &mut W,
+    store: &mut S,
+) -> Result<(), SessionFault>
+    ensures written { Keeps (W.contents writer.old) (W.contents writer.new) }
+    ensures rests { Rests (S.view store.old) (S.view store.new) }
+    ensures err { IfErr result (λ fault. (fault ≡ SessionFault.Unsent) × (S.view store.new ≡ S.view store.old)) }
+{
+    if !reader.has_request() && writer.flush().is_err() {
+        return Err(SessionFault::Unsent);
+    }
+    store.rest();
+    Ok(())
+}
+
 /// Reads a request, and answers it.
-pub fn answer_request<R: Read, W: Write, S: Store>(
+pub fn answer_request<R: Client, W: Write, S: Store>(
     reader: &mut R,
     writer: &mut W,
     store: &mut S,
@@ -196,5 +216,6 @@ pub fn answer_request<R: Read, W: Write, S: Store>(
         return Ok(Some(Phase::Ended));
     }
     answer_rest(reader, writer, store, buffers, &request)?;
+    pass_on(reader, writer, store)?;
     Ok(Some(Phase::Transmission))
 }

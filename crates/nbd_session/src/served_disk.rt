@@ -28,6 +28,8 @@ impl Medium for WriteThrough {
 pub struct ServedDisk<D: Device + Drop, M: Medium + Drop> {
     disk: Disk<D>,
     medium: M,
+    /// Whether a turn of cleaning is taken after each request.
+    cleans: bool,
 }
 
 impl<D: Device + Drop, M: Medium + Drop> Model for ServedDisk<D, M> {
@@ -43,7 +45,30 @@ impl<D: Device + Drop, M: Medium + Drop> ServedDisk<D, M> {
     pub fn new(disk: Disk<D>, medium: M) -> ServedDisk<D, M>
         ensures { result ≡ disk }
     {
-        ServedDisk { disk, medium }
+        ServedDisk {
+            disk,
+            medium,
+            cleans: false,
+        }
+    }
+
+    /// The same, and after each request that is answered a turn of cleaning is taken, if one is due. So more is moved,
+    /// and fewer writes wait for a clean.
+    pub fn cleaning(disk: Disk<D>, medium: M) -> ServedDisk<D, M>
+        ensures { result ≡ disk }
+    {
+        ServedDisk {
+            disk,
+            medium,
+            cleans: true,
+        }
+    }
+
+    /// The disk, to be looked at.
+    pub fn disk(&self) -> &Disk<D>
+        ensures { result.now ≡ self.now }
+    {
+        &self.disk
     }
 
     /// The disk and the medium, as they are.
@@ -98,6 +123,12 @@ impl<D: Device + Drop, M: Medium + Drop> Store for ServedDisk<D, M> {
         match self.medium.sync() {
             Ok(()) => Ok(()),
             Err(MediumFault) => Err(StoreFault::Medium),
+        }
+    }
+
+    fn rest(&mut self) {
+        if self.cleans {
+            let _ = self.disk.idle();
         }
     }
 }

@@ -3,16 +3,17 @@ ghost use Rattle.nbd_session.specs.Session.{session};
 ghost use Rattle.nbd_session.specs.Streams.{streams};
 ghost use Rattle.nbd_session.specs.Turns.{Serves, TurnGives};
 
+use crate::client::Client;
 use crate::fault::SessionFault;
 use crate::options::{answer_option, greet, take_flags};
 use crate::phase::Phase;
 use crate::requests::{Buffers, answer_request};
 use crate::store::Store;
 use std::alloc::Global;
-use std::io::{Read, Write};
+use std::io::Write;
 
 /// Reads a message, and answers it: the phase that follows, or none where the session is over.
-fn take_turn<R: Read, W: Write, S: Store>(
+fn take_turn<R: Client, W: Write, S: Store>(
     reader: &mut R,
     writer: &mut W,
     store: &mut S,
@@ -36,7 +37,7 @@ fn take_turn<R: Read, W: Write, S: Store>(
 ///
 /// A session ends with `Ok` where the client has said so, or has gone between two messages. After a fault all messages
 /// before are answered and, where the writer failed, the last one is done and a beginning of its reply written.
-pub fn serve<R: Read, W: Write, S: Store>(
+pub fn serve<R: Client, W: Write, S: Store>(
     alloc: Global,
     reader: &mut R,
     writer: &mut W,

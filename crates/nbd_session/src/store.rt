@@ -2,7 +2,7 @@ ghost use Rattle.std.specs.Prelude.{◌≡◌, ◌*◌, ◌<◌, ◌^◌};
 ghost use Rattle.zone_translator.specs.Answers.{AreBlocksOf, write_bytes};
 ghost use Rattle.zone_translator.specs.Flat.{trim, with_nothing};
 ghost use Rattle.zone_translator.specs.View.{disk_size};
-ghost use Rattle.nbd_session.specs.Store.{Calls, Shows, StoreView, Syncs};
+ghost use Rattle.nbd_session.specs.Store.{Calls, Rests, Shows, StoreView, Syncs};
 
 use crate::fault::StoreFault;
 use zone_translator::DiskFault;
@@ -45,4 +45,8 @@ pub trait Store {
     /// Makes the array durable: after a loss of power it is found again.
     fn sync(&mut self) -> Result<(), StoreFault>
         ensures { Syncs (view self.old) result (view self.new) };
+
+    /// What a store does once a request is answered, while its client does not wait. The array stays.
+    fn rest(&mut self)
+        ensures { Rests (view self.old) (view self.new) };
 }

@@ -61,18 +61,21 @@ usage-full capacity (suc size) is = at (eqb (suc size) capacity) refl is
 made-some : (made : List Batch) → 1 ≤ log_size made → made ≢ []
 made-some made some none = absurd (let zero_size : log_size made ≡ 0 = rw none refl in omega (arith, some, zero_size))
 
-pub beside-repaired : (n : ℕ) (old one start new : DriveState) (survey : Survey) (source : Source) (plan : MovePlan) (torn into : ℕ) → IsPrepared n start survey torn into → plan.torn ≡ torn → plan.into ≡ into → KeepsMountable n old one → SettlesOthers old one torn → KeepsShut one start
-    → CanRepairBy start.geometry n (drive_logs start) source plan → EmptiesTorn n start new plan (moves_before source plan (move_count plan)) → RepairsBeside old new torn
-beside-repaired n old one start new survey source plan torn into p torn_is into_is kept settles shut can e = subst (RepairsBeside old new) torn_is (record {
-  into = plan.into;
-  vacant = rw (into_is, ← logs) vacant;
-  others = others;
-  still = still;
-  some = λ none. made-some made e.some (sym has ∙ none);
-  few = rw (has, ← geometry) (are-moves start.geometry n (drive_logs start) source plan (omega (arith, can.most, positive-most start.geometry e.range)) can).few;
-  filled = λ is. ap (λ (c : Content). length c.blocks) there ∙ e.written ∙ usage-full start.geometry.capacity (log_size made) (sym e.usage ∙ ap (λ (c : Content). c.usage) (sym there) ∙ is) ∙ ap (λ (g : Geometry). g.capacity) geometry;
-  opens = λ zone ne h. e.opens zone ne (shut.opens zone (settles.opens zone h));
-})
+pub beside-into : (n : ℕ) (old one start new : DriveState) (survey : Survey) (source : Source) (plan : MovePlan) (torn into : ℕ) → IsPrepared n start survey torn into → plan.torn ≡ torn → plan.into ≡ into → KeepsMountable n old one → SettlesOthers old one torn → KeepsShut one start
+    → CanRepairBy start.geometry n (drive_logs start) source plan → EmptiesTorn n start new plan (moves_before source plan (move_count plan)) → (b : RepairsBeside old new torn) × (b.into ≡ plan.into)
+beside-into n old one start new survey source plan torn into p torn_is into_is kept settles shut can e = subst (λ (t : ℕ). (b : RepairsBeside old new t) × (b.into ≡ plan.into)) torn_is (
+  record {
+    into = plan.into;
+    vacant = rw (into_is, ← logs) vacant;
+    others = others;
+    still = still;
+    some = λ none. made-some made e.some (sym has ∙ none);
+    few = rw (has, ← geometry) (are-moves start.geometry n (drive_logs start) source plan (omega (arith, can.most, positive-most start.geometry e.range)) can).few;
+    filled = λ is. ap (λ (c : Content). length c.blocks) there ∙ e.written ∙ usage-full start.geometry.capacity (log_size made) (sym e.usage ∙ ap (λ (c : Content). c.usage) (sym there) ∙ is) ∙ ap (λ (g : Geometry). g.capacity) geometry;
+    opens = λ zone ne h. e.opens zone ne (shut.opens zone (settles.opens zone h));
+  },
+  refl,
+)
   where
     made : List Batch
     made = moves_before source plan (move_count plan)
@@ -124,6 +127,10 @@ beside-repaired n old one start new survey source plan torn into p torn_is into_
         put (l ∷ ls) zero (suc k) is = is
         put (l ∷ ls) (suc i) zero is = is
         put (l ∷ ls) (suc i) (suc k) is = put ls i k is
+
+pub beside-repaired : (n : ℕ) (old one start new : DriveState) (survey : Survey) (source : Source) (plan : MovePlan) (torn into : ℕ) → IsPrepared n start survey torn into → plan.torn ≡ torn → plan.into ≡ into → KeepsMountable n old one → SettlesOthers old one torn → KeepsShut one start
+    → CanRepairBy start.geometry n (drive_logs start) source plan → EmptiesTorn n start new plan (moves_before source plan (move_count plan)) → RepairsBeside old new torn
+beside-repaired n old one start new survey source plan torn into p torn_is into_is kept settles shut can e = (beside-into n old one start new survey source plan torn into p torn_is into_is kept settles shut can e).0
 
 -- ---- all steps
 

@@ -28,3 +28,4 @@ pub mod LiveLaws
 pub mod PlannedLaws
 pub mod StepLaws
 pub mod BesideLaws
+pub mod NotedLaws

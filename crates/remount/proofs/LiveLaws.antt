@@ -11,20 +11,19 @@ use Rattle.std.proofs.Math.ListN.{get_or-map}
 use Rattle.drive_port.specs.Contents.{content_at, content_of, contents, nothing}
 use Rattle.drive_port.specs.Drive.{DriveState}
 use Rattle.nvme_wire.specs.declared.zone_state.ZoneState.TheVariants as states
-use Rattle.batch_log.specs.declared.header.Entry.{Entry}
-use Rattle.batch_log.specs.Log.{Batch, batch_blocks, batch_size, data_count, log_size, one_unless, zero_block}
+use Rattle.batch_log.specs.Log.{Batch, batch_blocks, log_size, zero_block}
 use Rattle.batch_log.proofs.LogLaws.{spelled_length}
 use Rattle.logical_map.specs.Live.{blocks_in, lies_in}
 use Rattle.logical_map.specs.declared.place.Place.{Place}
 use Rattle.logical_map.specs.declared.place.Place.TheVariants as places
 use Rattle.drive_array.specs.ZoneLogs.{HasLog, drive_logs, log_at, readable, zone_log}
-use Rattle.drive_array.specs.Records.{IsNewest, Record, batch_records, entry_offset, entry_records, log_records, newest, place, records}
+use Rattle.drive_array.specs.Records.{IsNewest, Record, newest, place, records}
 use Rattle.drive_array.specs.Repair.{is_any, is_data, kept_in, live_records, live_data}
 use Rattle.drive_array.specs.Repairing.{LiesIn}
 use Rattle.drive_array.specs.Sizes.{encoded_size, map_of}
-use Rattle.drive_array.proofs.AllLaws.{all-append, all-at, all-weaker}
+use Rattle.drive_array.proofs.AllLaws.{all-at, all-weaker}
 use Rattle.drive_array.proofs.NewestLaws.{all-among, newest-is}
-use Rattle.drive_array.proofs.OffsetLaws.{log-below, records-below}
+use Rattle.drive_array.proofs.OffsetLaws.{records-below}
 use Rattle.zone_choice.proofs.ReadLaws.{StandsOn, records_stand}
 use Rattle.drive_survey.specs.declared.reported.ReportedZone.{ReportedZone}
 use Rattle.drive_survey.specs.declared.survey.Survey.{Survey}

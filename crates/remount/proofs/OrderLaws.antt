@@ -1,5 +1,5 @@
 -- What the headers of a cleared drive tell of the Moves to be made.
-use Rattle.std.proofs.Common.{◌≡◌, ℕ, ◌<◌, true, false, List, [], ◌∷◌, ◌++◌, length, map, get_or, refl, sym, ap, ◌∙◌, arith}
+use Rattle.std.proofs.Common.{◌≡◌, ℕ, ◌<◌, true, false, List, [], ◌∷◌, length, map, get_or, refl, sym, ap, ◌∙◌, arith}
 use Rattle.std.specs.List.{AllByRecursion}
 use Rattle.std.proofs.lemmas.Bool.{eq-eqb}
 use Rattle.std.proofs.lemmas.List.{get_or_default, length-map}
@@ -9,7 +9,6 @@ use Rattle.drive_port.specs.Drive.{DriveState}
 use Rattle.drive_array.specs.Repairing.{IsMoved}
 use Rattle.drive_array.specs.Spare.{IsMoveFrom}
 use Rattle.drive_array.specs.ZoneLogs.{log_at}
-use Rattle.drive_survey.specs.declared.heads.Head.{Head}
 use Rattle.drive_survey.specs.declared.scan.ScannedZone.{ScannedZone}
 use Rattle.drive_survey.specs.Heads.{HeadsView, heads_after, heads_of, no_heads, source_with, with_heading}
 use Rattle.drive_survey.specs.declared.survey.Survey.{Survey}

@@ -5,7 +5,6 @@ use Rattle.std.proofs.lemmas.Bool.{cases_lt}
 use Rattle.std.proofs.lemmas.List.{drop_all, get_or_past, length-append, length-map}
 use Rattle.nvme_wire.specs.declared.zone_state.ZoneState.TheVariants.{Empty}
 use Rattle.zone_states.specs.declared.geometry.Geometry.{Geometry}
-use Rattle.batch_log.specs.declared.header.Entry.{Entry}
 use Rattle.batch_log.specs.Log.{Batch, IsBatch, batch_blocks, log_size}
 use Rattle.batch_log.proofs.LogLaws.{spelled_length}
 use Rattle.logical_map.specs.declared.place.Place.{Place}
@@ -13,10 +12,9 @@ use Rattle.logical_map.specs.declared.place.Place.TheVariants as places
 use Rattle.drive_port.specs.Contents.{content_at, content_of, contents, nothing}
 use Rattle.drive_port.specs.Drive.{DriveState}
 use Rattle.drive_array.specs.ZoneLogs.{HasLog, drive_logs, log_at, readable, zone_log}
-use Rattle.drive_array.specs.Mountable.{IsInside}
 use Rattle.drive_array.specs.Records.{records}
 use Rattle.drive_array.specs.Sizes.{encoded_size, map_of}
-use Rattle.drive_array.proofs.AllLaws.{all-at, all-weaker}
+use Rattle.drive_array.proofs.AllLaws.{all-at}
 use Rattle.drive_array.proofs.SizeLaws.{inside-records, inside-more}
 use Rattle.drive_array.proofs.ZoneLogLaws.{log_at-zone}
 use Rattle.drive_survey.specs.declared.reported.ReportedZone.{ReportedZone}

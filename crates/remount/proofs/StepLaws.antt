@@ -17,6 +17,8 @@ use Rattle.drive_array.specs.Repair.{CanRepair, IsTornAt}
 use Rattle.drive_array.specs.Reserve.{FitsReserve}
 use Rattle.drive_array.specs.Sizes.{encoded_size}
 use Rattle.drive_array.specs.Spare.{HasSpare, IsClearing, IsHalfClean, IsVacant, NoneBelow, cleared}
+use Rattle.zone_choice.specs.declared.roles.Filling.{Filling}
+use Rattle.zone_choice.specs.Roles.{fillings}
 use Rattle.zone_choice.specs.Tables.{TablesView}
 use Rattle.drive_survey.specs.declared.fault.MountFault.{MountFault}
 use Rattle.drive_survey.specs.declared.fault.MountFault.TheVariants as faults
@@ -25,9 +27,9 @@ use Rattle.drive_survey.specs.declared.reported.ReportedZone.{ReportedZone}
 use Rattle.remount.specs.declared.plan.Plan.{Plan}
 use Rattle.drive_survey.specs.declared.survey.Survey.{Survey}
 use Rattle.drive_survey.specs.Heads.{HeadsView, greatest_sequence, heads_of, sequences_in}
-use Rattle.remount.specs.Kept.{AreVacantEmpty, KeepsMountable}
+use Rattle.remount.specs.Kept.{AreVacantEmpty, IsNotedOpen, KeepsMountable}
 use Rattle.drive_survey.specs.Known.{HasVacant, Knows}
-use Rattle.remount.specs.Mount.{AreMountedRoles, AreToEmpty, AreWhole, CannotRepair, IsCleared, IsPlan, IsPlanned, IsRepaired, IsToMount, IsUntorn, FinishesByNeed, KeepsOthers, LeavesCleared, LeavesPlanned, LeavesRepaired, MountFails, Mounts, NoneIsTorn, PlanFails, Plans}
+use Rattle.remount.specs.Mount.{AreMountedRoles, AreToEmpty, AreWhole, CannotRepair, IsCleared, IsPlan, IsPlanned, IsRepaired, IsToMount, IsUntorn, FinishesByNeed, KeepsOthers, LeavesCleared, LeavesPlanned, LeavesRepaired, MountFails, Mounts, NoneIsTorn, PlanFails, Plans, WasOpenOrTook}
 use Rattle.drive_survey.specs.Reported.{KeepsZones}
 use Rattle.remount.specs.Resets.{CanBeFilled, KeepsGoing, KeepsWritten}
 use Rattle.drive_survey.specs.Scan.{FailsBy, heads_in}
@@ -383,6 +385,11 @@ below-next next (x ∷ xs) lt = (omega (arith, lt), below-next next xs (omega (a
 -- ---- mounted
 
 -- what a mount has come by before it makes its tables
+-- zones that are noted as open make fillings that may be open
+abbrev pub OpenByNeed : DriveState → List ℕ → DriveState → Survey → Type 0
+OpenByNeed old resets new survey =
+    (fs : List Filling) → AllByRecursion (λ (f : Filling). f.may_open ≡ true → IsNotedOpen survey.zones.items f.zone) fs → AllByRecursion (WasOpenOrTook old resets new) fs
+
 pub record Repaired (old new : DriveState) (n : ℕ) (survey : Survey) : Type 0 where
   pub can : IsToMount old n
   pub resets : List ℕ
@@ -392,6 +399,7 @@ pub record Repaired (old new : DriveState) (n : ℕ) (survey : Survey) : Type 0 
   pub known : Knows new n (drive_logs new) survey
   pub repaired : IsRepaired new n survey
   pub zones : FinishesByNeed old resets new
+  pub opened : OpenByNeed old resets new survey
 
 pub to-mount : (old middle third : DriveState) (n : ℕ) (first second : Survey) (plan : Plan) → IsLawful old → KeepsZones old middle → Surveys old middle n first → KeepsZones middle third → IsPlanned third n second plan → IsToMount old n
 to-mount old middle third n first second plan lawful k is k' planned =
@@ -400,8 +408,8 @@ to-mount old middle third n first second plan lawful k is k' planned =
 
 pub repairs : (old middle third new : DriveState) (n : ℕ) (first second last : Survey) (plan : Plan) → IsLawful old → KeepsZones old middle → Surveys old middle n first → KeepsZones middle third → IsPlanned third n second plan
     → KeepsMountable n third new → Knows new n (drive_logs new) last → IsRepaired new n last → LeavesCleared n third plan.half_clean.items new
-    → FinishesByNeed old plan.half_clean.items new → Repaired old new n last
-repairs old middle third new n first second last plan lawful k is k' planned kept known repaired left zones =
+    → FinishesByNeed old plan.half_clean.items new → OpenByNeed old plan.half_clean.items new last → Repaired old new n last
+repairs old middle third new n first second last plan lawful k is k' planned kept known repaired left zones opened =
     let both = keeps-both old middle third k k' in
     record {
       can = to-mount old middle third n first second plan lawful k is k' planned;
@@ -412,6 +420,7 @@ repairs old middle third new n first second last plan lawful k is k' planned kep
       known = known;
       repaired = repaired;
       zones = zones;
+      opened = opened;
     }
 
 -- the next sequence
@@ -431,11 +440,12 @@ next-is old new n before now next first last is heads was are e =
     record { is = same; above = below-next next (sequences (drive_logs new)) (omega (arith, same)); small = omega (arith, same, a', b') }
 
 pub mounts : (old new : DriveState) (n : ℕ) (survey : Survey) (tables : TablesView) → Repaired old new n survey → IsNextSequence old new tables.next → tables.given ≡ n → Agrees (mounted new tables) → AreMountedRoles new.geometry.capacity (contents new.zones) tables.roles
-    → Mounts old new n tables
-mounts old new n survey tables is next given agrees roles = record {
+    → AllByRecursion (λ (f : Filling). f.may_open ≡ true → IsNotedOpen survey.zones.items f.zone) (fillings tables.roles) → Mounts old new n tables
+mounts old new n survey tables is next given agrees roles noted = record {
   can = is.can;
   leaves = record { resets = is.resets; clearing = is.clearing; left = is.left; zones = is.zones };
   agrees = agrees;
+  may_open = is.opened (fillings tables.roles) noted;
   roles = roles;
   given = given;
   array = is.kept.array is.can.mountable;

@@ -1,7 +1,6 @@
 -- A zone takes a batch, or a front of it.
-use Rattle.std.proofs.Common.{◌≡◌, ◌⊎◌, inl, inr, ℕ, zero, suc, ◌*◌, ◌/◌, ◌≤◌, List, length, take, drop, Ok, Err, refl, sym, ap, ◌∙◌, arith}
+use Rattle.std.proofs.Common.{◌≡◌, ◌⊎◌, inl, inr, ℕ, suc, ◌*◌, ◌/◌, ◌≤◌, List, length, take, drop, Ok, Err, refl, sym, ap, ◌∙◌, arith}
 use Rattle.std.proofs.lemmas.List.{take_all}
-use Rattle.zone_states.specs.Zone.{cut_blocks}
 use Rattle.zone_states.proofs.Cutting.{length-cut}
 use Rattle.drive_port.specs.Calls.{Appended, AppendedFront, AppendKeeps, AppendLeaves, CanAppend, IsNotRefused, IsWholeBlocks, Obeys, block_count}
 use Rattle.drive_port.specs.Contents.{SameContents}

@@ -1,10 +1,10 @@
 -- Which zone is torn, and whether it can be repaired.
-use Rattle.std.proofs.Common.{◌≡◌, ◌≢◌, inl, inr, ℕ, suc, ◌+◌, ◌*◌, ◌/◌, ◌<◌, ◌≤◌, ◌^◌, Bool, true, false, cond, eqb, not, ◌&&◌, List, [], ◌∷◌, ◌++◌, map, length, get_or, Option, Some, None, is_some, refl, sym, ap, subst, ◌∙◌, arith, append-nil, append_assoc}
+use Rattle.std.proofs.Common.{◌≡◌, ◌≢◌, inl, inr, ℕ, ◌+◌, ◌*◌, ◌/◌, ◌<◌, ◌≤◌, ◌^◌, Bool, true, false, cond, eqb, not, ◌&&◌, List, [], ◌∷◌, ◌++◌, map, length, get_or, Option, Some, None, is_some, refl, sym, ap, subst, ◌∙◌, arith, append-nil, append_assoc}
 use Rattle.std.specs.Prelude.{IfNone, IfSome, slice_get}
-use Rattle.std.specs.List.{AllByRecursion, count_by, flat_map, range_with_len}
+use Rattle.std.specs.List.{AllByRecursion, count_by, range_with_len}
 use Rattle.std.specs.Option.{option_map}
 use Rattle.std.proofs.lemmas.Bool.{cases_lt, eq-eqb, ne_eqb}
-use Rattle.std.proofs.lemmas.List.{get_or_past, length-append, length-map, map-append}
+use Rattle.std.proofs.lemmas.List.{get_or_past, length-map, map-append}
 use Rattle.std.proofs.lemmas.List.FromFn.{length-range_with_len}
 use Rattle.std.proofs.lemmas.List.Sums.{sum_by-cons}
 use Rattle.std.proofs.lemmas.Nat.{div-mul-add}
@@ -12,23 +12,19 @@ use Rattle.std.proofs.lemmas.Option.{get_or_from_slice_get, slice_get-get_or, sl
 use Rattle.std.proofs.Math.ListN.{get_or-map}
 use Rattle.zone_states.specs.declared.geometry.Geometry.{Geometry}
 use Rattle.zone_states.specs.Geometry.{IsInRange}
-use Rattle.drive_port.specs.Contents.{content_at, content_of, contents, nothing}
+use Rattle.drive_port.specs.Contents.{contents}
 use Rattle.drive_port.specs.Drive.{DriveState}
-use Rattle.batch_log.specs.declared.header.Entry.{Entry}
-use Rattle.batch_log.specs.Log.{Batch, batch_blocks, batch_size, data_count, log_size, one_unless}
-use Rattle.batch_log.proofs.LogLaws.{spelled_length}
+use Rattle.batch_log.specs.Log.{Batch, log_size}
 use Rattle.logical_map.specs.Live.{blocks_in, lies_in}
 use Rattle.logical_map.specs.declared.place.Place.{Place}
 use Rattle.logical_map.specs.declared.place.Place.TheVariants as places
-use Rattle.drive_array.specs.ZoneLogs.{HasLog, drive_logs, log_at, log_sequences, readable, sequences, zone_log, zone_tails}
-use Rattle.drive_array.specs.Records.{IsNewest, Record, batch_records, entry_offset, entry_records, log_records, newest, place, records}
+use Rattle.drive_array.specs.ZoneLogs.{log_at, log_sequences, sequences, zone_tails}
+use Rattle.drive_array.specs.Records.{Record, newest, place, records}
 use Rattle.drive_array.specs.Repair.{Fits, IsTornAt, is_any, is_data, kept_in, live_records, live_data, moves}
 use Rattle.drive_array.specs.Reserve.{batch_most}
 use Rattle.drive_array.specs.Sizes.{encoded_size, map_of}
 use Rattle.zone_choice.specs.Tables.{TablesView, size_of}
-use Rattle.drive_array.proofs.AllLaws.{all-append, all-at, all-weaker}
-use Rattle.drive_array.proofs.NewestLaws.{all-among, newest-is}
-use Rattle.drive_array.proofs.OffsetLaws.{log-below, records-below}
+use Rattle.drive_array.proofs.NewestLaws.{newest-is}
 use Rattle.drive_survey.specs.declared.heads.Head.{Head}
 use Rattle.drive_survey.specs.declared.scan.ScannedZone.{ScannedZone}
 use Rattle.drive_survey.specs.declared.survey.Survey.{Survey}
@@ -36,14 +32,12 @@ use Rattle.drive_survey.specs.Heads.{HeadsView, greatest_sequence, head_sequence
 use Rattle.drive_survey.specs.Known.{Knows}
 use Rattle.remount.specs.declared.repair.Repair.{Repair}
 use Rattle.remount.specs.Mount.{IsOnlyTorn, IsPastRepair, IsPlaced, IsPlan, LacksSequences, NoneIsTorn}
-use Rattle.remount.specs.Resets.{reported_empty}
 use Rattle.drive_survey.specs.Scan.{heads_in}
 use Rattle.remount.specs.Torn.{IsNextTorn, WasSurveyed, data_in, is_torn_in, is_torn_zone}
-use Rattle.drive_survey.proofs.ReadLaws.{known-few}
 use Rattle.drive_survey.proofs.TakeLaws.{blocks-are}
 use Rattle.remount.proofs.FinishLaws.{and-both}
 use Rattle.remount.proofs.TornLaws.{has_data}
-use Rattle.remount.proofs.LiveLaws.{drive-few, known-below, Within, newest-within, lies-kept}
+use Rattle.remount.proofs.LiveLaws.{known-below, Within, newest-within, lies-kept}
 
 -- ---- torn zones
 

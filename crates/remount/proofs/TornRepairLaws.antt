@@ -26,7 +26,7 @@ use Rattle.remount.specs.declared.repair.moves.MovePlan.{MovePlan}
 use Rattle.drive_survey.specs.declared.reported.ReportedZone.{ReportedZone}
 use Rattle.drive_survey.specs.declared.survey.Survey.{Survey}
 use Rattle.remount.specs.Moving.{CanRepairBy, EmptiesTorn, Source, move_by, move_count, moves_before, named_by, placed_entry}
-use Rattle.remount.specs.TornRepair.{AreRepairMoves, HoldsSize, RepairsTorn, RepeatLive, blocks_named}
+use Rattle.remount.specs.TornRepair.{AreRepairMoves, HoldsSize, RepairsTorn, RepeatLive, all_blocks_named}
 use Rattle.remount.proofs.BeginLaws.{IsPrepared}
 use Rattle.remount.proofs.CallLaws.{in-get}
 use Rattle.remount.proofs.MovePlanLaws.{blocks-moved, few-named, repair-move, size-either}
@@ -81,13 +81,13 @@ moves-said geometry n logs source plan (suc k) can other =
 
 -- ---- what they name
 
-blocks-made : (source : Source) (plan : MovePlan) (k : ℕ) → blocks_named (moves_before source plan k) ≡ take (k * plan.most) plan.blocks.items
+blocks-made : (source : Source) (plan : MovePlan) (k : ℕ) → all_blocks_named (moves_before source plan k) ≡ take (k * plan.most) plan.blocks.items
 blocks-made source plan zero = let none : 0 * plan.most ≡ 0 = omega arith in rw none refl
 blocks-made source plan (suc k) =
     let own : List ℕ = map (λ (e : Entry). e.block) (move_by source plan k).heading.entries in
     let more : suc k * plan.most ≡ k * plan.most + plan.most = omega (arith, add-mul k 1 plan.most) in
     flat_map-append (λ (b : Batch). map (λ (e : Entry). e.block) b.heading.entries) (moves_before source plan k) (move_by source plan k ∷ [])
-    ∙ ap (λ (xs : List ℕ). blocks_named (moves_before source plan k) ++ xs) (append-nil own ∙ blocks-moved source.places (named_by plan k))
+    ∙ ap (λ (xs : List ℕ). all_blocks_named (moves_before source plan k) ++ xs) (append-nil own ∙ blocks-moved source.places (named_by plan k))
     ∙ ap (λ (xs : List ℕ). xs ++ named_by plan k) (blocks-made source plan k)
     ∙ sym (take-plus (k * plan.most) plan.most plan.blocks.items)
     ∙ ap (λ (i : ℕ). take i plan.blocks.items) (sym more)
@@ -101,7 +101,7 @@ copies-made geometry n logs source plan (suc k) le can =
 
 live-made : (geometry : Geometry) (n : ℕ) (logs : List (List Batch)) (source : Source) (plan : MovePlan) → 1 ≤ plan.most → CanRepairBy geometry n logs source plan → RepeatLive logs plan.torn (moves_before source plan (move_count plan))
 live-made geometry n logs source plan some can =
-    let named : blocks_named (moves_before source plan (move_count plan)) ≡ plan.blocks.items = blocks-made source plan (move_count plan) ∙ all-there plan some in
+    let named : all_blocks_named (moves_before source plan (move_count plan)) ≡ plan.blocks.items = blocks-made source plan (move_count plan) ∙ all-there plan some in
     record {
       all = λ block lies. subst (λ (blocks : List ℕ). Contains blocks block) (sym named) (can.all block lies);
       once = subst (IsDistinct nat_eq) (sym named) can.distinct;

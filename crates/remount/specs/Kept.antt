@@ -1,9 +1,11 @@
 -- What the commands of a mount keep of a drive.
-use Rattle.std.specs.Prelude.{◌≡◌, ℕ, List, [], slice_get, Some}
+use Rattle.std.specs.Prelude.{◌≡◌, ◌≢◌, ◌⊎◌, ℕ, true, List, [], slice_get, Some}
 use Rattle.nvme_wire.specs.declared.zone_state.ZoneState.TheVariants.{Empty}
+use Rattle.zone_states.specs.Transition.{is_open}
 use Rattle.drive_port.specs.Drive.{DriveState, IsLawful}
 use Rattle.batch_log.specs.Log.{Batch}
-use Rattle.drive_array.specs.ZoneLogs.{log_at, spelled}
+use Rattle.drive_array.specs.Spare.{IsVacant}
+use Rattle.drive_array.specs.ZoneLogs.{drive_logs, log_at, spelled}
 use Rattle.drive_array.specs.Mountable.{IsMountable}
 use Rattle.drive_survey.specs.declared.reported.ReportedZone.{ReportedZone}
 
@@ -18,3 +20,18 @@ pub record KeepsMountable (n : ℕ) (old new : DriveState) : Type 0 where
   pub refused : new.refused ≡ old.refused
   pub mountable : IsMountable old n → IsMountable new n
   pub array : IsMountable old n → spelled new n ≡ spelled old n
+
+-- ---- which zones are noted as open
+
+abbrev pub IsNotedOpen : List ReportedZone → ℕ → Type 0
+IsNotedOpen reported zone = (r : ReportedZone) × (slice_get reported zone ≡ Some r) × (is_open r.state ≡ true)
+
+-- each zone that is noted as open was noted so before
+abbrev pub NotesNoneOpen : List ReportedZone → List ReportedZone → Type 0
+NotesNoneOpen before after = (zone : ℕ) → IsNotedOpen after zone → IsNotedOpen before zone
+
+-- or it had no batch, and has one now
+abbrev pub NotesFilledOpen : DriveState → DriveState → List ReportedZone → List ReportedZone → Type 0
+NotesFilledOpen old new before after =
+    (zone : ℕ) → IsNotedOpen after zone
+    → IsNotedOpen before zone ⊎ (IsVacant (drive_logs old) zone × (log_at (drive_logs new) zone ≢ []))

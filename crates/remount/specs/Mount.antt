@@ -1,5 +1,6 @@
 -- Which drives are mounted, and why others are refused.
-use Rattle.std.specs.Prelude.{◌≡◌, ◌≢◌, ◌⊎◌, ℕ, ◌+◌, ◌<◌, ◌≤◌, ◌^◌, max, Bool, true, false, List, [], length, slice_get, slice_index_or, Contains, Option, Some, None, count_by}
+use Rattle.std.specs.Prelude.{◌≡◌, ◌≢◌, ◌⊎◌, ℕ, ◌+◌, ◌<◌, ◌≤◌, ◌^◌, max, Bool, true, false, List, [], length}
+use Rattle.std.specs.Prelude.{slice_get, slice_index_or, Contains, Option, Some, None, count_by}
 use Rattle.std.specs.List.{AllByRecursion}
 use Rattle.nvme_wire.specs.declared.zone_state.ZoneState.TheVariants.{Empty}
 use Rattle.zone_states.specs.declared.geometry.Geometry.{Geometry}
@@ -27,7 +28,7 @@ use Rattle.remount.specs.declared.repair.Repair.{Repair}
 use Rattle.drive_survey.specs.declared.survey.Survey.{Survey}
 use Rattle.remount.specs.declared.plan.Plan.{Plan}
 use Rattle.drive_survey.specs.Heads.{greatest_sequence}
-use Rattle.remount.specs.Kept.{AreVacantEmpty}
+use Rattle.remount.specs.Kept.{AreVacantEmpty, IsNotedOpen}
 use Rattle.drive_survey.specs.Known.{HasVacant, Knows}
 use Rattle.remount.specs.Resets.{CanBeFilled, KeepsWritten, OpensNoZone, finished_if_active, reported_empty}
 use Rattle.remount.specs.TornRepair.{RepairsBeside, RepairsTorn}
@@ -94,7 +95,8 @@ pub record AreToEmpty (logs : List (List Batch)) (survey : Survey) (zones : List
 abbrev pub AreWhole : List Content → Type 0
 AreWhole zones = (zone : ℕ) → slice_index_or (zone_tails zones) zone false ≡ false
 
--- A drive that a disk can serve: vacant zones are Empty, and there is one; no zone has a torn tail; and zones that are partly written, two at most, have two free blocks and no batch with more entries than ours.
+-- A drive that a disk can serve: vacant zones are Empty, and there is one; no zone has a torn tail; and zones that
+-- are partly written, two at most, have two free blocks and no batch with more entries than ours.
 pub record IsRepaired (drive : DriveState) (n : ℕ) (survey : Survey) : Type 0 where
   pub known : Knows drive n (drive_logs drive) survey
   pub empty : AreVacantEmpty survey.zones.items (drive_logs drive)
@@ -143,7 +145,8 @@ abbrev pub LeavesBeside : DriveState → Option Repair → DriveState → Type 0
 LeavesBeside old None new = new ≡ old
 LeavesBeside old (Some repair) new = RepairsBeside old new repair.zone
 
--- Where no zone of the cleared drive is torn, no zone was finished without need: each zone that has a batch there holds what it held, but for partly written ones that a disk does not go on with.
+-- Where no zone of the cleared drive is torn, no zone was finished without need: each zone that has a batch there
+-- holds what it held, but for partly written ones that a disk does not go on with.
 abbrev pub KeepsOthers : DriveState → List ℕ → DriveState → Type 0
 KeepsOthers old resets new =
     NoneIsTorn (cleared (drive_logs old) resets) (zone_tails (contents old.zones))
@@ -159,25 +162,40 @@ FinishesBeside old resets new =
 abbrev pub TookMoves : DriveState → List ℕ → DriveState → ℕ → Type 0
 TookMoves old resets new zone = IsVacant (cleared (drive_logs old) resets) zone × (log_at (drive_logs new) zone ≢ [])
 
--- Zones are finished and opened by need alone: of those with a batch as above; the one that took the Moves of a repair is full only if fewer than two of its blocks are free, and no other one was opened.
+-- Zones are finished and opened by need alone: of those with a batch as above; the one that took the Moves of a
+-- repair is full only if fewer than two of its blocks are free, and no other one was opened.
 pub record FinishesByNeed (old : DriveState) (resets : List ℕ) (new : DriveState) : Type 0 where
   pub others : KeepsOthers old resets new
   pub beside : FinishesBeside old resets new
   pub moves : (zone : ℕ) → TookMoves old resets new zone → (content_at (contents new.zones) zone).usage ≡ full → new.geometry.capacity < length (content_at (contents new.zones) zone).blocks + 2
   pub opens : (zone : ℕ) → IsShut old.zones zone → IsShut new.zones zone ⊎ TookMoves old resets new zone
 
--- What a mount leaves of a drive: its half clean zones were emptied, the lowest first, and then a torn zone was repaired; no zone was finished or opened without need.
+-- each zone that is noted as open was noted so before, or took the Moves of a repair
+abbrev pub NotesOpenByNeed : DriveState → List ℕ → DriveState → List ReportedZone → List ReportedZone → Type 0
+NotesOpenByNeed old resets new before after =
+    (zone : ℕ) → IsNotedOpen after zone → IsNotedOpen before zone ⊎ TookMoves old resets new zone
+
+-- a zone that may be open was open before the mount, or took the Moves of a repair
+abbrev pub WasOpenOrTook : DriveState → List ℕ → DriveState → Filling → Type 0
+WasOpenOrTook old resets new filling =
+    filling.may_open ≡ true → (IsShut old.zones filling.zone → ⊥) ⊎ TookMoves old resets new filling.zone
+
+-- What a mount leaves of a drive: its half clean zones were emptied, the lowest first, and then a torn zone was
+-- repaired; no zone was finished or opened without need.
 pub record LeavesMounted (old new : DriveState) (n : ℕ) : Type 0 where
   pub resets : List ℕ
   pub clearing : IsClearing old.geometry.block n (drive_logs old) resets
   pub left : LeavesCleared n old resets new
   pub zones : FinishesByNeed old resets new
 
--- A drive that can be mounted is mounted, with n logical blocks where no header says how many. It was cleared and repaired. The tables agree with the drive that is left, which has the same array; and the next sequence is one more than the greatest that any batch had.
+-- A drive that can be mounted is mounted, with n logical blocks where no header says how many. It was cleared and
+-- repaired. The tables agree with the drive that is left, which has the same array; and the next sequence is one more
+-- than the greatest that any batch had.
 pub record Mounts (old new : DriveState) (n : ℕ) (tables : TablesView) : Type 0 where
   pub can : IsToMount old n
   pub leaves : LeavesMounted old new n
   pub agrees : Agrees (mounted new tables)
+  pub may_open : AllByRecursion (WasOpenOrTook old leaves.resets new) (fillings tables.roles)
   pub roles : AreMountedRoles new.geometry.capacity (contents new.zones) tables.roles
   pub given : tables.given ≡ n
   pub array : spelled new n ≡ spelled old n
@@ -199,7 +217,8 @@ MountFails drive n fault = SurveyFails drive n fault
 
 -- ---- on the way
 
--- What is to be done to a drive that can be mounted: which zones are emptied, after which it is cleared; and which one is repaired. The headers of the zones of the clearing are forgotten.
+-- What is to be done to a drive that can be mounted: which zones are emptied, after which it is cleared; and which
+-- one is repaired. The headers of the zones of the clearing are forgotten.
 pub record IsPlanned (drive : DriveState) (n : ℕ) (survey : Survey) (plan : Plan) : Type 0 where
   pub mountable : IsMountable drive n
   pub vacant : AreToEmpty (drive_logs drive) survey plan.vacant.items

@@ -1,5 +1,7 @@
 -- The Moves that repair a torn zone, and what the drive holds between two of them.
-use Rattle.std.specs.Prelude.{◌≡◌, ◌≢◌, ◌⊎◌, ℕ, zero, suc, ◌+◌, ◌-◌, ◌*◌, ◌<◌, ◌≤◌, ◌^◌, ◌==◌, nat_eq, if◌then◌else◌, true, false, List, [], ◌∷◌, ◌++◌, Contains, length, map, take, drop, slice_index_or, slice_set, Option, Some, None}
+use Rattle.std.specs.Prelude.{◌≡◌, ◌≢◌, ◌⊎◌, ℕ, zero, suc, ◌+◌, ◌-◌, ◌*◌, ◌<◌, ◌≤◌, ◌^◌, ◌==◌, nat_eq}
+use Rattle.std.specs.Prelude.{if◌then◌else◌, true, false, List, [], ◌∷◌, ◌++◌, Contains, length, map, take, drop}
+use Rattle.std.specs.Prelude.{slice_index_or, slice_set, Option, Some, None}
 use Rattle.std.specs.List.{AllByRecursion, IsDistinct, flat_map}
 use Rattle.zone_states.specs.declared.geometry.Geometry.{Geometry}
 use Rattle.zone_states.specs.Geometry.{IsInRange}
@@ -183,7 +185,10 @@ pub record IsMovable (n : ℕ) (logs : List (List Batch)) (source : Source) (tor
   pub zone : newest_is.zone ≡ torn
   pub content : newest_is.content ≡ said source block
 
--- The Moves of a cleared drive repair its torn zone: they name each block once whose newest record lies there, and are no more than that takes; their sequences follow the greatest, and last; there is room for them in one zone; they say the size that the torn zone says, the last one at least; and while some are left, the torn zone is not half clean.
+-- The Moves of a cleared drive repair its torn zone: they name each block once whose newest record lies there, and
+-- are no more than that takes; their sequences follow the greatest, and last; there is room for them in one zone;
+-- they say the size that the torn zone says, the last one at least; and while some are left, the torn zone is not
+-- half clean.
 pub record CanRepairBy (geometry : Geometry) (n : ℕ) (logs : List (List Batch)) (source : Source) (plan : MovePlan) : Type 0 where
   pub most : plan.most ≡ batch_most geometry
   pub movable : AllByRecursion (IsMovable n logs source plan.torn) plan.blocks.items
@@ -206,7 +211,8 @@ abbrev pub usage_with : ℕ → ℕ → Usage
 usage_with capacity zero = empty
 usage_with capacity (suc written) = if suc written == capacity then full else active
 
--- Since the repair began, a zone that was empty was written to, and holds these Moves, and no torn tail; no other zone was opened. The torn zone was not open then if only one zone may be.
+-- Since the repair began, a zone that was empty was written to, and holds these Moves, and no torn tail; no other
+-- zone was opened. The torn zone was not open then if only one zone may be.
 pub record IsMoving (n : ℕ) (start now : DriveState) (torn into : ℕ) (made : List Batch) : Type 0 where
   pub range : IsInRange start.geometry
   pub geometry : now.geometry ≡ start.geometry

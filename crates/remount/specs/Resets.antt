@@ -1,5 +1,6 @@
 -- What a Reset or a Finish of a mount leaves of the drive, and of what is known of it.
-use Rattle.std.specs.Prelude.{◌≡◌, ◌≢◌, ◌⊎◌, ℕ, ◌+◌, ◌<◌, ◌≤◌, ◌&&◌, ◌||◌, nat_lt, if◌then◌else◌, Bool, true, false, List, [], ◌∷◌, length, slice_get, slice_set, Some}
+use Rattle.std.specs.Prelude.{◌≡◌, ◌≢◌, ◌⊎◌, ℕ, ◌+◌, ◌<◌, ◌≤◌, ◌&&◌, ◌||◌, nat_lt, if◌then◌else◌, Bool, true, false}
+use Rattle.std.specs.Prelude.{List, [], ◌∷◌, length, slice_get, slice_set, Some}
 use Rattle.std.specs.List.{AllByRecursion}
 use Rattle.nvme_wire.specs.declared.zone_state.ZoneState.TheVariants.{Empty, Full}
 use Rattle.drive_port.specs.Contents.{Content, Finishes, content_at, contents, emptied, finished, is_active_usage}

@@ -22,16 +22,20 @@ abbrev pub HoldsSize : ℕ → List (List Batch) → ℕ → Type 0
 HoldsSize n logs zone = IsMoved logs zone × (encoded_size n (without logs zone) ≢ encoded_size n logs)
 
 -- the blocks that batches name, one after the other
-abbrev pub blocks_named : List Batch → List ℕ
-blocks_named made = flat_map (λ (batch : Batch). map (λ (entry : Entry). entry.block) batch.heading.entries) made
+abbrev pub all_blocks_named : List Batch → List ℕ
+all_blocks_named made = flat_map (λ (batch : Batch). map (λ (entry : Entry). entry.block) batch.heading.entries) made
 
--- Batches repeat what is live in a zone: each block whose newest record lies there is named, once, and no other one is; and its new record says what that one says.
+-- Batches repeat what is live in a zone: each block whose newest record lies there is named, once, and no other one
+-- is; and its new record says what that one says.
 pub record RepeatLive (logs : List (List Batch)) (zone : ℕ) (made : List Batch) : Type 0 where
-  pub all : (block : ℕ) → LiesIn zone (newest block (records 0 logs)) → Contains (blocks_named made) block
-  pub once : IsDistinct nat_eq (blocks_named made)
+  pub all : (block : ℕ) → LiesIn zone (newest block (records 0 logs)) → Contains (all_blocks_named made) block
+  pub once : IsDistinct nat_eq (all_blocks_named made)
   pub copies : AllByRecursion (λ (batch : Batch). AllByRecursion (λ (r : Record). IsCopyFrom zone (newest r.block (records 0 logs)) r) (batch_records 0 0 batch)) made
 
--- The batches of a repair: Moves from the torn zone of what is live there, as many as that takes and at least one; numbered on from the greatest sequence that there was; and of the greatest size that the torn zone says, or of none where it says none. All of them say it, except perhaps where the disk would have another size without the torn zone: then the last one alone may say it.
+-- The batches of a repair: Moves from the torn zone of what is live there, as many as that takes and at least one;
+-- numbered on from the greatest sequence that there was; and of the greatest size that the torn zone says, or of none
+-- where it says none. All of them say it, except perhaps where the disk would have another size without the torn
+-- zone: then the last one alone may say it.
 pub record AreRepairMoves (geometry : Geometry) (n : ℕ) (logs : List (List Batch)) (torn : ℕ) (made : List Batch) : Type 0 where
   pub from : AllByRecursion (IsMoveFrom torn) made
   pub live : RepeatLive logs torn made
@@ -52,7 +56,9 @@ pub record RepairsTorn (geometry : Geometry) (n : ℕ) (logs : List (List Batch)
   pub are : AreRepairMoves geometry n logs torn made
   pub logs_are : new ≡ without (slice_set logs into made) torn
 
--- What the repair of a torn zone leaves of the zones beside it. Each zone that was opened or Closed is finished, and each other one holds what it held, but for one that had no batch. That one has the Moves: it is full only if they fill it, and it alone may have been opened.
+-- What the repair of a torn zone leaves of the zones beside it. Each zone that was opened or Closed is finished, and
+-- each other one holds what it held, but for one that had no batch. That one has the Moves: it is full only if they
+-- fill it, and it alone may have been opened.
 pub record RepairsBeside (old new : DriveState) (torn : ℕ) : Type 0 where
   pub into : ℕ
   pub vacant : IsVacant (drive_logs old) into

@@ -2,7 +2,7 @@ ghost use Rattle.std.specs.Prelude.{◌≡◌, ◌<◌, ◌∷◌, [], length, I
 ghost use Rattle.drive_port.specs.Contents.{Resets, contents};
 ghost use Rattle.drive_survey.specs.Scan.{AreKnown, IsInterruption};
 ghost use Rattle.drive_array.specs.ZoneLogs.{drive_logs, zone_tails};
-ghost use Rattle.remount.specs.Kept.{KeepsMountable};
+ghost use Rattle.remount.specs.Kept.{KeepsMountable, NotesNoneOpen};
 ghost use Rattle.remount.specs.Mount.{IsCleared, IsPlanned, LeavesEmptied, Plans};
 ghost use Rattle.remount.specs.Resets.{MayChange, MayReset, ResetsAll};
 
@@ -70,6 +70,7 @@ pub(crate) fn empty_zones<D: Device>(
     requires planned { IsPlanned (D.drive device.old) survey.old.given survey.old plan.now }
     ensures cleared { OnOk result (IsCleared (D.drive device.new) survey.old.given survey.new) }
     ensures left { OnOk result (LeavesEmptied (D.drive device.old) (D.drive device.new) plan.now.half_clean.items) }
+    ensures noted { OnOk result (NotesNoneOpen survey.old.zones.items survey.new.zones.items) }
     ensures err { IfErr result (IsInterruption (D.drive device.new)) }
     ensures kept { KeepsMountable survey.old.given (D.drive device.old) (D.drive device.new) }
 {

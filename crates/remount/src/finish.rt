@@ -3,7 +3,7 @@ ghost use Rattle.drive_port.specs.Contents.{Finishes};
 ghost use Rattle.drive_survey.specs.Scan.{AreKnown, IsInterruption};
 ghost use Rattle.drive_array.specs.ZoneLogs.{drive_logs};
 ghost use Rattle.drive_array.specs.Reserve.{batch_most};
-ghost use Rattle.remount.specs.Kept.{KeepsMountable};
+ghost use Rattle.remount.specs.Kept.{KeepsMountable, NotesNoneOpen};
 ghost use Rattle.remount.specs.Mount.{IsRepaired, IsUntorn};
 ghost use Rattle.remount.specs.Resets.{FinishesIf, FinishesNeeded, FinishesOne, IsTested, MayChange, is_to_finish};
 
@@ -82,6 +82,7 @@ pub(crate) fn finish_zones<D: Device>(
     ensures repaired { OnOk result (IsRepaired (D.drive device.new) survey.old.given survey.new) }
     ensures logs { OnOk result (drive_logs (D.drive device.new) ≡ drive_logs (D.drive device.old)) }
     ensures needed { OnOk result (FinishesNeeded (D.drive device.old) (D.drive device.new)) }
+    ensures noted { OnOk result (NotesNoneOpen survey.old.zones.items survey.new.zones.items) }
     ensures err { IfErr result (IsInterruption (D.drive device.new)) }
     ensures kept { KeepsMountable survey.old.given (D.drive device.old) (D.drive device.new) }
 {

@@ -5,9 +5,10 @@ ghost use Rattle.drive_survey.specs.Reported.{KeepsZones};
 ghost use Rattle.drive_survey.specs.Scan.{FailsBy, IsInterruption};
 ghost use Rattle.drive_survey.specs.Survey.{MayAsk};
 ghost use Rattle.drive_array.specs.ZoneLogs.{drive_logs, zone_tails};
-ghost use Rattle.remount.specs.Kept.{KeepsMountable};
+ghost use Rattle.remount.specs.Kept.{KeepsMountable, NotesFilledOpen};
 ghost use Rattle.remount.specs.Mount.{FinishesByNeed, IsCleared, IsPlanned, IsRepaired, IsToMount, IsUntorn};
-ghost use Rattle.remount.specs.Mount.{LeavesBeside, LeavesCleared, LeavesPlanned, MountFails, Mounts, Plans};
+ghost use Rattle.remount.specs.Mount.{LeavesBeside, LeavesCleared, LeavesPlanned, MountFails, Mounts};
+ghost use Rattle.remount.specs.Mount.{NotesOpenByNeed, Plans};
 
 use crate::empty::empty_zones;
 use crate::finish::finish_zones;
@@ -33,6 +34,8 @@ fn repair_torn<D: Device>(
     ensures left { OnOk result (LeavesPlanned (D.drive device.old).geometry survey.old.given
         (drive_logs (D.drive device.old)) repair.now (drive_logs (D.drive device.new))) }
     ensures beside { OnOk result (LeavesBeside (D.drive device.old) repair.now (D.drive device.new)) }
+    ensures noted { OnOk result (NotesFilledOpen (D.drive device.old) (D.drive device.new) survey.old.zones.items
+        survey.new.zones.items) }
     ensures err { IfErr result (IsInterruption (D.drive device.new)) }
     ensures kept { KeepsMountable survey.old.given (D.drive device.old) (D.drive device.new) }
 {
@@ -54,6 +57,8 @@ fn carry_out<D: Device>(
     ensures left { OnOk result (LeavesCleared survey.old.given (D.drive device.old) plan.now.half_clean.items
         (D.drive device.new)) }
     ensures zones { OnOk result (FinishesByNeed (D.drive device.old) plan.now.half_clean.items (D.drive device.new)) }
+    ensures noted { OnOk result (NotesOpenByNeed (D.drive device.old) plan.now.half_clean.items (D.drive device.new)
+        survey.old.zones.items survey.new.zones.items) }
     ensures err { IfErr result (IsInterruption (D.drive device.new)) }
     ensures kept { KeepsMountable survey.old.given (D.drive device.old) (D.drive device.new) }
 {

@@ -1,4 +1,5 @@
-ghost use Rattle.std.specs.Prelude.{◌≡◌, ◌≢◌, ◌<◌, ◌^◌, List, length, map, slice_index_or, IfErr, IfOk, IsFalse, IsTrue};
+ghost use Rattle.std.specs.Prelude.{◌≡◌, ◌≢◌, ◌<◌, ◌^◌, List, length, map, slice_index_or, IfErr, IfOk, IsFalse};
+ghost use Rattle.std.specs.Prelude.{IsTrue, OnOk};
 ghost use Rattle.batch_log.specs.Log.{Batch};
 ghost use Rattle.nvme_wire.specs.declared.zone_state.ZoneState.TheVariants.{Empty};
 ghost use Rattle.drive_survey.specs.Heads.{heads_of, no_heads};
@@ -67,6 +68,7 @@ pub fn plan_mount<D: Device>(
     requires known { Knows (D.drive device.old) survey.old.given (drive_logs (D.drive device.old)) survey.old }
     requires can { CanScan (D.drive device.old) survey.old.given }
     ensures ok { IfOk result (IsPlanned (D.drive device.new) survey.old.given survey.new) }
+    ensures zones { OnOk result (survey.new.zones ≡ survey.old.zones) }
     ensures err { IfErr result (FailsBy (PlanFails (D.drive device.old) survey.old.given) (D.drive device.new)) }
     ensures kept { KeepsZones (D.drive device.old) (D.drive device.new) }
 {

@@ -2,7 +2,7 @@ ghost use Rattle.std.specs.Prelude.{IfErr, OnOk};
 ghost use Rattle.drive_port.specs.Contents.{contents};
 ghost use Rattle.drive_survey.specs.Scan.{IsInterruption};
 ghost use Rattle.drive_array.specs.ZoneLogs.{drive_logs, zone_tails};
-ghost use Rattle.remount.specs.Kept.{KeepsMountable};
+ghost use Rattle.remount.specs.Kept.{KeepsMountable, NotesFilledOpen};
 ghost use Rattle.remount.specs.Mount.{IsCleared, IsPlan, IsUntorn};
 ghost use Rattle.remount.specs.TornRepair.{RepairsBeside, RepairsTorn};
 
@@ -46,6 +46,8 @@ pub fn repair_zone<D: Device>(
     ensures repaired { OnOk result (RepairsTorn (D.drive device.old).geometry survey.old.given
         (drive_logs (D.drive device.old)) repair.now.zone (drive_logs (D.drive device.new))) }
     ensures beside { OnOk result (RepairsBeside (D.drive device.old) (D.drive device.new) repair.now.zone) }
+    ensures noted { OnOk result (NotesFilledOpen (D.drive device.old) (D.drive device.new) survey.old.zones.items
+        survey.new.zones.items) }
     ensures err { IfErr result (IsInterruption (D.drive device.new)) }
     ensures kept { KeepsMountable survey.old.given (D.drive device.old) (D.drive device.new) }
 {

@@ -1,10 +1,12 @@
-ghost use Rattle.std.specs.Prelude.{◌≡◌, ◌<◌, ◌≤◌, ◌^◌, IfOk};
+ghost use Rattle.std.specs.Prelude.{◌≡◌, ◌<◌, ◌≤◌, ◌^◌, true, IfOk};
 ghost use Rattle.std.specs.List.{AllByRecursion};
 ghost use Rattle.drive_port.specs.Contents.{contents};
 ghost use Rattle.drive_port.specs.Drive.{DriveState};
 ghost use Rattle.drive_survey.specs.Known.{Knows};
 ghost use Rattle.zone_choice.specs.Agreement.{Agrees, mounted};
 ghost use Rattle.drive_array.specs.ZoneLogs.{drive_logs, sequences};
+ghost use Rattle.zone_choice.specs.Roles.{fillings};
+ghost use Rattle.remount.specs.Kept.{IsNotedOpen};
 ghost use Rattle.remount.specs.Mount.{AreMountedRoles, IsRepaired};
 
 pub(crate) mod places;
@@ -29,6 +31,8 @@ pub fn mounted_tables(
         → AllByRecursion (λ sequence. sequence < next) (sequences (drive_logs drive)) → next ≤ 2 ^ 63 → Agrees (mounted drive tables)) }
     ensures roles { IfOk result (λ tables. (drive : DriveState) → drive.geometry ≡ geometry.now → IsRepaired drive survey.now.given survey.now
         → AreMountedRoles geometry.now.capacity (contents drive.zones) tables.roles) }
+    ensures noted { IfOk result (λ tables. AllByRecursion (λ filling. filling.may_open ≡ true
+        → IsNotedOpen survey.now.zones.items filling.zone) (fillings tables.roles)) }
     ensures next { IfOk result (λ tables. tables.next ≡ next) }
     ensures given { IfOk result (λ tables. tables.given ≡ survey.now.given) }
 {

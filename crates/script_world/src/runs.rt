@@ -135,9 +135,10 @@ fn show_replies(
     alloc: Global,
     lines: Lines,
     line: &str,
-    replies: &str,
+    replies: &[u8],
     out: &mut String,
 ) -> Result<(), ScriptFault> {
+    let replies = std::str::from_utf8(replies).or(Err(ScriptFault::Words))?;
     for reply in replies.lines() {
         match lines {
             Lines::Trace(_) => writeln!(out, "    {reply}")?,
@@ -153,32 +154,6 @@ fn show_replies(
 struct Shown {
     commands: usize,
     replies: usize,
-}
-
-// Shows what a longer run did more than was shown.
-fn show_more(
-    stage: Stage,
-    shown: Shown,
-    lines: Lines,
-    line: &str,
-    ran: &Ran,
-    out: &mut String,
-) -> Result<Shown, ScriptFault> {
-    let entries = ran.left.entries.as_slice();
-    if let Lines::Trace(_) = lines {
-        let sent = entries.get(shown.commands..).unwrap_or(&[]);
-        show_sent(stage.alloc, sent, stage.setting.shows_entries, out)?;
-    }
-    let replies = ran.replies.get(shown.replies..).unwrap_or(&[]);
-    let replies = std::str::from_utf8(replies).or(Err(ScriptFault::Words))?;
-    show_replies(stage.alloc, lines, line, replies, out)?;
-    if let Err(fault) = ran.result {
-        show_fault(stage.alloc, fault, out)?;
-    }
-    Ok(Shown {
-        commands: entries.len(),
-        replies: ran.replies.len(),
-    })
 }
 
 /// Shows a line that the run before it did not reach.
@@ -237,8 +212,21 @@ fn show_front(
 ) -> Result<Ran, ScriptFault> {
     let text = text_of(stage.alloc, stage.world, lines, block)?;
     let ran = run(stage.alloc, stage.world, stage.setting, lines, &text)?;
+    let entries = ran.left.entries.as_slice();
+    if let Lines::Trace(_) = lines {
+        let sent = entries.get(shown.commands..).unwrap_or(&[]);
+        show_sent(stage.alloc, sent, stage.setting.shows_entries, out)?;
+    }
     let last = block.last().copied().unwrap_or("");
-    *shown = show_more(stage, *shown, lines, last, &ran, out)?;
+    let replies = ran.replies.get(shown.replies..).unwrap_or(&[]);
+    show_replies(stage.alloc, lines, last, replies, out)?;
+    if let Err(fault) = ran.result {
+        show_fault(stage.alloc, fault, out)?;
+    }
+    *shown = Shown {
+        commands: entries.len(),
+        replies: ran.replies.len(),
+    };
     Ok(ran)
 }
 

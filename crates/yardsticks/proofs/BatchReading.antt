@@ -13,6 +13,7 @@ pub record BeginWithHeader (size : ℕ) (blocks : List (List ℕ)) (heading : He
   pub says : IsHeading size heading
   pub spelled : blocks ≡ header_block size heading ∷ behind
 
+-- blocks whose first is a header begin with it
 pub begin_with_header : (size : ℕ) (blocks : List (Vec ℕ Global)) (block : Vec ℕ Global) (behind : List (Vec ℕ Global)) (bytes : List ℕ) (h : Heading)
     → AllByRecursion (λ (b : Vec ℕ Global). vec_len b ≡ size) blocks → blocks ≡ block ∷ behind → bytes ≡ block.items → IsHeaderBlock (length bytes) bytes h
     → BeginWithHeader size (held_blocks blocks) h (held_blocks behind)
@@ -22,6 +23,7 @@ begin_with_header size blocks block behind bytes h all split read is =
     let is' = rw long at is in
     record { says = is'.says; spelled = ap held_blocks split ∙ ap (λ (b : List ℕ). b ∷ held_blocks behind) (sym read ∙ is'.spelled) }
 
+-- with data enough after it they begin with a batch
 pub begin_with : (size : ℕ) (blocks behind body : List (List ℕ)) (h : Heading) → BeginWithHeader size blocks h behind → data_count h.entries ≤ length behind
     → body ≡ take (data_count h.entries) behind → BeginsWithBatch size blocks (record { heading = h; body = body })
 begin_with size blocks behind body h begin enough is =
@@ -32,6 +34,7 @@ begin_with size blocks behind body h begin enough is =
       spelled = rw begin.spelled (ap (λ (bs : List (List ℕ)). header_block size h ∷ bs) whole);
     }
 
+-- and with too little they begin with none
 pub too_few : (size : ℕ) (blocks behind : List (List ℕ)) (h : Heading) → (size ≡ 512) ⊎ (size ≡ 4096) → BeginWithHeader size blocks h behind → length behind < data_count h.entries
     → BeginsWithNoBatch size blocks
 too_few size blocks behind h whole begin few batch rest fits e =

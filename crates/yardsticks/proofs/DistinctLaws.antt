@@ -27,10 +27,12 @@ named block (e ∷ es) some d = named block es (rw d.0 at some) d.1
 abbrev behind : ℕ → List Entry → List Entry
 behind i es = take (length es - i) (drop i es)
 
+-- no entries are distinct
 pub distinct_end : (es : List Entry) (i : ℕ) → length es ≤ i → AreDistinct (drop i es)
 unfolding IsDistinct
 distinct_end es i le = rw (drop_all i es le) tt
 
+-- an entry that no later one names again is distinct
 pub distinct_more : (es : List Entry) (i : ℕ) (d : Entry) → i < length es → list_any (λ (e : Entry). eqb (get_or es i d).block e.block) (behind (i + 1) es) ≡ false
     → AreDistinct (drop i es) ↔ AreDistinct (drop (i + 1) es)
 unfolding IsDistinct
@@ -39,6 +41,7 @@ distinct_more es i d lt none =
     let apart = differ (get_or es i d).block (drop (i + 1) es) (rw rest at none) in
     rw (drop_more es i d lt) (λ h. h.1, λ h. (apart, h))
 
+-- and one that is named again is not
 pub distinct_not : (es : List Entry) (i : ℕ) (d : Entry) → i < length es → list_any (λ (e : Entry). eqb (get_or es i d).block e.block) (behind (i + 1) es) ≡ true
     → AreDistinct (drop i es) → ⊥
 unfolding IsDistinct

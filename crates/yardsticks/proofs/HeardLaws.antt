@@ -21,6 +21,7 @@ heard-append block found (x ∷ xs) ys = heard-append block (cond (eqb x.block b
 
 -- ---- where in its zone a batch stands does not matter
 
+-- what is heard of a block does not depend on where the headers are
 pub heard-entries : (block : ℕ) (found : Option Saying) (sequence : ℕ) (body : List (List ℕ)) (zone header k : ℕ) (es : List Entry)
     → heard block found (entry_records sequence body zone 0 k es) ≡ heard block found (entry_records sequence body zone header k es)
 heard-entries block found sequence body zone header k [] = refl
@@ -54,9 +55,11 @@ heard-newer block found (r ∷ rs) =
     ∙ heard-newer block (newer found one) rs
     ∙ ap (option_map saying) (sym (newer-assoc found one (newest block rs)))
 
+-- what is heard of it in the end is what its newest record says
 pub heard-newest : (block : ℕ) (rs : List Record) → heard block None rs ≡ option_map saying (newest block rs)
 heard-newest block rs = heard-newer block None rs
 
+-- and that is the block of the array
 pub shown_by-shown : (block_bytes : ℕ) (r : Option Record) → said_block block_bytes (option_map saying r) ≡ shown block_bytes r
 shown_by-shown block_bytes None = refl
 shown_by-shown block_bytes (Some r) = refl
@@ -70,18 +73,21 @@ said_in-kept zone (Some r) = by (eqb r.zone zone)
     by true = refl
     by false = refl
 
+-- whether it has data in a zone
 pub data_in-kept : (zone : ℕ) (r : Option Record) → is_data_in zone (option_map saying r) ≡ kept_in is_data zone r
 data_in-kept zone None = refl
 data_in-kept zone (Some r) = refl
 
 -- ---- one step of a loop
 
+-- one entry more is heard
 pub entry-step : (block sequence zone k next index : ℕ) (body : List (List ℕ)) (es : List Entry) (found now whole : Option Saying) (e : Entry) → drop index es ≡ e ∷ drop (index + 1) es
     → heard block found (entry_records sequence body zone 0 k (drop index es)) ≡ whole
     → now ≡ heard block found (record_of sequence body zone 0 k e ∷ []) → next ≡ k + one_unless e.trim
     → heard block now (entry_records sequence body zone 0 next (drop (index + 1) es)) ≡ whole
 entry-step block sequence zone k next index body es found now whole e split so_far here count = rw (here, count) (rw split at so_far)
 
+-- one batch more
 pub log-step : (block zone index : ℕ) (log : List yardstick.Batch) (found now whole : Option Saying) (b : yardstick.Batch) → drop index log ≡ b ∷ drop (index + 1) log
     → heard block found (log_records zone 0 (held_log (drop index log))) ≡ whole
     → ((header : ℕ) → now ≡ heard block found (batch_records zone header (batch_of b)))
@@ -91,6 +97,7 @@ log-step block zone index log found now whole b split so_far here =
     let behind : ℕ = 0 + batch_size (batch_of b) in
     rw (here 0) (heard-log block (heard block found (batch_records zone 0 (batch_of b))) zone 0 behind rest ∙ sym (heard-append block found (batch_records zone 0 (batch_of b)) (log_records zone behind rest)) ∙ (rw split at so_far))
 
+-- one zone more
 pub zone-step : (block zone : ℕ) (logs : List (List Batch)) (log : List Batch) (found now whole : Option Saying) → zone < length logs → log ≡ log_at logs zone
     → heard block found (records zone (drop zone logs)) ≡ whole
     → now ≡ heard block found (log_records zone 0 log)
@@ -102,10 +109,12 @@ zone-step block zone logs log found now whole lt is so_far here =
     let count : zone + 1 ≡ suc zone = omega arith in
     rw here (ap (λ (n : ℕ). heard block (heard block found (log_records zone 0 log)) (records n rest)) count ∙ next)
 
+-- there are as many logs, if one is left out
 pub length-logs_but : (left_out : Option ℕ) (logs : List (List Batch)) → length (logs_but left_out logs) ≡ length logs
 length-logs_but None logs = refl
 length-logs_but (Some zone) logs = length-set logs zone []
 
+-- one block more of the array
 pub array-step : (block_bytes block : ℕ) (rs : List Record) (blocks now : List (Vec ℕ Global)) (bytes : Vec ℕ Global) → held_blocks blocks ≡ told (shown block_bytes) block rs
     → now ≡ blocks ++ bytes ∷ [] → bytes.items ≡ shown block_bytes (newest block rs) → held_blocks now ≡ told (shown block_bytes) (block + 1) rs
 array-step block_bytes block rs blocks now bytes so_far more is =
@@ -125,6 +134,7 @@ pub live-same : (keep : Record → Bool) (block : ℕ) (logs : List (List Batch)
     → count ≡ live_by keep (block + 1) logs zone
 live-same keep block logs zone count so_far here = let more = live-more keep block logs zone in let none = ap {B = ℕ} (λ (b : Bool). cond b 1 0) here in omega (arith, so_far, more, none)
 
+-- one live record more
 pub live-one : (keep : Record → Bool) (block : ℕ) (logs : List (List Batch)) (zone count : ℕ) → count ≡ live_by keep block logs zone → kept_in keep zone (newest block (records 0 logs)) ≡ true
     → count + 1 ≡ live_by keep (block + 1) logs zone
 live-one keep block logs zone count so_far here = let more = live-more keep block logs zone in let one = ap {B = ℕ} (λ (b : Bool). cond b 1 0) here in omega (arith, so_far, more, one)

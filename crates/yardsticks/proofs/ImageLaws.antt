@@ -45,6 +45,7 @@ unfolding HasLength
 vecs-sized size [] all = tt
 vecs-sized size (b ∷ bs) all = (b.ok.0 ∙ all.0, vecs-sized size bs all.1)
 
+-- the blocks that were read are whole
 pub read-sized : (geometry : Geometry) (image : ZoneImage) (blocks : List (Vec ℕ Global)) → HasWholeBlocks geometry.block image → held_blocks blocks ≡ readable geometry (image_content image)
     → AllByRecursion (λ (block : Vec ℕ Global). vec_len block ≡ geometry.block) blocks
 read-sized geometry image blocks whole read = vecs-sized geometry.block blocks (rw read (readable-sized geometry image whole))
@@ -60,11 +61,13 @@ padded-step size i first was blocks now zeros le so_far more is =
 
 -- ---- the log of a zone
 
+-- what follows from a fact of a value holds of it
 pub if_some-weaker : {T E : Type 0} (r : Result (Option T) E) (P Q : T → Type 0) → ((x : T) → P x → Q x) → IfOk r (λ o. IfSome o P) → IfOk r (λ o. IfSome o Q)
 if_some-weaker (Ok (Some x)) P Q f h = f x h
 if_some-weaker (Ok None) P Q f h = tt
 if_some-weaker (Err e) P Q f h = tt
 
+-- and of no value
 pub if_none-weaker : {T E P Q : Type 0} (r : Result (Option T) E) → (P → Q) → IfOk r (λ o. IfNone o P) → IfOk r (λ o. IfNone o Q)
 if_none-weaker (Ok (Some x)) f h = tt
 if_none-weaker (Ok None) f h = f h
@@ -78,6 +81,7 @@ unfolding has_torn_tail
 tail_read geometry content true blocks full-is read = rw (← full-is) refl
 tail_read geometry content false blocks full-is read = let same : blocks ≡ content.blocks = read ∙ readable-not_full geometry content (sym full-is) in rw (← full-is, same) refl
 
+-- the log that was found is that of the zone
 pub zone_log-found : (geometry : Geometry) (content : Content) (full : Bool) (blocks : List (List ℕ)) (log : ZoneLog) → geometry.block < 2 ^ 32
     → full ≡ is_full content.usage → blocks ≡ readable geometry content → IsFound geometry.block full blocks log → IsZoneLog geometry content (held_log log.batches.items) log.is_torn
 zone_log-found geometry content full blocks log small full-is read is =
@@ -88,10 +92,12 @@ zone_log-found geometry content full blocks log small full-is read is =
       torn_is = is.torn_is ∙ tail_read geometry content full blocks full-is read;
     }
 
+-- where none was found, the zone has none
 pub zone_log-none : (geometry : Geometry) (content : Content) (full : Bool) (blocks : List (List ℕ))
     → full ≡ is_full content.usage → blocks ≡ readable geometry content → HaveNoLog geometry.block full blocks → HasLog geometry content → ⊥
 zone_log-none geometry content full blocks full-is read none has = none (zone_log geometry content) (same_log geometry.block (is_full content.usage) full (readable geometry content) blocks (zone_log geometry content) (zone_log geometry content) full-is read refl has)
 
+-- so not all zones have one
 pub lacks-log : (geometry : Geometry) (images : List ZoneImage) (i : ℕ) (image : ZoneImage) → i < length images → image ≡ get_or images i image
     → (HasLog geometry (image_content image) → ⊥) → AllByRecursion (HasLog geometry) (image_contents images) → ⊥
 lacks-log geometry [] i image lt is none all = absurd (omega arith)

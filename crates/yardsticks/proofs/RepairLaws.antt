@@ -15,6 +15,7 @@ has-log (l ∷ ls) (suc zone) some = omega (arith, has-log ls zone some)
 torn-inside : (logs : List (List Batch)) (tails : List Bool) (zone : ℕ) → IsTornAt logs tails zone → zone < length logs
 torn-inside logs tails zone is = has-log logs zone is.batch
 
+-- one torn zone that fits can be repaired
 pub one-torn : (geometry : Geometry) (limit size zone : ℕ) (logs : List (List Batch)) (tails : List Bool) → NoneTorn logs tails 0 zone → NoneTorn logs tails (zone + 1) (length logs)
     → Fits geometry limit size logs zone → CanRepair geometry limit size logs tails
 one-torn geometry limit size zone logs tails below above fits = record {

@@ -27,6 +27,7 @@ zeros size (b ∷ bs) sizes zero_all =
     let first : b.items ≡ zero_block size = zero_all.0 ∙ ap zero_block sizes.0 in
     rw (first, zeros size bs sizes.1 zero_all.1) refl
 
+-- zeros are the tail of a full zone
 pub tail_of_zeros : (size : ℕ) (blocks : List (Vec ℕ Global)) → HaveSize size blocks → AreZero blocks → IsTail size true (held_blocks blocks)
 tail_of_zeros size blocks sizes zero_all = zeros size blocks sizes zero_all ∙ ap (λ (n : ℕ). replicate n (zero_block size)) (sym (length-map blocks (λ (block : Vec ℕ Global). block.items)))
 
@@ -38,6 +39,7 @@ are_zeros size (suc rest) (b ∷ bs) sizes e =
     let others : held_blocks bs ≡ replicate rest (zero_block size) = cc in
     (first ∙ ap zero_block (sym sizes.0), are_zeros size rest bs sizes.1 others)
 
+-- and its tail is zeros
 pub zeros_of_tail : (size : ℕ) (blocks : List (Vec ℕ Global)) → HaveSize size blocks → IsTail size true (held_blocks blocks) → AreZero blocks
 zeros_of_tail size blocks sizes is = are_zeros size (length (held_blocks blocks)) blocks sizes is
 
@@ -78,6 +80,7 @@ log_found size is_full blocks rest log whole so_far end torn =
 
 -- ---- torn tails
 
+-- a header with too little data is torn
 pub torn_is : (size : ℕ) (blocks behind : List (List ℕ)) (h : Heading) → BeginWithHeader size blocks h behind → BeginsWithNoBatch size blocks → IsTorn size blocks
 torn_is size blocks behind h begin none = by (cases_lt (length behind) (data_count h.entries))
   where
@@ -88,6 +91,7 @@ torn_is size blocks behind h begin none = by (cases_lt (length behind) (data_cou
         let begins : BeginsWithBatch size blocks batch = begin_with size blocks behind (take (data_count h.entries) behind) h begin enough refl in
         absurd (none batch (drop (suc (length batch.body)) blocks) begins.fits begins.spelled)
 
+-- the tail of another zone is torn, if there is one
 pub tail_torn : (size : ℕ) (blocks : List (Vec ℕ Global)) (none : Bool) → none ≡ false → none ≡ eqb (length blocks) 0 → IsTail size false (held_blocks blocks) → IsTorn size (held_blocks blocks)
 tail_torn size [] none some is tail = absurd (let bad : true ≡ false = sym is ∙ some in cc)
 tail_torn size (b ∷ bs) none some is (inl nothing) = absurd (let bad : b.items ∷ held_blocks bs ≡ [] = nothing in cc)
@@ -100,6 +104,7 @@ batch_fits size blocks b begin =
     let all : length (held_blocks blocks) ≡ length (batch_blocks size b ++ drop (suc (length b.body)) (held_blocks blocks)) = ap length begin.spelled in
     omega (arith, all, length-append (batch_blocks size b) (drop (suc (length b.body)) (held_blocks blocks)), length-map blocks (λ (block : Vec ℕ Global). block.items))
 
+-- what is left of whole blocks is whole
 pub sizes_behind : (size n : ℕ) (blocks : List (Vec ℕ Global)) → HaveSize size blocks → HaveSize size (drop n blocks)
 sizes_behind size zero blocks sizes = sizes
 sizes_behind size (suc n) [] sizes = tt
@@ -109,9 +114,11 @@ sizes_behind size (suc n) (b ∷ bs) sizes = sizes_behind size n bs sizes.1
 count_of : (batch : yardstick.Batch) (n : ℕ) → n ≡ vec_len batch.body → 1 + n ≡ suc (length (batch_of batch).body)
 count_of batch n is = let items = length-map batch.body.items (λ (block : Vec ℕ Global). block.items) in omega (arith, is, batch.body.ok.0)
 
+-- a batch ends within the blocks
 pub batch_ends : (size : ℕ) (rest : List (Vec ℕ Global)) (batch : yardstick.Batch) (n : ℕ) → BeginsWithBatch size (held_blocks rest) (batch_of batch) → n ≡ vec_len batch.body → 1 + n ≤ length rest
 batch_ends size rest batch n begin is = let fits = batch_fits size rest (batch_of batch) begin in let count = count_of batch n is in omega arith
 
+-- one batch more was read
 pub batch_read : (size : ℕ) (blocks : List (List ℕ)) (log now : List yardstick.Batch) (rest left : List (Vec ℕ Global)) (batch : yardstick.Batch) (n : ℕ)
     → BeginsWith size blocks (map batch_of log) (held_blocks rest) → BeginsWithBatch size (held_blocks rest) (batch_of batch)
     → now ≡ log ++ batch ∷ [] → n ≡ vec_len batch.body → left ≡ drop (1 + n) rest → BeginsWith size blocks (map batch_of now) (held_blocks left)

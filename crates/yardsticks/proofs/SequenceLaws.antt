@@ -23,10 +23,12 @@ repeated x (y ∷ ys) some all =
 abbrev behind : ℕ → List ℕ → List ℕ
 behind i xs = take (length xs - i) (drop i xs)
 
+-- no sequences are distinct
 pub distinct-end : (xs : List ℕ) (i : ℕ) → length xs ≤ i → IsDistinct nat_eq (drop i xs)
 unfolding IsDistinct
 distinct-end xs i le = rw (drop_all i xs le) tt
 
+-- a sequence that does not come again is distinct
 pub distinct-more : (xs : List ℕ) (i d : ℕ) → i < length xs → list_any (λ y. eqb y (get_or xs i d)) (behind (i + 1) xs) ≡ false → IsDistinct nat_eq (drop i xs) ↔ IsDistinct nat_eq (drop (i + 1) xs)
 unfolding IsDistinct
 distinct-more xs i d lt none =
@@ -34,6 +36,7 @@ distinct-more xs i d lt none =
     let apart = differs (get_or xs i d) (drop (i + 1) xs) (rw rest at none) in
     rw (drop_more xs i d lt) (λ h. h.1, λ h. (apart, h))
 
+-- and one that comes again is not
 pub distinct-not : (xs : List ℕ) (i d : ℕ) → i < length xs → list_any (λ y. eqb y (get_or xs i d)) (behind (i + 1) xs) ≡ true → IsDistinct nat_eq (drop i xs) → ⊥
 unfolding IsDistinct
 distinct-not xs i d lt some h =

@@ -1,5 +1,5 @@
 -- Half clean zones, and the clearing of logs.
-use Rattle.std.proofs.Common.{◌≡◌, ◌≢◌, ℕ, zero, suc, ◌<◌, List, [], ◌∷◌, map, length, get_or, Vec, refl, sym, ap, ◌∙◌, arith}
+use Rattle.std.proofs.Common.{◌≡◌, ◌≢◌, ℕ, zero, suc, ◌<◌, List, [], ◌∷◌, length, get_or, Vec, refl, sym, ap, ◌∙◌, arith}
 use Rattle.std.specs.declared.alloc.Global.{Global}
 use Rattle.std.specs.List.{AllByRecursion}
 use Rattle.batch_log.specs.Log.{Batch}
@@ -14,6 +14,7 @@ use Rattle.zone_states.proofs.ListLaws.{all-map, all-unmap}
 
 -- ---- blocks that are the same
 
+-- blocks of the same lists are the same
 pub same-at : (a b : List (Vec ℕ Global)) (i : ℕ) (x y : Vec ℕ Global) → i < length a → i < length b → x ≡ get_or a i x → y ≡ get_or b i y → held_blocks a ≡ held_blocks b → x.items ≡ y.items
 same-at [] b i x y lt lt' x-is y-is same = absurd (omega arith)
 same-at (v ∷ vs) [] i x y lt lt' x-is y-is same = absurd (omega arith)
@@ -24,6 +25,7 @@ same-at (v ∷ vs) (w ∷ ws) (suc i) x y lt lt' x-is y-is same = let rest : hel
 
 -- ---- half clean zones
 
+-- a log that was read is that of its zone
 pub log-read : (logs : List (Vec yardstick.Batch Global)) (zone : ℕ) (log : Vec yardstick.Batch Global) → zone < length logs → log ≡ get_or logs zone log → held_log log.items ≡ log_at (held_logs logs) zone
 log-read [] zone log lt is = absurd (omega arith)
 log-read (l ∷ ls) zero log lt is = ap (λ (v : Vec yardstick.Batch Global). held_log v.items) is
@@ -46,6 +48,7 @@ pub victim-is : (block_bytes n : ℕ) (logs : List (List Batch)) (zone source : 
 victim-is block_bytes n logs zone source log is moves half =
     one_source half.victim source (log_at logs zone) (has_batch block_bytes n logs zone half) half.moves (rw (← is) (all-map (IsMoveFrom source) batch_of log moves))
 
+-- what makes a zone half clean
 pub half_clean-is : (block_bytes n : ℕ) (logs : List (List Batch)) (zone source : ℕ) (log : List yardstick.Batch) → held_log log ≡ log_at logs zone
     → AllByRecursion (λ batch. IsMoveFrom source (batch_of batch)) log → source ≢ zone → IsBefore (first_sequence (log_at logs source)) (first_sequence (log_at logs zone))
     → IsSpare block_bytes n logs zone → IsHalfClean block_bytes n logs zone
@@ -54,9 +57,11 @@ half_clean-is block_bytes n logs zone source log is moves apart older spare =
 
 -- ---- the clearing
 
+-- where no zone is half clean, nothing is cleared
 pub nothing_clears : (block_bytes n : ℕ) (logs : List (List Batch)) → NoneBelow block_bytes n logs (length logs) → HasClearing block_bytes n logs logs
 nothing_clears block_bytes n logs none = record { zones = []; clears = none; left_is = refl }
 
+-- the lowest one is cleared, and then the others
 pub lowest_clears : (block_bytes n : ℕ) (logs left : List (List Batch)) (zone : ℕ) → IsLowest block_bytes n logs zone → HasClearing block_bytes n (without logs zone) left → HasClearing block_bytes n logs left
 lowest_clears block_bytes n logs left zone lowest is = record { zones = zone ∷ is.zones; clears = (lowest, is.clears); left_is = is.left_is }
 

@@ -81,20 +81,20 @@ fn data_blocks(entry: &Entry) -> usize
     if entry.trim { 0 } else { 1 }
 }
 
-// The latest that is said of a block, by what was found or by an entry.
+// The latest that is said of a block, by what was found or by an entry, with the number of its data block.
 fn heard_in_entry<'a>(
     found: Option<Said<'a>>,
     block: u64,
     zone: usize,
     batch: &'a Batch,
-    entry: &Entry,
-    number: usize,
+    numbered: (usize, &Entry),
 ) -> Option<Said<'a>>
     ensures { let sequence = batch.now.header.sequence in
         let body = held_blocks batch.now.body.items in
         (header : ℕ) → option_map saying_of result ≡ heard block (option_map saying_of found.entry)
-        (record_of sequence body zone header number entry.now ∷ []) }
+        (record_of sequence body zone header numbered.entry.0 numbered.entry.1.now ∷ []) }
 {
+    let (number, entry) = numbered;
     if entry.block != block {
         return found;
     }
@@ -115,7 +115,7 @@ fn heard_in_batch<'a>(
     let mut latest = found;
     let mut number = 0;
     for entry in &batch.header.entries {
-        latest = heard_in_entry(latest, block, zone, batch, entry, number);
+        latest = heard_in_entry(latest, block, zone, batch, (number, entry));
         number += data_blocks(entry);
     }
     latest

@@ -25,16 +25,17 @@ use Rattle.drive_array.specs.Mountable.{AreSound, IsMountable, is_partly_written
 use Rattle.zone_choice.specs.Roles.{RolesView, closed_unless, empty_count, fillings, is_empty_at, is_filling_at, taken, wrote}
 use Rattle.zone_choice.specs.Tables.{SameButReady, TablesView, size_of}
 use Rattle.zone_choice.specs.Agreement.{Agrees, HoldsFilling, MountedView, RolesAgree, TellsOpen, mounted}
-use Rattle.drive_array.specs.Laws.{IsNext, Writes}
+use Rattle.drive_array.specs.Laws.{IsNext, WritesRecords}
 use Rattle.drive_array.proofs.AllLaws.{all-at, all-weaker}
 use Rattle.zone_choice.proofs.ContentLaws.{all-usable, count-fillings, few-write, filling-log, roles-close, roles-finish, roles-seal, roles-settled, roles-take, roles-write, settled-whole}
 use Rattle.drive_array.proofs.MountLaws.{NoTails, untorn_mounts}
 use Rattle.zone_choice.proofs.OpenLaws.{OpensNone, OpensOnly, ShutBeside, all-tells_closed, all-tells_grown, emptied-shut, tells-kept}
 use Rattle.zone_choice.proofs.RolesLaws.{all-filling, all-with, closed-zone, few-fillings, filling-occupied, roles_with, second_list}
-use Rattle.drive_array.proofs.SizeLaws.{append_writes, array_length, next_is_last, told-length}
+use Rattle.drive_array.proofs.SizeLaws.{append_writes, next_is_last, told-length}
 use Rattle.drive_array.proofs.ZoneLogLaws.{append_logs, finish_logs, full-untorn, log_at-zone, readable-not_full, tail-at, zone_log-read}
 use Rattle.drive_array.proofs.RepairingMounts.{emptied-nothing}
 
+-- tables by their parts
 abbrev pub tables_with : MapView → RolesView → ℕ → ℕ → TablesView
 tables_with places roles next given = record { map = places; roles = roles; next = next; given = given }
 
@@ -52,6 +53,7 @@ size-encoded disk agrees = ap length agrees.places ∙ told-length (place disk.d
 
 -- ---- commands that change no content
 
+-- tables agree with a drive that has the same contents, and opened no zone
 pub agrees_same : (old new : DriveState) (tables : TablesView) → SameContents old new → OpensNone old.zones new.zones → IsLawful new → Agrees (mounted old tables) → Agrees (mounted new tables)
 agrees_same old new tables same opens lawful agrees = record {
   geometry = rw same.geometry agrees.geometry;
@@ -88,6 +90,7 @@ agrees_close old new tables zone same opens lawful shut agrees =
       open_zones = all-tells_closed new.zones zone tables.roles now.open_zones shut;
     }
 
+-- such a drive spells the same array
 pub spelled_same : (old new : DriveState) (n : ℕ) → SameContents old new → spelled new n ≡ spelled old n
 spelled_same old new n same = rw (same.geometry, same.contents) refl
 
@@ -113,6 +116,7 @@ emptied-untorn : has_torn_tail emptied ≡ false
 unfolding has_torn_tail
 emptied-untorn = refl
 
+-- no zone has a torn tail where the roles agree
 pub zone-untorn : (geometry : Geometry) (zones : List Content) (roles : RolesView) (zone : ℕ) → RolesAgree geometry.capacity zones (zone_logs geometry zones) roles → zone < length zones → has_torn_tail (content_at zones zone) ≡ false
 zone-untorn geometry zones roles zone agree lt = by (is_filling_at roles zone) refl (is_empty_at roles zone) refl
   where
@@ -126,6 +130,7 @@ zone-untorn geometry zones roles zone agree lt = by (is_filling_at roles zone) r
     by false e true e' = rw (agree.empty zone e') emptied-untorn
     by false e false e' = full-untorn (content_at zones zone) (rw (agree.sealed_are zone lt e' e).usage refl)
 
+-- so there are none
 pub no_tails : (geometry : Geometry) (zones : List Content) (roles : RolesView) → RolesAgree geometry.capacity zones (zone_logs geometry zones) roles → NoTails zones
 no_tails geometry zones roles agree zone = elim (cases_lt zone (length zones)) as (λ _. get_or (zone_tails zones) zone false ≡ false) [
   | inl lt ↦ tail-at zones zone lt ∙ zone-untorn geometry zones roles zone agree lt
@@ -169,7 +174,7 @@ record AfterAppend (old new : DriveState) (tables : TablesView) (zone : ℕ) (b 
   all_logs : AllByRecursion (HasLog new.geometry) (contents new.zones)
   in_range : zone < length (drive_logs old)
   brings : new_records (drive_logs old) zone b ≡ batch_records zone (written_in old zone) b
-  writes : Writes old.geometry.block old.geometry.size (tables.next + 1) tables.given (drive_logs old) zone (size_with tables b) b
+  writes : WritesRecords old.geometry.block old.geometry.size (tables.next + 1) tables.given (drive_logs old) zone (size_with tables b) b
 
 after_append : (old new : DriveState) (tables : TablesView) (zone : ℕ) (b : Batch) → Agrees (mounted old tables) → is_filling_at tables.roles zone ≡ true → AppendsBatch old new tables zone b → AfterAppend old new tables zone b
 after_append old new tables zone b agrees filling a =
@@ -213,11 +218,13 @@ pub record IsPlaced (old : DriveState) (tables : TablesView) (map : MapView) (zo
   pub zones : map.zones ≡ tables.map.zones
   pub zone_size : map.zone_size ≡ tables.map.zone_size
 
+-- there are as many places as the disk has blocks
 pub size-placed : (old : DriveState) (tables : TablesView) (map : MapView) (zone : ℕ) (b : Batch) → size_of tables ≤ size_with tables b → IsPlaced old tables map zone b → length map.places ≡ size_with tables b
 size-placed old tables map zone b grows placed =
     let all = extended places.None (size_with tables b) tables.map.places in
     ap length placed.places ∙ length-over (place old.geometry.size) (batch_records zone (written_in old zone) b) all ∙ length-extended places.None (size_with tables b) tables.map.places grows
 
+-- tables and drive agree after the Append of a batch
 pub agrees_append : (old new : DriveState) (tables : TablesView) (map : MapView) (zone : ℕ) (b : Batch) → Agrees (mounted old tables) → is_filling_at tables.roles zone ≡ true
     → AppendsBatch old new tables zone b → IsPlaced old tables map zone b → Agrees (mounted new (tables_after tables map zone b))
 agrees_append old new tables map zone b agrees filling a placed =
@@ -243,6 +250,7 @@ agrees_append old new tables map zone b agrees filling a placed =
       open_zones = all-tells_grown old.zones new.zones zone (batch_size b) tables.roles a.opens agrees.open_zones;
     }
 
+-- and the drive has that batch more
 pub spelled_append : (old new : DriveState) (tables : TablesView) (zone : ℕ) (b : Batch) → Agrees (mounted old tables) → is_filling_at tables.roles zone ≡ true → AppendsBatch old new tables zone b
     → (drive_logs new ≡ append_log (drive_logs old) zone b)
     × (spelled new tables.given ≡ over (shown old.geometry.block) (batch_records zone (written_in old zone) b) (extended (zero_block old.geometry.block) (size_with tables b) (spelled old tables.given)))
@@ -253,6 +261,7 @@ spelled_append old new tables zone b agrees filling a =
 
 -- ---- the host zone is finished or sealed, and an empty zone is taken
 
+-- after a Finish of the host zone
 pub agrees_finish : (old new : DriveState) (map : MapView) (empties : List Bool) (host : Filling) (second : Option Second) (next given : ℕ)
     → Agrees (mounted old (tables_with map (roles_with empties (Some host) second) next given)) → 1 ≤ host.written → host.written < old.geometry.capacity
     → new.geometry ≡ old.geometry → IsLawful new → Finishes (contents old.zones) (contents new.zones) host.zone → OpensNone old.zones new.zones
@@ -309,6 +318,7 @@ agrees-roles drive tables roles agrees there few open_zones = record {
   open_zones = open_zones;
 }
 
+-- after the host zone is full
 pub agrees_seal : (drive : DriveState) (map : MapView) (empties : List Bool) (host : Filling) (second : Option Second) (next given : ℕ)
     → Agrees (mounted drive (tables_with map (roles_with empties (Some host) second) next given)) → 1 ≤ host.written → (content_at (contents drive.zones) host.zone).usage ≡ full
     → Agrees (mounted drive (tables_with map (roles_with empties None second) next given))
@@ -316,9 +326,11 @@ agrees_seal drive map empties host second next given agrees some is_full =
     agrees-roles drive (tables_with map (roles_with empties (Some host) second) next given) (roles_with empties None second) agrees
     (roles-seal drive.geometry.capacity (contents drive.zones) (drive_logs drive) empties host second agrees.roles is_full some) agrees.few.1 agrees.open_zones.1
 
+-- an emptied zone has no batch
 pub vacant-emptied : (geometry : Geometry) (zones : List Content) (zone : ℕ) → content_at zones zone ≡ emptied → log_at (zone_logs geometry zones) zone ≡ []
 vacant-emptied geometry zones zone e = log_at-zone geometry zones zone ∙ ap (zone_log geometry) e ∙ emptied-nothing geometry
 
+-- after an empty zone is taken
 pub agrees_take : (drive : DriveState) (map : MapView) (empties : List Bool) (second : Option Second) (zone next given : ℕ)
     → Agrees (mounted drive (tables_with map (roles_with empties None second) next given)) → zone < length empties → get_or empties zone false ≡ true
     → Agrees (mounted drive (tables_with map (taken (roles_with empties None second) zone) next given))
@@ -397,6 +409,7 @@ empty-spare_after drive tables zone b agrees some here =
       spare = inl (get_or-set_other logs zone spare.place (log_at logs zone ++ b ∷ []) [] other ∙ vacant);
     }
 
+-- a drive that agrees, and has a spare zone, can be mounted
 pub agrees_mountable : (drive : DriveState) (tables : TablesView) → Agrees (mounted drive tables) → HasSpare drive.geometry.block tables.given (drive_logs drive) → IsMountable drive tables.given
 agrees_mountable drive tables agrees spare =
     let g = drive.geometry in

@@ -1,6 +1,5 @@
 -- A zone is made the only one that may be open, and then a batch is appended to it.
-use Rattle.std.proofs.Common.{◌≡◌, ◌⊎◌, ℕ, nat_lt, ◌+◌, ◌<◌, Bool, true, false, cond, None, Result, Ok, Err, refl, sym, ap, subst, ◌∙◌, inl, inr}
-use Rattle.std.specs.Option.{option_map}
+use Rattle.std.proofs.Common.{◌≡◌, ◌⊎◌, ℕ, nat_lt, ◌+◌, ◌<◌, Bool, true, false, cond, Result, Ok, Err, refl, sym, ap, subst, ◌∙◌, inl, inr}
 use Rattle.zone_states.specs.declared.geometry.Geometry.{Geometry}
 use Rattle.drive_port.specs.Contents.{SameContents}
 use Rattle.drive_port.specs.Drive.{DriveState}
@@ -12,7 +11,7 @@ use Rattle.drive_array.specs.ZoneLogs.{drive_logs}
 use Rattle.zone_choice.specs.Builder.{BuilderView, IsBuilt, built}
 use Rattle.zone_choice.specs.Changes.{AloneLeaves, BatchLeaves, CanPlace, ClosesBeside, KeepsArray, KeepsContents, Places, StopsInside, roles_alone, tables_closed}
 use Rattle.drive_array.specs.Mountable.{IsMountable}
-use Rattle.zone_choice.specs.Roles.{RolesView, closed_beside, closed_unless, second_with}
+use Rattle.zone_choice.specs.Roles.{RolesView, closed_beside, closed_unless}
 use Rattle.drive_array.specs.Spare.{HasSpare}
 use Rattle.zone_choice.specs.Tables.{TablesView}
 use Rattle.zone_choice.proofs.AgreementLaws.{agrees_mountable, spelled_same}
@@ -22,7 +21,8 @@ use Rattle.zone_choice.proofs.RolesLaws.{closed-zone, closed_beside-twice, filli
 
 -- ---- the zone is the only one that may be open
 
-pub alone-twice : (geometry : Geometry) (roles : RolesView) (zone : ℕ) → roles_alone geometry (roles_alone geometry roles zone) zone ≡ roles_alone geometry roles zone
+-- once the other zone is closed, it stays so
+alone-twice : (geometry : Geometry) (roles : RolesView) (zone : ℕ) → roles_alone geometry (roles_alone geometry roles zone) zone ≡ roles_alone geometry roles zone
 alone-twice geometry roles zone = at (nat_lt 1 geometry.open) refl
   where
     at : (b : Bool) → nat_lt 1 geometry.open ≡ b → roles_alone geometry (cond b roles (closed_beside roles zone)) zone ≡ cond b roles (closed_beside roles zone)
@@ -68,9 +68,11 @@ geometry-alone a b zone leaves = elim leaves.1 as (λ _. b.drive.geometry ≡ a.
 pub is-built : (a b : MountedView) (zone : ℕ) (builder : BuilderView) → AloneLeaves a b zone (Ok tt) → IsBuilt a.drive.geometry.block builder → IsBuilt b.drive.geometry.block builder
 is-built a b zone builder leaves is = rw (geometry-alone a b zone leaves) is
 
+-- the batch can be placed after that, too
 pub can-built : (a b : MountedView) (zone : ℕ) (builder : BuilderView) → AloneLeaves a b zone (Ok tt) → CanPlace a zone (built a.drive.geometry.block builder) → CanPlace b zone (built b.drive.geometry.block builder)
 can-built a b zone builder leaves can = subst (λ (g : Geometry). CanPlace b zone (built g.block builder)) (sym (geometry-alone a b zone leaves)) (can-alone a b zone (built a.drive.geometry.block builder) leaves can)
 
+-- and the tables note it
 pub noted-alone : (a b : MountedView) (zone : ℕ) → AloneLeaves a b zone (Ok tt) → roles_alone b.drive.geometry b.tables.roles zone ≡ b.tables.roles
 noted-alone a b zone leaves = rw (geometry-alone a b zone leaves, leaves.0) (alone-twice a.drive.geometry a.tables.roles zone)
 
@@ -144,6 +146,7 @@ append-with a b c zone batch result alone leaves = elim alone.1 as (λ _. BatchL
   | inr closes ↦ append-closed a b c zone batch result closes alone.0 leaves
 ]
 
+-- what the Append leaves is what both leave
 pub append-alone : (a b c : MountedView) (zone : ℕ) (builder : BuilderView) (result : Result (Unit {0}) Halt) → AloneLeaves a b zone (Ok tt) → BatchLeaves b c zone (built b.drive.geometry.block builder) result → BatchLeaves a c zone (built a.drive.geometry.block builder) result
 append-alone a b c zone builder result alone leaves = append-with a b c zone (built a.drive.geometry.block builder) result alone (subst (λ (g : Geometry). BatchLeaves b c zone (built g.block builder) result) (geometry-alone a b zone alone) leaves)
 
@@ -168,25 +171,19 @@ halts-before : (a b : MountedView) (zone : ℕ) (batch : Batch) (fault : Halt) �
 halts-before a b zone batch halt.Memory leaves = inl leaves
 halts-before a b zone batch halt.Stopped leaves = stops-before a b zone batch leaves
 
+-- the Close halted, and no batch was appended
 pub halted-before : (a b : MountedView) (zone : ℕ) (batch : Batch) (fault : Halt) (result : Result (Unit {0}) Halt) → result ≡ Err fault → AloneLeaves a b zone (Err fault) → BatchLeaves a b zone batch result
 halted-before a b zone batch fault result is leaves = rw is (halts-before a b zone batch fault leaves)
 
 -- ---- what callers see of it
 
+-- the empty zones are the same
 pub alone-empty : (geometry : Geometry) (roles : RolesView) (zone : ℕ) → (roles_alone geometry roles zone).empty ≡ roles.empty
 alone-empty geometry roles zone = at (nat_lt 1 geometry.open)
   where
     at : (b : Bool) → (cond b roles (closed_beside roles zone)).empty ≡ roles.empty
     at true = refl
     at false = refl
-
--- where there is no second zone, there is none afterwards
-pub alone-second : (geometry : Geometry) (roles : RolesView) (zone : ℕ) → roles.second ≡ None → (roles_alone geometry roles zone).second ≡ None
-alone-second geometry roles zone none = at (nat_lt 1 geometry.open)
-  where
-    at : (b : Bool) → (cond b roles (closed_beside roles zone)).second ≡ None
-    at true = none
-    at false = ap (option_map (second_with (closed_unless zone))) none
 
 closes-keeps : (a b : MountedView) (zone : ℕ) → ClosesBeside a b zone → KeepsArray a b
 closes-keeps a b zone closes =
@@ -220,6 +217,7 @@ pub record SameBut (old new : TablesView) : Type 0 where
   pub next : new.next ≡ old.next
   pub given : new.given ≡ old.given
 
+-- after a stop the tables are the same, but for what is closed
 pub stops-tables : (a b : MountedView) (zone : ℕ) (batch : Batch) → StopsInside a b zone batch → SameBut a.tables b.tables
 stops-tables a b zone batch stops = elim stops.tables as (λ _. SameBut a.tables b.tables) [
   | inl same ↦ rw same (record { map = refl; next = refl; given = refl })

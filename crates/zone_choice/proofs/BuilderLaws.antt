@@ -1,12 +1,11 @@
 -- The entries of a batch as they are named, and the places of its blocks.
-use Rattle.std.proofs.Common.{◌≡◌, ◌≢◌, ℕ, zero, suc, ◌+◌, ◌*◌, ◌^◌, ◌<◌, ◌≤◌, Bool, true, false, eqb, List, [], ◌∷◌, ◌++◌, map, length, drop, set, get_or, Some, refl, sym, ap, ◌∙◌, arith, append_assoc}
+use Rattle.std.proofs.Common.{◌≡◌, ◌≢◌, ℕ, zero, suc, ◌+◌, ◌*◌, ◌^◌, ◌<◌, Bool, true, false, eqb, List, [], ◌∷◌, ◌++◌, map, length, drop, set, get_or, Some, refl, sym, ap, ◌∙◌, arith, append_assoc}
 use Rattle.std.specs.Prelude.{nat_eq}
 use Rattle.std.specs.List.{AllByRecursion, IsDistinct}
 use Rattle.std.proofs.lemmas.Bool.{eq-eqb}
 use Rattle.std.proofs.lemmas.List.{drop_more, length-set, set_comm}
 use Rattle.batch_log.specs.declared.header.Entry.{Entry}
 use Rattle.batch_log.specs.Log.{data_count, one_unless}
-use Rattle.batch_log.proofs.EntryLaws.{few-data}
 use Rattle.logical_map.specs.declared.place.Place.{Place}
 use Rattle.logical_map.specs.Places.{place_address}
 use Rattle.zone_choice.specs.Builder.{entries_from, entry_place, placed}
@@ -27,6 +26,7 @@ entries-more trim es first count last e =
 
 -- ---- places
 
+-- the blocks that entries name
 abbrev pub blocks_named : List Entry → List ℕ
 blocks_named es = map (λ (e : Entry). e.block) es
 
@@ -57,9 +57,7 @@ pub record Placing (header : ℕ) (entries : List Entry) (old now : TablesView) 
   pub long : length now.map.places ≡ length old.map.places
   pub rest : now ≡ record old { map = record old.map { places = now.map.places } }
 
-pub placing-none : (header : ℕ) (entries : List Entry) (tables : TablesView) → Placing header entries tables tables (header + 1) 0
-placing-none header entries tables = record { left = refl; data_left = refl; above = omega arith; long = refl; rest = refl }
-
+-- one entry more has its place
 pub placing-more : (header : ℕ) (entries : List Entry) (old now new : TablesView) (address i : ℕ) (e d : Entry) (p : Place) (more : ℕ) → Placing header entries old now address i → IsDistinct nat_eq (blocks_named entries) → i < length entries → e ≡ get_or entries i d
     → p ≡ entry_place e.trim header address → more ≡ one_unless e.trim → new ≡ with_places now (set now.map.places e.block p) → Placing header entries old new (address + more) (i + 1)
 placing-more header entries old now new address i e d p more was distinct lt is place-is more-is new-is =
@@ -83,13 +81,6 @@ pub entry_place-fits : (trim : Bool) (header address : ℕ) → header < address
 entry_place-fits true header address above fits = omega arith
 entry_place-fits false header address above fits = fits
 
--- all are placed
-pub placing-all : (header : ℕ) (entries : List Entry) (old now : TablesView) (address i : ℕ) → Placing header entries old now address i → drop i entries ≡ [] → (now ≡ with_places old (placed header (header + 1) entries old.map.places)) × (address ≡ header + 1 + data_count entries)
-placing-all header entries old now address i was none =
-    let left = rw none at was.left in
-    let data_now = rw none at was.data_left in
-    (was.rest ∙ ap (with_places old) left, omega (arith, data_now))
-
 -- these are the places of the batch's records
 pub placed-over : (size sequence zone offset k header address : ℕ) (body : List (List ℕ)) (es : List Entry) (all : List Place) → header ≡ zone * size + offset → address ≡ zone * size + (offset + 1 + k)
     → placed header address es all ≡ over (place size) (entry_records sequence body zone offset k es) all
@@ -101,5 +92,3 @@ placed-over size sequence zone offset k header address body (x ∷ xs) all h e =
     one : (t : Bool) → x.trim ≡ t → entry_place x.trim header address ≡ place size (Some (record_of sequence body zone offset k x))
     one true is = rw (is, h) refl
     one false is = rw (is, e) refl
-
--- ---- how many data blocks there are

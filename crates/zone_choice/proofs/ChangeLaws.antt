@@ -1,5 +1,5 @@
 -- What commands change of a mounted disk: a halt nothing, an Append of a batch what the batch says.
-use Rattle.std.proofs.Common.{◌≡◌, ◌⊎◌, ℕ, zero, suc, ◌+◌, ◌*◌, ◌/◌, ◌<◌, ◌≤◌, ◌^◌, List, [], ◌∷◌, length, take, drop, set, Some, Ok, Err, refl, sym, ap, ◌∙◌, inl, inr, arith}
+use Rattle.std.proofs.Common.{◌≡◌, ◌⊎◌, ℕ, suc, ◌+◌, ◌*◌, ◌/◌, ◌<◌, ◌≤◌, ◌^◌, List, [], ◌∷◌, length, take, drop, set, Some, Ok, Err, refl, sym, ap, ◌∙◌, inl, inr, arith}
 use Rattle.std.specs.List.{AllByRecursion}
 use Rattle.std.specs.Option.{option_map}
 use Rattle.std.proofs.lemmas.Bool.{cases_lt}
@@ -23,7 +23,7 @@ use Rattle.batch_log.proofs.HeaderLaws.{header_length}
 use Rattle.logical_map.specs.Places.{IsReady, MapView}
 use Rattle.logical_map.specs.declared.place.Place.{Place}
 use Rattle.logical_map.specs.declared.place.Place.TheVariants as places
-use Rattle.zone_choice.specs.Agreement.{Agrees, MountedView, mounted, mounted_array}
+use Rattle.zone_choice.specs.Agreement.{Agrees, mounted, mounted_array}
 use Rattle.drive_array.specs.ZoneLogs.{drive_logs, spelled}
 use Rattle.zone_choice.specs.Builder.{BuilderView, IsBuilt, built, placed}
 use Rattle.zone_choice.specs.Changes.{BatchLeaves, CanPlace, IsHalt, KeepsArray, Places, StopsInside, fault_halt, roles_alone, size_with, told_over}
@@ -40,9 +40,11 @@ use Rattle.zone_choice.proofs.StopLaws.{Left, left-same, left-torn, left-whole}
 
 -- ---- nothing changes
 
+-- what changes nothing keeps the array
 pub keeps-refl : (drive : DriveState) (tables : TablesView) → Agrees (mounted drive tables) → KeepsArray (mounted drive tables) (mounted drive tables)
 keeps-refl drive tables agrees = record { agrees = agrees; logs = refl; array = refl; places = refl; next = refl; given = refl; spare = λ some. some; sealed = λ zone is. is; second = refl; geometry = refl; refused = refl; appended = refl }
 
+-- and so does a halt that left the drive
 pub keeps-halt : (old new : DriveState) (tables : TablesView) → new ≡ old → Agrees (mounted old tables) → KeepsArray (mounted old tables) (mounted new tables)
 keeps-halt old new tables same agrees = rw same (keeps-refl old tables agrees)
 
@@ -67,22 +69,6 @@ keeps-same old new tables agrees same opens lawful refused appended = record {
 pub keeps-contents : (old new : DriveState) (tables : TablesView) → Agrees (mounted old tables) → SameContents old new → OpensNone old.zones new.zones → IsLawful new → Counts old new 0 → KeepsArray (mounted old tables) (mounted new tables)
 keeps-contents old new tables agrees same opens lawful counts = keeps-same old new tables agrees same opens lawful counts.refused (omega (arith, counts.appended))
 
-pub keeps-join : (a b c : MountedView) → KeepsArray a b → KeepsArray b c → KeepsArray a c
-keeps-join a b c p q = record {
-  agrees = q.agrees;
-  logs = q.logs ∙ p.logs;
-  array = q.array ∙ p.array;
-  places = q.places ∙ p.places;
-  next = q.next ∙ p.next;
-  given = q.given ∙ p.given;
-  spare = λ some. q.spare (p.spare some);
-  sealed = λ zone is. q.sealed zone (p.sealed zone is);
-  second = q.second ∙ p.second;
-  geometry = q.geometry ∙ p.geometry;
-  refused = q.refused ∙ p.refused;
-  appended = q.appended ∙ p.appended;
-}
-
 -- the tables have more room
 pub keeps-room : (drive : DriveState) (old new : TablesView) → SameButReady old new → Agrees (mounted drive old) → KeepsArray (mounted drive old) (mounted drive new)
 keeps-room drive old new room agrees = record {
@@ -102,14 +88,17 @@ keeps-room drive old new room agrees = record {
 
 -- ---- the bytes of a batch
 
+-- a block has 512 bytes at least
 pub large-block : (g : Geometry) → IsInRange g → 512 ≤ g.block
 large-block g range = elim range.block as (λ _. 512 ≤ g.block) [ inl e ↦ omega arith | inr e ↦ omega arith ]
 
+-- how long a batch is that was built
 pub record IsSized (g : Geometry) (builder : BuilderView) : Type 0 where
   pub long : length builder.bytes ≡ batch_size (built g.block builder) * g.block
   pub count_is : block_count g builder.bytes ≡ batch_size (built g.block builder)
   pub cut : cut_blocks g.block (block_count g builder.bytes) builder.bytes ≡ batch_blocks g.block (built g.block builder)
 
+-- it is so long
 pub sized : (g : Geometry) (builder : BuilderView) → IsInRange g → IsHeading g.block builder.heading → IsBuilt g.block builder → IsSized g builder
 sized g builder range says is =
     let block = g.block in
@@ -168,6 +157,7 @@ written-fits old tables grown zone blocks builder can blocks-is roles =
     let size = can.agrees.geometry.size in
     rw roles (all-weaker (λ f. f.written ≤ old.geometry.capacity) (λ f. f.written + blocks < 2 ^ 32) (fillings tables.roles) (λ f le. omega arith) (fillings-few old tables can.agrees))
 
+-- the tables with the places of a batch
 abbrev pub tables_placed : TablesView → ℕ → BuilderView → ℕ → ℕ → TablesView
 tables_placed tables zone builder address blocks = record {
   map = record tables.map { places = placed address (address + 1) builder.heading.entries tables.map.places };
@@ -186,6 +176,7 @@ pub record GrownReady (grown : TablesView) (entries : List Entry) : Type 0 where
   pub short : size_of grown ≤ 2 ^ 31
   pub next : grown.next < 2 ^ 63
 
+-- once the map has grown, the blocks of the batch can be placed
 pub grown-ready : (old : DriveState) (tables grown : TablesView) (zone : ℕ) (builder : BuilderView) → CanPlace (mounted old tables) zone (built old.geometry.block builder) → GrowsTo tables (size_with tables (built old.geometry.block builder)) grown → GrownReady grown builder.heading.entries
 grown-ready old tables grown zone builder can grows =
     let size = size_with tables (built old.geometry.block builder) in
@@ -207,6 +198,7 @@ pub placed-tables : (tables mid after : TablesView) (zone address blocks : ℕ) 
 placed-tables tables mid after zone address blocks builder entries entries-are mid-is after-is =
     after-is ∙ ap (λ (t : TablesView). advanced t zone blocks) (mid-is ∙ ap (λ (es : List Entry). with_places tables (placed address (address + 1) es tables.map.places)) entries-are)
 
+-- a batch that can be placed has few entries
 pub few-entries : (old : DriveState) (tables : TablesView) (zone : ℕ) (builder : BuilderView) → CanPlace (mounted old tables) zone (built old.geometry.block builder) → length builder.heading.entries < 2 ^ 31
 few-entries old tables zone builder can =
     let room = can.heading.room in
@@ -247,6 +239,7 @@ told-with old tables zone b size =
     let same : size_or (length (spelled old tables.given)) b.heading.size ≡ size_with tables b = ap (size_or (length (spelled old tables.given))) size in
     rw same (told_anywhere old.geometry.block b.heading.sequence zone (written_in old zone) 0 b.body b.heading.entries (extended (zero_block old.geometry.block) (size_with tables b) (spelled old tables.given)))
 
+-- its Append was done, and tables and drive agree again
 pub place_writes : (old new : DriveState) (tables grown after : TablesView) (zone start address blocks : ℕ) (builder : BuilderView) (bytes : List ℕ) → bytes ≡ builder.bytes → IsBuilt old.geometry.block builder → CanPlace (mounted old tables) zone (built old.geometry.block builder) → roles_alone old.geometry tables.roles zone ≡ tables.roles → start ≡ zone * old.geometry.size
     → Appended old new start bytes address → PortLeaves old start bytes (Ok address) new → IsLawful new → blocks ≡ batch_size (built old.geometry.block builder) → GrowsTo tables (size_with tables (built old.geometry.block builder)) grown → after ≡ tables_placed grown zone builder address blocks
     → Places (mounted old tables) (mounted new after) zone (built old.geometry.block builder)
@@ -345,6 +338,7 @@ pub record Halted (old new : DriveState) (tables : TablesView) (zone : ℕ) (b :
   pub halt : IsHalt fault
   pub leaves : BatchLeaves (mounted old tables) (mounted new tables) zone b (Err (fault_halt fault))
 
+-- or it was not, and the drive can be mounted
 pub place_halts : (old new : DriveState) (tables : TablesView) (zone start : ℕ) (builder : BuilderView) (bytes : List ℕ) (fault : PortFault) → bytes ≡ builder.bytes → IsBuilt old.geometry.block builder → CanPlace (mounted old tables) zone (built old.geometry.block builder) → roles_alone old.geometry tables.roles zone ≡ tables.roles → start ≡ zone * old.geometry.size
     → AppendGives old start bytes (Err fault) new → AppendKeeps old start bytes (Err fault) new → PortLeaves old start bytes (Err fault) new → Obeys {V = ℕ} old (Err fault) new → (CanAppend old start (block_count old.geometry bytes) → IsNotRefused {V = ℕ} (Err fault))
     → Halted old new tables zone (built old.geometry.block builder) fault

@@ -94,6 +94,7 @@ pub record CloseHalts (old new : DriveState) (tables : TablesView) (zone : ℕ) 
   pub halt : IsHalt fault
   pub leaves : CloseBesideLeaves old tables zone new (Err (fault_halt fault))
 
+-- the Close of the other zone that is being filled is not refused, and what it leaves is kept
 pub close_halts : (old new : DriveState) (tables : TablesView) (zone start : ℕ) (other : Filling) (fault : PortFault) → Agrees (mounted old tables) → open_beside tables.roles zone ≡ Some other → other.written ≢ old.geometry.capacity → start ≡ other.zone * old.geometry.size
     → CloseGives {V = Unit {0}} old start (Err fault) new → SameContents old new → PortLeaves {V = Unit {0}} old start (Err fault) new → Obeys {V = Unit {0}} old (Err fault) new → (CanClose old start → IsNotRefused {V = Unit {0}} (Err fault)) → CloseHalts old new tables zone fault
 close_halts old new tables zone start other (port.Refused status) agrees is room start-is gives same leaves obeys passed =

@@ -1,7 +1,6 @@
 -- A drive takes the commands of a disk whose tables agree with it.
 use Rattle.std.proofs.Common.{◌≡◌, ◌≢◌, ◌⊎◌, ℕ, zero, suc, nat_lt, ◌+◌, ◌*◌, ◌/◌, ◌%◌, ◌<◌, ◌≤◌, Bool, true, false, ◌||◌, cond, eqb, List, [], ◌∷◌, length, set, get_or, refl, sym, ap, ◌∙◌, inl, inr, arith}
 use Rattle.std.specs.List.{AllByRecursion, count_by, list_any, remove}
-use Rattle.std.proofs.Math.ListN.{get_or-map}
 use Rattle.std.proofs.lemmas.Bool.{cases_eq, eqb-true, ltb-true, ne_eqb}
 use Rattle.std.proofs.lemmas.List.{get_or-set_other, get_or-set_same, length-map, length-set}
 use Rattle.std.proofs.lemmas.List.Sums.{sum_by-cons}
@@ -30,7 +29,8 @@ use Rattle.drive_array.proofs.CountLaws.{count-zero}
 use Rattle.zone_choice.proofs.OpenLaws.{all-shut, noted-shut}
 use Rattle.zone_choice.proofs.RolesLaws.{few-fillings, filling-occupied}
 
-pub settled-closed : (state : ZoneState) → IsSettled (usage_of state) → is_active state ≡ false
+-- a zone that is empty or full is not active
+settled-closed : (state : ZoneState) → IsSettled (usage_of state) → is_active state ≡ false
 settled-closed states.Empty h = refl
 settled-closed states.ImplicitlyOpened h = elim h as (λ _. true ≡ false) [ inl e ↦ cc | inr e ↦ cc ]
 settled-closed states.ExplicitlyOpened h = elim h as (λ _. true ≡ false) [ inl e ↦ cc | inr e ↦ cc ]
@@ -39,6 +39,7 @@ settled-closed states.ReadOnly h = refl
 settled-closed states.Full h = refl
 settled-closed states.Offline h = refl
 
+-- one that is not active is not open
 pub inactive-shut : (state : ZoneState) → is_active state ≡ false → is_open state ≡ false
 inactive-shut states.Empty h = refl
 inactive-shut states.ImplicitlyOpened h = h
@@ -94,15 +95,9 @@ count-others p xs (f ∷ g ∷ []) i d off lt here few none = split (eqb f.zone 
 count-others p xs (f ∷ g ∷ h ∷ fs) i d off lt here few none = absurd (omega arith)
 
 -- a zone that isn't being filled isn't active
-pub others-inactive : (capacity : ℕ) (zones : List Zone) (logs : List (List Batch)) (roles : RolesView) (k : ℕ) → RolesAgree capacity (contents zones) logs roles → k < length zones → is_filling_at roles k ≡ false → is_active (zone_at zones k).state ≡ false
+others-inactive : (capacity : ℕ) (zones : List Zone) (logs : List (List Batch)) (roles : RolesView) (k : ℕ) → RolesAgree capacity (contents zones) logs roles → k < length zones → is_filling_at roles k ≡ false → is_active (zone_at zones k).state ≡ false
 others-inactive capacity zones logs roles k agree lt out =
     settled-closed (zone_at zones k).state (rw content_at-contents at (roles-settled capacity (contents zones) logs roles k agree (omega (arith, length-map zones content_of)) out))
-
--- where no zone is being filled, none is active
-pub none-active : (drive : DriveState) (tables : TablesView) → Agrees (mounted drive tables) → fillings tables.roles ≡ [] → active_count drive.zones ≡ 0
-none-active drive tables agrees none =
-    count-zero (λ (z : Zone). is_active z.state) drive.zones nowhere
-    (λ k lt. others-inactive drive.geometry.capacity drive.zones (drive_logs drive) tables.roles k agrees.roles lt (rw none refl))
 
 -- where a zone starts
 pub zone-start : (zone size : ℕ) → 1 ≤ size → (zone * size / size ≡ zone) × (zone * size % size ≡ 0)
@@ -110,9 +105,11 @@ zone-start zone size some =
     let whole : zone * size ≡ zone * size + 0 = omega arith in
     (rw whole (div-mul-add zone size 0 (omega arith)), rw whole (mod-mul-add zone size 0 (omega arith)))
 
+-- a zone of the drive starts within it
 pub start-below : (zone zones size : ℕ) → 1 ≤ size → zone < zones → zone * size < zones * size
 start-below zone zones size some lt = omega (arith, mul-le (zone + 1) size zones size (omega arith) (omega arith), add-mul zone 1 size)
 
+-- a zone that is being filled is one of the drive
 pub filling-in_range : (drive : DriveState) (tables : TablesView) (zone : ℕ) → Agrees (mounted drive tables) → is_filling_at tables.roles zone ≡ true → zone < length drive.zones
 filling-in_range drive tables zone agrees here = omega (arith, (filling-occupied tables.roles zone agrees.roles.apart here).0, agrees.roles.count, length-map drive.zones content_of)
 
@@ -228,6 +225,7 @@ zone-few drive zone lawful lt =
     let one = all-at (IsLawfulZone drive.geometry) drive.zones zone nowhere lawful.zones lt in
     rw (content_at-contents drive.zones zone) (may_hold-most (zone_at drive.zones zone).state drive.geometry.capacity (length (zone_at drive.zones zone).blocks) one.written)
 
+-- and holds no more blocks than its capacity
 pub filling-few : (drive : DriveState) (tables : TablesView) (f : Filling) → Agrees (mounted drive tables) → f.zone < length drive.zones → HoldsFilling drive.geometry.capacity (contents drive.zones) (drive_logs drive) f → f.written ≤ drive.geometry.capacity
 filling-few drive tables f agrees lt is = omega (arith, zone-few drive f.zone agrees.lawful lt, is.written)
 

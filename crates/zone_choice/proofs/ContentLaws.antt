@@ -3,7 +3,6 @@ use Rattle.std.proofs.Common.{◌≡◌, ◌≢◌, ◌⊎◌, ℕ, suc, ◌+◌
 use Rattle.std.specs.List.{AllByRecursion, count_by, list_any}
 use Rattle.std.proofs.lemmas.Bool.{cases_eq, cases_lt, eqb-true, eq-eqb, ne_eqb}
 use Rattle.std.proofs.lemmas.List.{get_or-set_same, get_or-set_other, length-set, length-append}
-use Rattle.std.proofs.lemmas.List.Sums.{sum_by-set}
 use Rattle.drive_port.specs.Contents.{Content, Usage, empty, active, full, unusable, Appends, Finishes, content_at, emptied, filled, finished, is_usable, is_writable, nothing}
 use Rattle.batch_log.specs.Log.{Batch, batch_size, log_size}
 use Rattle.zone_choice.specs.declared.roles.Filling.{Filling}
@@ -56,6 +55,7 @@ grown-filled capacity old new logs zone blocks batch appends size lt f is = at (
         let other : f.zone ≢ zone = λ same. (let bad = eq-eqb f.zone zone same in absurd (cc)) in
         same-filled capacity old new logs (append_log logs zone batch) f (rw appends.zones (get_or-set_other old zone f.zone made nothing other)) (log_at-other logs zone f.zone batch other) is
 
+-- blocks are appended to a zone that is being filled
 pub roles-write : (capacity : ℕ) (old new : List Content) (logs : List (List Batch)) (roles : RolesView) (zone : ℕ) (blocks : List (List ℕ)) (batch : Batch) → RolesAgree capacity old logs roles → is_filling_at roles zone ≡ true
     → Appends old new capacity zone blocks → length blocks ≡ batch_size batch → zone < length logs → RolesAgree capacity new (append_log logs zone batch) (wrote roles zone (batch_size batch))
 roles-write capacity old new logs roles zone blocks batch agree here appends size lt =
@@ -81,6 +81,7 @@ roles-write capacity old new logs roles zone blocks batch agree here appends siz
 host_at : (host : Filling) (second : Option Second) (k : ℕ) → host.zone ≢ k → list_any (is_at k) (second_list second) ≡ false → list_any (is_at k) (host ∷ second_list second) ≡ false
 host_at host second k other none = rw (ne_eqb host.zone k other) none
 
+-- the host zone is full, and sealed
 pub roles-seal : (capacity : ℕ) (zones : List Content) (logs : List (List Batch)) (empties : List Bool) (host : Filling) (second : Option Second) → RolesAgree capacity zones logs (roles_with empties (Some host) second)
     → (content_at zones host.zone).usage ≡ full → 1 ≤ host.written → RolesAgree capacity zones logs (roles_with empties None second)
 roles-seal capacity zones logs empties host second agree is_full some = record {
@@ -100,6 +101,7 @@ other-filled : (capacity : ℕ) (old new : List Content) (logs : List (List Batc
 other-filled capacity old new logs host None differ same all = tt
 other-filled capacity old new logs host (Some s) differ same all = (same-filled capacity old new logs logs (filling_of s) (same (filling_of s).zone (λ e. differ (sym e))) refl all.0, tt)
 
+-- it is finished, and sealed
 pub roles-finish : (capacity : ℕ) (old new : List Content) (logs : List (List Batch)) (empties : List Bool) (host : Filling) (second : Option Second) → RolesAgree capacity old logs (roles_with empties (Some host) second)
     → Finishes old new host.zone → 1 ≤ host.written → RolesAgree capacity new logs (roles_with empties None second)
 roles-finish capacity old new logs empties host second agree finishes some =
@@ -122,6 +124,7 @@ roles-finish capacity old new logs empties host second agree finishes some =
 
 -- ---- an empty zone becomes the host zone
 
+-- an empty zone becomes the host zone
 pub roles-take : (capacity : ℕ) (zones : List Content) (logs : List (List Batch)) (empties : List Bool) (second : Option Second) (zone : ℕ) → RolesAgree capacity zones logs (roles_with empties None second)
     → zone < length empties → get_or empties zone false ≡ true → log_at logs zone ≡ [] → RolesAgree capacity zones logs (taken (roles_with empties None second) zone)
 roles-take capacity zones logs empties second zone agree lt here no_log =
@@ -150,6 +153,7 @@ closed-filled capacity zones logs zone f is = at (eqb f.zone zone)
     at true = is
     at false = record { written = is.written; usage = is.usage; batches = is.batches; opened = λ may. absurd (cc) }
 
+-- the other zone that is being filled is closed
 pub roles-close : (capacity : ℕ) (zones : List Content) (logs : List (List Batch)) (roles : RolesView) (zone : ℕ) → RolesAgree capacity zones logs roles → RolesAgree capacity zones logs (closed_beside roles zone)
 roles-close capacity zones logs roles zone agree = record {
   count = agree.count;
@@ -165,6 +169,7 @@ roles-close capacity zones logs roles zone agree = record {
 abbrev AtMost : ℕ → List (List Batch) → Filling → Type 0
 AtMost most logs f = AllByRecursion (HasAtMost most) (log_at logs f.zone)
 
+-- each batch of the zones being filled has so many entries at most, also the new one
 pub few-write : (most : ℕ) (logs : List (List Batch)) (roles : RolesView) (zone : ℕ) (b : Batch) → zone < length logs → HasAtMost most b
     → AllByRecursion (λ (f : Filling). AllByRecursion (HasAtMost most) (log_at logs f.zone)) (fillings roles)
     → AllByRecursion (λ (f : Filling). AllByRecursion (HasAtMost most) (log_at (append_log logs zone b) f.zone)) (fillings (wrote roles zone (batch_size b)))
@@ -185,6 +190,7 @@ filling-log capacity zones logs roles zone agree here =
 
 -- ---- what follows for all zones
 
+-- a zone that is empty or full
 abbrev pub IsSettled : Usage → Type 0
 IsSettled usage = (usage ≡ empty) ⊎ (usage ≡ full)
 
@@ -208,6 +214,7 @@ writable-usable active h = refl
 writable-usable full h = refl
 writable-usable unusable h = absurd (cc)
 
+-- a zone that is being filled is usable
 pub filled-usable : (capacity : ℕ) (zones : List Content) (logs : List (List Batch)) (f : Filling) → HoldsFilling capacity zones logs f → is_usable (content_at zones f.zone).usage ≡ true
 filled-usable capacity zones logs f is = elim is.usage as (λ _. is_usable (content_at zones f.zone).usage ≡ true) [ inl w ↦ writable-usable (content_at zones f.zone).usage w | inr h ↦ rw h.0 refl ]
 
@@ -217,6 +224,7 @@ zone-usable capacity zones logs roles zone agree lt true e =
     all-filling (λ z. is_usable (content_at zones z).usage ≡ true) (fillings roles) zone
     (all-weaker (HoldsFilling capacity zones logs) (λ f. is_usable (content_at zones f.zone).usage ≡ true) (fillings roles) (filled-usable capacity zones logs) agree.fillings_are) e
 
+-- and so are all zones
 pub all-usable : (capacity : ℕ) (zones : List Content) (logs : List (List Batch)) (roles : RolesView) → RolesAgree capacity zones logs roles → AllByRecursion (λ (zone : Content). is_usable zone.usage ≡ true) zones
 all-usable capacity zones logs roles agree =
     all-from (λ (zone : Content). is_usable zone.usage ≡ true) zones nothing (λ zone lt. zone-usable capacity zones logs roles zone agree lt (is_filling_at roles zone) refl)
@@ -231,6 +239,7 @@ filling-writable capacity zones logs roles zone agree here room =
     one : (f : Filling) → HoldsFilling capacity zones logs f → length (content_at zones f.zone).blocks < capacity → is_writable (content_at zones f.zone).usage ≡ true
     one f is lt = elim is.usage as (λ _. is_writable (content_at zones f.zone).usage ≡ true) [ inl w ↦ w | inr h ↦ absurd (omega (arith, is.written, h.1, lt)) ]
 
+-- a zone that is empty or full is not partly written
 pub settled-whole : (content : Content) → IsSettled content.usage → is_partly_written content ≡ false
 settled-whole content h = elim h as (λ _. is_partly_written content ≡ false) [ inl e ↦ rw e refl | inr e ↦ rw e refl ]
 

@@ -10,6 +10,7 @@ count-none : (xs : List Bool) → ((k : ℕ) → get_or xs k false ≡ false) �
 count-none [] none = refl
 count-none (x ∷ xs) none = let here : x ≡ false = none 0 in rw here (count-none xs (λ k. none (suc k)))
 
+-- where no zone is empty, none is counted
 pub count-none_below : (xs : List Bool) (end : ℕ) → length xs ≤ end → ((k : ℕ) → k < end → get_or xs k false ≡ false) → count_by (λ b. b) xs ≡ 0
 count-none_below xs end all none = count-none xs (λ k. elim (cases_lt k end) as (λ _. get_or xs k false ≡ false) [ inl lt ↦ none k lt | inr past ↦ get_or_past xs k false (omega arith) ])
 
@@ -36,10 +37,12 @@ more-empty empty zone lt here =
     let more : count_by (λ (b : Bool). b) (set empty zone true) + 0 ≡ count_by (λ (b : Bool). b) empty + 1 = rw here at (sum_by-set (λ (b : Bool). cond {A = ℕ} b 1 0) empty zone true false lt) in
     omega (arith, more)
 
+-- one zone more can be counted
 pub count-fits : (empty : List Bool) (count lowest zone : ℕ) → AreCounted empty count lowest → zone < length empty → get_or empty zone false ≡ false → count + 1 < 2 ^ 32
 count-fits empty count lowest zone was lt here =
     omega (arith, was.few, was.count_is, more-empty empty zone lt here, count_by-le-length (λ (b : Bool). b) (set empty zone true), length-set empty zone true)
 
+-- a zone becomes empty, and is counted
 pub counted-give : (empty : List Bool) (count lowest zone : ℕ) → AreCounted empty count lowest → zone < length empty → get_or empty zone false ≡ false → AreCounted (set empty zone true) (count + 1) (min lowest zone)
 counted-give empty count lowest zone was lt here =
     let long : length (set empty zone true) ≡ length empty = length-set empty zone true in

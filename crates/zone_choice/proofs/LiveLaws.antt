@@ -1,18 +1,16 @@
 -- How many live records each zone has.
-use Rattle.std.proofs.Common.{◌≡◌, ℕ, ◌+◌, ◌-◌, ◌<◌, ◌≤◌, ◌^◌, Bool, true, false, cond, ltb, List, ◌++◌, length, set, get_or, replicate, Option, Some, None, refl, sym, ap, ◌∙◌, inl, inr, arith}
-use Rattle.std.specs.List.{count_by}
+use Rattle.std.proofs.Common.{◌≡◌, ℕ, ◌+◌, ◌-◌, ◌<◌, ◌≤◌, ◌^◌, Bool, true, false, cond, ltb, List, ◌++◌, length, set, get_or, replicate, Option, Some, None, refl, sym, ◌∙◌, inl, inr, arith}
 use Rattle.std.specs.Option.{IfSome}
 use Rattle.std.proofs.lemmas.Bool.{cases_lt, eq-eqb, le-ltb, lt-ltb, ltb-true}
-use Rattle.std.proofs.lemmas.List.{length-replicate, length-set, set_past}
-use Rattle.std.proofs.lemmas.List.Sums.{count_by-le-length, get_or-le-sum_by}
+use Rattle.std.proofs.lemmas.List.{length-set, set_past}
+use Rattle.std.proofs.lemmas.List.Sums.{count_by-le-length}
 use Rattle.logical_map.specs.Counts.{lowered, raised}
 use Rattle.logical_map.specs.Live.{is_zone, lies_in, zone_below, zone_in, zone_of}
 use Rattle.logical_map.specs.Places.{MapView}
 use Rattle.logical_map.specs.declared.place.Place.{Place}
 use Rattle.logical_map.specs.declared.place.Place.TheVariants as places
-use Rattle.logical_map.proofs.Counting.{counts-set, length-lowered, length-raised, live-grow, live-none, lowered-live}
+use Rattle.logical_map.proofs.Counting.{counts-set, length-lowered, length-raised, live-grow, lowered-live}
 use Rattle.zone_choice.specs.Tables.{AreLive}
-use Rattle.zone_states.proofs.ListLaws.{get_or-zeros}
 
 -- ---- a block is placed
 
@@ -39,19 +37,6 @@ raised-below zones (Some zone) counts long = elim (cases_lt zone zones) as (λ _
   | inr past ↦ rw (le-ltb zone zones past) (sym (set_past counts zone (get_or counts zone 0 + 1) (omega arith)))
 ]
 
--- the old place counts in its zone
-pub can_lower : (map : MapView) (counts : List ℕ) (block : ℕ) → AreLive map counts → block < length map.places
-    → IfSome (zone_in map (get_or map.places block places.None)) (λ zone. (zone < length counts) × (0 < get_or counts zone 0))
-can_lower map counts block are lt = if-below map.zones (zone_of map.zone_size old) (λ zone. (zone < length counts) × (0 < get_or counts zone 0)) each
-  where
-    old : Place
-    old = get_or map.places block places.None
-
-    each : (zone : ℕ) → zone < map.zones → is_zone (zone_of map.zone_size old) zone ≡ true → (zone < length counts) × (0 < get_or counts zone 0)
-    each zone below here =
-        let some = rw here at (get_or-le-sum_by (λ p. cond (lies_in map.zone_size zone p) 1 0) map.places block places.None lt) in
-        (omega (arith, below, are.long), omega (arith, some, are.each zone below))
-
 -- without it, no zone has all blocks of the new place's zone
 pub can_raise : (map : MapView) (counts : List ℕ) (block : ℕ) (place : Place) → AreLive map counts → block < length map.places → length map.places ≤ 2 ^ 31
     → IfSome (zone_in map place) (λ zone. (zone < length (lowered (zone_in map (get_or map.places block places.None)) counts)) × (get_or (lowered (zone_in map (get_or map.places block places.None)) counts) zone 0 < 2 ^ 31))
@@ -67,6 +52,7 @@ can_raise map counts block place are lt few =
         let sum = rw here at (lowered-live map.zone_size map.places counts zone block place (λ z h. are.each z (omega (arith, h, are.long))) lt (omega (arith, below, are.long))) in
         (omega (arith, below, are.long, length-lowered was counts), omega (arith, sum, few, count_by-le-length (lies_in map.zone_size zone) (set map.places block place), length-set map.places block place))
 
+-- a block is placed, and the counts of live records follow
 pub live-placed : (map : MapView) (counts : List ℕ) (block : ℕ) (place : Place) → AreLive map counts → block < length map.places
     → AreLive (record map { places = set map.places block place }) (raised (zone_in map place) (lowered (zone_in map (get_or map.places block places.None)) counts))
 live-placed map counts block place are lt =
@@ -79,15 +65,6 @@ live-placed map counts block place are lt =
     })
 
 -- ---- no block has a place, and more blocks
-
-pub live-new : (map : MapView) (blocks : ℕ) → map.places ≡ replicate blocks places.None → AreLive map (replicate map.zones 0)
-live-new map blocks none = record {
-  long = length-replicate map.zones 0;
-  each = λ zone below. get_or-zeros map.zones zone ∙ sym (ap (λ (all : List Place). count_by (lies_in map.zone_size zone) all) none ∙ live-none map.zone_size blocks zone);
-}
-
-pub live-kept : (old new : MapView) (counts : List ℕ) → AreLive old counts → new.places ≡ old.places → new.zones ≡ old.zones → new.zone_size ≡ old.zone_size → AreLive new counts
-live-kept old new counts are places-are zones size = record { long = are.long ∙ sym zones; each = λ zone below. are.each zone (omega (arith, below, zones)) ∙ rw (size, places-are) refl }
 
 -- the same places, and then blocks that have none
 pub live-same : (old new : MapView) (counts : List ℕ) (more : ℕ) → AreLive old counts → new.zones ≡ old.zones → new.zone_size ≡ old.zone_size → new.places ≡ old.places ++ replicate more places.None → AreLive new counts

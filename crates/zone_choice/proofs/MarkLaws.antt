@@ -1,13 +1,13 @@
 -- Which zones are sealed, when roles change.
-use Rattle.std.proofs.Common.{◌≡◌, ◌≢◌, ◌⊎◌, ℕ, zero, suc, ◌<◌, ◌≤◌, Bool, true, false, not, ◌||◌, ◌&&◌, ltb, eqb, List, [], ◌∷◌, ◌++◌, length, map, set, get_or, Option, Some, None, refl, sym, ap, subst, ◌∙◌, inl, inr, arith}
-use Rattle.std.specs.List.{AllByRecursion, list_any}
+use Rattle.std.proofs.Common.{◌≡◌, ◌≢◌, ◌⊎◌, ℕ, zero, suc, ◌<◌, ◌≤◌, Bool, true, false, not, ◌||◌, ◌&&◌, ltb, eqb, List, [], ◌∷◌, ◌++◌, length, map, set, get_or, Option, Some, None, refl, sym, ap, ◌∙◌, inl, inr, arith}
+use Rattle.std.specs.List.{list_any}
 use Rattle.std.specs.Option.{IfSome, option_map}
 use Rattle.std.proofs.lemmas.Bool.{cases_eq, cases_lt, eq-eqb, le-ltb, lt-ltb, ltb-true, ne_eqb, and_parts}
 use Rattle.std.proofs.lemmas.List.{get_or-set_same, get_or-set_other, get_or_past, length-map, length-set}
 use Rattle.zone_choice.specs.declared.roles.Filling.{Filling}
 use Rattle.zone_choice.specs.declared.roles.Second.{Second}
 use Rattle.zone_choice.specs.declared.roles.Second.TheVariants.{Next, Destination}
-use Rattle.zone_choice.specs.Roles.{AreApart, AreMarked, Differ, IsLowestIn, IsOccupied, RolesView, clean_ended, filling_of, fillings, is_at, is_empty_at, is_filling_at, is_sealed_at, filling_list, marked, mounted_as, ended, promoted, sealed, taken, unmarked, with_destination, with_fillings}
+use Rattle.zone_choice.specs.Roles.{AreApart, AreMarked, Differ, IsLowestIn, IsOccupied, RolesView, filling_of, is_at, is_empty_at, is_filling_at, is_sealed_at, filling_list, marked, mounted_as, ended, sealed, taken, unmarked, with_destination, with_fillings}
 use Rattle.zone_choice.proofs.RolesLaws.{KeepsZone, filling_at-with, occupied-set, roles_with, second_list}
 
 -- ---- sealed zones
@@ -26,21 +26,16 @@ pub record IsSealedZone (roles : RolesView) (zone : ℕ) : Type 0 where
   pub not_empty : is_empty_at roles zone ≡ false
   pub not_filling : is_filling_at roles zone ≡ false
 
+-- what it means that a zone is sealed
 pub sealed-parts : (roles : RolesView) (zone : ℕ) → is_sealed_at roles zone ≡ true → IsSealedZone roles zone
 sealed-parts roles zone is =
     let here = and_parts (ltb zone (length roles.empty)) (not (is_empty_at roles zone) && not (is_filling_at roles zone)) is in
     let rest = and_parts (not (is_empty_at roles zone)) (not (is_filling_at roles zone)) here.1 in
     record { in_range = ltb-true zone (length roles.empty) here.0; not_empty = denied (is_empty_at roles zone) rest.0; not_filling = denied (is_filling_at roles zone) rest.1 }
 
+-- a zone that is neither empty nor being filled is sealed
 pub sealed-made : (roles : RolesView) (zone : ℕ) → zone < length roles.empty → is_empty_at roles zone ≡ false → is_filling_at roles zone ≡ false → is_sealed_at roles zone ≡ true
 sealed-made roles zone lt not_empty not_filling = rw (lt-ltb zone (length roles.empty) lt, not_empty, not_filling) refl
-
--- a zone that is being filled, and an empty one, is not sealed
-filling-unsealed : (roles : RolesView) (zone : ℕ) → is_filling_at roles zone ≡ true → is_sealed_at roles zone ≡ false
-filling-unsealed roles zone filling = rw (filling, no_and (not (is_empty_at roles zone))) (no_and (ltb zone (length roles.empty)))
-
-empty-unsealed : (roles : RolesView) (zone : ℕ) → is_empty_at roles zone ≡ true → is_sealed_at roles zone ≡ false
-empty-unsealed roles zone empty = rw empty (no_and (ltb zone (length roles.empty)))
 
 -- ---- marks
 
@@ -68,6 +63,7 @@ second-other : (second : Option Second) (host : Filling) → Differ (Some host) 
 second-other None host differ = refl
 second-other (Some s) host differ = rw (ne_eqb (filling_of s).zone host.zone (λ e. differ (sym e))) refl
 
+-- a mark more, for the host zone that is sealed
 pub marked-seal : (empties : List Bool) (host : Option Filling) (second : Option Second) (marks : List Bool) → AreApart (roles_with empties host second) → AreMarked (roles_with empties host second) marks
     → AreMarked (roles_with empties None second) (marked marks host)
 marked-seal empties None second marks apart was = was
@@ -85,6 +81,7 @@ host-marked empties (Some h) second marks apart was = omega (arith, apart.occupi
 
 -- ---- an empty zone becomes the destination
 
+-- the lowest empty zone becomes the destination
 pub apart-destination : (empties : List Bool) (host : Option Filling) (zone : ℕ) → AreApart (roles_with empties host None) → IsLowestIn empties zone → AreApart (with_destination (roles_with empties host None) zone)
 apart-destination empties host zone apart found = by host apart
   where
@@ -100,24 +97,6 @@ apart-destination empties host zone apart found = by host apart
 
 -- ---- a clean has ended
 
-ended-list : (second : Option Second) → second_list (option_map ended second) ≡ second_list second
-ended-list None = refl
-ended-list (Some (Next f)) = refl
-ended-list (Some (Destination f)) = refl
-
-pub filling_at-ended : (roles : RolesView) (victim k : ℕ) → is_filling_at (clean_ended roles victim) k ≡ is_filling_at roles k
-filling_at-ended roles victim k = ap (λ (fs : List Filling). list_any (is_at k) (filling_list roles.host ++ fs)) (ended-list roles.second)
-
-occupied-ended : (empties : List Bool) (victim : ℕ) (fs : List Filling) → list_any (is_at victim) fs ≡ false → AllByRecursion (IsOccupied empties) fs → AllByRecursion (IsOccupied (set empties victim true)) fs
-occupied-ended empties victim [] none all = tt
-occupied-ended empties victim (f ∷ fs) none all = by (eqb f.zone victim) refl none (λ h. occupied-ended empties victim fs h all.1)
-  where
-    by : (b : Bool) → eqb f.zone victim ≡ b → (b || list_any (is_at victim) fs) ≡ false → (list_any (is_at victim) fs ≡ false → AllByRecursion (IsOccupied (set empties victim true)) fs) → AllByRecursion (IsOccupied (set empties victim true)) (f ∷ fs)
-    by true e h rest = absurd (cc)
-    by false e h rest =
-        let other : f.zone ≢ victim = λ same. (let bad = eq-eqb f.zone victim same in absurd (cc)) in
-        (record { in_range = omega (arith, all.0.in_range, length-set empties victim true); not_empty = get_or-set_other empties victim f.zone true false other ∙ all.0.not_empty }, rest h)
-
 -- the end of a clean leaves the host zone and the second one apart
 pub differ-ended : (host : Option Filling) (second : Option Second) → Differ host second → Differ host (option_map ended second)
 differ-ended None None h = tt
@@ -125,19 +104,6 @@ differ-ended None (Some s) h = tt
 differ-ended (Some f) None h = tt
 differ-ended (Some f) (Some (Next s)) h = h
 differ-ended (Some f) (Some (Destination s)) h = h
-
-pub apart-ended : (roles : RolesView) (victim : ℕ) → AreApart roles → is_sealed_at roles victim ≡ true → AreApart (clean_ended roles victim)
-apart-ended roles victim apart is = record {
-  occupied = subst (λ (fs : List Filling). AllByRecursion (IsOccupied (set roles.empty victim true)) (filling_list roles.host ++ fs)) (sym (ended-list roles.second)) (occupied-ended roles.empty victim (fillings roles) (sealed-parts roles victim is).not_filling apart.occupied);
-  differ = differ-ended roles.host roles.second apart.differ;
-}
-
--- ---- the next zone becomes the host zone
-
-pub apart-promoted : (empties : List Bool) (second : Option Second) → AreApart (roles_with empties None second) → AreApart (promoted (roles_with empties None second))
-apart-promoted empties None apart = apart
-apart-promoted empties (Some (Next f)) apart = record { occupied = apart.occupied; differ = tt }
-apart-promoted empties (Some (Destination f)) apart = apart
 
 -- ---- a sealed zone stays so
 
@@ -171,9 +137,6 @@ sealed-take roles zone taken_zone none empty is =
     sealed-made (taken roles taken_zone) zone (omega (arith, was.in_range, length-set roles.empty taken_zone false)) (get_or-set_other roles.empty taken_zone zone false false ne ∙ was.not_empty) (ap (λ (b : Bool). b || list_any (is_at zone) (second_list roles.second)) other ∙ here)
 
 -- ---- after a mount
-
-abbrev pub nexts : Option Filling → Option Second
-nexts next = option_map Next next
 
 not-map : (empties : List Bool) (k : ℕ) → get_or (map not empties) k false ≡ (ltb k (length empties) && not (get_or empties k false))
 not-map [] k = sym (ap (λ (b : Bool). b && true) (le-ltb k 0 (omega arith)))

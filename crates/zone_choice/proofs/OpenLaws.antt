@@ -37,6 +37,7 @@ OpensOnly zone old new = (k : ℕ) → k ≢ zone → IsShut old k → IsShut ne
 closes-shut : (a b : Zone) → ClosesOne a b → is_open a.state ≡ false → is_open b.state ≡ false
 closes-shut a b one shut = elim one.state as (λ _. is_open b.state ≡ false) [ inl same ↦ rw same shut | inr closed ↦ rw closed.1 refl ]
 
+-- a closing opens no zone
 pub closing-opens : (old new : List Zone) → IsClosing old new → OpensNone old new
 closing-opens old new closing k shut = closes-shut (zone_at old k) (zone_at new k) (zone_at-closing old new k closing) shut
 
@@ -60,18 +61,22 @@ leaves-opens old new start zone (Err Stopped) shut leaves k h = elim leaves as (
   | inr closing ↦ closing-opens _ new.zones closing k (set-opens old.zones (start / old.geometry.size) zone shut k h)
 ]
 
+-- neither does a Close
 pub close-opens : {V : Type 0} (old new : DriveState) (start : ℕ) (result : Result V PortFault) → CloseLeaves old start result new → OpensNone old.zones new.zones
 close-opens {V} old new start result leaves = leaves-opens {V = V} old new start _ result refl leaves
 
+-- nor a Finish
 pub finish-opens : {V : Type 0} (old new : DriveState) (start : ℕ) (result : Result V PortFault) → FinishLeaves old start result new → OpensNone old.zones new.zones
 finish-opens {V} old new start result leaves = leaves-opens {V = V} old new start _ result refl leaves
 
+-- nor a Reset
 pub reset-opens : {V : Type 0} (old new : DriveState) (start : ℕ) (result : Result V PortFault) → ResetLeaves old start result new → OpensNone old.zones new.zones
 reset-opens {V} old new start result leaves = leaves-opens {V = V} old new start _ result refl leaves
 
 written-opens : (old new : DriveState) (start : ℕ) (zone : Zone) → IsClosing (slice_set old.zones (start / old.geometry.size) zone) new.zones → OpensOnly (start / old.geometry.size) old.zones new.zones
 written-opens old new start zone closing k other h = closing-opens _ new.zones closing k (set-opens_only old.zones (start / old.geometry.size) zone k other h)
 
+-- an Append opens its zone alone
 pub append-opens : (old new : DriveState) (start : ℕ) (bytes : List ℕ) (result : Result ℕ PortFault) → AppendLeaves old start bytes result new → OpensOnly (start / old.geometry.size) old.zones new.zones
 append-opens old new start bytes (Ok address) leaves = written-opens old new start _ leaves
 append-opens old new start bytes (Err (Refused status)) leaves = λ k other h. closing-opens old.zones new.zones leaves k h
@@ -83,6 +88,7 @@ append-opens old new start bytes (Err Stopped) leaves = λ k other h. elim leave
 
 -- ---- zones that are being filled
 
+-- what the tables tell of open zones holds where none was opened
 pub tells-kept : (old new : List Zone) (fs : List Filling) → OpensNone old new → AllByRecursion (TellsOpen old) fs → AllByRecursion (TellsOpen new) fs
 tells-kept old new fs opens tells = all-weaker (TellsOpen old) (TellsOpen new) fs (λ f is no. opens f.zone (is no)) tells
 
@@ -94,6 +100,7 @@ tells-grown old new zone blocks opens f tells = at (eqb f.zone zone) refl
     at true e = λ no. absurd (cc)
     at false e = λ no. opens f.zone (λ same. let bad : eqb f.zone zone ≡ true = rw same (eq-eqb zone zone refl) in absurd (cc)) (tells no)
 
+-- it holds where the zone that they write was opened
 pub all-tells_grown : (old new : List Zone) (zone blocks : ℕ) (roles : RolesView) → OpensOnly zone old new → AllByRecursion (TellsOpen old) (fillings roles) → AllByRecursion (TellsOpen new) (fillings (wrote roles zone blocks))
 all-tells_grown old new zone blocks roles opens tells =
     subst (AllByRecursion (TellsOpen new)) (sym (fillings-with (grown zone blocks) roles))
@@ -111,6 +118,7 @@ tells-closed zones zone f tells beside = at (eqb f.zone zone) refl
     at true e = tells
     at false e = λ no. beside (λ same. let bad : eqb f.zone zone ≡ true = rw same (eq-eqb zone zone refl) in absurd (cc))
 
+-- and where the other zone was closed
 pub all-tells_closed : (zones : List Zone) (zone : ℕ) (roles : RolesView) → AllByRecursion (TellsOpen zones) (fillings roles) → AllByRecursion (ShutBeside zones zone) (fillings roles) → AllByRecursion (TellsOpen zones) (fillings (closed_beside roles zone))
 all-tells_closed zones zone roles tells shut =
     subst (AllByRecursion (TellsOpen zones)) (sym (fillings-with (closed_unless zone) roles)) (all-map (TellsOpen zones) (closed_unless zone) (fillings roles) (both (fillings roles) tells shut))
@@ -129,9 +137,11 @@ state-shut states.ReadOnly h = refl
 state-shut states.Full h = refl
 state-shut states.Offline h = refl
 
+-- a zone that is empty or full is not open
 pub settled-shut : (zones : List Zone) (zone : ℕ) → IsSettled (content_at (contents zones) zone).usage → IsShut zones zone
 settled-shut zones zone settled = state-shut (zone_at zones zone).state (rw (get_or-map content_of zones zone nowhere) at settled)
 
+-- nor is one that was emptied
 pub emptied-shut : (zones : List Zone) (zone : ℕ) → content_at (contents zones) zone ≡ emptied → IsShut zones zone
 emptied-shut zones zone e = settled-shut zones zone (inl (ap (λ (c : Content). c.usage) e))
 
@@ -169,6 +179,7 @@ all-shut zones zone fs shut k other here = all-filling (λ z. z ≢ zone → IsS
 
 -- ---- the tables say that the others are closed
 
+-- a zone being filled is this one, or is noted as closed
 abbrev pub NotedBeside : ℕ → Filling → Type 0
 NotedBeside zone f = f.zone ≢ zone → f.may_open ≡ false
 
@@ -183,6 +194,7 @@ all-noted : (zone : ℕ) (fs : List Filling) → AllByRecursion (λ f. NotedBesi
 all-noted zone [] = tt
 all-noted zone (f ∷ fs) = (noted-closed zone f, all-noted zone fs)
 
+-- where nothing is to be closed, the other zone is closed
 pub noted-shut : (zones : List Zone) (roles : RolesView) (zone : ℕ) → closed_beside roles zone ≡ roles → AllByRecursion (TellsOpen zones) (fillings roles) → AllByRecursion (ShutBeside zones zone) (fillings roles)
 noted-shut zones roles zone same tells =
     let noted : AllByRecursion (NotedBeside zone) (fillings (closed_beside roles zone)) = subst (AllByRecursion (NotedBeside zone)) (sym (fillings-with (closed_unless zone) roles)) (all-map (NotedBeside zone) (closed_unless zone) (fillings roles) (all-noted zone (fillings roles))) in

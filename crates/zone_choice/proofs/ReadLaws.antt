@@ -1,6 +1,5 @@
 -- What a block of the array says stands where the map places it.
-use Rattle.std.proofs.Common.{◌≡◌, ℕ, zero, suc, ◌+◌, ◌-◌, ◌*◌, ◌/◌, ◌%◌, ◌<◌, ◌≤◌, Bool, true, false, List, [], ◌∷◌, ◌++◌, length, get_or, replicate, Option, Some, None, refl, sym, ap, subst, ◌∙◌, arith, append_assoc, append-nil}
-use Rattle.std.specs.Prelude.{Contains}
+use Rattle.std.proofs.Common.{◌≡◌, ℕ, zero, suc, ◌+◌, ◌-◌, ◌*◌, ◌/◌, ◌%◌, ◌<◌, ◌≤◌, Bool, true, false, List, [], ◌∷◌, ◌++◌, length, get_or, replicate, Option, Some, None, refl, sym, ap, ◌∙◌, arith, append_assoc, append-nil}
 use Rattle.std.specs.List.{flat_map, AllByRecursion}
 use Rattle.std.proofs.lemmas.List.{get_or-append-add, length-append, length-replicate, length-map}
 use Rattle.std.proofs.lemmas.List.FromFn.{get_or-map-range_with_len}
@@ -79,6 +78,7 @@ log_stands size zone offset front (b ∷ bs) tail blocks z fits e is =
         let total : length blocks ≡ length front + suc (length b.body + length rest) = ap length whole ∙ omega (arith, length-append front (header ∷ (b.body ++ rest)), length-append b.body rest) in
         (omega (arith, total), rw (spot, whole) (get_or-append-add front (header ∷ (b.body ++ rest)) (suc k) z ∙ get_or-left z b.body rest k lt))
 
+-- each record of a zone's log stands in its blocks
 pub zone_stands : (size zone : ℕ) (is_full : Bool) (blocks : List (List ℕ)) (log : List Batch) (z : List ℕ) → IsLog size is_full blocks log → AllByRecursion (StandsIn blocks z zone) (log_records zone 0 log)
 zone_stands size zone is_full blocks log z is = log_stands size zone 0 [] log is.tail blocks z is.front.batches refl is.front.spelled
 
@@ -91,6 +91,7 @@ pub record StandsOn (geometry : Geometry) (zones : List Content) (first : ℕ) (
   pub stands : (bytes : List ℕ) → r.content ≡ Some bytes
       → (r.offset < length (readable geometry (content_at zones (r.zone - first)))) × (get_or (readable geometry (content_at zones (r.zone - first))) r.offset (zero_block geometry.block) ≡ bytes)
 
+-- and each record of a drive on the drive
 pub records_stand : (geometry : Geometry) (zones : List Content) (first : ℕ) → AllByRecursion (HasLog geometry) zones → AllByRecursion (StandsOn geometry zones first) (records first (zone_logs geometry zones))
 records_stand geometry [] first all = tt
 records_stand geometry (c ∷ cs) first all =
@@ -147,6 +148,7 @@ pub record Holds (drive : DriveState) (array : List (List ℕ)) (block address :
   pub can : CanRead drive address 1
   pub fits : address + 1 ≤ end_of drive.geometry
 
+-- the drive holds the content of a block at its place
 abbrev pub HoldsPlace : DriveState → List (List ℕ) → ℕ → Place → Type 0
 HoldsPlace drive array block (places.At address) = Holds drive array block address
 HoldsPlace drive array block place = get_or array block [] ≡ zero_block drive.geometry.block
@@ -178,6 +180,7 @@ record_holds drive tables array block r bytes agrees some says on =
       fits = below;
     }
 
+-- it does where tables and drive agree
 pub holds_place : (drive : DriveState) (tables : TablesView) (block : ℕ) → Agrees (mounted drive tables) → block < size_of tables
     → HoldsPlace drive (spelled drive tables.given) block (get_or tables.map.places block places.None)
 unfolding spelled_array

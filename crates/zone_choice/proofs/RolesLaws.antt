@@ -13,9 +13,11 @@ use Rattle.zone_states.proofs.ListLaws.{all-map}
 
 -- ---- the zones that are being filled
 
+-- roles by their parts
 abbrev pub roles_with : List Bool → Option Filling → Option Second → RolesView
 roles_with empties host second = record { empty = empties; host = host; second = second }
 
+-- the second zone as a list
 abbrev pub second_list : Option Second → List Filling
 second_list second = filling_list (option_map filling_of second)
 
@@ -25,6 +27,7 @@ fillings_few None (Some second) = omega arith
 fillings_few (Some host) None = omega arith
 fillings_few (Some host) (Some second) = omega arith
 
+-- two zones are being filled at most
 pub few-fillings : (roles : RolesView) → length (fillings roles) ≤ 2
 few-fillings roles = fillings_few roles.host roles.second
 
@@ -37,6 +40,7 @@ all-filling P (f ∷ fs) zone all some = at (eqb f.zone zone) refl some (all-fil
     at true e h rest = subst P (eqb-true f.zone zone e) all.0
     at false e h rest = rest h
 
+-- a zone that is being filled is not empty
 pub filling-occupied : (roles : RolesView) (zone : ℕ) → AreApart roles → is_filling_at roles zone ≡ true → (zone < length roles.empty) × (get_or roles.empty zone false ≡ false)
 filling-occupied roles zone apart some =
     all-filling (λ z. (z < length roles.empty) × (get_or roles.empty z false ≡ false)) (fillings roles) zone
@@ -44,6 +48,7 @@ filling-occupied roles zone apart some =
 
 -- ---- they are changed, but not which zones they are
 
+-- a change of what is known of a zone, and not of which zone it is
 abbrev pub KeepsZone : (Filling → Filling) → Type 0
 KeepsZone change = (f : Filling) → (change f).zone ≡ f.zone
 
@@ -55,6 +60,7 @@ fillings_with change (Some h) None = refl
 fillings_with change (Some h) (Some (Next s)) = refl
 fillings_with change (Some h) (Some (Destination s)) = refl
 
+-- the zones being filled are changed one by one
 pub fillings-with : (change : Filling → Filling) (roles : RolesView) → fillings (with_fillings change roles) ≡ map change (fillings roles)
 fillings-with change roles = fillings_with change roles.host roles.second
 
@@ -62,6 +68,7 @@ any-with : (change : Filling → Filling) → KeepsZone change → (k : ℕ) (fs
 any-with change keeps k [] = refl
 any-with change keeps k (f ∷ fs) = rw (any-with change keeps k fs) (ap (λ (z : ℕ). eqb z k || list_any (is_at k) fs) (keeps f))
 
+-- the same zones are being filled after it
 pub filling_at-with : (change : Filling → Filling) → KeepsZone change → (roles : RolesView) (k : ℕ) → is_filling_at (with_fillings change roles) k ≡ is_filling_at roles k
 filling_at-with change keeps roles k = ap (list_any (is_at k)) (fillings-with change roles) ∙ any-with change keeps k (fillings roles)
 
@@ -78,6 +85,7 @@ all-with P change keeps roles all =
     subst (AllByRecursion (λ f. P f.zone)) (sym (fillings-with change roles))
     (all-map (λ f. P f.zone) change (fillings roles) (all-weaker (λ f. P f.zone) (λ f. P (change f).zone) (fillings roles) (λ f is. subst P (sym (keeps f)) is) all))
 
+-- and stay apart from the empty ones
 pub apart-with : (change : Filling → Filling) → KeepsZone change → (roles : RolesView) → AreApart roles → AreApart (with_fillings change roles)
 apart-with change keeps roles apart = record {
   occupied = subst (AllByRecursion (IsOccupied roles.empty)) (sym (fillings-with change roles))
@@ -87,6 +95,7 @@ apart-with change keeps roles apart = record {
 
 -- ---- more is written
 
+-- more blocks in a zone are such a change
 pub grown-zone : (zone blocks : ℕ) → KeepsZone (grown zone blocks)
 grown-zone zone blocks f = at (eqb f.zone zone)
   where
@@ -96,6 +105,7 @@ grown-zone zone blocks f = at (eqb f.zone zone)
 
 -- ---- zones are closed
 
+-- and so is a close
 pub closed-zone : (zone : ℕ) → KeepsZone (closed_unless zone)
 closed-zone zone f = at (eqb f.zone zone)
   where
@@ -151,6 +161,7 @@ roles-same zone empties (Some f) second none =
     let both = find-none (is_open_beside zone) f (second_list second) none in
     ap (λ (g : Filling). roles_with empties (Some g) (option_map (second_with (closed_unless zone)) second)) (closed-same zone f both.0) ∙ ap (λ (s : Option Second). roles_with empties (Some f) s) (second-same zone second both.1)
 
+-- where no other zone is open, nothing is closed
 pub closed_beside-none : (roles : RolesView) (zone : ℕ) → open_beside roles zone ≡ None → closed_beside roles zone ≡ roles
 closed_beside-none roles zone none = roles-same zone roles.empty roles.host roles.second none
 
@@ -167,16 +178,19 @@ second-closed zone None = refl
 second-closed zone (Some (Next f)) = ap (λ (g : Filling). Some (Next g)) (closed-unless zone f)
 second-closed zone (Some (Destination f)) = ap (λ (g : Filling). Some (Destination g)) (closed-unless zone f)
 
+-- a close leaves which zone is the second
 pub same-second : (roles : RolesView) (zone : ℕ) → option_map (second_with closed) (closed_beside roles zone).second ≡ option_map (second_with closed) roles.second
 same-second roles zone = second-closed zone roles.second
 
 -- ---- the host zone is sealed
 
+-- a zone is sealed
 pub apart-seal : (roles : RolesView) → AreApart roles → AreApart (sealed roles)
 apart-seal roles apart = record { occupied = (all-parts (IsOccupied roles.empty) (filling_list roles.host) (second_list roles.second) apart.occupied).1; differ = tt }
 
 -- ---- an empty zone becomes the host zone
 
+-- a zone is taken that was empty, and the others are as they were
 pub occupied-set : (empties : List Bool) (zone : ℕ) (f : Filling) → zone < length empties → get_or empties zone false ≡ true → IsOccupied empties f → IsOccupied (set empties zone false) f
 occupied-set empties zone f lt here o =
     let other : f.zone ≢ zone = λ e. (let no = o.not_empty in let yes : get_or empties f.zone false ≡ true = rw e here in absurd (cc)) in
@@ -186,6 +200,7 @@ differ-take : (empties : List Bool) (zone : ℕ) (second : Option Second) → ge
 differ-take empties zone None here all = tt
 differ-take empties zone (Some s) here all = λ e. (let no = all.0.not_empty in let yes : get_or empties (filling_of s).zone false ≡ true = rw (sym e) here in absurd (cc))
 
+-- so the roles stay apart
 pub apart-take : (roles : RolesView) (zone : ℕ) → AreApart roles → zone < length roles.empty → get_or roles.empty zone false ≡ true → AreApart (taken roles zone)
 apart-take roles zone apart lt here =
     let second = (all-parts (IsOccupied roles.empty) (filling_list roles.host) (second_list roles.second) apart.occupied).1 in

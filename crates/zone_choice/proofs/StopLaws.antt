@@ -1,9 +1,9 @@
 -- What a stop inside the Append of a batch leaves: the logs of before, or those with the batch, on a drive that can be mounted.
-use Rattle.std.proofs.Common.{◌≡◌, ◌≢◌, ℕ, nat_lt, ◌+◌, ◌-◌, ◌<◌, ◌≤◌, ◌^◌, Bool, true, false, cond, eqb, List, ◌++◌, length, take, set, get_or, refl, inl, inr, arith}
+use Rattle.std.proofs.Common.{◌≡◌, ◌≢◌, ℕ, nat_lt, ◌+◌, ◌-◌, ◌<◌, ◌≤◌, ◌^◌, Bool, true, false, List, ◌++◌, length, take, set, get_or, refl, inl, inr, arith}
 use Rattle.std.specs.List.{AllByRecursion}
 use Rattle.std.proofs.lemmas.Bool.{cases_eq}
 use Rattle.std.proofs.lemmas.List.{get_or-set_other, length-set}
-use Rattle.drive_port.specs.Contents.{Appends, Content, SameContents, active, full, content_at, contents, filled, is_usable, nothing}
+use Rattle.drive_port.specs.Contents.{Appends, Content, SameContents, content_at, contents, filled, is_usable, nothing}
 use Rattle.drive_port.specs.Drive.{DriveState, IsLawful}
 use Rattle.batch_log.specs.Log.{Batch, IsBatch, batch_blocks, batch_size, zero_block}
 use Rattle.logical_map.specs.Places.{MapView}
@@ -102,6 +102,7 @@ pub record Left (new : DriveState) (n : ℕ) (logs : List (List Batch)) (array :
   pub encodes : Encodes new n logs array
   pub mountable : HasSpare new.geometry.block n (drive_logs new) → IsMountable new n
 
+-- a torn batch leaves the logs, and the array that they spell
 pub left-torn : (old new : DriveState) (tables : TablesView) (zone j : ℕ) (b : Batch) → Agrees (mounted old tables) → TornBatch old new tables zone j b → Left new tables.given (drive_logs old) (spelled old tables.given)
 unfolding spelled_array
 left-torn old new tables zone j b agrees torn =

@@ -96,12 +96,14 @@ none-filled roles host second k = ap (list_any (is_at k)) (ap (λ (h : Option Fi
 zones-counted : (disk : MountedView) → Agrees disk → length disk.tables.roles.empty ≡ disk.drive.geometry.zones
 zones-counted disk agrees = omega (arith, agrees.roles.count, agrees.lawful.count, length-map disk.drive.zones content_of)
 
+-- while one zone is empty and the others are sealed, there is one to clean
 pub has_sealed : HasSealed
 has_sealed disk in_use =
     let roles = disk.tables.roles in
     let found = some-unmarked roles.empty (omega (arith, in_use.empty, zones-counted disk in_use.agrees, in_use.agrees.geometry.zones)) in
     (found.0, sealed-made roles found.0 found.1 found.2 (none-filled roles in_use.host in_use.second found.0))
 
+-- and its live records fit a zone
 pub least_can_move : LeastCanMove
 least_can_move disk zone in_use is =
     let g = disk.drive.geometry in

@@ -1,10 +1,6 @@
 -- The batch that is about to be appended.
-use Rattle.std.specs.Prelude.{◌≡◌, ℕ, zero, suc, ◌+◌, ◌*◌, false, true, Bool, List, [], ◌∷◌, ◌++◌, length, drop, slice_set, Result, OnOk}
+use Rattle.std.specs.Prelude.{◌≡◌, ℕ, zero, suc, ◌+◌, ◌*◌, false, true, Bool, List, [], ◌∷◌, ◌++◌, length, drop, slice_set}
 use Rattle.zone_states.specs.Zone.{cut_blocks}
-use Rattle.drive_port.specs.Calls.{CanRead, IsNotRefused, Obeys}
-use Rattle.drive_port.specs.Contents.{Counts, SameContents}
-use Rattle.drive_port.specs.Drive.{DriveState, IsClosing}
-use Rattle.drive_port.specs.declared.calls.PortFault.{PortFault}
 use Rattle.batch_log.specs.declared.header.Entry.{Entry}
 use Rattle.batch_log.specs.Header.{Heading, header_block}
 use Rattle.batch_log.specs.Log.{Batch, data_count, one_unless}
@@ -52,13 +48,3 @@ entry_place false header address = places.At address
 abbrev pub placed : ℕ → ℕ → List Entry → List Place → List Place
 placed header address [] all = all
 placed header address (e ∷ es) all = slice_set (placed header (address + one_unless e.trim) es all) e.block (entry_place e.trim header address)
-
--- ---- a block is read to it
-
--- What a Read of one block leaves of the drive, by its answer: it holds what it did, and no zone is open that was not. One that was taken is counted.
-pub record ReadLeaves (old : DriveState) (address : ℕ) (result : Result (Unit {0}) PortFault) (new : DriveState) : Type 0 where
-  pub kept : SameContents old new
-  pub closing : IsClosing old.zones new.zones
-  pub counts : OnOk result (Counts old new 0)
-  pub taken : CanRead old address 1 → IsNotRefused result
-  pub obeys : Obeys old result new

@@ -1,10 +1,10 @@
 -- What a mounted disk knows of its drive.
-use Rattle.std.specs.Prelude.{◌≡◌, ℕ, ◌+◌, ◌≤◌, ◌<◌, true, List, length, slice_index}
+use Rattle.std.specs.Prelude.{◌≡◌, ℕ, ◌+◌, ◌≤◌, ◌<◌, true, List, length, replicate, slice_index}
 use Rattle.logical_map.specs.Live.{live}
 use Rattle.logical_map.specs.Places.{IsReady, MapView}
 use Rattle.logical_map.specs.declared.place.Place.{Place}
 use Rattle.logical_map.specs.declared.place.Place.TheVariants as places
-use Rattle.zone_choice.specs.Roles.{RolesView, is_sealed_at}
+use Rattle.zone_choice.specs.Roles.{RolesView, is_sealed_at, unused_roles}
 use Rattle.drive_array.specs.Sizes.{extended}
 
 -- where the newest record of each block lies, what the zones are for, the sequence of the next batch, and the number of
@@ -14,6 +14,16 @@ pub record TablesView : Type 0 where
   pub roles : RolesView
   pub next : ℕ
   pub given : ℕ
+
+-- The tables of a drive of that many empty zones, with that many addresses each. None of the n blocks is written.
+pub record AreOfEmptyDrive (count addresses n number : ℕ) (tables : TablesView) : Type 0 where
+  pub places : tables.map.places ≡ replicate n places.None
+  pub zones : tables.map.zones ≡ count
+  pub zone_size : tables.map.zone_size ≡ addresses
+  pub roles : tables.roles ≡ unused_roles count
+  pub next : tables.next ≡ 1
+  -- what the mount was given
+  pub given : tables.given ≡ number
 
 -- how many logical blocks there are
 abbrev pub size_of : TablesView → ℕ

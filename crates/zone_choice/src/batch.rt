@@ -1,8 +1,7 @@
 ghost use Rattle.std.specs.Prelude.{◌≡◌, ◌⊎◌, ◌++◌, ◌+◌, ◌≤◌, ◌<◌, ◌^◌, [], OnOk, OnErr, drop, length, replicate, take};
 ghost use Rattle.batch_log.specs.Header.{IsHeading, header_block, heading_of};
-ghost use Rattle.drive_port.specs.Calls.{ReadGives, ReadShows};
-ghost use Rattle.drive_port.specs.Halting.{Adds};
-ghost use Rattle.zone_choice.specs.Builder.{ReadLeaves, data_entries, entries_from, naming, trim_entries};
+ghost use Rattle.drive_port.specs.Answering.{ReadExtends};
+ghost use Rattle.zone_choice.specs.Builder.{data_entries, entries_from, naming, trim_entries};
 
 use batch_log::{Entry, Header, Kind, header_bytes};
 use drive_port::{Device, PortFault, read_extending};
@@ -145,14 +144,8 @@ impl BatchBuilder {
     #[inline]
     pub fn read<D: Device>(&mut self, device: &mut D, address: u64) -> Result<(), PortFault>
         ensures heading { self.new.heading ≡ self.old.heading }
-        ensures gives { Adds self.old.bytes
-            (λ returned. ReadGives (D.drive device.old) address 1 result returned
-            (D.drive device.new)) self.new.bytes }
-        ensures shown { OnOk result
-            (ReadShows (D.drive device.old)
-            (D.drive device.new) address 1 self.old.bytes self.new.bytes) }
-        ensures err { OnErr result (self.new.bytes ≡ self.old.bytes) }
-        ensures leaves { ReadLeaves (D.drive device.old) address result (D.drive device.new) }
+        ensures read { ReadExtends (D.drive device.old) address 1 self.old.bytes result self.new.bytes
+            (D.drive device.new) }
     {
         read_extending(device, address, 1, &mut self.bytes)
     }

@@ -1,5 +1,5 @@
 ghost use Rattle.std.specs.Prelude.{◌≡◌, ◌≢◌, ◌≤◌, ◌<◌, ◌+◌, ◌^◌, ℕ, IfNone, IfOk, IfSome, false, length, None};
-ghost use Rattle.std.specs.Prelude.{OnOk, replicate, slice_index, slice_index_or, slice_set, true};
+ghost use Rattle.std.specs.Prelude.{OnOk, slice_index, slice_index_or, slice_set, true};
 ghost use Rattle.std.specs.List.{AllByRecursion};
 ghost use Rattle.logical_map.specs.Counts.{lowered, raised};
 ghost use Rattle.logical_map.specs.Live.{first_record, live};
@@ -7,8 +7,9 @@ ghost use Rattle.logical_map.specs.Places.{ArePlacedReady, IsReady, Reserves, pl
 ghost use Rattle.logical_map.specs.declared.place.Place.TheVariants as places;
 ghost use Rattle.zone_choice.specs.Roles.{IsLowestEmpty, clean_ended, closed_beside, empty_count, fillings};
 ghost use Rattle.zone_choice.specs.Roles.{is_sealed_at, next_of, open_beside, promoted, sealed, taken};
-ghost use Rattle.zone_choice.specs.Roles.{unused_roles, with_destination, wrote};
-ghost use Rattle.zone_choice.specs.Tables.{AreReserved, GrowsTo, IsLeastSealed, SameButReady, size_of, with_places};
+ghost use Rattle.zone_choice.specs.Roles.{with_destination, wrote};
+ghost use Rattle.zone_choice.specs.Tables.{AreOfEmptyDrive, AreReserved, GrowsTo, IsLeastSealed, SameButReady};
+ghost use Rattle.zone_choice.specs.Tables.{size_of, with_places};
 
 use crate::roles::{Filling, Roles, Second};
 use live_index::LiveIndex;
@@ -48,12 +49,7 @@ impl Tables {
         blocks: u32,
         given: u32,
     ) -> Result<Tables, AllocError>
-        ensures places { IfOk result (λ tables. tables.map.places ≡ replicate blocks places.None) }
-        ensures zones { IfOk result (λ tables. tables.map.zones ≡ zones) }
-        ensures zone_size { IfOk result (λ tables. tables.map.zone_size ≡ zone_size) }
-        ensures roles { IfOk result (λ tables. tables.roles ≡ unused_roles zones) }
-        ensures next { IfOk result (λ tables. tables.next ≡ 1) }
-        ensures given { IfOk result (λ tables. tables.given ≡ given) }
+        ensures { IfOk result (AreOfEmptyDrive zones zone_size blocks given) }
     {
         let index = LiveIndex::new(alloc, zones)?;
         let roles = Roles::new(alloc, zones)?;

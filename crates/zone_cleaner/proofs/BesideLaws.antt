@@ -109,6 +109,7 @@ host_stops before after clean host b is host-is can stops =
 
 -- ---- what it leaves, by its answer
 
+-- a drive that keeps its array leaves as many turns, or fewer
 pub kept_turns : (before after : MountedView) (clean : Option CleanView) (most : ℕ) → AgreesWithClean before clean → KeepsArray before after → turns_left most after.tables clean ≤ turns_left most before.tables clean
 kept_turns before after None most is kept = omega arith
 kept_turns before after (Some c) most is kept = omega (arith, turns_kept before after c most is.0 kept is.1)
@@ -118,6 +119,7 @@ pub host-leaves : (before after : MountedView) (clean : Option CleanView) (host 
     → HostLeaves before clean host.zone b (Ok tt) after (option_map (forgotten b.heading.entries) clean)
 host-leaves before after clean host b is host-is can done = (done, refl, record { cleaned = host_cleaned before after clean host b is host-is can done; turns = host_turns before after clean host b is host-is can done })
 
+-- a batch of the host that was not appended
 pub host-halts : (before after : MountedView) (clean : Option CleanView) (host : Filling) (b : Batch) (fault : Halt) → AgreesWithClean before clean → before.tables.roles.host ≡ Some host → CanPlace before host.zone b → BatchLeaves before after host.zone b (Err fault) → HostLeaves before clean host.zone b (Err fault) after clean
 host-halts before after clean host b halt.Memory is host-is can leaves =
     let kept = memory-keeps before after host.zone b is.0 leaves in

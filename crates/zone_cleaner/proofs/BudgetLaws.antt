@@ -30,6 +30,7 @@ pub record AfterMove (c k written moved u g : ℕ) : Type 0 where
   pub fewer : max (moves_due moved) (div_ceil u k) < max (moves_due written) (div_ceil (u + g) k)
   pub room : HasRoomFor c k moved u
 
+-- there is room for the records that are left after a Move
 pub after-move : (c k written moved u g d : ℕ) → 0 < k → g ≤ k → d ≤ g → (0 < u → g ≡ k) → (0 < written → 0 < g) → moved ≡ written + (1 + d) → HasRoomFor c k written (u + g) → AfterMove c k written moved u g
 after-move c k written moved u g d pos few least whole some is room =
     let none : moves_due moved ≡ 0 = unwritten-some moved (omega (arith, is)) in
@@ -56,12 +57,14 @@ unwritten-few : (written : ℕ) → moves_due written ≤ 1
 unwritten-few zero = omega arith
 unwritten-few (suc written) = omega arith
 
+-- the turns of a clean are fewer than the capacity
 pub few-turns : (c k used u r : ℕ) → 0 < k → u ≤ r → HasRoomFor c k used r → u + max (moves_due used) (div_ceil r k) + 1 + 1 ≤ c
 few-turns c k used u r pos le room = elim (cases_lt 0 r) as (λ _. u + max (moves_due used) (div_ceil r k) + 1 + 1 ≤ c) [
   | inl some ↦ omega (arith, le, room, unwritten-few used, div_ceil-positive r k pos some)
   | inr none ↦ omega (arith, le, none, room)
 ]
 
+-- and so are those of one that starts
 pub start-turns : (c k r : ℕ) → 0 < k → move_blocks k r + 2 ≤ c → r + max (moves_due 0) (div_ceil r k) + 1 + 1 ≤ c
 start-turns c k r pos fits = elim (cases_lt 0 r) as (λ _. r + max (moves_due 0) (div_ceil r k) + 1 + 1 ≤ c) [
   | inl some ↦ omega (arith, fits, div_ceil-positive r k pos some)

@@ -69,6 +69,7 @@ gathered-whole array size high (r ∷ rs) whole le all says = one (gathered-whol
     one rest block None lt same = rest
     one rest block (Some bytes) lt same = (ap length (sym same) ∙ all-at (λ (b : List ℕ). length b ≡ size) array block [] whole (omega (arith, lt, le)), rest)
 
+-- the data that was gathered is whole blocks
 pub data-whole : (disk : MountedView) (c : CleanView) → Agrees disk → IsClean disk c → AreOfLength disk.drive.geometry.block (gathered_data c.gathered)
 data-whole disk c agrees is =
     let whole = whole-spelled disk.drive disk.tables.given (agrees_mountable disk.drive disk.tables agrees (clean_spare disk c agrees is)) in
@@ -76,6 +77,7 @@ data-whole disk c agrees is =
 
 -- ---- the header
 
+-- the Move of the records has a heading
 pub move-heading : (disk : MountedView) (c : CleanView) → Agrees disk → IsClean disk c → IsHeading disk.drive.geometry.block (gathered_move (size_of disk.tables) disk.tables.next c.victim c.gathered).heading
 move-heading disk c agrees is = record {
   room = omega (arith, is.gathers.few, length-map c.gathered (λ (r : LiveRecord). gathered_entry r.block r.content));
@@ -92,6 +94,7 @@ pub record MoveBuilt (disk : MountedView) (c : CleanView) (builder : BuilderView
   pub is : IsBuilt disk.drive.geometry.block builder
   pub batch : built disk.drive.geometry.block builder ≡ gathered_move (size_of disk.tables) disk.tables.next c.victim c.gathered
 
+-- what was built is that Move
 pub move_built : (disk : MountedView) (c : CleanView) (builder : BuilderView) → Agrees disk → IsClean disk c → builder.heading ≡ (gathered_move (size_of disk.tables) disk.tables.next c.victim c.gathered).heading
     → builder.bytes ≡ header_block disk.drive.geometry.block builder.heading ++ concat (gathered_data c.gathered) → MoveBuilt disk c builder
 move_built disk c builder agrees clean heading bytes =
@@ -148,6 +151,7 @@ gathered-ready disk c is ready =
         let spot : 0 + k ≡ k = omega arith in
         rw spot (ready k (away disk.tables.map.zone_size c.victim (get_or all k places.None) (rw same at lies)))
 
+-- it can be placed
 pub move-can : (disk : MountedView) (c : CleanView) → Agrees disk → (is : IsClean disk c) → MoveDue disk (batch_most disk.drive.geometry) c → disk.tables.next < sequence_end disk.drive.geometry → ArePlacedReady disk.tables.map
     → CanPlace disk is.destination.zone (gathered_move (size_of disk.tables) disk.tables.next c.victim c.gathered)
 move-can disk c agrees is due next ready =

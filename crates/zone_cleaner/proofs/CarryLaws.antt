@@ -41,6 +41,7 @@ place-zeros drive array block places.None h = h
 place-zeros drive array block (places.Trimmed address) h = h
 place-zeros drive array block (places.At address) h = tt
 
+-- the gathered records say what the array has
 pub gathered-say : (disk : MountedView) (c : CleanView) → Agrees disk → IsClean disk c → SayTheArray (mounted_array disk) disk.drive.geometry.block c.gathered
 gathered-say disk c agrees is =
     let m = disk.tables.map in
@@ -56,6 +57,7 @@ gathered-say disk c agrees is =
 
 -- ---- the array stays
 
+-- so their Move leaves the array
 pub told_same : (disk : MountedView) (c : CleanView) → Agrees disk → IsClean disk c → told_over disk.drive.geometry.block (gathered_move (size_of disk.tables) disk.tables.next c.victim c.gathered) (mounted_array disk) ≡ mounted_array disk
 told_same disk c agrees is =
     let block = disk.drive.geometry.block in
@@ -65,6 +67,7 @@ told_same disk c agrees is =
 
 -- ---- where the records lie
 
+-- their entries name blocks below a bound
 pub entries-below : (rs : List LiveRecord) (low high : ℕ) → AreBetween low high rs → AllByRecursion (λ (e : Entry). e.block < high) (gathered_entries rs)
 entries-below [] low high all = tt
 entries-below (r ∷ rs) low high all = (one r.block r.content all.0.1, entries-below rs low high all.1)
@@ -81,9 +84,11 @@ named-blocks (r ∷ rs) = rw (one r.block r.content, named-blocks rs) refl
     one block None = refl
     one block (Some bytes) = refl
 
+-- which is where the clean has come to
 pub gathered-below : (disk : MountedView) (c : CleanView) → IsClean disk c → AreBetween 0 c.cursor c.gathered
 gathered-below disk c is = let m = disk.tables.map in rw is.gathers.gathered (between (mounted_array disk) m.zone_size c.victim 0 c.cursor (take c.cursor m.places) (omega (arith, length-take c.cursor m.places)))
 
+-- each block once
 pub gathered-distinct : (disk : MountedView) (c : CleanView) → IsClean disk c → IsDistinct nat_eq (blocks_named (gathered_entries c.gathered))
 gathered-distinct disk c is =
     let m = disk.tables.map in
@@ -91,9 +96,11 @@ gathered-distinct disk c is =
 
 -- ---- the clean after it
 
+-- a zone has n blocks more
 pub grown-self : (f : Filling) (zone n : ℕ) → f.zone ≡ zone → grown zone n f ≡ record { zone = f.zone; written = f.written + n; may_open = true }
 grown-self f zone n e = ap (λ (b : Bool). cond b (record { zone = f.zone; written = f.written + n; may_open = true }) f) (eq-eqb f.zone zone e)
 
+-- no more data than records
 pub data-entries : (rs : List LiveRecord) → data_count (gathered_entries rs) ≤ length rs
 data-entries rs = omega (arith, data-few (gathered_entries rs), length-map rs (λ (r : LiveRecord). gathered_entry r.block r.content))
 
@@ -102,6 +109,7 @@ pub record FitsMove (disk : MountedView) (c : CleanView) (destination : Filling)
   pub room : destination.written + (1 + data_count (gathered_entries c.gathered)) + 2 ≤ disk.drive.geometry.capacity
   pub after : AfterMove disk.drive.geometry.capacity (batch_most disk.drive.geometry) destination.written (destination.written + (1 + data_count (gathered_entries c.gathered))) (untaken disk.tables c) (length c.gathered)
 
+-- the Move fits the destination
 pub fits-move : (disk : MountedView) (c : CleanView) → Agrees disk → (is : IsClean disk c) → MoveDue disk (batch_most disk.drive.geometry) c → FitsMove disk c is.destination
 fits-move disk c agrees is due =
     let g = disk.drive.geometry in
@@ -119,6 +127,7 @@ pub record MovedPlaces (disk : MountedView) (c : CleanView) (destination : Filli
   pub rest : drop c.cursor new ≡ drop c.cursor disk.tables.map.places
   pub live_is : live_in disk.tables.map.zone_size c.victim new ≡ untaken disk.tables c
 
+-- where the blocks lie after it
 pub moved_places : (disk : MountedView) (c : CleanView) (new : List Place) → Agrees disk → (is : IsClean disk c) → MoveDue disk (batch_most disk.drive.geometry) c
     → new ≡ placed_with disk is.destination.zone (gathered_move (size_of disk.tables) disk.tables.next c.victim c.gathered) → MovedPlaces disk c is.destination new
 moved_places disk c new agrees is due new-is =

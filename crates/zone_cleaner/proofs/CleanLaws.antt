@@ -47,6 +47,7 @@ kept-destination None f e = absurd (cc)
 kept-destination (Some (Next g)) f e = absurd (cc)
 kept-destination (Some (Destination g)) f e = record { filling = g; is = refl; zone = ap destination_zone e; written = ap destination_written e }
 
+-- a clean goes on over a drive that keeps its array
 pub clean_kept : (before after : MountedView) (c : CleanView) → Agrees before → KeepsArray before after → IsClean before c → IsClean after c
 clean_kept before after c agrees kept is =
     let zones = same-zones before after agrees kept in
@@ -105,6 +106,7 @@ pub record GatherGives (disk : MountedView) (c new : CleanView) : Type 0 where
   pub clean : IsClean disk new
   pub fewer : untaken disk.tables new + 1 ≡ untaken disk.tables c
 
+-- a record was gathered
 pub gather_gives : (disk : MountedView) (c : CleanView) (block : ℕ) (place : Place) → IsClean disk c → first_record disk.tables.map c.victim c.cursor ≡ Some (block, place) → length c.gathered < batch_most disk.drive.geometry
     → GatherGives disk c (with_record c block (live_content (mounted_array disk) block place))
 gather_gives disk c block place is found few =

@@ -14,9 +14,11 @@ use Rattle.zone_choice.proofs.AloneLaws.{SameBut}
 use Rattle.zone_cleaner.specs.Clean.{CleanView, destination_written, turns_left}
 use Rattle.zone_cleaner.specs.Turns.{MayClose}
 
+-- a stop leaves the tables, but for what is closed
 pub stops-close : (before after : MountedView) (zone : ℕ) (batch : Batch) → StopsInside before after zone batch → MayClose before after.tables
 stops-close before after zone batch stops = elim stops.tables as (λ _. MayClose before after.tables) [ inl same ↦ inl same | inr closed ↦ inr (closed.0, (zone, closed.1)) ]
 
+-- and so does a failed allocation
 pub memory-closes : (before after : MountedView) (zone : ℕ) (batch : Batch) → BatchLeaves before after zone batch (Err halt.Memory) → MayClose before after.tables
 memory-closes before after zone batch leaves = elim leaves as (λ _. MayClose before after.tables) [ inl same ↦ inl (ap (λ (m : MountedView). m.tables) same) | inr closes ↦ inr (closes.limit, (zone, closes.tables)) ]
 
@@ -41,6 +43,7 @@ closed-moved zone None = refl
 closed-moved zone (Some (Next f)) = refl
 closed-moved zone (Some (Destination f)) = closed-written zone f
 
+-- a close leaves as many turns
 pub close-turns : (before : MountedView) (after : TablesView) (most : ℕ) (clean : Option CleanView) → MayClose before after → turns_left most after clean ≡ turns_left most before.tables clean
 close-turns before after most None may = refl
 close-turns before after most (Some c) may = elim may as (λ _. turns_left most after (Some c) ≡ turns_left most before.tables (Some c)) [

@@ -48,8 +48,6 @@ use Rattle.zone_cleaner.proofs.MovedLaws.{move_gives, encoded}
 use Rattle.batch_log.specs.Header.{header_block}
 use Rattle.logical_map.specs.Places.{ArePlacedReady}
 
--- ---- a record is gathered
-
 -- ---- a Move stops
 
 logs-array : (drive : DriveState) (n : ℕ) (g : Geometry) (logs : List (List Batch)) → drive_logs drive ≡ logs → drive.geometry ≡ g → array_of g.block n logs ≡ spelled drive n
@@ -145,6 +143,7 @@ pub record ResetFails (old new : DriveState) (tables : TablesView) (fault : Port
   pub halt : IsHalt fault
   pub fails : StepFails Reset (clean_fault (fault_halt fault)) (mounted old tables) (mounted new tables)
 
+-- a Reset of the victim that was not done, and what it leaves
 pub reset_fails : (old new : DriveState) (tables : TablesView) (c : CleanView) (start : ℕ) (fault : PortFault) → Agrees (mounted old tables) → IsClean (mounted old tables) c → ResetDue (mounted old tables) c → start ≡ c.victim * old.geometry.size
     → ResetGives {V = Unit {0}} old start (Err fault) new → ResetKeeps {V = Unit {0}} old start (Err fault) new → ResetLeaves {V = Unit {0}} old start (Err fault) new → Obeys {V = Unit {0}} old (Err fault) new → (CanReset old start → IsNotRefused {V = Unit {0}} (Err fault)) → ResetFails old new tables fault
 reset_fails old new tables c start (port.Refused status) agrees is due start-is gives kept leaves obeys passed = absurd (passed (can_reset old tables c start agrees is start-is))
@@ -170,6 +169,7 @@ reset_fails old new tables c start port.Stopped agrees is due start-is gives kep
           appended = (obeys.counts refl).appended;
         }
 
+-- and one that was
 pub reset_done : (old new : DriveState) (tables after : TablesView) (c : CleanView) (start : ℕ) → Agrees (mounted old tables) → IsClean (mounted old tables) c → ResetDue (mounted old tables) c → start ≡ c.victim * old.geometry.size
     → ResetZone old new start → ResetLeaves {V = Unit {0}} old start (Ok tt) new → IsLawful new → after ≡ record tables { roles = clean_ended tables.roles c.victim } → EmptiesVictim (mounted old tables) (mounted new after) c.victim
 reset_done old new tables after c start agrees is due start-is done leaves lawful after-is =
@@ -191,6 +191,7 @@ reset_done old new tables after c start agrees is due start-is done leaves lawfu
 
 -- ---- the Move
 
+-- a destination is one zone
 pub destination-is : (a b : Filling) → Some (Destination a) ≡ Some (Destination b) → a ≡ b
 destination-is a b e = cc
 
@@ -215,17 +216,20 @@ carries-built disk c f builder k = move_built disk c builder k.at.agrees k.at.cl
 carries-to : (disk : MountedView) (c : CleanView) (f : Filling) (builder : BuilderView) → (k : Carries disk c f builder) → k.at.clean_is.destination ≡ f
 carries-to disk c f builder k = destination-is k.at.clean_is.destination f (sym k.at.clean_is.second ∙ k.second)
 
+-- the Move can be appended
 pub carry_ready : (disk : MountedView) (c : CleanView) (f : Filling) (builder : BuilderView) → Carries disk c f builder → disk.tables.next < sequence_end disk.drive.geometry → ArePlacedReady disk.tables.map → CarryReady disk f.zone builder
 carry_ready disk c f builder k next ready =
     let made = carries-built disk c f builder k in
     let can = move-can disk c k.at.agrees k.at.clean_is (carries-due disk c f builder k) next ready in
     record { built_is = made.is; can = rw (made.batch, ← carries-to disk c f builder k) can }
 
+-- it was, and the records are moved
 pub carry_done : (before after : MountedView) (c : CleanView) (f : Filling) (builder : BuilderView) → Carries before c f builder → Places before after f.zone (built_for before builder) → MovesRecords before c after
 carry_done before after c f builder k placed =
     let made = carries-built before c f builder k in
     (move_gives before after c k.at.agrees k.at.clean_is (carries-due before c f builder k) (rw (carries-to before c f builder k, ← made.batch) placed)).done
 
+-- or it was not
 pub carry_failed : (before after : MountedView) (c : CleanView) (f : Filling) (builder : BuilderView) (fault : Halt) → Carries before c f builder → BatchLeaves before after f.zone (built_for before builder) (Err fault) → StepFails Move (clean_fault fault) before after
 carry_failed before after c f builder fault k leaves =
     let made = carries-built before c f builder k in

@@ -15,6 +15,7 @@ use Rattle.indexmap.specs.IndexMap.{insert_entry}
 use Rattle.zone_cleaner.specs.Gathered.{AreOfLength, AreWithin, block_from, bytes_in, entries_for, entry_for, gathered_records}
 use Rattle.zone_cleaner.specs.LiveRecords.{LiveRecord, gathered_data, gathered_entries, with_data, without_block}
 
+-- blocks, and where the data of each is
 abbrev pub Blocks : Type 0
 Blocks = List (ℕ × Option ℕ)
 
@@ -26,6 +27,7 @@ length-shown n bytes bs = length-map bs (one_shown n bytes)
 
 -- ---- a record fewer
 
+-- one block is taken out of the records
 pub shown-remove : (n block : ℕ) (bytes : List ℕ) (bs : Blocks) → gathered_records n bytes (remove_entry (eqb block) bs) ≡ without_block block (gathered_records n bytes bs)
 shown-remove n block bytes [] = refl
 shown-remove n block bytes (b ∷ bs) = by (eqb block b.0) (shown-remove n block bytes bs)
@@ -35,6 +37,7 @@ shown-remove n block bytes (b ∷ bs) = by (eqb block b.0) (shown-remove n block
     by true rest = refl
     by false rest = rw rest refl
 
+-- the data of the others is where it was
 pub within-remove : (n end block : ℕ) (bs : Blocks) → AreWithin n end bs → AreWithin n end (remove_entry (eqb block) bs)
 within-remove n end block [] all = tt
 within-remove n end block (b ∷ bs) all = by (eqb block b.0) (within-remove n end block bs all.1)
@@ -85,6 +88,7 @@ pub record AddsRecord (n block : ℕ) (content : Option (List ℕ)) (old new : B
   pub shows : gathered_records n all new ≡ gathered_records n bytes old ++ record { block = block; content = content } ∷ []
   pub order : concat (gathered_data (gathered_records n bytes old)) ≡ drop n bytes → concat (gathered_data (gathered_records n all new)) ≡ drop n all
 
+-- a trim is added
 pub adds-trim : (n block : ℕ) (old new : Blocks) (bytes : List ℕ) → AreWithin n (length bytes) old → AllByRecursion (λ (r : LiveRecord). r.block < block) (gathered_records n bytes old) → new ≡ insert_entry eqb old block None
     → AddsRecord n block None old new bytes bytes
 adds-trim n block old new bytes within above new-is =
@@ -123,6 +127,7 @@ same-behind n end bytes new (b ∷ bs) all same = ap (λ (content : Option (List
     one None within = refl
     one (Some p) within = ap (λ (xs : List ℕ). Some (take n xs)) (behind p new within.0 ∙ ap (drop (p - n)) same ∙ sym (behind p bytes within.0))
 
+-- the data is the same under another header
 pub keeps-data : (n : ℕ) (bs : Blocks) (bytes new : List ℕ) → n ≤ length bytes → AreWithin n (length bytes) bs → length new ≡ length bytes → drop n new ≡ drop n bytes → KeepsData n bs bytes new
 keeps-data n bs bytes new room within long same =
     let shows = same-behind n (length bytes) bytes new bs within same in
@@ -133,6 +138,7 @@ keeps-data n bs bytes new room within long same =
       order = λ before. ap (λ (rs : List LiveRecord). concat (gathered_data rs)) shows ∙ before ∙ sym same;
     }
 
+-- data is added
 pub adds-data : (n block position : ℕ) (old new : Blocks) (bytes more all : List ℕ) → n ≤ length bytes → AreWithin n (length bytes) old → AllByRecursion (λ (r : LiveRecord). r.block < block) (gathered_records n bytes old) → position ≡ length bytes
     → new ≡ insert_entry eqb old block (Some position) → all ≡ bytes ++ more → length all ≡ length bytes + n → AddsRecord n block (Some more) old new bytes all
 adds-data n block position old new bytes more all room within above at new-is all-is longer =
@@ -169,6 +175,7 @@ none-has m n bytes (b ∷ bs) within whole other = by b.1 within.0 (none-has m n
     by None at rest whole = (refl, rest whole other)
     by (Some p) at rest whole = absurd (other (omega (arith, whole.0, length-take n (drop p bytes), length-drop p bytes, at.1)))
 
+-- room is made for a header
 pub makes-room : (m n : ℕ) (bs : Blocks) (bytes room : List ℕ) → AreWithin n (length bytes) bs → AreOfLength m (gathered_data (gathered_records n bytes bs)) → (n ≡ m → ⊥) → length room ≡ m → MakesRoom m n bs bytes room
 makes-room m n bs bytes room within whole other long =
     let none = none-has m n bytes bs within whole other in
@@ -188,6 +195,7 @@ makes-room m n bs bytes room within whole other long =
 
 -- ---- the Move
 
+-- the entries of the records are those of the blocks
 pub entries-shown : (n : ℕ) (bytes : List ℕ) (bs : Blocks) → gathered_entries (gathered_records n bytes bs) ≡ entries_for bs
 entries-shown n bytes [] = refl
 entries-shown n bytes (b ∷ bs) = by b.1 (entries-shown n bytes bs)
@@ -196,6 +204,7 @@ entries-shown n bytes (b ∷ bs) = by b.1 (entries-shown n bytes bs)
     by None rest = ap (λ es. entry_for b.0 None ∷ es) rest
     by (Some p) rest = ap (λ es. entry_for b.0 (Some p) ∷ es) rest
 
+-- each block of the records is one of these
 pub each-shown : (n bound : ℕ) (bytes : List ℕ) (bs : Blocks) → AllByRecursion (λ (r : LiveRecord). r.block + 1 < bound) (gathered_records n bytes bs) → AllByRecursion (λ (b : ℕ × Option ℕ). b.0 + 1 < bound) bs
 each-shown n bound bytes [] all = tt
 each-shown n bound bytes (b ∷ bs) all = (all.0, each-shown n bound bytes bs all.1)
@@ -211,6 +220,7 @@ bytes-shown n bytes (b ∷ bs) = one b.1 (bytes-shown n bytes bs)
     one None rest = rest
     one (Some p) rest = ap (λ (xs : List ℕ). block_from n bytes p ++ xs) rest
 
+-- and the data of each is within the bytes
 pub within-values : (n end : ℕ) (bs : Blocks) → AreWithin n end bs → AllByRecursion (λ (position : Option ℕ). IfSome position (λ p. p + n ≤ end)) (map (λ (b : ℕ × Option ℕ). b.1) bs)
 within-values n end [] all = tt
 within-values n end (b ∷ bs) all = (one b.1 all.0, within-values n end bs all.1)

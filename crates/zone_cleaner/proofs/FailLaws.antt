@@ -22,6 +22,7 @@ use Rattle.zone_cleaner.proofs.CleanLaws.{clean_kept, clean_spare, gather-next}
 use Rattle.zone_cleaner.proofs.RecordLaws.{AreBetween}
 use Rattle.zone_cleaner.proofs.StepLaws.{gather-due}
 
+-- a stop that kept the array
 pub stops_kept : (before after : MountedView) (c : CleanView) → Agrees before → IsClean before c → KeepsArray before after → after.tables ≡ before.tables → after.drive.stopped ≡ true → StopsClean before after
 stops_kept before after c agrees is kept same stopped = record {
   stopped = stopped;
@@ -47,6 +48,7 @@ pub record NextRecord (disk : MountedView) (c : CleanView) (block : ℕ) (place 
   pub above : AllByRecursion (λ (r : LiveRecord). r.block < block) c.gathered
   pub few : block + 1 < 2 ^ 32
 
+-- the record that is gathered next
 pub next_record : (disk : MountedView) (c : CleanView) (block : ℕ) (place : Place) → Agrees disk → IsClean disk c → next_step (batch_most disk.drive.geometry) disk.tables c ≡ Gather block place → NextRecord disk c block place
 next_record disk c block place agrees is due =
     let next = gather-next disk c block place is (gather-due disk (batch_most disk.drive.geometry) c block place due).found in

@@ -53,6 +53,7 @@ pub record KeepsByMove (block_bytes n : ℕ) (logs : List (List Batch)) (victim 
   pub some : 1 ≤ length (log_at logs victim)
   pub same : array_of block_bytes n (append_log logs destination b) ≡ array_of block_bytes n logs
 
+-- one Move more from the victim to the destination
 pub moves-more : (block_bytes n victim destination size : ℕ) (logs : List (List Batch)) (b : Batch) → victim < length logs → destination < length logs → victim ≢ destination → KeepsByMove block_bytes n logs victim destination size b
     → AreMoves block_bytes n logs victim destination → AreMoves block_bytes n (append_log logs destination b) victim destination
 moves-more block_bytes n victim destination size logs b in_range lt apart keeps is =
@@ -67,6 +68,7 @@ moves-more block_bytes n victim destination size logs b in_range lt apart keeps 
 
 -- ---- a batch of the host
 
+-- a batch elsewhere leaves the Moves
 pub moves-beside : (block_bytes limit n zone victim destination size : ℕ) (logs : List (List Batch)) (b : Batch) → zone < length logs → zone ≢ victim → zone ≢ destination → AreSound limit n logs → IsNext limit n logs size b
     → AreMoves block_bytes n logs victim destination → AreMoves block_bytes n (append_log logs zone b) victim destination
 moves-beside block_bytes limit n zone victim destination size logs b lt away apart sound next is =

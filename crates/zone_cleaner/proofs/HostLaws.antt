@@ -123,6 +123,7 @@ length-without_all (e ∷ es) rs = omega (arith, length-without_all es (without_
 
 -- ---- a batch of the host
 
+-- what a batch of the host leaves of a clean
 pub record HostGives (before after : MountedView) (c new : CleanView) : Type 0 where
   pub clean : IsClean after new
   pub turns : turns_left (batch_most before.drive.geometry) after.tables (Some new) ≤ turns_left (batch_most before.drive.geometry) before.tables (Some c)
@@ -192,6 +193,7 @@ host-places before after c zone b is can done =
         ∙ other-over before.drive.geometry.block b.heading.sequence 0 0 0 k b.body es (extended (zero_block before.drive.geometry.block) (size_or (length array) b.heading.size) array) out
         ∙ left-extended (zero_block before.drive.geometry.block) [] (size_or (length array) b.heading.size) k array short)
 
+-- the batch is the next one
 pub next-batch : (before : MountedView) (zone : ℕ) (b : Batch) → CanPlace before zone b → IsNext (before.tables.next + 1) before.tables.given (drive_logs before.drive) (size_with before.tables b) b
 next-batch before zone b can = record {
   has = can.size;
@@ -201,6 +203,7 @@ next-batch before zone b can = record {
   greatest = rw can.sequence can.agrees.sound.numbers;
 }
 
+-- the clean goes on, and has forgotten its blocks
 pub host_gives : (before after : MountedView) (c : CleanView) (zone : ℕ) (b : Batch) → (is : IsClean before c) → CanPlace before zone b → zone ≢ is.destination.zone → Places before after zone b → HostGives before after c (forgotten b.heading.entries c)
 host_gives before after c zone b is can ne done =
     let g = before.drive.geometry in

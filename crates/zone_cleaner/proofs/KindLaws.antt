@@ -58,6 +58,7 @@ records-tell array size zone first (p ∷ ps) all same = by (lies_in size zone p
     by true is tell = (ap trims here ∙ kind p is, tell)
     by false is tell = tell
 
+-- a Move keeps which blocks are trimmed
 pub move-trims : (before after : MountedView) (c : CleanView) → Agrees before → IsClean before c → MovesRecords before c after → map trims after.tables.map.places ≡ map trims before.tables.map.places
 move-trims before after c agrees is moves =
     let m = before.tables.map in

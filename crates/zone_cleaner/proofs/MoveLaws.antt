@@ -45,14 +45,11 @@ over-same array bytes sequence zone header k front body (r ∷ rs) says at is =
         ap (λ (xs : List (List ℕ)). set xs block (get_or body k [])) (again (k + 1) (front ++ content ∷ []) next more)
         ∙ ap (λ (c : List ℕ). set array block c) (here ∙ sym same) ∙ set-get_or array block []
 
+-- records that say what the array has leave it
 pub move-same : (array : List (List ℕ)) (bytes sequence : ℕ) (rs : List LiveRecord) → SayTheArray array bytes rs → over (shown bytes) (entry_records sequence (gathered_data rs) 0 0 0 (gathered_entries rs)) array ≡ array
 move-same array bytes sequence rs says = over-same array bytes sequence 0 0 0 [] (gathered_data rs) rs says refl refl
 
 -- ---- no gathered block lies in the victim after it
-
-without-none : (es : List Entry) → without_all es [] ≡ []
-without-none [] = refl
-without-none (e ∷ es) = without-none es
 
 entry-block : (block : ℕ) (c : Option (List ℕ)) → (gathered_entry block c).block ≡ block
 entry-block block None = refl
@@ -69,6 +66,7 @@ without-own (r ∷ rs) =
 abbrev pub Elsewhere : ℕ → ℕ → ℕ → ℕ → Type 0
 Elsewhere size zone from end = (address : ℕ) → from ≤ address → address < end → eqb (address / size) zone ≡ false
 
+-- the blocks of another zone are elsewhere
 pub elsewhere : (size zone other written end : ℕ) → other ≢ zone → written + end ≤ size → Elsewhere size zone (other * size + written) (other * size + (written + end))
 elsewhere size zone other written end ne le address from below =
     let k = address - other * size in
@@ -76,6 +74,7 @@ elsewhere size zone other written end ne le address from below =
     let at : (other * size + k) / size ≡ other = div-mul-add other size k (omega (arith, below, le, from)) in
     rw split (ne_eqb ((other * size + k) / size) zone (λ same. ne (sym at ∙ same)))
 
+-- a place there is away from a zone
 pub entry-away : (size zone header address end : ℕ) (t : Bool) → Elsewhere size zone header end → header < address → address + one_unless t ≤ end → header < end → lies_in size zone (entry_place t header address) ≡ false
 entry-away size zone header address end true away lt le low = away header (omega arith) low
 entry-away size zone header address end false away lt le low = away address (omega arith) (omega (arith, le))
@@ -86,6 +85,7 @@ pub record PlacedAway (array : List (List ℕ)) (size zone cursor : ℕ) (es : L
   pub fewer : live_in size zone new ≤ live_in size zone old
   pub left : live_in size zone (drop cursor new) ≤ live_in size zone (drop cursor old)
 
+-- and so are all places of entries
 pub placed-away : (array : List (List ℕ)) (size zone cursor header address end : ℕ) (es : List Entry) (all : List Place) → IsDistinct nat_eq (blocks_named es) → Elsewhere size zone header end → header < address → address + data_count es ≤ end → header < end
     → PlacedAway array size zone cursor es all (placed header address es all)
 unfolding IsDistinct
@@ -107,6 +107,7 @@ placed-rest cursor header address [] all below = refl
 placed-rest cursor header address (e ∷ es) all below =
     drop-set-lt cursor (placed header (address + one_unless e.trim) es all) e.block (entry_place e.trim header address) below.0 ∙ placed-rest cursor header (address + one_unless e.trim) es all below.1
 
+-- there are as many places
 pub length-placed : (header address : ℕ) (es : List Entry) (all : List Place) → length (placed header address es all) ≡ length all
 length-placed header address [] all = refl
 length-placed header address (e ∷ es) all = length-set (placed header (address + one_unless e.trim) es all) e.block (entry_place e.trim header address) ∙ length-placed header (address + one_unless e.trim) es all

@@ -42,6 +42,7 @@ turns-less : (k u u' w w' a a' l l' g : ℕ) → u' ≡ u → l' ≡ u → l ≡
     → u' + max (moves_due a') (div_ceil l' k) + 1 < u + max (moves_due a) (div_ceil l k) + 1
 turns-less k u u' w w' a a' l l' g left now parts was is fewer = rw (left, now, parts, was, is) (omega (arith, fewer))
 
+-- a Move keeps the array, and moves the records
 pub move_gives : (before after : MountedView) (c : CleanView) → Agrees before → (is : IsClean before c) → MoveDue before (batch_most before.drive.geometry) c
     → Places before after is.destination.zone (gathered_move (size_of before.tables) before.tables.next c.victim c.gathered) → MoveGives before after c
 move_gives before after c agrees is due placed =

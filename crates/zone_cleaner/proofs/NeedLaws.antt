@@ -116,6 +116,7 @@ left-few disk (Some c) is = turns-few disk c is
 
 -- ---- a clean that has to begin
 
+-- what the start of a clean at once leaves
 pub record Begins (before after : MountedView) (new : Option CleanView) : Type 0 where
   pub cleaned : AgreesWithClean after new
   pub runs : is_some new ≡ true
@@ -123,6 +124,7 @@ pub record Begins (before after : MountedView) (new : Option CleanView) : Type 0
   pub turns : turns_left (batch_most before.drive.geometry) after.tables new + 1 ≤ before.drive.geometry.capacity
   pub keeps : KeepsByCleaning before after
 
+-- one is due where zones lack, and begins
 pub begins : (before after : MountedView) (clean new : Option CleanView) → is_some clean ≡ false → AgreesWithClean before clean → LacksZones before.tables.roles → TurnLeaves before None (Ok tt) after new → Begins before after new
 begins before after (Some c) new idle is lacks turn = absurd (cc)
 begins before after None new idle is lacks turn =

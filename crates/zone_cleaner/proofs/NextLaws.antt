@@ -36,10 +36,12 @@ closed-alone capacity (Some (Destination g)) None same alone = absurd (cc)
 closed-alone capacity (Some (Destination g)) (Some (Next f)) same alone = absurd (cc)
 closed-alone capacity (Some (Destination g)) (Some (Destination f)) same alone = absurd alone
 
+-- tables, drive and clean agree where the array is kept
 pub cleaned_kept : (before after : MountedView) (clean : Option CleanView) → AgreesWithClean before clean → KeepsArray before after → AgreesWithClean after clean
 cleaned_kept before after None is kept = (kept.agrees, (kept.spare is.1.0, rw kept.geometry (closed-alone before.drive.geometry.capacity after.tables.roles.second before.tables.roles.second kept.second is.1.1)))
 cleaned_kept before after (Some c) is kept = (kept.agrees, clean_kept before after c is.0 kept is.1)
 
+-- what keeps the array is kept by cleaning
 pub cleaning_kept : (before after : MountedView) (clean : Option CleanView) → AgreesWithClean before clean → KeepsArray before after → KeepsByCleaning before after
 cleaning_kept before after clean is kept = record {
   mountable = cleans_mountable after clean (cleaned_kept before after clean is kept);
@@ -80,6 +82,7 @@ pub record PromoteGives (drive : DriveState) (old new : TablesView) (f : Filling
   pub host : new.roles.host ≡ Some f
   pub room : f.written + 2 ≤ drive.geometry.capacity
 
+-- the next zone becomes the host zone
 pub promote_gives : (drive : DriveState) (old new : TablesView) (f : Filling) → AgreesWithClean (mounted drive old) None → old.roles.host ≡ None → next_of old.roles.second ≡ Some f → new ≡ record old { roles = promoted old.roles } → PromoteGives drive old new f
 promote_gives drive old new f is none next new-is =
     let second = next-parts old.roles.second f next in

@@ -1,22 +1,21 @@
 -- In which zone a block lies, by its place and by its newest record.
-use Rattle.std.proofs.Common.{◌≡◌, ℕ, suc, ◌+◌, ◌-◌, ◌*◌, ◌/◌, ◌<◌, ◌≤◌, Bool, true, false, cond, eqb, List, [], ◌∷◌, ◌++◌, length, get_or, replicate, Option, Some, None, is_some, refl, ap, ◌∙◌, arith, append-nil}
+use Rattle.std.proofs.Common.{◌≡◌, ℕ, suc, ◌+◌, ◌*◌, ◌/◌, ◌<◌, ◌≤◌, Bool, true, false, cond, eqb, List, [], ◌∷◌, length, get_or, Option, Some, None, is_some, refl, ap, ◌∙◌, arith}
 use Rattle.std.specs.List.{AllByRecursion, count_by, flat_map}
 use Rattle.std.proofs.lemmas.Bool.{eq-eqb}
-use Rattle.std.proofs.lemmas.List.{length-append, length-map, length-replicate}
+use Rattle.std.proofs.lemmas.List.{length-append, length-map}
 use Rattle.std.proofs.lemmas.List.FromFn.{get_or-map-range_with_len}
 use Rattle.std.proofs.lemmas.List.Sums.{get_or-le-sum_by}
 use Rattle.std.proofs.lemmas.Nat.{div-mul-add}
 use Rattle.zone_states.specs.declared.geometry.Geometry.{Geometry}
 use Rattle.drive_port.specs.Drive.{DriveState}
-use Rattle.drive_port.specs.Contents.{Content, content_of, contents, is_full, nothing}
-use Rattle.batch_log.specs.declared.header.Entry.{Entry}
-use Rattle.batch_log.specs.Log.{Batch, IsBatch, batch_blocks, batch_size, data_count, log_size, one_unless, zero_block}
+use Rattle.drive_port.specs.Contents.{Content, content_of, contents, nothing}
+use Rattle.batch_log.specs.Log.{batch_blocks, log_size}
 use Rattle.batch_log.proofs.LogLaws.{spelled_length}
 use Rattle.logical_map.specs.Live.{lies_in, live}
 use Rattle.logical_map.specs.declared.place.Place.TheVariants as places
 use Rattle.zone_choice.specs.Agreement.{Agrees, mounted}
-use Rattle.drive_array.specs.ZoneLogs.{HasLog, drive_logs, padding, readable, zone_log, zone_logs}
-use Rattle.drive_array.specs.Records.{Record, batch_records, entry_offset, entry_records, log_records, newest, place, records}
+use Rattle.drive_array.specs.ZoneLogs.{HasLog, drive_logs, readable, zone_log, zone_logs}
+use Rattle.drive_array.specs.Records.{Record, log_records, newest, place, records}
 use Rattle.drive_array.specs.Sizes.{encoded_size}
 use Rattle.zone_choice.specs.Tables.{TablesView}
 use Rattle.zone_choice.proofs.AgreementLaws.{size-encoded}

@@ -15,15 +15,18 @@ use Rattle.zone_cleaner.specs.LiveRecords.{LiveRecord, live_content, records_in,
 abbrev pub live_in : ℕ → ℕ → List Place → ℕ
 live_in size zone ps = count_by (lies_in size zone) ps
 
+-- how many places lie in a zone, by the first
 pub live_in-cons : (size zone : ℕ) (p : Place) (ps : List Place) → live_in size zone (p ∷ ps) ≡ cond {A = ℕ} (lies_in size zone p) 1 0 + live_in size zone ps
 live_in-cons size zone p ps = sum_by-cons (λ (q : Place). cond {A = ℕ} (lies_in size zone q) 1 0) p ps
 
+-- by two parts
 pub live_in-split : (size zone n : ℕ) (ps : List Place) → live_in size zone (take n ps) + live_in size zone (drop n ps) ≡ live_in size zone ps
 live_in-split size zone n ps = sum_by-take-drop (λ (q : Place). cond {A = ℕ} (lies_in size zone q) 1 0) ps n
 
 abbrev one_more : Bool → LiveRecord → List LiveRecord → List LiveRecord
 one_more b r rs = cond b (r ∷ rs) rs
 
+-- that is how many records the zone has
 pub length-records_in : (array : List (List ℕ)) (size zone first : ℕ) (ps : List Place) → length (records_in array size zone first ps) ≡ live_in size zone ps
 length-records_in array size zone first [] = refl
 length-records_in array size zone first (p ∷ ps) = by (lies_in size zone p) (length-records_in array size zone (first + 1) ps) ∙ sym (live_in-cons size zone p ps)
@@ -33,7 +36,8 @@ length-records_in array size zone first (p ∷ ps) = by (lies_in size zone p) (l
     by true h = omega (arith, h)
     by false h = omega (arith, h)
 
-pub records_in-append : (array : List (List ℕ)) (size zone first : ℕ) (xs ys : List Place) → records_in array size zone first (xs ++ ys) ≡ records_in array size zone first xs ++ records_in array size zone (first + length xs) ys
+-- the records of two parts
+records_in-append : (array : List (List ℕ)) (size zone first : ℕ) (xs ys : List Place) → records_in array size zone first (xs ++ ys) ≡ records_in array size zone first xs ++ records_in array size zone (first + length xs) ys
 records_in-append array size zone first [] ys = ap (λ (k : ℕ). records_in array size zone k ys) (omega arith)
 records_in-append array size zone first (p ∷ xs) ys =
     by (lies_in size zone p) (records_in array size zone (first + 1) (xs ++ ys)) (records_in array size zone (first + 1) xs) (records_in array size zone (first + length (p ∷ xs)) ys) (records_in-append array size zone (first + 1) xs ys ∙ ap (λ (k : ℕ). records_in array size zone (first + 1) xs ++ records_in array size zone k ys) (omega arith))
@@ -113,6 +117,7 @@ get_or-rest d zero k xs = ap (λ (n : ℕ). get_or xs n d) (omega arith)
 get_or-rest d (suc i) k [] = refl
 get_or-rest d (suc i) k (x ∷ xs) = let e : suc (i + k) ≡ suc i + k = omega arith in get_or-rest d i k xs ∙ ap (λ (n : ℕ). get_or (x ∷ xs) n d) e
 
+-- the next record of a zone
 pub takes-next : (array : List (List ℕ)) (size zone from block : ℕ) (ps : List Place) → from ≤ length ps → slice_get (blocks_in size zone from (drop from ps)) 0 ≡ Some block → Takes array size zone from ps block
 takes-next array size zone from block ps within e =
     let rest = drop from ps in
@@ -140,6 +145,7 @@ none-in size zone first (p ∷ ps) e = by (lies_in size zone p) refl (none-in si
     by true is more e = absurd (cc)
     by false is more e = let none : cond {A = ℕ} (lies_in size zone p) 1 0 ≡ 0 = rw is refl in omega (arith, live_in-cons size zone p ps, none, more e)
 
+-- where there is none, nothing is left
 pub takes-none : (size zone from : ℕ) (ps : List Place) → slice_get (blocks_in size zone from (drop from ps)) 0 ≡ None → live_in size zone (drop from ps) ≡ 0
 takes-none size zone from ps e = none-in size zone from (drop from ps) e
 
@@ -149,6 +155,7 @@ takes-none size zone from ps e = none-in size zone from (drop from ps) e
 abbrev pub AreBetween : ℕ → ℕ → List LiveRecord → Type 0
 AreBetween low high rs = AllByRecursion (λ (r : LiveRecord). (low ≤ r.block) × (r.block < high)) rs
 
+-- the records name blocks between two bounds
 pub between : (array : List (List ℕ)) (size zone first high : ℕ) (ps : List Place) → first + length ps ≤ high → AreBetween first high (records_in array size zone first ps)
 between array size zone first high [] le = tt
 between array size zone first high (p ∷ ps) le = by (lies_in size zone p) (lower (records_in array size zone (first + 1) ps) (between array size zone (first + 1) high ps (omega arith)))
@@ -166,6 +173,7 @@ apart : (low high block : ℕ) (rs : List LiveRecord) → block < low → AreBet
 apart low high block [] lt all = tt
 apart low high block (r ∷ rs) lt all = (ne_eqb block r.block (λ same. omega (arith, same, all.0.0, lt)), apart low high block rs lt all.1)
 
+-- each once
 pub distinct-blocks : (array : List (List ℕ)) (size zone first : ℕ) (ps : List Place) → IsDistinct nat_eq (map (λ (r : LiveRecord). r.block) (records_in array size zone first ps))
 unfolding IsDistinct
 distinct-blocks array size zone first [] = tt
@@ -187,6 +195,7 @@ ZerosUnlessData array bytes block place = get_or array block [] ≡ replicate by
 abbrev pub SayTheArray : List (List ℕ) → ℕ → List LiveRecord → Type 0
 SayTheArray array bytes rs = AllByRecursion (λ (r : LiveRecord). get_or array r.block [] ≡ shown_content bytes r.content) rs
 
+-- and say what the array has
 pub say-the-array : (array : List (List ℕ)) (bytes size zone first : ℕ) (ps : List Place) → ((k : ℕ) → k < length ps → ZerosUnlessData array bytes (first + k) (get_or ps k places.None)) → SayTheArray array bytes (records_in array size zone first ps)
 say-the-array array bytes size zone first [] each = tt
 say-the-array array bytes size zone first (p ∷ ps) each =
@@ -219,7 +228,7 @@ absent low high block [] lt all = refl
 absent low high block (r ∷ rs) lt all = rw (ne_eqb block r.block (λ same. omega (arith, same, all.0.0, lt))) (ap (λ (l : List LiveRecord). r ∷ l) (absent low high block rs lt all.1))
 
 -- its record is no longer there
-pub records_in-set : (array : List (List ℕ)) (size zone first k block : ℕ) (ps : List Place) (p : Place) → block ≡ first + k → lies_in size zone p ≡ false → records_in array size zone first (set ps k p) ≡ without_block block (records_in array size zone first ps)
+records_in-set : (array : List (List ℕ)) (size zone first k block : ℕ) (ps : List Place) (p : Place) → block ≡ first + k → lies_in size zone p ≡ false → records_in array size zone first (set ps k p) ≡ without_block block (records_in array size zone first ps)
 records_in-set array size zone first k block [] p e away = refl
 records_in-set array size zone first zero block (q ∷ ps) p e away =
     let low = between array size zone (first + 1) (first + 1 + length ps) ps (omega arith) in
@@ -241,6 +250,7 @@ take-set (suc n) k [] x = refl
 take-set (suc n) zero (y ∷ ys) x = refl
 take-set {X} (suc n) (suc k) (y ∷ ys) x = ap (λ (zs : List X). y ∷ zs) (take-set n k ys x)
 
+-- a block that moved away is no record any more
 pub taken-set : (array : List (List ℕ)) (size zone cursor block : ℕ) (ps : List Place) (p : Place) → lies_in size zone p ≡ false → records_in array size zone 0 (take cursor (set ps block p)) ≡ without_block block (records_in array size zone 0 (take cursor ps))
 taken-set array size zone cursor block ps p away = ap (records_in array size zone 0) (take-set cursor block ps p) ∙ records_in-set array size zone 0 block block (take cursor ps) p (omega arith) away
 
@@ -252,6 +262,7 @@ live_in-set size zone zero (q ∷ ps) p away =
     omega (arith, live_in-cons size zone p ps, live_in-cons size zone q ps, none)
 live_in-set size zone (suc block) (q ∷ ps) p away = omega (arith, live_in-cons size zone q (set ps block p), live_in-cons size zone q ps, live_in-set size zone block ps p away)
 
+-- and no more are left
 pub left-set : (size zone cursor block : ℕ) (ps : List Place) (p : Place) → lies_in size zone p ≡ false → live_in size zone (drop cursor (set ps block p)) ≤ live_in size zone (drop cursor ps)
 left-set size zone zero block ps p away = live_in-set size zone block ps p away
 left-set size zone (suc cursor) block [] p away = omega arith

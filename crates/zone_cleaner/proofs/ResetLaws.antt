@@ -18,7 +18,7 @@ use Rattle.drive_array.specs.Mountable.{IsMountable}
 use Rattle.drive_array.specs.Records.{place, shown, without}
 use Rattle.drive_array.specs.Repair.{HasAtMost}
 use Rattle.drive_array.specs.Reserve.{batch_most}
-use Rattle.zone_choice.specs.Roles.{Differ, IsOccupied, RolesView, fillings, is_at, is_filling_at, filling_list}
+use Rattle.zone_choice.specs.Roles.{IsOccupied, RolesView, fillings, is_at, is_filling_at, filling_list}
 use Rattle.drive_array.specs.Sizes.{larger, log_greatest, map_of}
 use Rattle.drive_array.specs.Spare.{IsSpare}
 use Rattle.zone_choice.specs.Tables.{TablesView}
@@ -134,6 +134,7 @@ few-reset most victim logs fs out all =
     all-both (λ f. AllByRecursion (HasAtMost most) (log_at logs f.zone)) (λ f. f.zone ≢ victim) (λ f. AllByRecursion (HasAtMost most) (log_at (without logs victim) f.zone)) fs
     (λ f few ne. rw (get_or-set_other logs victim f.zone [] [] ne) few) all (away-all victim fs out)
 
+-- a Reset of the victim keeps the array
 pub reset_gives : (old new : DriveState) (tables : TablesView) (c : CleanView) → Agrees (mounted old tables) → IsClean (mounted old tables) c → ResetDue (mounted old tables) c → new.geometry ≡ old.geometry → IsLawful new
     → Resets (contents old.zones) (contents new.zones) c.victim → OpensNone old.zones new.zones → ResetGives old new tables c.victim
 unfolding spelled_array

@@ -44,6 +44,7 @@ step-room before after c new Reset is done = record {
 
 -- ---- turns
 
+-- what a turn leaves of the zones being filled
 pub turn-room : (before after : MountedView) (old new : Option CleanView) → AgreesWithClean before old → TurnLeaves before old (Ok tt) after new → LeavesNextZone before after old new
 turn-room before after (Some c) new is leaves = step-room before after c new (next_step (batch_most before.drive.geometry) before.tables c) is leaves
 turn-room before after None None is leaves = record { host = λ none. rw leaves.1.1 none; next = λ some. let bad : false ≡ true = some in absurd (cc) }

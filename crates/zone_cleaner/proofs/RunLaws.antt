@@ -10,6 +10,7 @@ pub record TakesTurns (before : MountedView) (old : Option CleanView) (after : M
   pub turns : ℕ
   pub done : AreTurns turns before old after new
 
+-- no turn was taken yet
 pub takes-none : (disk : MountedView) (clean : Option CleanView) → TakesTurns disk clean disk clean
 takes-none disk clean = record { turns = 0; done = (refl, refl) }
 

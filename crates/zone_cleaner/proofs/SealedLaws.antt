@@ -18,11 +18,13 @@ use Rattle.zone_states.specs.declared.geometry.Geometry.{Geometry}
 use Rattle.std.specs.Option.{option_map}
 use Rattle.zone_choice.specs.Roles.{is_sealed_at}
 
+-- what it means that a zone is sealed
 pub record SealedZone (roles : RolesView) (zone : ℕ) : Type 0 where
   pub in_range : zone < length roles.empty
   pub not_empty : is_empty_at roles zone ≡ false
   pub not_filling : is_filling_at roles zone ≡ false
 
+-- it means this
 pub sealed-zone : (roles : RolesView) (zone : ℕ) → is_sealed_at roles zone ≡ true → SealedZone roles zone
 sealed-zone roles zone is = parts (ltb zone (length roles.empty)) refl (is_empty_at roles zone) refl (is_filling_at roles zone) refl is
   where
@@ -60,14 +62,17 @@ alone-own geometry roles f e = at (ltb 1 geometry.open)
     at true = e
     at false = ap (option_map (second_with (closed_unless f.zone))) e ∙ ap (λ (g : Filling). Some (Destination g)) (own-closed f.zone f refl)
 
+-- each zone has one log
 pub zone-logs : (drive : DriveState) → length (drive_logs drive) ≡ length drive.zones
 zone-logs drive = length-map (contents drive.zones) (zone_log drive.geometry) ∙ length-map drive.zones content_of
 
 -- ---- the victim
 
+-- a sealed zone is one of the drive
 pub sealed-in_range : (disk : MountedView) (zone : ℕ) → Agrees disk → is_sealed_at disk.tables.roles zone ≡ true → zone < length disk.drive.zones
 sealed-in_range disk zone agrees is = omega (arith, (sealed-zone disk.tables.roles zone is).in_range, agrees.roles.count, length-map disk.drive.zones content_of)
 
+-- it is full, and has a batch
 pub sealed-holds : (disk : MountedView) (zone : ℕ) → Agrees disk → is_sealed_at disk.tables.roles zone ≡ true → IsSealed (contents disk.drive.zones) (drive_logs disk.drive) zone
 sealed-holds disk zone agrees is =
     let was = sealed-zone disk.tables.roles zone is in
@@ -75,6 +80,7 @@ sealed-holds disk zone agrees is =
 
 -- ---- the second zone
 
+-- what holds of each zone being filled holds of the second one
 pub of-second : (P : Filling → Type 0) (roles : RolesView) (second : Second) → roles.second ≡ Some second → AllByRecursion P (fillings roles) → P (filling_of second)
 of-second P roles second e all = by roles.host (let Q : Option Second → Type 0 = λ o. AllByRecursion P (filling_list roles.host ++ second_list o) in subst Q e all)
   where
@@ -82,6 +88,7 @@ of-second P roles second e all = by roles.host (let Q : Option Second → Type 0
     by None all = all.0
     by (Some host) all = all.1.0
 
+-- which is being filled
 pub second-filling : (roles : RolesView) (second : Second) → roles.second ≡ Some second → is_filling_at roles (filling_of second).zone ≡ true
 second-filling roles second e = ap (λ (o : Option Second). list_any (is_at zone) (filling_list roles.host ++ second_list o)) e ∙ by roles.host
   where

@@ -70,6 +70,7 @@ roles-destination capacity zones logs empties host zone agree lowest no_log =
 
 -- ---- the clean after it
 
+-- what the start of a clean leaves
 pub record StartGives (disk : MountedView) (tables : TablesView) (victim : ℕ) : Type 0 where
   pub cleaned : AgreesWithClean (mounted disk.drive tables) (Some (started victim))
   pub turns : turns_left (batch_most disk.drive.geometry) tables (Some (started victim)) + 1 ≤ disk.drive.geometry.capacity
@@ -77,6 +78,7 @@ pub record StartGives (disk : MountedView) (tables : TablesView) (victim : ℕ) 
 with-alone : (drive : DriveState) (tables : TablesView) → tables.roles.second ≡ None → Agrees (mounted drive tables) → Agrees (mounted drive (record tables { roles = roles_with tables.roles.empty tables.roles.host None }))
 with-alone drive tables none agrees = let P : Option Second → Type 0 = λ s. Agrees (mounted drive (record tables { roles = roles_with tables.roles.empty tables.roles.host s })) in subst P none agrees
 
+-- it leaves this
 pub start_gives : (drive : DriveState) (tables new : TablesView) (victim zone : ℕ) → Agrees (mounted drive tables) → IsDue drive.geometry tables victim → IsLowestEmpty tables.roles zone → new ≡ record tables { roles = with_destination tables.roles zone } → StartGives (mounted drive tables) new victim
 start_gives drive tables new victim zone agrees due lowest new-is =
     let g = drive.geometry in
@@ -120,13 +122,10 @@ start_gives drive tables new victim zone agrees due lowest new-is =
 
 -- ---- whether a clean is due
 
+-- what is not some is none
 pub none-of : {X : Type 0} (o : Option X) → is_some o ≡ false → o ≡ None
 none-of None e = refl
 none-of (Some x) e = absurd (cc)
-
--- a second zone, or too few or too many empty ones
-second-not_due : (geometry : Geometry) (tables : TablesView) → is_some tables.roles.second ≡ true → NoneIsDue geometry tables
-second-not_due geometry tables some victim due = let none : is_some tables.roles.second ≡ false = ap is_some due.alone in absurd (cc)
 
 -- too many live records
 pub full-not_due : (geometry : Geometry) (tables : TablesView) (zone : ℕ) → IsLeastSealed tables zone → geometry.capacity < move_blocks (batch_most geometry) (live tables.map zone) + 2 → NoneIsDue geometry tables
@@ -135,7 +134,3 @@ full-not_due geometry tables zone least more victim due =
     let high = due.least.least zone least.sealed_is in
     let same : live tables.map zone ≡ live tables.map victim = omega (arith, low, high) in
     absurd (omega (arith, due.fits, ap (move_blocks (batch_most geometry)) same, more))
-
--- no sealed zone
-none-not_due : (geometry : Geometry) (tables : TablesView) → ((zone : ℕ) → is_sealed_at tables.roles zone ≡ false) → NoneIsDue geometry tables
-none-not_due geometry tables none victim due = absurd (let no = none victim in let yes = due.least.sealed_is in cc)

@@ -22,6 +22,7 @@ spot step = places.None
 
 -- ---- a record is gathered
 
+-- a record is to be gathered
 pub record GatherDue (disk : MountedView) (most : ℕ) (c : CleanView) (block : ℕ) (place : Place) : Type 0 where
   pub few : length c.gathered < most
   pub found : first_record disk.tables.map c.victim c.cursor ≡ Some (block, place)
@@ -31,6 +32,7 @@ last-not_gather zero rs block place e = let bad : Move ≡ Gather block place = 
 last-not_gather (suc written) [] block place e = let bad : Reset ≡ Gather block place = e in absurd (cc)
 last-not_gather (suc written) (r ∷ rs) block place e = let bad : Move ≡ Gather block place = e in absurd (cc)
 
+-- what it means that this is the next step
 pub gather-due : (disk : MountedView) (most : ℕ) (c : CleanView) (block : ℕ) (place : Place) → next_step most disk.tables c ≡ Gather block place → GatherDue disk most c block place
 unfolding number spot
 gather-due disk most c block place e = by (ltb (length c.gathered) most) refl (first_record disk.tables.map c.victim c.cursor) refl e
@@ -60,6 +62,7 @@ last-some zero rs e some = absurd (omega arith)
 last-some (suc written) [] e some = let bad : Reset ≡ Move = e in absurd (cc)
 last-some (suc written) (r ∷ rs) e some = omega arith
 
+-- and that a Move is
 pub move-due : (disk : MountedView) (most : ℕ) (c : CleanView) → next_step most disk.tables c ≡ Move → 1 ≤ most → length c.gathered ≤ most → MoveDue disk most c
 move-due disk most c e one few = by (ltb (length c.gathered) most) refl (first_record disk.tables.map c.victim c.cursor) refl e
   where
@@ -86,6 +89,7 @@ last-reset zero rs e = let bad : Move ≡ Reset = e in absurd (cc)
 last-reset (suc written) [] e = (refl, omega arith)
 last-reset (suc written) (r ∷ rs) e = let bad : Move ≡ Reset = e in absurd (cc)
 
+-- and that the Reset is
 pub reset-due : (disk : MountedView) (most : ℕ) (c : CleanView) → next_step most disk.tables c ≡ Reset → ResetDue disk c
 reset-due disk most c e = by (ltb (length c.gathered) most) refl (first_record disk.tables.map c.victim c.cursor) refl e
   where

@@ -41,10 +41,12 @@ use Rattle.zone_cleaner.proofs.StepLaws.{gather-due, move-due}
 
 -- ---- a drive that is cleaned can be mounted
 
+-- a disk that is cleaned has a spare zone
 pub cleans-spare : (disk : MountedView) (clean : Option CleanView) → AgreesWithClean disk clean → HasSpare disk.drive.geometry.block disk.tables.given (drive_logs disk.drive)
 cleans-spare disk None is = empty-spare disk.drive disk.tables is.0 is.1.0
 cleans-spare disk (Some c) is = clean_spare disk c is.0 is.1
 
+-- so it can be mounted
 pub cleans_mountable : (disk : MountedView) (clean : Option CleanView) → AgreesWithClean disk clean → IsMountable disk.drive disk.tables.given
 cleans_mountable disk clean is = agrees_mountable disk.drive disk.tables is.0 (cleans-spare disk clean is)
 
@@ -194,6 +196,7 @@ fails-turns before after c most step faults.OutOfMemory fails = close-turns befo
 fails-turns before after c most step faults.Stopped fails = close-turns before after.tables most (Some c) fails.tables
 fails-turns before after c most step faults.Spent fails = rw (spent-move before after step fails).0 refl
 
+-- a turn that was refused leaves as many turns
 pub refused-turns : (before after : MountedView) (old new : Option CleanView) (most : ℕ) (result : Result (Unit {0}) CleanFault) → TurnLeaves before old result after new → OnErr result (turns_left most after.tables new ≡ turns_left most before.tables old)
 refused-turns before after old new most (Ok done) leaves = tt
 refused-turns before after None new most (Err fault) leaves = absurd leaves
@@ -207,6 +210,7 @@ start-leaves drive old new (Some c) is starts =
     let gives = start_gives drive old new starts.victim starts.destination is.0 starts.due starts.lowest starts.tables in
     (rw starts.clean_is gives.cleaned, rw starts.tables refl, rw starts.tables refl, rw starts.tables refl, rw starts.tables refl)
 
+-- what each turn leaves
 pub turn_gives : (before after : MountedView) (old new : Option CleanView) (result : Result (Unit {0}) CleanFault) → AgreesWithClean before old → TurnLeaves before old result after new → CleaningLeaves before result after new
 turn_gives before after (Some c) new result is leaves = step_gives before after c new result is leaves
 turn_gives before after None new (Err fault) is leaves = absurd leaves
@@ -230,6 +234,7 @@ turn_gives before after None new (Ok done) is leaves =
       cause = tt;
     }
 
+-- one that was done leaves fewer turns
 pub turns_fewer : (before after : MountedView) (old new : Option CleanView) → AgreesWithClean before old → TurnLeaves before old (Ok tt) after new → TurnsFewer before after old new
 turns_fewer before after (Some c) new is leaves = record {
   fewer = λ some. (step_forward before after c new (next_step (batch_most before.drive.geometry) before.tables c) is refl leaves).fewer;
@@ -245,6 +250,7 @@ turns_fewer before after None new is leaves = record { fewer = λ some. absurd (
 pub keeps-none : (disk : MountedView) (clean : Option CleanView) → AgreesWithClean disk clean → KeepsByCleaning disk disk
 keeps-none disk clean is = record { mountable = cleans_mountable disk clean is; array = refl; moves = only-same (drive_logs disk.drive) (drive_logs disk.drive) refl; size = refl; trimmed = refl; given = refl; geometry = refl; refused = refl; next = refl; appended = omega arith }
 
+-- what two turns keep
 pub keeps-more : (a b c : MountedView) → KeepsByCleaning a b → KeepsByCleaning b c → KeepsByCleaning a c
 keeps-more a b c p q = record {
   mountable = q.mountable;

@@ -6,3 +6,4 @@ pub mod Moving
 pub mod Reading
 pub mod Start
 pub mod Host
+pub mod Answering

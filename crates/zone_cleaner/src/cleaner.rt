@@ -1,12 +1,12 @@
-ghost use Rattle.std.specs.Prelude.{◌≡◌, ◌≤◌, ◌<◌, ◌+◌, ◌*◌, ◌^◌, OnErr, OnOk, None, Some, is_some, length};
+ghost use Rattle.std.specs.Prelude.{◌≡◌, ◌≤◌, ◌<◌, ◌+◌, ◌^◌, None, Some, is_some, length};
 ghost use Rattle.std.specs.List.{AllByRecursion};
 ghost use Rattle.std.specs.Option.{option_map};
 ghost use Rattle.zone_choice.specs.Builder.{IsBuilt};
 ghost use Rattle.zone_choice.specs.Changes.{CanPlace, built_for};
-ghost use Rattle.zone_cleaner.specs.Clean.{forgotten, started, turns_of};
+ghost use Rattle.zone_cleaner.specs.Answering.{CleanAnswers, EndAnswers, TurnAnswers};
+ghost use Rattle.zone_cleaner.specs.Clean.{forgotten, started};
 ghost use Rattle.zone_cleaner.specs.Host.{HostLeaves};
-ghost use Rattle.zone_cleaner.specs.Start.{AgreesWithClean, CleanDone, CleanLeaves, CleaningLeaves, EndLeaves};
-ghost use Rattle.zone_cleaner.specs.Start.{FindsDue, HasNextZone, KeepsTurns, LacksZones, TurnDone, TurnLeaves};
+ghost use Rattle.zone_cleaner.specs.Start.{AgreesWithClean, FindsDue, LacksZones, TurnLeaves};
 ghost use Rattle.zone_states.specs.Geometry.{IsInRange};
 
 use crate::clean::Clean;
@@ -174,11 +174,7 @@ impl Cleaner {
     /// commands are completed.
     pub fn turn<D: Device>(&mut self, disk: &mut Mounted<D>) -> Result<(), CleanFault>
         requires cleaned { AgreesWithClean disk.old self.old }
-        ensures leaves { TurnLeaves disk.old self.old result disk.new self.new }
-        ensures cleaning { CleaningLeaves disk.old result disk.new self.new }
-        ensures done { OnOk result (TurnDone disk.old disk.new self.old self.new) }
-        ensures refused { OnErr result (KeepsTurns disk.old disk.new self.old self.new) }
-        ensures completed { disk.new.drive.completed ≤ disk.old.drive.completed + 2 }
+        ensures { TurnAnswers disk.old self.old result disk.new self.new }
     {
         self.step(disk)
     }
@@ -187,11 +183,7 @@ impl Cleaner {
     /// the next zone, and has two free blocks.
     pub fn run_to_end<D: Device>(&mut self, disk: &mut Mounted<D>) -> Result<(), CleanFault>
         requires cleaned { AgreesWithClean disk.old self.old }
-        ensures leaves { EndLeaves disk.old self.old result disk.new self.new }
-        ensures cleaning { CleaningLeaves disk.old result disk.new self.new }
-        ensures done { OnOk result (CleanDone disk.old disk.new self.old self.new) }
-        ensures completed { disk.new.drive.completed
-            ≤ disk.old.drive.completed + 2 * turns_of disk.old self.old }
+        ensures { EndAnswers disk.old self.old result disk.new self.new }
     {
         while self.running() {
             if let Err(fault) = self.turn(disk) {
@@ -207,11 +199,7 @@ impl Cleaner {
     pub fn clean_zone<D: Device>(&mut self, disk: &mut Mounted<D>) -> Result<(), CleanFault>
         requires cleaned { AgreesWithClean disk.old self.old }
         requires lacks { LacksZones disk.old.tables.roles }
-        ensures leaves { CleanLeaves disk.old self.old result disk.new self.new }
-        ensures cleaning { CleaningLeaves disk.old result disk.new self.new }
-        ensures done { OnOk result (HasNextZone disk.new self.new) }
-        ensures completed { disk.new.drive.completed + 2
-            ≤ disk.old.drive.completed + 2 * disk.old.drive.geometry.capacity }
+        ensures { CleanAnswers disk.old self.old result disk.new self.new }
     {
         if self.running() {
             return self.run_to_end(disk);

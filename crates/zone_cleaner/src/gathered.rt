@@ -5,6 +5,7 @@ ghost use Rattle.std.specs.Option.{option_map};
 ghost use Rattle.batch_log.specs.Header.{IsHeading};
 ghost use Rattle.zone_choice.specs.Agreement.{mounted_array};
 ghost use Rattle.zone_choice.specs.Builder.{naming};
+ghost use Rattle.zone_cleaner.specs.Answering.{GatherAnswers};
 ghost use Rattle.zone_cleaner.specs.Gathered.{AreOfLength, AreWithin, stored_bytes, data_bytes, entries_for, entry_for};
 ghost use Rattle.zone_cleaner.specs.Moving.{HoldsMove, headed_bytes, heading_for, move_with};
 ghost use Rattle.zone_cleaner.specs.LiveRecords.{gathered_data, trim_record, without_all, without_block};
@@ -177,11 +178,8 @@ impl Gathered {
         place: Place,
     ) -> Result<(), CleanFault>
         requires { CanGather disk.old block place self.old.records }
-        ensures reads { OnlyReads disk.old disk.new }
-        ensures ok { OnOk result
-            (self.new.records ≡ self.old.records ++ live_record disk.old block place ∷ []) }
-        ensures failed { OnErr result (self.new.records ≡ self.old.records) }
-        ensures err { IfErr result (IsGatherFault disk.new.drive) }
+        ensures { GatherAnswers disk.old self.old.records (live_record disk.old block place) result
+            disk.new self.new.records }
     {
         if let Place::At(address) = place {
             return self.read(disk, block, address);

@@ -116,6 +116,7 @@ same_zone geometry zones index closing are lt closes =
     let below : index < length (closed_in zones closing) = omega (arith, lt, are.count, closes.are.count) in
     rw (← closes.in_blocks) (zone_at-is b (closed_in zones closing) index below ∙ ap (zone_stored b) closes.same)
 
+-- what a zone leaves that was written, after room was made for it
 pub leaves-written : (habit : Habit) (geometry : Geometry) (zones : List StoredZone) (index : ℕ) (bytes : List ℕ) (closing : Option ℕ) → IsInRange geometry → AreZones geometry zones → index < geometry.zones
     → None ≡ first_failing (append_bytes_checks geometry (zone_at (zones_of geometry.block zones) index) bytes)
     → RoomGives habit geometry (zones_of geometry.block zones) (zone_at (zones_of geometry.block zones) index) (Ok closing)
@@ -135,6 +136,7 @@ leaves-written habit geometry zones index bytes closing in_range are below check
     rw (same_zone geometry zones index closing are lt closes, ← after.zone)
     (leaves-changed geometry zones index (stored_write geometry zone bytes) closing are lt closes after.whole lawful needs)
 
+-- and one that was opened
 pub leaves-opened : (habit : Habit) (geometry : Geometry) (zones : List StoredZone) (index : ℕ) (closing : Option ℕ) → IsInRange geometry → AreZones geometry zones → index < geometry.zones
     → RoomGives habit geometry (zones_of geometry.block zones) (zone_at (zones_of geometry.block zones) index) (Ok closing)
     → Leaves geometry (closed_in (sent_in zones index Open) closing) (sent_to (with_room (zones_of geometry.block zones) closing) index Open)

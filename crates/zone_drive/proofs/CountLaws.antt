@@ -10,13 +10,16 @@ use Rattle.drive_port.specs.Drive.{active_count, open_count}
 use Rattle.drive_port.specs.Step.{nowhere, one_if, zone_at}
 use Rattle.zone_drive.specs.Stored.{zones_of}
 
-pub one_if-is : (b : Bool) → one_if b ≡ cond b 1 0
+-- one, or none
+one_if-is : (b : Bool) → one_if b ≡ cond b 1 0
 one_if-is true = refl
 one_if-is false = refl
 
+-- how many of a list pass a test, by its first
 pub count-cons : {X : Type 0} (p : X → Bool) (x : X) (xs : List X) → count_by p (x ∷ xs) ≡ one_if (p x) + count_by p xs
 count-cons {X = X} p x xs = rw (one_if-is (p x)) (sum_by-cons (λ (y : X). cond (p y) 1 0) x xs)
 
+-- one of them is set
 pub count-set : {X : Type 0} (p : X → Bool) (xs : List X) (index : ℕ) (x d : X) → index < length xs → count_by p (set xs index x) + one_if (p (get_or xs index d)) ≡ count_by p xs + one_if (p x)
 count-set {X = X} p xs index x d lt = rw (one_if-is (p x), one_if-is (p (get_or xs index d))) (sum_by-set (λ (y : X). cond (p y) 1 0) xs index x d lt)
 
@@ -39,10 +42,12 @@ count-map p f fewer [] = omega arith
 count-map p f fewer (zone ∷ zones) =
     omega (arith, count-map p f fewer zones, fewer zone, count-cons (λ (z : Zone). p z.state) zone zones, count-cons (λ (z : Zone). p z.state) (f zone) (map f zones))
 
+-- how many zones are active, where one is set
 pub active-set : (zones : List Zone) (index : ℕ) (zone : Zone) → index < length zones
     → active_count (set zones index zone) + one_if (is_active (zone_at zones index).state) ≡ active_count zones + one_if (is_active zone.state)
 active-set zones index zone lt = count-set (λ (z : Zone). is_active z.state) zones index zone nowhere lt
 
+-- and how many are open
 pub open-set : (zones : List Zone) (index : ℕ) (zone : Zone) → index < length zones
     → open_count (set zones index zone) + one_if (is_open (zone_at zones index).state) ≡ open_count zones + one_if (is_open zone.state)
 open-set zones index zone lt = count-set (λ (z : Zone). is_open z.state) zones index zone nowhere lt

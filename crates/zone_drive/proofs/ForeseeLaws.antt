@@ -120,6 +120,7 @@ module _ (geometry : Geometry) (zones : List StoredZone) (completed refused appe
 
 -- ---- the commands
 
+-- how an Append ends that passes its first checks
 pub append-foreseen : (old : MemoryDrive) (zslba blocks : ℕ) (bytes : List ℕ) (refusal : Option Status)
     → None ≡ first_failing (append_first old.state.geometry (zone_at old.state.zones (zslba / old.state.geometry.size)) zslba blocks bytes)
     → length bytes / old.state.geometry.block ≡ blocks → open_count old.state.zones ≤ old.state.geometry.open → CouldWrite old (zslba / old.state.geometry.size) bytes refusal
@@ -129,6 +130,7 @@ append-foreseen old zslba blocks bytes (Some status) passed count most could =
 append-foreseen old zslba blocks bytes None passed count most could =
     foresees-by old could.0 (Ok (Append zslba blocks)) bytes [] _ (append-ended old could.0 zslba blocks bytes None passed count most could.1) could.2
 
+-- how a Write does
 pub write-foreseen : (old : MemoryDrive) (slba blocks : ℕ) (bytes : List ℕ) (refusal : Option Status)
     → None ≡ first_failing (write_first old.state.geometry (zone_at old.state.zones (slba / old.state.geometry.size)) slba blocks bytes)
     → length bytes / old.state.geometry.block ≡ blocks → open_count old.state.zones ≤ old.state.geometry.open → CouldWrite old (slba / old.state.geometry.size) bytes refusal
@@ -138,6 +140,7 @@ write-foreseen old slba blocks bytes (Some status) passed count most could =
 write-foreseen old slba blocks bytes None passed count most could =
     foresees-by old could.0 (Ok (Write slba blocks)) bytes [] _ (write-ended old could.0 slba blocks bytes None passed count most could.1) could.2
 
+-- how an Open does
 pub open-foreseen : (old : MemoryDrive) (slba : ℕ) (bytes : List ℕ) (refusal : Option Status)
     → None ≡ first_failing (send_first old.state.geometry (zone_at old.state.zones (slba / old.state.geometry.size)) slba Open)
     → open_count old.state.zones ≤ old.state.geometry.open → CouldOpen old (slba / old.state.geometry.size) refusal
@@ -149,6 +152,7 @@ open-foreseen old slba bytes None passed most could =
 
 -- ---- commands that change nothing
 
+-- a Read that passes its checks succeeds
 pub read-foreseen : (old : MemoryDrive) (slba blocks : ℕ) (bytes : List ℕ)
     → None ≡ first_failing (read_checks old.state.geometry (zone_at old.state.zones (slba / old.state.geometry.size)) slba blocks) → IsLawful old.state
     → Foresees old (Ok (Read slba blocks)) bytes Success
@@ -156,6 +160,7 @@ read-foreseen old slba blocks bytes passed lawful =
     foresees-by old old (Ok (Read slba blocks)) bytes _ _
     (read-done old slba blocks bytes (bytes_from old.state.geometry.block (zone_at old.state.zones (slba / old.state.geometry.size)).blocks (slba % old.state.geometry.size) blocks) passed refl) lawful
 
+-- and so does a report from a zone that is there
 pub receive-foreseen : (old : MemoryDrive) (slba dwords : ℕ) (options : ReportingOptions) (partial : Bool) (bytes : List ℕ) → slba < end_of old.state.geometry → IsLawful old.state
     → Foresees old (Ok (Receive slba dwords options partial)) bytes Success
 receive-foreseen old slba dwords options partial bytes below lawful =

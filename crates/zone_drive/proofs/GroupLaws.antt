@@ -62,6 +62,7 @@ grouped-counts zones counts index d grouped low =
     let mono = count-mono is_implicit (set zones index empty_stored) (256 * group) (256 * group + 256) (omega arith) in
     omega (arith, grouped.each group (omega (arith, grouped.few)), same, end, mono)
 
+-- one zone is changed, and so is the count of its group
 pub grouped-set : (zones : List StoredZone) (counts : List ℕ) (index : ℕ) (d new : StoredZone) → IsGrouped zones counts → index < length zones
     → IsGrouped (set zones index new) (set counts (index / 256) (get_or counts (index / 256) 0 + one_if (is_implicit new) - one_if (is_implicit (get_or zones index d))))
 grouped-set zones counts index d new grouped low = record {
@@ -138,6 +139,7 @@ finds-none zones none =
     let is : position_or_len is_implicit zones ≡ length zones = position_or_len_is is_implicit zones (length zones) empty_stored (omega arith) none (λ lt. absurd (omega arith)) in
     rw (is, le-ltb (length zones) (length zones) (omega arith)) refl
 
+-- where all groups count none, there is none
 pub lowest-no_group : (zones : List StoredZone) (counts : List ℕ) → IsGrouped zones counts → ((k : ℕ) → k < 256 → get_or counts k 0 ≡ 0) → None ≡ position is_implicit zones
 lowest-no_group zones counts grouped zeros =
     let none = zeros-below zones counts grouped 256 (omega arith) zeros in
@@ -154,6 +156,7 @@ group-within zones counts group grouped lt some =
           absurd (omega (arith, start, end, grouped.each group lt, some))
     ]
 
+-- the lowest zone is in the first group that counts one
 pub lowest-found : (zones : List StoredZone) (counts : List ℕ) (group within : ℕ) → IsGrouped zones counts → group < 256 → ((k : ℕ) → k < group → get_or counts k 0 ≡ 0)
     → Some within ≡ position is_implicit (drop (256 * group) zones) → Some (256 * group + within) ≡ position is_implicit zones
 lowest-found zones counts group within grouped lt zeros e =
@@ -172,6 +175,7 @@ lowest-found zones counts group within grouped lt zeros e =
     position_or_len_is is_implicit zones (start + within) empty_stored (omega arith) before (λ below. rw (get_or-drop start zones within empty_stored) at found.1) in
     rw (is, lt-ltb (start + within) (length zones) low) refl
 
+-- a group that counts one has one
 pub lowest-none : (zones : List StoredZone) (counts : List ℕ) (group : ℕ) → IsGrouped zones counts → group < 256 → ((k : ℕ) → k < group → get_or counts k 0 ≡ 0)
     → None ≡ position is_implicit (drop (256 * group) zones) → None ≡ position is_implicit zones
 lowest-none zones counts group grouped lt zeros e =
@@ -198,6 +202,7 @@ pub record IsFirstGroup (counts : List ℕ) (group : ℕ) : Type 0 where
   pub some : 0 < get_or counts group 0
   pub zeros : (k : ℕ) → k < group → get_or counts k 0 ≡ 0
 
+-- the group that is found is the first that counts one
 pub found-group : (counts : List ℕ) (group : ℕ) → length counts ≡ 256 → Some group ≡ position (λ (count : ℕ). ltb 0 count) counts → IsFirstGroup counts group
 found-group counts group groups e =
     let found = position-Some (λ (count : ℕ). ltb 0 count) counts group 0 (sym e) in
@@ -207,6 +212,7 @@ found-group counts group groups e =
       zeros = λ k lt. not_counted _ (found.2 k lt);
     }
 
+-- where none is found, all count none
 pub no-group : (counts : List ℕ) → length counts ≡ 256 → None ≡ position (λ (count : ℕ). ltb 0 count) counts → (k : ℕ) → k < 256 → get_or counts k 0 ≡ 0
 no-group counts groups e k lt =
     let past : length counts ≤ position_or_len (λ (count : ℕ). ltb 0 count) counts = ltb-false _ _ (none_found (ltb (position_or_len (λ (count : ℕ). ltb 0 count) counts) (length counts)) _ e) in

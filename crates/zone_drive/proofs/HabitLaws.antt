@@ -28,6 +28,7 @@ pub record IsStep (zones : List StoredZone) (low : ℕ) : Type 0 where
   pub rest : map closed_stored (sent_in zones low Close) ≡ map closed_stored zones
   pub fewer : count_by is_implicit (sent_in zones low Close) + 1 ≡ count_by is_implicit zones
 
+-- the lowest zone is closed, and it goes on
 pub closes-step : (zones : List StoredZone) (low : ℕ) → Some low ≡ position is_implicit zones → IsStep zones low
 closes-step zones low e =
     let none : StoredZone = record { state = Offline; bytes = [] } in
@@ -51,6 +52,7 @@ none_left [] none all = refl
 none_left (zone ∷ zones) none all =
     rw (all 0 (omega arith), none_left zones none (λ k lt. all (suc k) (omega arith))) refl
 
+-- where no zone is Implicitly Opened, nothing is closed
 pub closes-none : (zones : List StoredZone) → None ≡ position is_implicit zones → map closed_stored zones ≡ zones
 closes-none zones e =
     let none : StoredZone = record { state = Offline; bytes = [] } in
@@ -64,6 +66,7 @@ closed-stored : (block : ℕ) (zone : StoredZone) (implicit : Bool)
 closed-stored block zone true = refl
 closed-stored block zone false = refl
 
+-- all of them are closed, as the zones are seen
 pub zones_of-closed : (block : ℕ) (zones : List StoredZone) → zones_of block (map closed_stored zones) ≡ close_implicit (zones_of block zones)
 zones_of-closed block [] = refl
 zones_of-closed block (zone ∷ zones) = rw (closed-stored block zone (is_implicit zone), zones_of-closed block zones) refl
@@ -104,6 +107,7 @@ resources-closed zone = fewer zone.state
     fewer ImplicitlyOpened = (omega arith, omega arith)
     fewer state = (omega arith, omega arith)
 
+-- they are zones of the geometry
 pub are-closed : (geometry : Geometry) (zones : List StoredZone) → AreZones geometry zones → AreZones geometry (map closed_stored zones)
 are-closed geometry zones are =
     let b = geometry.block in

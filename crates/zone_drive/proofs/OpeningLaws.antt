@@ -32,6 +32,7 @@ abbrev pub AllOther : List (Bool × Status) → Type 0
 AllOther [] = Unit {0}
 AllOther (check ∷ checks) = (wants_open_resource check.1 ≡ false) × AllOther checks
 
+-- a check of another cause wants no open resource
 pub other : (checks : List (Bool × Status)) (status : Status) → AllOther checks → Some status ≡ first_failing checks → wants_open_resource status ≡ false
 other [] status all e = absurd (cc e)
 other ((true, s) ∷ checks) status all e = let same : status ≡ s = cc in rw same all.0
@@ -42,6 +43,7 @@ other ((false, s) ∷ checks) status all e = other checks status all.1 e
 same_choice : (habit : Habit) (gives : List Zone → Outcome) (zones : List Zone) (given : Outcome) → gives zones ≡ given → wants_open_resource given.status ≡ false → by_choice habit gives zones ≡ given
 same_choice habit gives zones given is none = rw (is, none) is
 
+-- a command that opens a zone, and fails one of its first checks
 pub opening-refused : (habit : Habit) (geometry : Geometry) (first : Zone → List (Bool × Status)) (effect : List Zone → Outcome) (index : ℕ) (zones : List Zone) (status : Status)
     → AllOther (first (zone_at zones index)) → Some status ≡ first_failing (first (zone_at zones index))
     → by_choice habit (opening geometry first effect index) zones ≡ unless_refused (Some status) zones (effect zones)
@@ -54,6 +56,7 @@ no_closing : (wants : Bool) (closed zones : List Zone) → (wants ≡ true → c
 no_closing true closed zones none = none refl
 no_closing false closed zones none = refl
 
+-- one that finds no room for an open zone
 pub opening-no_room : (habit : Habit) (geometry : Geometry) (first : Zone → List (Bool × Status)) (effect : List Zone → Outcome) (index : ℕ) (zones : List Zone) (status : Status)
     → None ≡ first_failing (first (zone_at zones index)) → RoomGives habit geometry zones (zone_at zones index) (Err status)
     → by_choice habit (opening geometry first effect index) zones ≡ unless_refused (Some status) zones (effect zones)
@@ -92,6 +95,7 @@ closing-passes geometry zones zone low most needs lowest =
     let room : leb geometry.open (open_count (close_lowest zones)) ≡ false = lt-leb _ _ (omega (arith, fewer, most)) in
     no_failing _ _ (rw active_same (active_resource _ _ needs)) (and-false _ _ room)
 
+-- one that is done
 pub opening-done : (habit : Habit) (geometry : Geometry) (first : Zone → List (Bool × Status)) (effect : List Zone → Outcome) (index : ℕ) (zones : List Zone) (closing : Option ℕ)
     → ((middle : List Zone) → wants_open_resource (effect middle).status ≡ false) → open_count zones ≤ geometry.open
     → None ≡ first_failing (first (zone_at zones index)) → RoomGives habit geometry zones (zone_at zones index) (Ok closing)

@@ -22,7 +22,8 @@ use Rattle.zone_drive.specs.Writing.{WritesAfter, append_first, write_first}
 use Rattle.zone_drive.proofs.OpeningLaws.{AllOther, by_choice, opening, opening-done, opening-no_room, opening-refused, other}
 use Rattle.zone_drive.proofs.RoomLaws.{apart, zone_at-closing}
 
-pub outcome-Read : (geometry : Geometry) (zones : List Zone) (slba blocks : ℕ) (bytes : List ℕ) (refusal : Option Status)
+-- the outcome of a Read is the first check that fails, or its blocks
+outcome-Read : (geometry : Geometry) (zones : List Zone) (slba blocks : ℕ) (bytes : List ℕ) (refusal : Option Status)
     → refusal ≡ first_failing (read_checks geometry (zone_at zones (slba / geometry.size)) slba blocks)
     → outcome geometry zones (Ok (Read slba blocks)) bytes
     ≡ unless_refused refusal zones (done (bytes_from geometry.block (zone_at zones (slba / geometry.size)).blocks (slba % geometry.size) blocks) zones)
@@ -62,6 +63,7 @@ pub gives-same : (old : MemoryDrive) (command : Result Command DecodeFault) (byt
     → performed old.habit old.state.geometry old.state.zones command bytes ≡ record { status = status; value = 0; returned = []; zones = old.state.zones } → Gives old command bytes (record { status = status; value = 0 }) [] old
 gives-same old command bytes status is = record { outcome = is; others = refl }
 
+-- an Append that fails one of its first checks
 pub append-refused : (old : MemoryDrive) (zslba blocks : ℕ) (bytes : List ℕ) (status : Status)
     → Some status ≡ first_failing (append_first old.state.geometry (zone_at old.state.zones (zslba / old.state.geometry.size)) zslba blocks bytes)
     → Gives old (Ok (Append zslba blocks)) bytes (record { status = status; value = 0 }) [] old
@@ -82,6 +84,7 @@ abbrev pub ended : Option Status → ℕ → Reply
 ended (Some status) value = record { status = status; value = 0 }
 ended None value = record { status = Success; value = value }
 
+-- one that passes them
 pub append-ended : (old new : MemoryDrive) (zslba blocks : ℕ) (bytes : List ℕ) (refusal : Option Status)
     → None ≡ first_failing (append_first old.state.geometry (zone_at old.state.zones (zslba / old.state.geometry.size)) zslba blocks bytes)
     → length bytes / old.state.geometry.block ≡ blocks → open_count old.state.zones ≤ old.state.geometry.open → WritesAfter old (zslba / old.state.geometry.size) bytes refusal new
@@ -102,6 +105,7 @@ append-ended old new zslba blocks bytes None passed count most (closing, needs, 
       others = refl;
     })
 
+-- a Write that fails one of its first checks
 pub write-refused : (old : MemoryDrive) (slba blocks : ℕ) (bytes : List ℕ) (status : Status)
     → Some status ≡ first_failing (write_first old.state.geometry (zone_at old.state.zones (slba / old.state.geometry.size)) slba blocks bytes)
     → Gives old (Ok (Write slba blocks)) bytes (record { status = status; value = 0 }) [] old
@@ -112,6 +116,7 @@ write-refused old slba blocks bytes status e =
     (performed-Write old.habit old.state.geometry old.state.zones slba blocks bytes
     ∙ opening-refused old.habit old.state.geometry first (write_done old.state.geometry slba blocks bytes) index old.state.zones status (AllOther-write old.state.geometry (zone_at old.state.zones index) slba blocks bytes) e)
 
+-- one that passes them
 pub write-ended : (old new : MemoryDrive) (slba blocks : ℕ) (bytes : List ℕ) (refusal : Option Status)
     → None ≡ first_failing (write_first old.state.geometry (zone_at old.state.zones (slba / old.state.geometry.size)) slba blocks bytes)
     → length bytes / old.state.geometry.block ≡ blocks → open_count old.state.zones ≤ old.state.geometry.open → WritesAfter old (slba / old.state.geometry.size) bytes refusal new
@@ -134,6 +139,7 @@ write-ended old new slba blocks bytes None passed count most (closing, needs, ch
 
 -- ---- an action on one zone
 
+-- a command that wants no open resource has the same outcome whatever the habit
 pub performed-plain : (habit : Habit) (geometry : Geometry) (zones : List Zone) (command : Result Command DecodeFault) (bytes : List ℕ) (given : Outcome)
     → outcome geometry zones command bytes ≡ given → wants_open_resource given.status ≡ false → performed habit geometry zones command bytes ≡ given
 performed-plain habit geometry zones command bytes given is none = rw (is, none) is
@@ -167,6 +173,7 @@ refused-other old slba action bytes status apart e =
     gives-same old (Ok (Send slba action false)) bytes status
     (performed-plain old.habit old.state.geometry old.state.zones (Ok (Send slba action false)) bytes _ is (other checks status (send-other old.state.geometry (zone_at old.state.zones (slba / old.state.geometry.size)) slba action) e))
 
+-- an action that fails one of its first checks
 pub send-refused : (old : MemoryDrive) (slba : ℕ) (action : Action) (bytes : List ℕ) (status : Status)
     → Some status ≡ first_failing (send_first old.state.geometry (zone_at old.state.zones (slba / old.state.geometry.size)) slba action)
     → Gives old (Ok (Send slba action false)) bytes (record { status = status; value = 0 }) [] old
@@ -180,6 +187,7 @@ send-refused old slba Finish bytes status e = refused-other old slba Finish byte
 send-refused old slba Reset bytes status e = refused-other old slba Reset bytes status (λ (same : Reset ≡ Open). cc same) e
 send-refused old slba Offline bytes status e = refused-other old slba Offline bytes status (λ (same : Offline ≡ Open). cc same) e
 
+-- an Open that passes them
 pub open-ended : (old new : MemoryDrive) (slba : ℕ) (bytes : List ℕ) (refusal : Option Status)
     → None ≡ first_failing (send_first old.state.geometry (zone_at old.state.zones (slba / old.state.geometry.size)) slba Open)
     → open_count old.state.zones ≤ old.state.geometry.open → Opens old (slba / old.state.geometry.size) refusal new
@@ -197,6 +205,7 @@ open-ended old new slba bytes None passed most (closing, needs, changed) =
       others = refl;
     })
 
+-- another action that passes them
 pub send-done : (old new : MemoryDrive) (slba : ℕ) (action : Action) (bytes : List ℕ) → action ≢ Open
     → None ≡ first_failing (send_first old.state.geometry (zone_at old.state.zones (slba / old.state.geometry.size)) slba action)
     → new ≡ with_zones old (sent_to old.state.zones (slba / old.state.geometry.size) action)
@@ -210,6 +219,7 @@ send-done old new slba action bytes apart passed changed =
 read-other : (geometry : Geometry) (zone : Zone) (slba blocks : ℕ) → AllOther (read_checks geometry zone slba blocks)
 read-other geometry zone slba blocks = (refl, (refl, (refl, (refl, tt))))
 
+-- a Read that is refused
 pub read-refused : (old : MemoryDrive) (slba blocks : ℕ) (bytes : List ℕ) (status : Status)
     → Some status ≡ first_failing (read_checks old.state.geometry (zone_at old.state.zones (slba / old.state.geometry.size)) slba blocks)
     → Gives old (Ok (Read slba blocks)) bytes (record { status = status; value = 0 }) [] old
@@ -246,12 +256,15 @@ all-performed : (habit : Habit) (geometry : Geometry) (zones : List Zone) (slba 
 unfolding outcome
 all-performed habit geometry zones slba action bytes = refl
 
+-- an entry that is no command
 pub gives-fault : (old : MemoryDrive) (fault : DecodeFault) (bytes : List ℕ) → Gives old (Err fault) bytes (record { status = decode_status fault; value = 0 }) [] old
 gives-fault old fault bytes = record { outcome = fault-performed old.habit old.state.geometry old.state.zones fault bytes; others = refl }
 
+-- a Flush
 pub gives-flush : (old : MemoryDrive) (bytes : List ℕ) → Gives old (Ok Flush) bytes (record { status = Success; value = 0 }) [] old
 gives-flush old bytes = record { outcome = flush-performed old.habit old.state.geometry old.state.zones bytes; others = refl }
 
+-- an action on all zones
 pub gives-all : (old new : MemoryDrive) (slba : ℕ) (action : Action) (bytes : List ℕ) → new ≡ with_zones old (map (sent_zone action) old.state.zones)
     → Gives old (Ok (Send slba action true)) bytes (record { status = Success; value = 0 }) [] new
 gives-all old new slba action bytes changed = rw changed (record { outcome = all-performed old.habit old.state.geometry old.state.zones slba action bytes; others = refl })

@@ -47,7 +47,8 @@ block_in-cut size (suc n) (suc offset) from bytes whole e =
     let more : size + offset * size ≡ from = omega arith in
     block_in-cut size n offset (offset * size) (drop size bytes) rest refl ∙ ap (padded size) (drop-drop (offset * size) size bytes ∙ ap (λ (k : ℕ). drop k bytes) more)
 
-pub bytes_from-cut : (size n offset count from long : ℕ) (bytes : List ℕ) → length bytes ≡ n * size → from ≡ offset * size → long ≡ count * size
+-- bytes that are read from blocks are those from a place on, and zeros after them
+bytes_from-cut : (size n offset count from long : ℕ) (bytes : List ℕ) → length bytes ≡ n * size → from ≡ offset * size → long ≡ count * size
     → bytes_from size (cut_blocks size n bytes) offset count ≡ padded long (drop from bytes)
 bytes_from-cut size n offset zero from long bytes whole e f = let none : long ≡ 0 = omega arith in rw none refl
 bytes_from-cut size n offset (suc count) from long bytes whole e f =

@@ -39,6 +39,7 @@ outcome-Receive : (geometry : Geometry) (zones : List Zone) (slba dwords : ℕ) 
 unfolding outcome
 outcome-Receive geometry zones slba dwords options partial bytes refusal e = rw e refl
 
+-- a report from past the end is refused
 pub receive-refused : (old : MemoryDrive) (slba dwords : ℕ) (options : ReportingOptions) (partial : Bool) (bytes : List ℕ) → end_of old.state.geometry ≤ slba
     → Gives old (Ok (Receive slba dwords options partial)) bytes (record { status = LbaOutOfRange; value = 0 }) [] old
 receive-refused old slba dwords options partial bytes past =
@@ -46,6 +47,7 @@ receive-refused old slba dwords options partial bytes past =
     gives-same old (Ok (Receive slba dwords options partial)) bytes LbaOutOfRange
     (performed-plain old.habit old.state.geometry old.state.zones (Ok (Receive slba dwords options partial)) bytes _ (outcome-Receive old.state.geometry old.state.zones slba dwords options partial bytes (Some LbaOutOfRange) e) refl)
 
+-- and else it is given
 pub receive-reported : (old : MemoryDrive) (slba dwords : ℕ) (options : ReportingOptions) (partial : Bool) (bytes returned : List ℕ) → slba < end_of old.state.geometry
     → returned ≡ report old.state.geometry old.state.zones slba options partial dwords
     → Gives old (Ok (Receive slba dwords options partial)) bytes (record { status = Success; value = 0 }) returned old

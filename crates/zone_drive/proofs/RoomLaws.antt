@@ -20,6 +20,7 @@ use Rattle.zone_drive.specs.Groups.{is_implicit}
 use Rattle.zone_drive.specs.Habits.{closed_zone}
 use Rattle.zone_drive.specs.Stored.{zones_of}
 
+-- what is found to be Implicitly Opened is so
 pub is_state-implicit : (state : ZoneState) → is_state ImplicitlyOpened state ≡ true → state ≡ ImplicitlyOpened
 is_state-implicit ImplicitlyOpened e = refl
 is_state-implicit Empty e = absurd (cc e)
@@ -50,7 +51,8 @@ pub none_found : (b : Bool) (n : ℕ) → None ≡ cond b (Some n) None → b �
 none_found true n e = absurd (cc e)
 none_found false n e = refl
 
-pub lowest-Some : (block : ℕ) (zones : List StoredZone) (low : ℕ) → Some low ≡ position is_implicit zones → IsLowestOpened (zones_of block zones) low
+-- the first that is found is the lowest
+lowest-Some : (block : ℕ) (zones : List StoredZone) (low : ℕ) → Some low ≡ position is_implicit zones → IsLowestOpened (zones_of block zones) low
 lowest-Some block zones low e =
     let found = position-Some is_implicit zones low (record { state = Offline; bytes = [] }) (sym e) in
     let here : zone_at (zones_of block zones) low ≡ zone_stored block (get_or zones low (record { state = Offline; bytes = [] })) = get_or-map (zone_stored block) zones low _ nowhere found.0 in
@@ -62,7 +64,7 @@ lowest-Some block zones low e =
     }
 
 -- where it finds none, there is none to close
-pub lowest-None : (block : ℕ) (zones : List StoredZone) → None ≡ position is_implicit zones → close_lowest (zones_of block zones) ≡ zones_of block zones
+lowest-None : (block : ℕ) (zones : List StoredZone) → None ≡ position is_implicit zones → close_lowest (zones_of block zones) ≡ zones_of block zones
 lowest-None block zones e =
     let past : length zones ≤ position_or_len is_implicit zones = ltb-false _ _ (none_found (ltb (position_or_len is_implicit zones) (length zones)) _ e) in
     closes-at block zones ∙ set_past (zones_of block zones) (position_or_len is_implicit zones) _ (omega (arith, past, length-map zones (zone_stored block)))
@@ -72,6 +74,7 @@ pub lowest-gives : (block : ℕ) (zones : List StoredZone) (found : Option ℕ) 
 lowest-gives block zones (Some low) e = lowest-Some block zones low e
 lowest-gives block zones None e = tt
 
+-- where none is found, there is none to close
 pub lowest-lacks : (block : ℕ) (zones : List StoredZone) (found : Option ℕ) → found ≡ position is_implicit zones → IfNone found (close_lowest (zones_of block zones) ≡ zones_of block zones)
 lowest-lacks block zones (Some low) e = tt
 lowest-lacks block zones None e = lowest-None block zones e
@@ -84,6 +87,7 @@ apart geometry zones index low wants lowest = λ same.
     let opened : (zone_at zones index).state ≡ ImplicitlyOpened = rw same lowest.opened in
     cc (rw opened at wants)
 
+-- a Close of such a zone leaves it Closed
 pub closes-one : (zone : Zone) → zone.state ≡ ImplicitlyOpened → zone_after Close zone (state_after zone.state Close) ≡ closed_zone zone
 closes-one zone e = rw e refl
 

@@ -42,12 +42,14 @@ all-after P actions.Open zone (Ok state) all = all
 all-after P actions.Offline zone (Ok state) all = all
 all-after P action zone (Err status) all = all
 
+-- an action leaves a lawful zone
 pub lawful-after : (geometry : Geometry) (zone : Zone) (action : Action) → IsInRange geometry → IsLawfulZone geometry zone → IsLawfulZone geometry (zone_after action zone (state_after zone.state action))
 lawful-after geometry zone action in_range lawful = record {
   written = may_hold-after zone.state action zone.blocks geometry.capacity in_range.capacity.0 lawful.written;
   whole = all-after _ action zone (state_after zone.state action) lawful.whole;
 }
 
+-- whose blocks are whole
 pub whole-after : (block : ℕ) (action : Action) (zone : StoredZone) (next : Result ZoneState Status) → AreWholeBlocks block zone.bytes → AreWholeBlocks block (stored_after action zone next).bytes
 whole-after block actions.Reset zone (Ok state) whole = rw (zero-div block) (omega arith)
 whole-after block actions.Close zone (Ok state) whole = whole
@@ -56,6 +58,7 @@ whole-after block actions.Open zone (Ok state) whole = whole
 whole-after block actions.Offline zone (Ok state) whole = whole
 whole-after block action zone (Err status) whole = whole
 
+-- as it is stored, and as it is seen
 pub zone_of-after : (block : ℕ) (action : Action) (zone : StoredZone) (next : Result ZoneState Status) → zone_stored block (stored_after action zone next) ≡ zone_after action (zone_stored block zone) next
 zone_of-after block actions.Reset zone (Ok state) = rw (zero-div block) refl
 zone_of-after block actions.Close zone (Ok state) = refl
@@ -66,12 +69,14 @@ zone_of-after block action zone (Err status) = refl
 
 -- ---- one zone
 
+-- an action on one zone, as all are seen
 pub zones_of-sent_in : (block : ℕ) (zones : List StoredZone) (index : ℕ) (action : Action) → index < length zones → zones_of block (sent_in zones index action) ≡ sent_to (zones_of block zones) index action
 zones_of-sent_in block zones index action lt =
     let zone = stored_at zones index in
     map-set (zone_stored block) zones index (stored_after action zone (state_after zone.state action)) ∙ rw (zone_of-after block action zone (state_after zone.state action), zone_at-is block zones index lt) refl
 
-pub are-sent_in : (geometry : Geometry) (zones : List StoredZone) (index : ℕ) (action : Action) → IsInRange geometry → AreZones geometry zones → index < length zones
+-- they are zones of the geometry, where the resources suffice
+are-sent_in : (geometry : Geometry) (zones : List StoredZone) (index : ℕ) (action : Action) → IsInRange geometry → AreZones geometry zones → index < length zones
     → Takes geometry (zones_of geometry.block zones) (stored_at zones index).state (stored_after action (stored_at zones index) (state_after (stored_at zones index).state action)).state
     → AreZones geometry (sent_in zones index action)
 are-sent_in geometry zones index action in_range are lt takes =
@@ -100,6 +105,7 @@ takes-sent geometry zones action zone other active_most open_most =
     fewer actions.Offline Empty other = (omega arith, omega arith)
     fewer action state other = (omega arith, omega arith)
 
+-- as they do for all actions but an Open
 pub are-sent : (geometry : Geometry) (zones : List StoredZone) (index : ℕ) (action : Action) → action ≢ actions.Open → IsInRange geometry → AreZones geometry zones → index < length zones
     → AreZones geometry (sent_in zones index action)
 are-sent geometry zones index action other in_range are lt =
@@ -122,6 +128,7 @@ sent-stored : (block : ℕ) (action : Action) (zone : StoredZone) (selected : Bo
 sent-stored block action zone true = zone_of-after block action zone (state_after zone.state action)
 sent-stored block action zone false = refl
 
+-- an action on all zones, as they are seen
 pub zones_of-sent : (block : ℕ) (action : Action) (zones : List StoredZone) → zones_of block (map (sent_stored action) zones) ≡ map (sent_zone action) (zones_of block zones)
 zones_of-sent block action [] = refl
 zones_of-sent block action (zone ∷ zones) = rw (sent-stored block action zone (is_selected action zone.state), zones_of-sent block action zones) refl
@@ -157,6 +164,7 @@ resources-sent action zone = fewer action zone.state
     fewer actions.Offline Empty = (omega arith, omega arith)
     fewer action state = (omega arith, omega arith)
 
+-- they are zones of the geometry
 pub are-all : (geometry : Geometry) (zones : List StoredZone) (action : Action) → IsInRange geometry → AreZones geometry zones → AreZones geometry (map (sent_stored action) zones)
 are-all geometry zones action in_range are =
     let b = geometry.block in

@@ -15,15 +15,19 @@ use Rattle.zone_drive.proofs.CountLaws.{count-cons, state_count}
 
 -- ---- a fresh drive
 
+-- an empty zone, as it is stored
 abbrev pub empty_stored : StoredZone
 empty_stored = record { state = Empty; bytes = [] }
 
+-- and as it is seen
 abbrev pub empty_zone : Zone
 empty_zone = record { state = Empty; blocks = [] }
 
-pub zone_of-empty : (block : ℕ) → zone_stored block empty_stored ≡ empty_zone
+-- they are the same zone
+zone_of-empty : (block : ℕ) → zone_stored block empty_stored ≡ empty_zone
 zone_of-empty block = rw (zero-div block) refl
 
+-- and so are many of them
 pub zones_of-empty : (block n : ℕ) → zones_of block (replicate n empty_stored) ≡ replicate n empty_zone
 zones_of-empty block zero = refl
 zones_of-empty block (suc n) = rw (zone_of-empty block, zones_of-empty block n) refl
@@ -40,6 +44,7 @@ none_counted : (p : ZoneState → Bool) (n : ℕ) → p Empty ≡ false → stat
 none_counted p zero none = refl
 none_counted p (suc n) none = count-cons (λ (z : Zone). p z.state) empty_zone (replicate n empty_zone) ∙ rw none (omega (arith, none_counted p n none))
 
+-- they are zones of the geometry
 pub are-fresh : (geometry : Geometry) → IsInRange geometry → AreZones geometry (replicate geometry.zones empty_stored)
 are-fresh geometry in_range = record {
   count = length-replicate geometry.zones empty_stored;

@@ -38,6 +38,7 @@ closes-lowest (zone ∷ zones) = either (is_state ImplicitlyOpened zone.state) r
     either true e rest = (closes-one zone e, IsClosing-refl zones)
     either false e rest = (record { blocks = refl; state = inl refl }, rest)
 
+-- what the drive closes by itself is a closing
 pub closes-chosen : (wants : Bool) (zones : List Zone) → IsClosing zones (cond wants (close_lowest zones) zones)
 closes-chosen true zones = closes-lowest zones
 closes-chosen false zones = IsClosing-refl zones
@@ -57,6 +58,7 @@ closes-settled habits.Strict zones = IsClosing-refl zones
 
 -- ---- the step
 
+-- a submit is a step of the drive, and its completion
 pub completes : (old middle closing new : MemoryDrive) (entry bytes returned completion : List ℕ) (reply : Reply) → Gives old (decode_of entry) bytes reply returned middle
     → closing ≡ with_zones middle (settled middle.habit middle.state.zones) → new ≡ record closing { state = counted closing.state (decode_of entry) reply.status } → completion ≡ completion_bytes (record { result = reply.value; id = id_of entry; status = reply.status })
     → reply.value < 2 ^ 64 → Completes old.state entry bytes completion returned new.state

@@ -26,6 +26,7 @@ counted-follow zones old new index was now counted lt read active open_zones imp
       grouped = rw implicit (rw here at (grouped-set before old.implicit index now now counted.grouped low));
     })
 
+-- the counts of Implicitly Opened zones count the one that is changed
 pub implicit-follow : (zones : List StoredZone) (old : Resources) (index : ℕ) (was : StoredZone) → IsCounted (set zones index was) old → index < length zones
     → one_if (is_implicit was) ≤ get_or old.implicit (index / 256) 0
 implicit-follow zones old index was counted lt =

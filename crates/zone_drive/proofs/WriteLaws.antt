@@ -31,10 +31,12 @@ zone_at-stored block zones index d lt = get_or-map (zone_stored block) zones ind
 pub zone_at-is : (block : ℕ) (zones : List StoredZone) (index : ℕ) → index < length zones → zone_at (zones_of block zones) index ≡ zone_stored block (stored_at zones index)
 zone_at-is block zones index lt = zone_at-stored block zones index (record { state = Offline; bytes = [] }) lt
 
+-- each zone is lawful
 pub lawful-at : (geometry : Geometry) (zones : List StoredZone) (index : ℕ) → AreZones geometry zones → index < length zones → IsLawfulZone geometry (zone_at (zones_of geometry.block zones) index)
 lawful-at geometry zones index are lt =
     all-at (IsLawfulZone geometry) (zones_of geometry.block zones) index nowhere are.lawful (omega (arith, lt, length-map zones (zone_stored geometry.block)))
 
+-- and holds whole blocks
 pub whole-at : (geometry : Geometry) (zones : List StoredZone) (index : ℕ) → AreZones geometry zones → index < length zones → AreWholeBlocks geometry.block (stored_at zones index).bytes
 whole-at geometry zones index are lt = all-at (λ (zone : StoredZone). AreWholeBlocks geometry.block zone.bytes) zones index (record { state = Offline; bytes = [] }) are.whole lt
 
@@ -43,6 +45,7 @@ pub record Takes (geometry : Geometry) (zones : List Zone) (old new : ZoneState)
   pub active : active_count zones + one_if (is_active new) ≤ geometry.active + one_if (is_active old)
   pub open_zones : open_count zones + one_if (is_open new) ≤ geometry.open + one_if (is_open old)
 
+-- one zone is changed, and all are zones of the geometry again
 pub are-set : (geometry : Geometry) (zones : List StoredZone) (index : ℕ) (new : StoredZone) → AreZones geometry zones → index < length zones
     → AreWholeBlocks geometry.block new.bytes → IsLawfulZone geometry (zone_stored geometry.block new)
     → Takes geometry (zones_of geometry.block zones) (stored_at zones index).state new.state → AreZones geometry (set zones index new)
@@ -66,6 +69,7 @@ abbrev pub AllPass : {F : Type 0} → List (Bool × F) → Type 0
 AllPass [] = Unit {0}
 AllPass (check ∷ checks) = (check.0 ≡ false) × AllPass checks
 
+-- where no check fails, all pass
 pub all-passed : {F : Type 0} (checks : List (Bool × F)) → None ≡ first_failing checks → AllPass checks
 all-passed [] e = tt
 all-passed ((true, f) ∷ checks) e = absurd (cc e)
@@ -73,6 +77,7 @@ all-passed ((false, f) ∷ checks) e = (refl, all-passed checks e)
 
 -- ---- lawful zones
 
+-- bytes are cut to whole blocks
 pub cut-whole : (size n : ℕ) (bytes : List ℕ) → length bytes ≡ n * size → AllByRecursion (λ (block : List ℕ). length block ≡ size) (cut_blocks size n bytes)
 cut-whole size zero bytes e = tt
 cut-whole size (suc n) bytes e =
@@ -89,6 +94,7 @@ may_hold-written false ReadOnly capacity n le ne = le
 may_hold-written false Full capacity n le ne = le
 may_hold-written false Offline capacity n le ne = le
 
+-- a zone with such blocks more is lawful
 pub lawful-written : (geometry : Geometry) (zone : Zone) (bytes : List ℕ) → IsLawfulZone geometry zone → AreWholeBlocks geometry.block bytes
     → None ≡ first_failing (append_bytes_checks geometry zone bytes)
     → IsLawfulZone geometry (written_zone geometry.capacity zone (cut_blocks geometry.block (length bytes / geometry.block) bytes))
@@ -108,5 +114,3 @@ pub whole-checked : (geometry : Geometry) (zone : Zone) (bytes : List ℕ) → N
 whole-checked geometry zone bytes checks =
     let passed = all-passed (append_bytes_checks geometry zone bytes) checks in
     eqb-true _ _ (not-false _ passed.1.0)
-
--- ---- how much is written

@@ -74,9 +74,11 @@ zones-false geometry (zone ∷ zones) some e whole lawful = either (is_lawful ge
 pub block-some : (geometry : Geometry) → IsInRange geometry → 1 ≤ geometry.block
 block-some geometry in_range = elim in_range.block [ inl small ↦ omega arith | inr large ↦ omega arith ]
 
+-- what fails the test are no zones of the geometry
 pub not-zones : (geometry : Geometry) (zones : List StoredZone) → IsInRange geometry → list_all (is_lawful geometry) zones ≡ false → ¬ AreZones geometry zones
 not-zones geometry zones in_range e are = zones-false geometry zones (block-some geometry in_range) e are.whole are.lawful
 
+-- what passes it, and the limits, are
 pub are-zones : (geometry : Geometry) (zones : List StoredZone) (active open_zones : ℕ) → IsInRange geometry → length zones ≡ geometry.zones → list_all (is_lawful geometry) zones ≡ true
     → active ≡ count_by (λ (zone : StoredZone). is_active zone.state) zones → open_zones ≡ count_by (λ (zone : StoredZone). is_open zone.state) zones
     → active ≤ geometry.active → open_zones ≤ geometry.open → AreZones geometry zones

@@ -40,3 +40,4 @@ mod zones;
 
 pub use drive::{Drive, DriveFault};
 pub use habit::Habit;
+pub use zones::apply_to_each;

@@ -161,8 +161,9 @@ fn apply_if_selected(zone: &mut Zone, action: Action)
     }
 }
 
-// Does an action on all zones that it selects.
-fn apply_to_each(zones: &mut [Zone], action: Action)
+/// Does an action of a Zone Management Send to each of these zones that an action on all zones selects (Zoned Namespace
+/// Command Set 1.1, section 3.4.3). The others stay.
+pub fn apply_to_each(zones: &mut [Zone], action: Action)
     ensures { zones.new ≡ map (sent_stored action) zones.old }
 {
     for zone in zones.iter_mut() {

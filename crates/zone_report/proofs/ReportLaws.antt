@@ -24,6 +24,7 @@ written_over old size resized head written len long short head_length resized_is
     let behind : drop 64 resized ≡ drop 64 old ++ replicate (size - length old) 0 = rw grown (drop-append-le 64 old (replicate (size - length old) 0) long) in
     rw none (whole ∙ written_is ∙ rw behind (sym (append_assoc head (drop 64 old) (replicate (size - length old) 0))))
 
+-- a descriptor has 64 bytes
 pub length-descriptors : (ds : List Descriptor) → length (flat_map descriptor_bytes ds) ≡ 64 * length ds
 length-descriptors [] = refl
 length-descriptors (d ∷ ds) = length-append (descriptor_bytes d) (flat_map descriptor_bytes ds) ∙ omega (arith, length-descriptors ds)

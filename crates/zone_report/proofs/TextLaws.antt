@@ -18,7 +18,7 @@ pub record Left (bytes : List ℕ) (d : Descriptor) (descriptors : List Descript
   pub lists : IsListing (drop 64 bytes) others
 
 -- a listing with a descriptor before it
-pub IsListing-more :
+IsListing-more :
     (bytes : List ℕ) (d : Descriptor) (ds : List Descriptor) →
     IsDescriptor d → take 64 bytes ≡ descriptor_bytes d → IsListing (drop 64 bytes) ds → IsListing bytes (d ∷ ds)
 IsListing-more bytes d ds fits front lists = record {
@@ -33,7 +33,7 @@ zeros-otherwise zero d e = let one = ap (λ bytes. get_or bytes 0 0) e in omega 
 zeros-otherwise (suc n) d e = let one = ap (λ bytes. get_or bytes 0 0) e in omega (arith, one)
 
 -- the first descriptor of a listing is the one that stands at its front
-pub IsListing-left :
+IsListing-left :
     (bytes : List ℕ) (d : Descriptor) (ds : List Descriptor) →
     take 64 bytes ≡ descriptor_bytes d → ((e : Descriptor) → IsDescriptor e → take 64 bytes ≡ descriptor_bytes e → d ≡ e) →
     IsListing bytes ds → Left bytes d ds
@@ -47,7 +47,7 @@ IsListing-left bytes d (e ∷ ds) front only lists =
     }
 
 -- where no descriptor stands at the front, a listing is zeros alone
-pub IsListing-ends :
+IsListing-ends :
     (bytes : List ℕ) (ds : List Descriptor) → BeginsOtherwise bytes → IsListing bytes ds → (ds ≡ []) × (bytes ≡ replicate (length bytes) 0)
 IsListing-ends bytes [] other lists = (refl, lists.encoded ∙ ap (λ n. replicate n 0) (sym (ap length lists.encoded ∙ length-replicate {A = ℕ} lists.rest 0)))
 IsListing-ends bytes (e ∷ ds) other lists = elim (other e lists.each.0 (ap (take 64) lists.encoded)) [ ]
@@ -59,7 +59,7 @@ short-otherwise bytes short d fits front =
     omega (arith, len, length-take 64 bytes)
 
 -- zeros alone
-pub IsListing-zeros : (bytes : List ℕ) → bytes ≡ replicate (length bytes) 0 → IsListing bytes []
+IsListing-zeros : (bytes : List ℕ) → bytes ≡ replicate (length bytes) 0 → IsListing bytes []
 IsListing-zeros bytes zeros = record { each = tt; rest = length bytes; encoded = zeros }
 
 -- ---- the lines written so far
@@ -69,12 +69,7 @@ pub record Reads (bytes before rest text : List ℕ) : Type 0 where
   pub back : (ds : List Descriptor) → IsListing rest ds → ListsText bytes before (text ++ flat_map descriptor_line ds)
   pub forth : (ds : List Descriptor) → IsListing bytes ds → ListsText rest text (before ++ flat_map descriptor_line ds)
 
-pub Reads-start : (bytes text : List ℕ) → Reads bytes text bytes text
-Reads-start bytes text = record {
-  back = λ ds lists. record { descriptors = ds; lists = lists; lines = refl };
-  forth = λ ds lists. record { descriptors = ds; lists = lists; lines = refl };
-}
-
+-- one descriptor more is read
 pub Reads-more :
     (bytes before rest text : List ℕ) (d : Descriptor) →
     IsDescriptor d → take 64 rest ≡ descriptor_bytes d → ((e : Descriptor) → IsDescriptor e → take 64 rest ≡ descriptor_bytes e → d ≡ e) →
@@ -97,6 +92,7 @@ Reads-whole bytes before rest text reads zeros =
     let whole = reads.back [] (IsListing-zeros rest zeros) in
     record { descriptors = whole.descriptors; lists = whole.lists; lines = sym (append-nil text) ∙ whole.lines }
 
+-- once nothing is left, the text has the lines of the report
 pub Reads-lines :
     (bytes before rest text : List ℕ) → Reads bytes before rest text → BeginsOtherwise rest → (ds : List Descriptor) → IsListing bytes ds →
     (rest ≡ replicate (length rest) 0) × (text ≡ before ++ flat_map descriptor_line ds)

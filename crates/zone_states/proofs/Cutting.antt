@@ -42,7 +42,7 @@ cut-append size (suc n) m (suc k) xs ys e len =
     rw (front, back, cut-append size n m k (drop size xs) ys (omega arith) left) refl
 
 -- two whole lengths together hold as many blocks as both hold
-pub blocks_together : (size a b : ℕ) → a ≡ a / size * size → b ≡ b / size * size → (a + b) / size ≡ a / size + b / size
+blocks_together : (size a b : ℕ) → a ≡ a / size * size → b ≡ b / size * size → (a + b) / size ≡ a / size + b / size
 blocks_together zero a b whole_a whole_b = omega (arith, div-zero a, div-zero b, div-zero (a + b))
 blocks_together (suc size) a b whole_a whole_b =
     let n = a / suc size in

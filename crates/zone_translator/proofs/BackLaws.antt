@@ -5,7 +5,8 @@ use Rattle.zone_translator.specs.declared.status.DiskStatus.{DiskStatus}
 use Rattle.zone_translator.specs.declared.status.DiskStatus.TheVariants.{Serving, Stopped, Unmounted}
 use Rattle.zone_translator.specs.Flat.{Answer, FlatCall, FlatDisk, blocks_from, read, replaced, with_nothing, write}
 
-pub blocks-replaced : {X : Type 0} (xs : List X) (first : ℕ) (ys : List X) → first + length ys ≤ length xs → take (length ys) (drop first (replaced xs first ys)) ≡ ys
+-- blocks that were replaced are there
+blocks-replaced : {X : Type 0} (xs : List X) (first : ℕ) (ys : List X) → first + length ys ≤ length xs → take (length ys) (drop first (replaced xs first ys)) ≡ ys
 blocks-replaced [] zero [] le = refl
 blocks-replaced [] zero (y ∷ ys) le = absurd (omega arith)
 blocks-replaced [] (suc first) ys le = absurd (omega arith)
@@ -13,6 +14,7 @@ blocks-replaced (x ∷ xs) (suc first) ys le = blocks-replaced xs first ys (omeg
 blocks-replaced (x ∷ xs) zero [] le = refl
 blocks-replaced {X} (x ∷ xs) zero (y ∷ ys) le = ap (λ (zs : List X). y ∷ zs) (blocks-replaced xs zero ys (omega arith))
 
+-- and the others are the same
 pub other-replaced : (array blocks : List (List ℕ)) (first block : ℕ) → (block < first) ⊎ (first + length blocks ≤ block) → get_or (replaced array first blocks) block [] ≡ get_or array block []
 other-replaced [] blocks first block outside = refl
 other-replaced (x ∷ xs) blocks (suc first) zero outside = refl
@@ -56,6 +58,7 @@ is-shown old new first n shown Unmounted some past is call =
     let known = rw (some, past, is) at call in
     let answers = ap (λ (a : Answer). a.result) known.0 in absurd (cc)
 
+-- so blocks that are written read back
 pub written-reads-back : (old middle new : FlatDisk) (first : ℕ) (blocks shown : List (List ℕ)) → (old.status ≡ Serving → length old.array ≡ old.size) → FlatCall old (write first blocks) (with_nothing (Ok tt)) middle
     → FlatCall middle (read first (length blocks)) (record { result = Ok tt; shown = shown }) new → shown ≡ blocks
 written-reads-back old middle new first [] shown whole wrote reads = ap (λ (a : Answer). a.shown) reads.0

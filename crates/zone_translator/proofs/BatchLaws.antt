@@ -21,18 +21,22 @@ use Rattle.zone_translator.specs.Changes.{Names}
 use Rattle.zone_translator.specs.Flat.{replaced}
 use Rattle.zone_translator.proofs.FlatLaws.{replaced-none, set-replaced}
 
+-- as many entries as blocks
 pub length-entries : (trim : Bool) (first count : ℕ) → length (entries_from trim first count) ≡ count
 length-entries trim first zero = refl
 length-entries trim first (suc count) = ap suc (length-entries trim (first + 1) count)
 
+-- each with data
 pub data_count-entries : (first count : ℕ) → data_count (entries_from false first count) ≡ count
 data_count-entries first zero = refl
 data_count-entries first (suc count) = omega (arith, data_count-entries (first + 1) count)
 
+-- or none
 pub data_count-trims : (first count : ℕ) → data_count (entries_from true first count) ≡ 0
 data_count-trims first zero = refl
 data_count-trims first (suc count) = omega (arith, data_count-trims (first + 1) count)
 
+-- the blocks that they name are below a bound
 pub entries-below : (trim : Bool) (first count limit : ℕ) → first + count ≤ limit → AllByRecursion (λ (e : Entry). e.block < limit) (entries_from trim first count)
 entries-below trim first zero limit le = tt
 entries-below trim first (suc count) limit le = (omega arith, entries-below trim (first + 1) count limit (omega arith))
@@ -58,6 +62,7 @@ host-heading block_bytes size sequence trim first count is_size room short le = 
   distinct = entries-distinct trim first count;
 }
 
+-- a batch of the host
 abbrev pub host_batch : ℕ → ℕ → Bool → ℕ → ℕ → List (List ℕ) → Batch
 host_batch size sequence trim first count body = record { heading = host_heading size sequence trim first count; body = body }
 
@@ -133,6 +138,7 @@ names-more trim header address first count rest all lt more = record { named = n
     others block (inl low) = ap trims (apart block (λ e. omega (arith, low, e))) ∙ more.others block (inl (omega (arith, low)))
     others block (inr high) = ap trims (apart block (λ e. omega (arith, high, e))) ∙ more.others block (inr (omega (arith, high)))
 
+-- its blocks have their places
 pub names-placed : (trim : Bool) (header address first count : ℕ) (all : List Place) → first + count ≤ length all → Names trim all first count (placed header address (entries_from trim first count) all)
 names-placed trim header address first zero all le = record { named = λ block low high. absurd (omega arith); others = λ block out. refl }
 names-placed trim header address first (suc count) all le =
@@ -145,5 +151,6 @@ named-all : (P : ℕ → Type 0) (trim : Bool) (first count : ℕ) → ((block :
 named-all P trim first zero each = tt
 named-all P trim first (suc count) each = (each first (omega arith) (omega arith), named-all P trim (first + 1) count (λ block low high. each block (omega arith) (omega arith)))
 
+-- they can be placed
 pub entries-ready : (map : MapView) (trim : Bool) (first count : ℕ) → AreReserved map first count → AllByRecursion (λ (e : Entry). IsReady map e.block) (entries_from trim first count)
 entries-ready map trim first count reserved = named-all (IsReady map) trim first count reserved

@@ -60,26 +60,22 @@ write-front array now new first done next blocks left was next-is le left-is fro
 
 -- ---- what is known beforehand
 
+-- a range past the end is refused
 pub known-past : (disk : DiskView) (first n : ℕ) → 0 < n → disk_size disk < first + n → known_range (flat_of disk) first n ≡ Some (Err OutOfRange)
 known-past disk first n some past =
     let none : (n == 0) ≡ false = grind (arith, nat_tests, some) in
     let lt : nat_lt (disk_size disk) (first + n) ≡ true = grind (arith, nat_tests, past) in
     rw (none, lt) refl
 
--- one of some blocks that is in range: what the disk answers by its status
-pub known-goes : (disk : DiskView) (first n : ℕ) → 0 < n → first + n ≤ disk_size disk → known_range (flat_of disk) first n ≡ answer_while disk.status
-known-goes disk first n some within =
-    let none : (n == 0) ≡ false = grind (arith, nat_tests, some) in
-    let lt : nat_lt (disk_size disk) (first + n) ≡ false = grind (arith, nat_tests, within) in
-    rw (none, lt) refl
-
 -- ---- the flat disk, part by part
 
+-- the flat disk that a disk shows
 pub flat-is : (old new : DiskView) (array : List (List ℕ)) (size : ℕ) (status : DiskStatus) → disk_array new ≡ array → disk_size new ≡ size → new.status ≡ status → new.drive.geometry ≡ old.drive.geometry
     → flat_of new ≡ record { array = array; size = size; status = status; block = old.drive.geometry.block; most = most_size old.drive.geometry }
 flat-is old new array size status array-is size-is status-is geometry-is = rw (array-is, size-is, status-is, geometry-is) refl
 
-pub status-refused : (fault : DiskFault) → status_left fault ≡ status_after (Err fault)
+-- a refusal leaves the status of a flat disk
+status-refused : (fault : DiskFault) → status_left fault ≡ status_after (Err fault)
 status-refused OutOfRange = refl
 status-refused OutOfMemory = refl
 status-refused Stopped = refl
@@ -89,11 +85,12 @@ status-refused Reserve = refl
 status-refused Unmounted = refl
 
 -- what is left of a disk by a refusal
-pub flat-refused : (old new : DiskView) (fault : DiskFault) → disk_size new ≡ disk_size old → new.status ≡ status_left fault → new.drive.geometry ≡ old.drive.geometry → flat_of new ≡ record (flat_of old) { array = disk_array new; status = status_after (Err fault) }
+flat-refused : (old new : DiskView) (fault : DiskFault) → disk_size new ≡ disk_size old → new.status ≡ status_left fault → new.drive.geometry ≡ old.drive.geometry → flat_of new ≡ record (flat_of old) { array = disk_array new; status = status_after (Err fault) }
 flat-refused old new fault size status geometry = flat-is old new (disk_array new) (disk_size old) (status_after (Err fault)) refl size (status ∙ status-refused fault) geometry
 
 -- ---- causes
 
+-- the cause of a fault, as a disk says it
 pub cause-of : (disk : DiskView) (fault : DiskFault) → IsCause disk.drive (next_sequence disk) fault → DiskCause disk fault
 cause-of disk OutOfRange cause = tt
 cause-of disk OutOfMemory cause = cause
@@ -103,6 +100,7 @@ cause-of disk Smaller cause = tt
 cause-of disk Reserve cause = tt
 cause-of disk Unmounted cause = absurd cause
 
+-- and that of a read
 pub read-cause : (disk : DiskView) (fault : DiskFault) → IsReadFault disk.drive fault → DiskCause disk fault
 read-cause disk OutOfRange cause = tt
 read-cause disk OutOfMemory cause = tt
@@ -133,6 +131,7 @@ write-known old first n blocks result long known = rw (long, known) (refl, refl)
 pub write-unknown : (old new : DiskView) (first n : ℕ) (blocks : List (List ℕ)) → length blocks ≡ n → known_range (flat_of old) first n ≡ None → is_known (flat_of old) (write first blocks) ≡ true → new ≡ old
 write-unknown old new first n blocks long none known = let e : false ≡ true = rw (long, none) at known in absurd (cc)
 
+-- a write that is done is that of a flat disk
 pub write-done : (old new : DiskView) (first n done : ℕ) (blocks : List (List ℕ)) → length blocks ≡ n → known_range (flat_of old) first n ≡ None → old.status ≡ statuses.Serving → n ≤ done → disk_array new ≡ replaced (disk_array old) first (take done blocks) → disk_size new ≡ disk_size old
     → new.status ≡ statuses.Serving → new.drive.geometry ≡ old.drive.geometry → FlatCall (flat_of old) (write first blocks) (with_nothing (Ok tt)) (flat_of new)
 write-done old new first n done blocks long known was most is size serves geometry =
@@ -148,6 +147,7 @@ may-refuse disk first blocks Smaller cause = absurd cause
 may-refuse disk first blocks Reserve cause = absurd cause
 may-refuse disk first blocks Unmounted cause = absurd cause
 
+-- and one that was refused on its way
 pub write-refused : (old new : DiskView) (first n : ℕ) (blocks : List (List ℕ)) (fault : DiskFault) → length blocks ≡ n → known_range (flat_of old) first n ≡ None → IsFront (disk_array old) first blocks (disk_array new) → disk_size new ≡ disk_size old → new.status ≡ status_left fault
     → new.drive.geometry ≡ old.drive.geometry → IsCause new.drive (next_sequence new) fault → FlatCall (flat_of old) (write first blocks) (with_nothing (Err fault)) (flat_of new)
 write-refused old new first n blocks fault long known front size status geometry cause =
@@ -167,6 +167,7 @@ pub batches-some : (trim : Bool) (disk : DiskView) (left : ℕ) → IsInRange di
 batches-some true disk left range some = div_ceil-positive left (batch_most disk.drive.geometry) (positive-most disk.drive.geometry range) some
 batches-some false disk left range some = some
 
+-- fewer batches are left after one
 pub batches-less : (trim : Bool) (disk : DiskView) (left count : ℕ) → IsInRange disk.drive.geometry → 1 ≤ count → count ≤ left → IsBatchCount disk.drive.geometry trim left count → most_batches trim disk (left - count) + 1 ≤ most_batches trim disk left
 batches-less true disk left count range some le is =
     let k = batch_most disk.drive.geometry in
@@ -190,27 +191,11 @@ spend left less each now new most fewer one so_far = omega (arith, mul-le (less 
 
 -- ---- the answers of a growth
 
-pub growth-smaller : (disk : DiskView) (blocks : ℕ) → blocks < disk_size disk → known_growth (flat_of disk) blocks ≡ Some (Err Smaller)
-growth-smaller disk blocks less = let lt : nat_lt blocks (disk_size disk) ≡ true = grind (arith, nat_tests, less) in rw lt refl
-
-pub growth-reserve : (disk : DiskView) (blocks : ℕ) → disk_size disk ≤ blocks → most_size disk.drive.geometry < blocks → known_growth (flat_of disk) blocks ≡ Some (Err Reserve)
-growth-reserve disk blocks le more =
-    let not_less : nat_lt blocks (disk_size disk) ≡ false = grind (arith, nat_tests, le) in
-    let past : nat_lt (most_size disk.drive.geometry) blocks ≡ true = grind (arith, nat_tests, more) in
-    rw (not_less, past) refl
-
-pub growth-goes : (disk : DiskView) (blocks : ℕ) → disk_size disk ≤ blocks → blocks ≤ most_size disk.drive.geometry → known_growth (flat_of disk) blocks ≡ answer_while disk.status
-growth-goes disk blocks le few =
-    let not_less : nat_lt blocks (disk_size disk) ≡ false = grind (arith, nat_tests, le) in
-    let within : nat_lt (most_size disk.drive.geometry) blocks ≡ false = grind (arith, nat_tests, few) in
-    rw (not_less, within) refl
-
-pub growth-known : (old : DiskView) (blocks : ℕ) (result : Result (Unit {0}) DiskFault) → known_growth (flat_of old) blocks ≡ Some result → FlatCall (flat_of old) (grow blocks) (with_nothing result) (flat_of old)
-growth-known old blocks result known = rw known (refl, refl)
-
+-- one whose answer is not known goes on
 pub growth-unknown : (old new : DiskView) (blocks : ℕ) → known_growth (flat_of old) blocks ≡ None → is_known (flat_of old) (grow blocks) ≡ true → new ≡ old
 growth-unknown old new blocks none known = let e : false ≡ true = rw none at known in absurd (cc)
 
+-- a growth that is done is that of a flat disk
 pub growth-done : (old new : DiskView) (blocks : ℕ) → known_growth (flat_of old) blocks ≡ None → disk_array new ≡ extended (zero_block old.drive.geometry.block) blocks (disk_array old) → disk_size new ≡ blocks → new.status ≡ old.status → new.drive.geometry ≡ old.drive.geometry
     → FlatCall (flat_of old) (grow blocks) (with_nothing (Ok tt)) (flat_of new)
 growth-done old new blocks known array size status geometry =
@@ -225,6 +210,7 @@ growth-refuse disk blocks Smaller cause = absurd cause
 growth-refuse disk blocks Reserve cause = absurd cause
 growth-refuse disk blocks Unmounted cause = absurd cause
 
+-- and one that was refused
 pub growth-refused : (old new : DiskView) (blocks : ℕ) (fault : DiskFault) → known_growth (flat_of old) blocks ≡ None → IsAfterFront (flat_of old) (grow blocks) fault (disk_array new) → disk_size new ≡ disk_size old → new.status ≡ status_left fault
     → new.drive.geometry ≡ old.drive.geometry → IsCause new.drive (next_sequence new) fault → FlatCall (flat_of old) (grow blocks) (with_nothing (Err fault)) (flat_of new)
 growth-refused old new blocks fault known front size status geometry cause =
@@ -241,6 +227,7 @@ read-refuse drive first n Smaller cause = absurd cause
 read-refuse drive first n Reserve cause = absurd cause
 read-refuse drive first n Unmounted cause = absurd cause
 
+-- a read that is done is that of a flat disk
 pub read-done : (old new : DiskView) (first n : ℕ) (bytes : List ℕ) → known_range (flat_of old) first n ≡ None → old.status ≡ statuses.Serving → bytes ≡ concat (blocks_from (disk_array old) first n) → disk_array new ≡ disk_array old → disk_size new ≡ disk_size old
     → new.status ≡ statuses.Serving → new.drive.geometry ≡ old.drive.geometry → Reads (flat_of old) first n (Ok tt) bytes (flat_of new)
 read-done old new first n bytes known was shown array size serves geometry = record {
@@ -249,6 +236,7 @@ read-done old new first n bytes known was shown array size serves geometry = rec
   bytes_are = shown;
 }
 
+-- and one that was refused
 pub read-refused : (old new : DiskView) (first n : ℕ) (fault : DiskFault) (bytes : List ℕ) → known_range (flat_of old) first n ≡ None → bytes ≡ [] → disk_array new ≡ disk_array old → disk_size new ≡ disk_size old
     → new.status ≡ status_left fault → new.drive.geometry ≡ old.drive.geometry → IsReadFault new.drive fault → Reads (flat_of old) first n (Err fault) bytes (flat_of new)
 read-refused old new first n fault bytes known none array size status geometry cause = record {
@@ -257,10 +245,12 @@ read-refused old new first n fault bytes known none array size status geometry c
   bytes_are = none;
 }
 
+-- a read whose answer is known changes nothing
 pub read-known : (old : DiskView) (first n : ℕ) (result : Result (Unit {0}) DiskFault) (bytes : List ℕ) → known_range (flat_of old) first n ≡ Some result → bytes ≡ []
     → Reads (flat_of old) first n result bytes (flat_of old)
 read-known old first n result bytes known none = record { shown = []; flat = rw known (refl, refl); bytes_are = none }
 
+-- one whose answer is not known goes on
 pub read-unknown : (old new : DiskView) (first n : ℕ) → known_range (flat_of old) first n ≡ None → is_known (flat_of old) (read first n) ≡ true → new ≡ old
 read-unknown old new first n none known = let e : false ≡ true = rw none at known in absurd (cc)
 
@@ -286,6 +276,7 @@ concat-append : (xs : List (List ℕ)) (y : List ℕ) → concat (xs ++ y ∷ []
 concat-append [] y = append-nil y
 concat-append (x ∷ xs) y = ap (λ (ys : List ℕ). x ++ ys) (concat-append xs y) ∙ sym (append_assoc x (concat xs) y)
 
+-- one block more is shown
 pub shown-more : (array : List (List ℕ)) (first count block : ℕ) (shown more : List ℕ) → block ≡ first + count → block < length array → shown ≡ concat (blocks_from array first count) → more ≡ shown ++ get_or array block []
     → more ≡ concat (blocks_from array first (count + 1))
 shown-more array first count block shown more block-is lt is more-is =
@@ -295,9 +286,7 @@ shown-more array first count block shown more block-is lt is more-is =
 
 -- ---- the answers of a turn
 
-pub idle-stopped : (old : DiskView) → old.status ≡ statuses.Stopped → FlatCall (flat_of old) idle (with_nothing (Err Stopped)) (flat_of old)
-idle-stopped old stopped = let known : known_answer (flat_of old) idle ≡ Some (Err Stopped) = ap answer_while stopped in rw known (refl, refl)
-
+-- a turn that is done
 pub idle-done : (old new : DiskView) → old.status ≡ statuses.Serving → disk_array new ≡ disk_array old → disk_size new ≡ disk_size old → new.status ≡ old.status → new.drive.geometry ≡ old.drive.geometry → FlatCall (flat_of old) idle (with_nothing (Ok tt)) (flat_of new)
 idle-done old new serves array size status geometry =
     let none : known_answer (flat_of old) idle ≡ None = ap answer_while serves in
@@ -312,20 +301,20 @@ idle-refuse disk Smaller cause = absurd cause
 idle-refuse disk Reserve cause = absurd cause
 idle-refuse disk Unmounted cause = absurd cause
 
+-- one that was refused
 pub idle-refused : (old new : DiskView) (fault : DiskFault) → old.status ≡ statuses.Serving → disk_array new ≡ disk_array old → disk_size new ≡ disk_size old → new.status ≡ status_left fault → new.drive.geometry ≡ old.drive.geometry → IsCause new.drive (next_sequence new) fault
     → FlatCall (flat_of old) idle (with_nothing (Err fault)) (flat_of new)
 idle-refused old new fault serves array size status geometry cause =
     let none : known_answer (flat_of old) idle ≡ None = ap answer_while serves in
     rw none (idle-refuse new fault cause, refl, array, flat-refused old new fault size status geometry)
 
+-- one whose answer is not known goes on
 pub idle-unknown : (old new : DiskView) → old.status ≡ statuses.Serving → is_known (flat_of old) idle ≡ true → new ≡ old
 idle-unknown old new serves known = let e : false ≡ true = rw serves at known in absurd (cc)
 
 -- ---- the answers of a report
 
-pub report-stopped : (old : DiskView) (call : Call) → known_answer (flat_of old) call ≡ answer_while old.status → old.status ≡ statuses.Stopped → FlatCall (flat_of old) call (with_nothing (Err Stopped)) (flat_of old)
-report-stopped old call known stopped = rw (known, stopped) (refl, refl)
-
+-- a report that is done
 pub report-done : (old new : DiskView) → old.status ≡ statuses.Serving → disk_array new ≡ disk_array old → disk_size new ≡ disk_size old → new.status ≡ old.status → new.drive.geometry ≡ old.drive.geometry → FlatCall (flat_of old) report (with_nothing (Ok tt)) (flat_of new)
 report-done old new serves array size status geometry =
     let none : known_answer (flat_of old) report ≡ None = ap answer_while serves in
@@ -340,11 +329,13 @@ report-refuse drive Smaller cause = absurd cause
 report-refuse drive Reserve cause = absurd cause
 report-refuse drive Unmounted cause = absurd cause
 
+-- one that was refused
 pub report-refused : (old new : DiskView) (fault : DiskFault) → old.status ≡ statuses.Serving → disk_array new ≡ disk_array old → disk_size new ≡ disk_size old → new.status ≡ status_left fault → new.drive.geometry ≡ old.drive.geometry → IsReadFault new.drive fault
     → FlatCall (flat_of old) report (with_nothing (Err fault)) (flat_of new)
 report-refused old new fault serves array size status geometry cause =
     let none : known_answer (flat_of old) report ≡ None = ap answer_while serves in
     rw none (report-refuse new.drive fault cause, refl, array, flat-refused old new fault size status geometry)
 
+-- one whose answer is not known goes on
 pub report-unknown : (old new : DiskView) → old.status ≡ statuses.Serving → is_known (flat_of old) report ≡ true → new ≡ old
 report-unknown old new serves known = let e : false ≡ true = rw serves at known in absurd (cc)

@@ -65,7 +65,7 @@ newer-without sequence old new zone is k = elim (cases_eq k zone) as (λ _. (mor
 ]
 
 -- first these, then those
-pub newer-join : (low high : ℕ) (a b c : List (List Batch)) → low ≤ high → OnlyNewer low a b → OnlyNewer high b c → OnlyNewer low a c
+newer-join : (low high : ℕ) (a b c : List (List Batch)) → low ≤ high → OnlyNewer low a b → OnlyNewer high b c → OnlyNewer low a c
 newer-join low high a b c le p q zone = by (q zone)
   where
     here : (first second : List Batch) → AreNewer low first → AreNewer low second → (log_at b zone ≡ first) ⊎ (log_at b zone ≡ log_at a zone ++ first) → log_at c zone ≡ log_at b zone ++ second
@@ -87,6 +87,7 @@ newer-log low high old new zone le all only = by (only zone)
 
 -- ---- turns
 
+-- no more turns, and again no more
 pub turns-join : (a b c : MountedView) (x y z : Option CleanView) → b.drive.geometry ≡ a.drive.geometry → NoMoreTurns a x b y → NoMoreTurns b y c z → NoMoreTurns a x c z
 turns-join a b c x y z same p q =
     let there : turns_left (batch_most a.drive.geometry) c.tables z ≤ turns_left (batch_most a.drive.geometry) b.tables y = subst (λ (g : Geometry). turns_left (batch_most g) c.tables z ≤ turns_left (batch_most g) b.tables y) same q in
@@ -99,6 +100,7 @@ none-left a b (Some c) few = absurd (omega (arith, few))
 
 -- ---- a clean goes on, or ends
 
+-- a clean that is the same goes on
 pub goes-same : (a b : MountedView) (x y : Option CleanView) → y ≡ x → NoMoreTurns a x b y → GoesOnOrEnds a x b y
 goes-same a b None y same turns = tt
 goes-same a b (Some c) None same turns = absurd (cc)
@@ -129,6 +131,7 @@ pub record StaysClean (a : MountedView) (x : Option CleanView) (b : MountedView)
   pub turns : NoMoreTurns a x b y
   pub newer : OnlyNewer a.tables.next (drive_logs a.drive) (drive_logs b.drive)
 
+-- what keeps a clean twice keeps it
 pub stays-join : (a b c : MountedView) (x y z : Option CleanView) → StaysClean a x b y → StaysClean b y c z → StaysClean a x c z
 stays-join a b c x y z p q = record {
   next = omega (arith, p.next, q.next);
@@ -180,6 +183,7 @@ on-any : {V P : Type 0} (result : Result V DiskFault) → P → OnOk result P
 on-any (Ok done) is = is
 on-any (Err fault) is = tt
 
+-- and keeps what calls promise of it
 pub stays-cleaning : {V : Type 0} (a b : MountedView) (x y : Option CleanView) (result : Result V DiskFault) → StaysClean a x b y → KeepsCleaning a x result b y
 stays-cleaning a b x y result stays = record { clean = stays.goes; turns = on-any result stays.turns; newer = adds-any a b result stays.newer }
 
@@ -202,6 +206,7 @@ on-then : {V P Q : Type 0} (result : Result V DiskFault) → (P → Q) → OnOk 
 on-then (Ok done) f is = f is
 on-then (Err fault) f is = tt
 
+-- so does what keeps the array before
 pub array-first : {V : Type 0} (a b c : MountedView) (x z : Option CleanView) (result : Result V DiskFault) → AgreesWithClean a x → KeepsArray a b → KeepsCleaning b x result c z → KeepsCleaning a x result c z
 array-first a b c x z result is kept keeps =
     let first = array-stays a b x is kept in
@@ -327,6 +332,7 @@ zone-fails {V} before after None new cause is leaves =
     let rest = end-fails {V = V} leaves.0 after leaves.1 new cause first.cleaned leaves.3 in
     record { clean = tt; turns = tt; newer = newer-after {V = V} before leaves.0 after (Err (cleaning_fault cause)) first.next first.newer rest.newer }
 
+-- a clean of a zone at once keeps the clean that ran, or ends it
 pub zone-stays : (before after : MountedView) (old new : Option CleanView) → AgreesWithClean before old → CleanLeaves before old (Ok tt) after new → StaysClean before old after new
 zone-stays before after (Some c) new is leaves = end-stays before after (Some c) new is leaves
 zone-stays before after None new is leaves =
@@ -342,6 +348,7 @@ zone-stays before after None new is leaves =
 
 -- ---- a batch of the host
 
+-- a batch of the host keeps it
 pub append-stays : (b c : MountedView) (old new : Option CleanView) (zone : ℕ) (batch : Batch) (result : Result (Unit {0}) Halt) → CanPlace b zone batch → HostLeaves b old zone batch result c new → StaysClean b old c new
 append-stays b c old new zone batch (Ok done) can leaves = record {
   next = omega (arith, leaves.0.next);

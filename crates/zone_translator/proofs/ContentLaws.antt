@@ -24,7 +24,8 @@ drop-replicate : (a b x : ℕ) → drop a (replicate (a + b) x) ≡ replicate b 
 drop-replicate zero b x = let e : 0 + b ≡ b = omega arith in rw e refl
 drop-replicate (suc a) b x = let e : suc a + b ≡ suc (a + b) = omega arith in rw e (drop-replicate a b x)
 
-pub cut-replicate : (size count x : ℕ) → cut_blocks size count (replicate (count * size) x) ≡ replicate count (replicate size x)
+-- equal bytes are cut to equal blocks
+cut-replicate : (size count x : ℕ) → cut_blocks size count (replicate (count * size) x) ≡ replicate count (replicate size x)
 cut-replicate size zero x = refl
 cut-replicate size (suc count) x =
     let e : suc count * size ≡ size + count * size = omega (arith, add-mul count 1 size) in
@@ -37,19 +38,20 @@ take-take (suc n) zero xs le = absurd (omega arith)
 take-take (suc n) (suc m) [] le = refl
 take-take {X} (suc n) (suc m) (x ∷ xs) le = ap (λ (ys : List X). x ∷ ys) (take-take n m xs (omega arith))
 
-pub take-less : {X : Type 0} (a n : ℕ) (x : X) → a ≤ n → take a (replicate n x) ≡ replicate a x
+-- the first of equal elements are equal
+take-less : {X : Type 0} (a n : ℕ) (x : X) → a ≤ n → take a (replicate n x) ≡ replicate a x
 take-less zero n x le = refl
 take-less (suc a) zero x le = absurd (omega arith)
 take-less {X} (suc a) (suc n) x le = ap (λ (xs : List X). x ∷ xs) (take-less a n x (omega arith))
 
 -- blocks that are all the same
-pub drop-replicates : {X : Type 0} (a b n : ℕ) (x : X) → n ≡ a + b → drop a (replicate n x) ≡ replicate b x
+drop-replicates : {X : Type 0} (a b n : ℕ) (x : X) → n ≡ a + b → drop a (replicate n x) ≡ replicate b x
 drop-replicates zero b n x e = let same : n ≡ b = omega arith in rw same refl
 drop-replicates (suc a) b zero x e = absurd (omega arith)
 drop-replicates (suc a) b (suc n) x e = drop-replicates a b n x (omega arith)
 
 -- blocks that are cut from bytes
-pub cut-drop : (size n done left : ℕ) (bytes : List ℕ) → n ≡ done + left → cut_blocks size left (drop (done * size) bytes) ≡ drop done (cut_blocks size n bytes)
+cut-drop : (size n done left : ℕ) (bytes : List ℕ) → n ≡ done + left → cut_blocks size left (drop (done * size) bytes) ≡ drop done (cut_blocks size n bytes)
 cut-drop size n zero left bytes e = let same : n ≡ left = omega arith in let none : 0 * size ≡ 0 = omega arith in rw (same, none) refl
 cut-drop size zero (suc done) left bytes e = absurd (omega arith)
 cut-drop size (suc n) (suc done) left bytes e =
@@ -58,7 +60,7 @@ cut-drop size (suc n) (suc done) left bytes e =
     rw (k, moved) (cut-drop size n done left (drop size bytes) (omega arith))
 
 -- the bytes of the first blocks
-pub fewer-blocks : (block count left : ℕ) → count ≤ left → count * block ≤ left * block
+fewer-blocks : (block count left : ℕ) → count ≤ left → count * block ≤ left * block
 fewer-blocks block zero left le = omega arith
 fewer-blocks block (suc count) zero le = absurd (omega arith)
 fewer-blocks block (suc count) (suc left) le = let rest = fewer-blocks block count left (omega arith) in omega (arith, rest, add-mul count 1 block, add-mul left 1 block)
@@ -70,12 +72,6 @@ pub length-blocks : (block n : ℕ) (content : Content) → length (blocks_of bl
 length-blocks block n (Byte byte) = length-replicate n (replicate block byte)
 length-blocks block n (Bytes bytes) = length-cut block n bytes.now
 length-blocks block n Trim = length-replicate n (zero_block block)
-
--- its bytes are there
-pub within-content : (block count left : ℕ) (content : Content) → count ≤ left → HasBlocks block left content → HasBytes (count * block) content
-within-content block count left (Byte byte) le whole = tt
-within-content block count left (Bytes bytes) le whole = omega (arith, fewer-blocks block count left le, whole)
-within-content block count left Trim le whole = tt
 
 -- as many as the entries of the batch have data of
 pub length-content : (block first count left : ℕ) (content : Content) → count ≤ left → HasBlocks block left content → length (bytes_of (count * block) content) ≡ data_count (entries_from (is_trim content) first count) * block
@@ -95,6 +91,7 @@ tells-content block size sequence first count left Trim xs le whole same within 
 
 -- ---- what is left of it after some blocks
 
+-- what is left of whole blocks is whole
 pub rest-whole : (block n done : ℕ) (content rest : Content) → done ≤ n → HasBlocks block n content → IsAfter (done * block) content rest → HasBlocks block (n - done) rest
 rest-whole block n done (Byte byte) (Byte same) le whole is = tt
 rest-whole block n done (Bytes bytes) (Bytes rest) le whole is =
@@ -114,6 +111,7 @@ pub record IsRest (block n done : ℕ) (content rest : Content) : Type 0 where
   pub trim : is_trim rest ≡ is_trim content
   pub blocks : blocks_of block (n - done) rest ≡ drop done (blocks_of block n content)
 
+-- and it is the rest of the content
 pub rest-is : (block n done : ℕ) (content rest : Content) → done ≤ n → IsAfter (done * block) content rest → IsRest block n done content rest
 rest-is block n done (Byte byte) (Byte same) le is = rw is (record { trim = refl; blocks = sym (drop-replicates done (n - done) n (replicate block byte) (omega (arith, le))) })
 rest-is block n done (Bytes bytes) (Bytes rest) le is = record { trim = refl; blocks = rw is (cut-drop block n done (n - done) bytes.now (omega (arith, le))) }

@@ -45,9 +45,6 @@ view_of disk clean status = record { drive = disk.drive; tables = disk.tables; c
 pub length-array : (disk : MountedView) (clean : Option CleanView) → AgreesWithClean disk clean → length (mounted_array disk) ≡ size_of disk.tables
 length-array disk clean serves = length-spelled disk.drive disk.tables.given ∙ sym (size-encoded disk serves.0)
 
-pub whole-array : (disk : DiskView) → IsMountable disk.drive (given_size disk) → AllByRecursion (λ block. length block ≡ disk.drive.geometry.block) (disk_array disk)
-whole-array disk mountable = whole-spelled disk.drive (given_size disk) mountable
-
 -- no refusal of these unmounts a disk
 pub refused-status : (fault : DiskFault) (was : DiskStatus) → status_left fault ≡ statuses.Unmounted → was ≡ statuses.Unmounted
 refused-status OutOfRange was e = absurd (cc)
@@ -75,6 +72,7 @@ keeps-disk a b clean clean' was is unmounted below keeps = record {
   unmounted = unmounted;
 }
 
+-- turns of cleaning keep the disk
 pub cleaned-disk : (a b : MountedView) (clean clean' : Option CleanView) (was is : DiskStatus) → (is ≡ statuses.Unmounted → was ≡ statuses.Unmounted) → AreBelowNext (view_of b clean' is) → KeepsByCleaning a b → KeepsDisk (view_of a clean was) (view_of b clean' is)
 cleaned-disk a b clean clean' was is unmounted below keeps = record {
   given = keeps.given;
@@ -96,16 +94,19 @@ pub turns-same : (a b : MountedView) (clean : Option CleanView) (was is : DiskSt
 turns-same a b clean was is tables same = rw (tables, same) refl
 
 -- the drive has the same newest records
-pub places-same : (a b : MountedView) (clean : Option CleanView) (was is : DiskStatus) → KeepsArray a b → disk_places (view_of b clean is) ≡ disk_places (view_of a clean was)
+places-same : (a b : MountedView) (clean : Option CleanView) (was is : DiskStatus) → KeepsArray a b → disk_places (view_of b clean is) ≡ disk_places (view_of a clean was)
 places-same a b clean was is kept = rw (kept.logs, kept.geometry, kept.given) refl
 
+-- no more turns, as the disk shows them
 pub turns-on : (a b : MountedView) (clean clean' : Option CleanView) (was is : DiskStatus) → b.drive.geometry ≡ a.drive.geometry → NoMoreTurns a clean b clean' → disk_turns (view_of b clean' is) ≤ disk_turns (view_of a clean was)
 turns-on a b clean clean' was is same turns = subst (λ (g : Geometry). turns_left (batch_most g) b.tables clean' ≤ turns_left (batch_most a.drive.geometry) a.tables clean) (sym same) turns
 
+-- as many turns
 pub turns-back : (a b : MountedView) (clean clean' : Option CleanView) (was is : DiskStatus) → b.drive.geometry ≡ a.drive.geometry → turns_left (batch_most a.drive.geometry) b.tables clean' ≡ turns_left (batch_most a.drive.geometry) a.tables clean
     → disk_turns (view_of b clean' is) ≡ disk_turns (view_of a clean was)
 turns-back a b clean clean' was is same turns = subst (λ (g : Geometry). turns_left (batch_most g) b.tables clean' ≡ turns_left (batch_most a.drive.geometry) a.tables clean) (sym same) turns
 
+-- what keeps a disk twice keeps it
 pub kept-join : (a b c : DiskView) → KeepsDisk a b → KeepsDisk b c → KeepsDisk a c
 kept-join a b c p q = record {
   given = q.given ∙ p.given;
@@ -118,6 +119,7 @@ kept-join a b c p q = record {
   unmounted = λ e. p.unmounted (q.unmounted e);
 }
 
+-- what changes nothing keeps it
 pub kept-refl : (a : DiskView) → IsMountable a.drive (given_size a) → KeepsDisk a a
 kept-refl a mountable = record { given = refl; geometry = refl; mountable = mountable; refused = refl; next = refl; appended = omega arith; below = λ below. below; unmounted = λ e. e }
 
@@ -139,7 +141,7 @@ holds-serving disk clean fits serves = record {
 }
 
 -- one whose drive stopped
-pub holds-stopped : (a b : MountedView) (clean clean' : Option CleanView) → FitsReserve a.drive.geometry a.tables.given → AgreesWithClean a clean → StopKeeps a b → Holds b clean' statuses.Stopped
+holds-stopped : (a b : MountedView) (clean clean' : Option CleanView) → FitsReserve a.drive.geometry a.tables.given → AgreesWithClean a clean → StopKeeps a b → Holds b clean' statuses.Stopped
 holds-stopped a b clean clean' fits serves stops = record {
   mountable = stops.keeps.mountable;
   geometry = rw stops.keeps.geometry serves.0.geometry;
@@ -153,6 +155,7 @@ holds-stopped a b clean clean' fits serves stops = record {
 pub holds-kept : (a b : MountedView) (clean : Option CleanView) → FitsReserve a.drive.geometry a.tables.given → AgreesWithClean a clean → KeepsArray a b → Holds b clean statuses.Serving
 holds-kept a b clean fits serves kept = holds-serving b clean (reserve-kept a b kept.geometry kept.given fits) (cleaned_kept a b clean serves kept)
 
+-- a read leaves what a disk holds
 pub holds-read : (a b : MountedView) (clean : Option CleanView) (fault : DiskFault) → FitsReserve a.drive.geometry a.tables.given → AgreesWithClean a clean → KeepsArray a b → IsReadFault b.drive fault → Holds b clean (status_left fault)
 holds-read a b clean OutOfRange fits serves kept cause = absurd cause
 holds-read a b clean OutOfMemory fits serves kept cause = holds-kept a b clean fits serves kept
@@ -205,6 +208,7 @@ pub record RefusedWrite (a b : MountedView) (clean clean' : Option CleanView) (f
   pub refused : Refused a b clean clean' fault was
   pub front : IsFront (mounted_array a) first blocks (mounted_array b)
 
+-- a write that was refused on its way
 pub refused-write : (a b : MountedView) (clean clean' : Option CleanView) (trim : Bool) (first : ℕ) (blocks : List (List ℕ)) (fault : DiskFault) (was : DiskStatus) → FitsReserve a.drive.geometry a.tables.given → AgreesWithClean a clean
     → WriteLeaves trim a b clean' first blocks (Err fault) → RefusedWrite a b clean clean' first blocks fault was
 refused-write a b clean clean' trim first blocks fault was fits serves leaves = by fault leaves
@@ -226,6 +230,7 @@ pub record RefusedGrowth (a b : MountedView) (clean clean' : Option CleanView) (
   pub refused : Refused a b clean clean' fault was
   pub front : IsAfterFront (flat_of (view_of a clean was)) (grow size) fault (mounted_array b)
 
+-- and a growth
 pub refused-growth : (a b : MountedView) (clean clean' : Option CleanView) (size : ℕ) (fault : DiskFault) (was : DiskStatus) → FitsReserve a.drive.geometry a.tables.given → AgreesWithClean a clean
     → GrowLeaves a b clean' size (Err fault) → RefusedGrowth a b clean clean' size fault was
 refused-growth a b clean clean' size OutOfRange was fits serves leaves = record { refused = refused-serving a b clean clean' OutOfRange was fits refl leaves; front = leaves.0.array }
@@ -249,15 +254,18 @@ none-spare disk (Some c) none serves = absurd (cc)
 
 -- ---- the tables name the places that the drive has
 
-pub places-on : (disk : MountedView) (clean : Option CleanView) (status : DiskStatus) → AgreesWithClean disk clean → disk.tables.map.places ≡ disk_places (view_of disk clean status)
+-- the places of the tables are those of the disk
+places-on : (disk : MountedView) (clean : Option CleanView) (status : DiskStatus) → AgreesWithClean disk clean → disk.tables.map.places ≡ disk_places (view_of disk clean status)
 places-on disk clean status serves = serves.0.places
 
-pub names-on : (a b : MountedView) (clean clean' : Option CleanView) (trim : Bool) (first count : ℕ) (was is : DiskStatus) → AgreesWithClean a clean → AgreesWithClean b clean' → Names trim a.tables.map.places first count b.tables.map.places
+-- and what they name
+names-on : (a b : MountedView) (clean clean' : Option CleanView) (trim : Bool) (first count : ℕ) (was is : DiskStatus) → AgreesWithClean a clean → AgreesWithClean b clean' → Names trim a.tables.map.places first count b.tables.map.places
     → Names trim (disk_places (view_of a clean was)) first count (disk_places (view_of b clean' is))
 names-on a b clean clean' trim first count was is serves after names = rw (places-on a clean was serves, places-on b clean' is after) at names
 
 -- ---- one batch of a write
 
+-- a batch of a write is a part of it
 pub wrote-some : (a b : MountedView) (clean clean' : Option CleanView) (was is : DiskStatus) (rest : Rest) (count : ℕ) → is ≡ statuses.Serving → AgreesWithClean a clean → IsTaken a.drive.geometry rest count → WritesRest a rest (Ok count) b clean'
     → WroteSome (view_of a clean was) rest (view_of b clean' is) count
 wrote-some a b clean clean' was is rest count serving serves taken leaves = record {
@@ -299,6 +307,7 @@ goes-turns : (b c : MountedView) (v : CleanView) (z : Option CleanView) → Goes
 goes-turns b c v None goes = omega arith
 goes-turns b c v (Some w) goes = goes.1
 
+-- a refusal throws no clean back
 pub refused-clean : (a b c : MountedView) (x y z : Option CleanView) (was is : DiskStatus) (fault : DiskFault) → c.drive.geometry ≡ a.drive.geometry → StaysClean a x b y → KeepsCleaning {V = ℕ} b y (Err fault) c z → status_left fault ≡ statuses.Serving
     → KeepsClean (view_of a x was) (view_of c z is)
 refused-clean a b c None y z was is fault same stays keeps serves = tt
@@ -314,6 +323,7 @@ batch-turns a b (Some u) y was is result same keeps runs = turns-on a b (Some u)
 
 -- ---- reads
 
+-- a read keeps the array, the tables and the turns
 pub read-keeps : (a b : MountedView) (clean : Option CleanView) (was is : DiskStatus) → (is ≡ statuses.Unmounted → was ≡ statuses.Unmounted) → AgreesWithClean a clean → b.tables ≡ a.tables → KeepsArray a b → KeepsByRead (view_of a clean was) (view_of b clean is)
 read-keeps a b clean was is unmounted serves tables kept = record {
   kept = kept-disk a b clean was is unmounted serves kept;
@@ -323,6 +333,7 @@ read-keeps a b clean was is unmounted serves tables kept = record {
   turns = turns-same a b clean was is tables kept.geometry;
 }
 
+-- it stops for its cause
 pub read-stops : (a b : MountedView) (clean : Option CleanView) (was is : DiskStatus) (block : ℕ) (fault : DiskFault) → is ≡ status_left fault → AgreesWithClean a clean → b.tables ≡ a.tables → IsBlockFault b block fault → ReadStops (view_of a clean was) block (view_of b clean is) fault
 read-stops a b clean was is block fault status serves tables why = record {
   status = status;
@@ -330,8 +341,10 @@ read-stops a b clean was is block fault status serves tables why = record {
   stops = λ stopped. rw (← places-on a clean was serves, ← tables) (why.stops stopped);
 }
 
+-- a read of nothing keeps all
 pub read-none : (disk : DiskView) → IsMountable disk.drive (given_size disk) → KeepsByRead disk disk
 read-none disk mountable = record { kept = kept-refl disk mountable; array = refl; size = refl; places = refl; turns = refl }
 
+-- two reads keep all
 pub read-join : (a b c : DiskView) → KeepsByRead a b → KeepsByRead b c → KeepsByRead a c
 read-join a b c p q = record { kept = kept-join a b c p.kept q.kept; array = q.array ∙ p.array; size = q.size ∙ p.size; places = q.places ∙ p.places; turns = q.turns ∙ p.turns }

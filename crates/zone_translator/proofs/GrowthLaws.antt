@@ -34,7 +34,8 @@ pub record IsGrowthBatch (disk : MountedView) (host : Filling) (size : ℕ) (bui
   pub grows : size_of disk.tables ≤ size
   pub tells : told_over disk.drive.geometry.block (built disk.drive.geometry.block builder) (mounted_array disk) ≡ extended (zero_block disk.drive.geometry.block) size (mounted_array disk)
 
-pub growth-batch : (old : DriveState) (tables : TablesView) (host : Filling) (size : ℕ) (builder : BuilderView) → Agrees (mounted old tables) → IsRoom (mounted old tables) host → size_of tables ≤ size → FitsReserve old.geometry size
+-- the batch of a growth can be placed
+growth-batch : (old : DriveState) (tables : TablesView) (host : Filling) (size : ℕ) (builder : BuilderView) → Agrees (mounted old tables) → IsRoom (mounted old tables) host → size_of tables ≤ size → FitsReserve old.geometry size
     → builder.heading ≡ host_heading size tables.next true 0 0 → builder.bytes ≡ header_block old.geometry.block (host_heading size tables.next true 0 0) → IsGrowthBatch (mounted old tables) host size builder
 growth-batch old tables host size builder agrees room grows reserve heading bytes =
     let g = old.geometry in
@@ -59,6 +60,7 @@ grow-next a b host size builder g g-is kept agrees room grows reserve heading by
 grown-array : (a b : MountedView) (size : ℕ) → KeepsByCleaning a b → extended (zero_block b.drive.geometry.block) size (mounted_array b) ≡ extended (zero_block a.drive.geometry.block) size (mounted_array a)
 grown-array a b size kept = ap (λ (g : Geometry). extended (zero_block g.block) size (mounted_array b)) kept.geometry ∙ ap (extended (zero_block a.drive.geometry.block) size) kept.array
 
+-- it was appended, and the disk has grown
 pub growth-writes : (a b c : MountedView) (old new : Option CleanView) (host : Filling) (size : ℕ) (builder : BuilderView) → KeepsByCleaning a b → AgreesWithClean b old → IsGrowthBatch b host size builder
     → HostLeaves b old host.zone (built b.drive.geometry.block builder) (Ok tt) c new → Grows a c new size
 growth-writes a b c old new host size builder kept is next leaves =
@@ -75,6 +77,7 @@ growth-writes a b c old new host size builder kept is next leaves =
       early = rw (← kept.geometry) (omega (arith, placed.next, next.can.next));
     }
 
+-- or it was not
 pub growth-halts : (a b c : MountedView) (old new : Option CleanView) (host : Filling) (size : ℕ) (builder : BuilderView) (fault : Halt) → KeepsByCleaning a b → AgreesWithClean b old → IsGrowthBatch b host size builder
     → HostLeaves b old host.zone (built b.drive.geometry.block builder) (Err fault) c new → GrowLeaves a c new size (Err (disk_fault fault)) × IsCause c.drive c.tables.next (disk_fault fault)
 growth-halts a b c old new host size builder halt.Memory kept is next leaves = (memory-left a b c old new host.zone (built b.drive.geometry.block builder) kept is leaves, tt)
@@ -96,8 +99,10 @@ growth-without a b clean size Smaller leaves cause = leaves
 growth-without a b clean size Reserve leaves cause = leaves
 growth-without a b clean size Unmounted leaves cause = leaves
 
+-- there was no room for it
 pub growth-no_room : (a b : MountedView) (clean : Option CleanView) (size : ℕ) (fault : DiskFault) (result : Result (Unit {0}) DiskFault) → result ≡ Err fault → RoomLeaves {V = Filling} a b clean (Err fault) → IsCause b.drive b.tables.next fault → GrowLeaves a b clean size result
 growth-no_room a b clean size fault result is leaves cause = rw is (growth-without a b clean size fault leaves cause)
 
+-- or no memory
 pub growth-no_memory : (a b : MountedView) (clean : Option CleanView) (size : ℕ) (result : Result (Unit {0}) DiskFault) → result ≡ Err OutOfMemory → KeepsByCleaning a b × AgreesWithClean b clean → GrowLeaves a b clean size result
 growth-no_memory a b clean size result is kept = rw is kept

@@ -42,15 +42,18 @@ no-destination capacity zones roles written order = by roles.host roles.second r
     by (Some host) (Some (Destination filling)) e f = absurd (rw (e, f) at order)
     by (Some host) (Some (Next filling)) e f = let both = rw (e, f) at written in rw f both.1.0.1
 
+-- tables and drive agree after a mount
 pub mounted-serves : (old new : DriveState) (n : ℕ) (tables : TablesView) → Mounts old new n tables → AgreesWithClean (mounted new tables) None
 mounted-serves old new n tables mounts =
     let roles = mounts.roles in
     (mounts.agrees, (roles.empty, no-destination new.geometry.capacity (contents new.zones) tables.roles roles.written roles.order))
 
+-- and the size fits the reserve
 pub mounted-fits : (old new : DriveState) (n : ℕ) (tables : TablesView) → new.geometry ≡ old.geometry → Mounts old new n tables → FitsReserve new.geometry tables.given
 mounted-fits old new n tables same mounts = rw (same, mounts.given) mounts.can.reserve
 
-pub mounts-disk : (old new : DriveState) (n : ℕ) (tables : TablesView) → Mounts old new n tables → MountsDisk old n (view_of (mounted new tables) None Serving)
+-- a mount makes a disk
+mounts-disk : (old new : DriveState) (n : ℕ) (tables : TablesView) → Mounts old new n tables → MountsDisk old n (view_of (mounted new tables) None Serving)
 mounts-disk old new n tables mounts =
     record {
       can = mounts.can;
@@ -64,6 +67,7 @@ mounts-disk old new n tables mounts =
       status = refl;
     }
 
+-- as it is promised
 pub is-mounted : (old new : DriveState) (n : ℕ) (tables : TablesView) → KeepsMountable n old new → Mounts old new n tables → IsMounted old n (view_of (mounted new tables) None Serving)
 is-mounted old new n tables kept mounts =
     let serves = mounted-serves old new n tables mounts in
@@ -78,23 +82,26 @@ is-mounted old new n tables kept mounts =
 -- ---- mounting again
 
 -- the drive of a disk can be mounted
-pub holds-mount : (drive : DriveState) (tables : TablesView) (clean : Option CleanView) (status : DiskStatus) → Holds (mounted drive tables) clean status → IsToMount drive tables.given
+holds-mount : (drive : DriveState) (tables : TablesView) (clean : Option CleanView) (status : DiskStatus) → Holds (mounted drive tables) clean status → IsToMount drive tables.given
 holds-mount drive tables clean status holds = record { geometry = holds.geometry; reserve = holds.reserve; mountable = holds.mountable }
 
-pub remounted : (old : DiskView) (new : DriveState) (n : ℕ) (tables : TablesView) → n ≡ given_size old → Mounts old.drive new n tables → MountsDisk old.drive (given_size old) (view_of (mounted new tables) None Serving)
+-- a remount does so, too
+remounted : (old : DiskView) (new : DriveState) (n : ℕ) (tables : TablesView) → n ≡ given_size old → Mounts old.drive new n tables → MountsDisk old.drive (given_size old) (view_of (mounted new tables) None Serving)
 remounted old new n tables is mounts = mounts-disk old.drive new (given_size old) tables (rw is at mounts)
 
-pub remounted-flat : (old : DiskView) (new : DriveState) (n : ℕ) (tables : TablesView) (clean : Option CleanView) → n ≡ given_size old → new.geometry ≡ old.drive.geometry → Mounts old.drive new n tables
+-- and is the remount of a flat array
+remounted-flat : (old : DiskView) (new : DriveState) (n : ℕ) (tables : TablesView) (clean : Option CleanView) → n ≡ given_size old → new.geometry ≡ old.drive.geometry → Mounts old.drive new n tables
     → FlatRemount (flat_of old) (Ok tt) (flat_of (view_of (mounted new tables) clean Serving))
 remounted-flat old new n tables clean is same mounts =
     let disk = remounted old new n tables is mounts in
     flat-is old (view_of (mounted new tables) clean Serving) (disk_array old) (length (disk_array old)) Serving disk.array (disk.size ∙ ap length disk.array) refl same
 
 -- one that was refused
-pub remount-halts : (drive new : DriveState) (tables : TablesView) (clean : Option CleanView) (status : DiskStatus) (n : ℕ) (fault : MountFault) → n ≡ tables.given → Holds (mounted drive tables) clean status → FailsBy (MountFails drive n) new fault → FailsBy (λ _. ⊥) new fault
+remount-halts : (drive new : DriveState) (tables : TablesView) (clean : Option CleanView) (status : DiskStatus) (n : ℕ) (fault : MountFault) → n ≡ tables.given → Holds (mounted drive tables) clean status → FailsBy (MountFails drive n) new fault → FailsBy (λ _. ⊥) new fault
 remount-halts drive new tables clean status n fault is holds fails = only-halts drive new n fault (rw is (holds-mount drive tables clean status holds)) fails
 
-pub refused-flat : (old : DiskView) (new : DriveState) (n : ℕ) (clean : Option CleanView) (fault : MountFault) → n ≡ given_size old → Holds (mounted_of old) old.clean old.status → KeepsMountable n old.drive new → FailsBy (MountFails old.drive n) new fault
+-- one that was refused is that of a flat array, too
+refused-flat : (old : DiskView) (new : DriveState) (n : ℕ) (clean : Option CleanView) (fault : MountFault) → n ≡ given_size old → Holds (mounted_of old) old.clean old.status → KeepsMountable n old.drive new → FailsBy (MountFails old.drive n) new fault
     → FlatRemount (flat_of old) (Err fault) (flat_of (view_of (mounted new old.tables) clean Unmounted))
 refused-flat old new n clean fault is holds kept fails =
     let array : spelled new (given_size old) ≡ disk_array old = (rw is at kept).array holds.mountable in
@@ -107,6 +114,7 @@ refused-flat old new n clean fault is holds kept fails =
 
 -- ---- what a remount leaves
 
+-- all of a remount that is done
 pub remounts : (old : DiskView) (new : MountedView) (clean : Option CleanView) → clean ≡ None → KeepsMountable (given_size old) old.drive new.drive → Mounts old.drive new.drive (given_size old) new.tables → Remounts old (Ok tt) (view_of new clean Serving)
 remounts old new clean none kept mounts =
     let serves = mounted-serves old.drive new.drive (given_size old) new.tables mounts in
@@ -120,6 +128,7 @@ remounts old new clean none kept mounts =
       clean = none;
     }
 
+-- and of one that is not
 pub remount-refused : (old : DiskView) (new : MountedView) (clean : Option CleanView) (fault : MountFault) → clean ≡ None → new.tables ≡ old.tables → Holds (mounted_of old) old.clean old.status → KeepsMountable (given_size old) old.drive new.drive
     → FailsBy (MountFails old.drive (given_size old)) new.drive fault → Remounts old (Err fault) (view_of new clean Unmounted)
 remount-refused old new clean fault none tables holds kept fails = record {

@@ -23,12 +23,14 @@ use Rattle.zone_translator.specs.Read.{IsReadFault}
 pub holds : (drive : DriveState) (tables : TablesView) (block : ℕ) (p : Place) → Agrees (mounted drive tables) → block < size_of tables → p ≡ get_or tables.map.places block places.None → HoldsPlace drive (spelled drive tables.given) block p
 holds drive tables block p agrees lt e = rw e (holds_place drive tables block agrees lt)
 
-pub no-place : (drive : DriveState) (array : List (List ℕ)) (block : ℕ) (p : Place) → HoldsPlace drive array block p → ((address : ℕ) → p ≡ places.At address → ⊥) → get_or array block [] ≡ zero_block drive.geometry.block
+-- a block without data is zeros
+no-place : (drive : DriveState) (array : List (List ℕ)) (block : ℕ) (p : Place) → HoldsPlace drive array block p → ((address : ℕ) → p ≡ places.At address → ⊥) → get_or array block [] ≡ zero_block drive.geometry.block
 no-place drive array block places.None h other = h
 no-place drive array block (places.Trimmed address) h other = h
 no-place drive array block (places.At address) h other = absurd (other address refl)
 
-pub one-block : (drive : DriveState) (address : ℕ) (shown : List ℕ) → shown ≡ bytes_at drive.geometry (contents drive.zones) address 1 → shown ≡ block_at drive.geometry (contents drive.zones) address
+-- one block was read
+one-block : (drive : DriveState) (address : ℕ) (shown : List ℕ) → shown ≡ bytes_at drive.geometry (contents drive.zones) address 1 → shown ≡ block_at drive.geometry (contents drive.zones) address
 one-block drive address shown e = e ∙ append-nil (block_at drive.geometry (contents drive.zones) address)
 
 -- a read of a place that halted
@@ -37,6 +39,7 @@ pub record ReadHalts (old new : DriveState) (tables : TablesView) (fault : PortF
   pub kept : KeepsArray (mounted old tables) (mounted new tables)
   pub cause : IsReadFault new (disk_fault (fault_halt fault))
 
+-- the Read is not refused, and what it leaves is kept
 pub place_halts : (old new : DriveState) (tables : TablesView) (block address : ℕ) (returned : List ℕ) (fault : PortFault) → Agrees (mounted old tables) → block < size_of tables → places.At address ≡ get_or tables.map.places block places.None
     → ReadGives {V = Unit {0}} old address 1 (Err fault) returned new → SameContents old new → IsClosing old.zones new.zones → Obeys {V = Unit {0}} old (Err fault) new → (CanRead old address 1 → IsNotRefused {V = Unit {0}} (Err fault)) → ReadHalts old new tables fault
 place_halts old new tables block address returned (port.Refused status) agrees lt at gives same closing obeys passed = absurd (passed (holds old tables block (places.At address) agrees lt at).can)
@@ -51,6 +54,7 @@ place_halts old new tables block address returned port.Stopped agrees lt at give
 pub place_kept : (old new : DriveState) (tables : TablesView) → Agrees (mounted old tables) → SameContents old new → IsClosing old.zones new.zones → IsLawful new → Counts old new 0 → KeepsArray (mounted old tables) (mounted new tables)
 place_kept old new tables agrees same closing lawful counts = keeps-contents old new tables agrees same (closing-opens old.zones new.zones closing) lawful counts
 
+-- it shows the block of the array
 pub place_shown : (drive : DriveState) (tables : TablesView) (block address : ℕ) (shown : List ℕ) → Agrees (mounted drive tables) → block < size_of tables → places.At address ≡ get_or tables.map.places block places.None
     → shown ≡ bytes_at drive.geometry (contents drive.zones) address 1 → shown ≡ get_or (spelled drive tables.given) block []
 place_shown drive tables block address shown agrees lt at e = one-block drive address shown e ∙ (holds drive tables block (places.At address) agrees lt at).shown

@@ -37,6 +37,7 @@ report-whole geometry zones dwords some is =
     let none : 4 * dwords - 64 - 64 * length named ≡ 0 = omega (arith, long, is) in
     rw (start, taken, none, append-nil (flat_map descriptor_bytes named), long) refl
 
+-- the report has all zones
 pub reports-all : (old new : DriveState) (dwords : ℕ) (bytes : List ℕ) → IsInRange old.geometry → length old.zones ≡ old.geometry.zones → dwords ≡ 16 * (1 + old.geometry.zones) → Reported old new 0 AnyState false dwords bytes → ReportsAll old bytes new
 reports-all old new dwords bytes range count is reported = record {
   zones = reported.zones;
@@ -47,9 +48,11 @@ reports-all old new dwords bytes range count is reported = record {
 
 -- ---- the drive
 
+-- it keeps the array
 pub report_kept : (old new : DriveState) (tables : TablesView) (dwords : ℕ) (bytes : List ℕ) → Agrees (mounted old tables) → SameContents old new → IsClosing old.zones new.zones → Obeys {V = Unit {0}} old (Ok tt) new → Reported old new 0 AnyState false dwords bytes → KeepsArray (mounted old tables) (mounted new tables)
 report_kept old new tables dwords bytes agrees same closing obeys reported = keeps-contents old new tables agrees same (closing-opens old.zones new.zones closing) obeys.lawful reported.counts
 
+-- it is not refused, and what it leaves is kept
 pub report_halts : (old new : DriveState) (tables : TablesView) (dwords : ℕ) (returned : List ℕ) (fault : PortFault) → Agrees (mounted old tables) → ReportGives {V = Unit {0}} old 0 AnyState false dwords (Err fault) returned new → SameContents old new → IsClosing old.zones new.zones
     → Obeys {V = Unit {0}} old (Err fault) new → (0 < end_of old.geometry → IsNotRefused {V = Unit {0}} (Err fault)) → ReadHalts old new tables fault
 report_halts old new tables dwords returned (port.Refused status) agrees gives same closing obeys passed = absurd (passed (can-report old agrees.geometry))

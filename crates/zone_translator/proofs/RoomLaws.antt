@@ -33,14 +33,13 @@ use Rattle.zone_translator.specs.declared.fault.DiskFault.{DiskFault}
 use Rattle.zone_translator.specs.declared.fault.DiskFault.TheVariants.{OutOfRange, OutOfMemory, Stopped, Spent, Unmounted, Smaller, Reserve}
 use Rattle.zone_translator.specs.Changes.{IsCause, IsHost, NoMoreTurns, RetireLeaves, RoomLeaves, StopKeeps, TakesHost, cleaning_fault, disk_fault}
 
--- ---- a disk that serves
-
 -- ---- parts of a call that write nothing for the host
 
 -- the array is kept, and the disk serves
 pub keeps-serving : (a b : MountedView) (clean : Option CleanView) → AgreesWithClean a clean → KeepsArray a b → KeepsByCleaning a b × AgreesWithClean b clean
 keeps-serving a b clean is kept = (cleaning_kept a b clean is kept, cleaned_kept a b clean is kept)
 
+-- what cleaning keeps before room is made
 pub room-join : {V : Type 0} (a b c : MountedView) (clean : Option CleanView) (result : Result V DiskFault) → KeepsByCleaning a b → RoomLeaves b c clean result → RoomLeaves a c clean result
 room-join a b c clean (Ok done) kept leaves = (keeps-more a b c kept leaves.0, leaves.1)
 room-join a b c clean (Err OutOfRange) kept leaves = (keeps-more a b c kept leaves.0, leaves.1)
@@ -50,16 +49,6 @@ room-join a b c clean (Err Spent) kept leaves = (keeps-more a b c kept leaves.0,
 room-join a b c clean (Err Smaller) kept leaves = (keeps-more a b c kept leaves.0, leaves.1)
 room-join a b c clean (Err Reserve) kept leaves = (keeps-more a b c kept leaves.0, leaves.1)
 room-join a b c clean (Err Unmounted) kept leaves = (keeps-more a b c kept leaves.0, leaves.1)
-
--- a refusal tells nothing of the value that was asked for
-pub room-err : (V W : Type 0) (a b : MountedView) (clean : Option CleanView) (fault : DiskFault) → RoomLeaves {V = V} a b clean (Err fault) → RoomLeaves {V = W} a b clean (Err fault)
-room-err V W a b clean OutOfRange leaves = leaves
-room-err V W a b clean OutOfMemory leaves = leaves
-room-err V W a b clean Stopped leaves = leaves
-room-err V W a b clean Spent leaves = leaves
-room-err V W a b clean Smaller leaves = leaves
-room-err V W a b clean Reserve leaves = leaves
-room-err V W a b clean Unmounted leaves = leaves
 
 -- whatever the answer
 pub room-keeps : (V : Type 0) (a b : MountedView) (clean : Option CleanView) (fault : DiskFault) → RoomLeaves {V = V} a b clean (Err fault) → KeepsByCleaning a b
@@ -120,12 +109,7 @@ room-stops a b kept stopped = record {
   size = kept.size;
 }
 
--- a clean was not done to its end
-pub clean_room : (V : Type 0) (a b : MountedView) (clean : Option CleanView) (cause : CleanFault) → KeepsByCleaning a b → GoesOn (Err cause) b clean → RoomLeaves {V = V} a b clean (Err (cleaning_fault cause))
-clean_room V a b clean faults.OutOfMemory keeps on = (keeps, on)
-clean_room V a b clean faults.Stopped keeps on = keeps
-clean_room V a b clean faults.Spent keeps on = (keeps, on)
-
+-- the cause of a fault of cleaning
 pub clean_cause : (drive : DriveState) (next : ℕ) (cause : CleanFault) → IsCleaningCause drive next cause → IsCause drive next (cleaning_fault cause)
 clean_cause drive next faults.OutOfMemory is = tt
 clean_cause drive next faults.Stopped is = is
@@ -133,24 +117,29 @@ clean_cause drive next faults.Spent is = is
 
 -- ---- the host zone
 
+-- the host zone is being filled
 pub filling-host : (roles : RolesView) (host : Filling) → roles.host ≡ Some host → is_filling_at roles host.zone ≡ true
 filling-host roles host is =
     ap (λ (h : Option Filling). list_any (is_at host.zone) (filling_list h ++ second_list roles.second)) is ∙ ap (λ (b : Bool). b || list_any (is_at host.zone) (second_list roles.second)) (eq-eqb host.zone host.zone refl)
 
 -- tables with a known host zone
-pub with-host : (drive : DriveState) (tables : TablesView) (host : Option Filling) → tables.roles.host ≡ host → Agrees (mounted drive tables) → Agrees (mounted drive (tables_with tables.map (roles_with tables.roles.empty host tables.roles.second) tables.next tables.given))
+with-host : (drive : DriveState) (tables : TablesView) (host : Option Filling) → tables.roles.host ≡ host → Agrees (mounted drive tables) → Agrees (mounted drive (tables_with tables.map (roles_with tables.roles.empty host tables.roles.second) tables.next tables.given))
 with-host drive tables host e agrees =
     let P : Option Filling → Type 0 = λ h. Agrees (mounted drive (tables_with tables.map (roles_with tables.roles.empty h tables.roles.second) tables.next tables.given)) in subst P e agrees
 
+-- it holds what the tables say
 pub host-filled : (drive : DriveState) (tables : TablesView) (host : Filling) → tables.roles.host ≡ Some host → Agrees (mounted drive tables) → HoldsFilling drive.geometry.capacity (contents drive.zones) (drive_logs drive) host
 host-filled drive tables host is agrees = (with-host drive tables (Some host) is agrees).roles.fillings_are.0
 
+-- no more than its capacity
 pub host-few : (drive : DriveState) (tables : TablesView) (host : Filling) → tables.roles.host ≡ Some host → Agrees (mounted drive tables) → host.written ≤ drive.geometry.capacity
 host-few drive tables host is agrees = filling-few drive tables host agrees (filling-in_range drive tables host.zone agrees (filling-host tables.roles host is)) (host-filled drive tables host is agrees)
 
+-- and is full where it has that much
 pub host-full : (drive : DriveState) (tables : TablesView) (host : Filling) → tables.roles.host ≡ Some host → Agrees (mounted drive tables) → host.written ≡ drive.geometry.capacity → (content_at (contents drive.zones) host.zone).usage ≡ full
 host-full drive tables host is agrees e = filling-full drive tables host agrees (filling-in_range drive tables host.zone agrees (filling-host tables.roles host is)) (host-filled drive tables host is agrees) e
 
+-- sealing it keeps the array
 pub keeps-seal : (drive : DriveState) (tables new : TablesView) (host : Filling) → Agrees (mounted drive tables) → tables.roles.host ≡ Some host → new ≡ record tables { roles = sealed tables.roles } → 1 ≤ host.written
     → (content_at (contents drive.zones) host.zone).usage ≡ full → KeepsArray (mounted drive tables) (mounted drive new)
 keeps-seal drive tables new host agrees is new-is some is_full =
@@ -178,6 +167,7 @@ finished_host old new tables host start agrees is start-is some room geometry fi
     let done = agrees_finish old new tables.map tables.roles.empty host tables.roles.second tables.next tables.given (with-host old tables (Some host) is agrees) some room geometry lawful (rw (start-is, index) at finishes) opens in
     (done.0, done.1, done.2)
 
+-- and so does finishing it
 pub keeps-finish : (old new : DriveState) (tables after : TablesView) (host : Filling) (start : ℕ) → Agrees (mounted old tables) → tables.roles.host ≡ Some host → start ≡ host.zone * old.geometry.size → 1 ≤ host.written → host.written < old.geometry.capacity
     → Finished old new start → OpensNone old.zones new.zones → IsLawful new → after ≡ record tables { roles = sealed tables.roles } → KeepsArray (mounted old tables) (mounted new after)
 keeps-finish old new tables after host start agrees is start-is some room finished opens lawful after-is =
@@ -203,6 +193,7 @@ pub record FinishHalts (old new : DriveState) (tables : TablesView) (fault : Por
   pub leaves : RetireLeaves (mounted old tables) (mounted new tables) (Err (disk_fault (fault_halt fault)))
   pub cause : IsCause new tables.next (disk_fault (fault_halt fault))
 
+-- its Finish is not refused, and what it leaves is kept
 pub finish_halts : (old new : DriveState) (tables : TablesView) (host : Filling) (start : ℕ) (fault : PortFault) → Agrees (mounted old tables) → tables.roles.host ≡ Some host → start ≡ host.zone * old.geometry.size → 1 ≤ host.written → host.written < old.geometry.capacity
     → FinishGives {V = Unit {0}} old start (Err fault) new → FinishKeeps {V = Unit {0}} old start (Err fault) new → FinishLeaves {V = Unit {0}} old start (Err fault) new → Obeys {V = Unit {0}} old (Err fault) new → (CanFinish old start → IsNotRefused {V = Unit {0}} (Err fault)) → FinishHalts old new tables fault
 finish_halts old new tables host start (port.Refused status) agrees is start-is some room gives kept leaves obeys passed = absurd (passed (can_finish old tables host.zone start agrees (filling-host tables.roles host is) start-is))
@@ -234,7 +225,8 @@ finish_halts old new tables host start port.Stopped agrees is start-is some room
           },
         )
 
-pub keeps-take : (drive : DriveState) (tables new : TablesView) (zone : ℕ) → Agrees (mounted drive tables) → tables.roles.host ≡ None → IsLowestEmpty tables.roles zone → 2 ≤ empty_count tables.roles → new ≡ record tables { roles = taken tables.roles zone }
+-- taking an empty zone keeps the array
+keeps-take : (drive : DriveState) (tables new : TablesView) (zone : ℕ) → Agrees (mounted drive tables) → tables.roles.host ≡ None → IsLowestEmpty tables.roles zone → 2 ≤ empty_count tables.roles → new ≡ record tables { roles = taken tables.roles zone }
     → KeepsArray (mounted drive tables) (mounted drive new)
 keeps-take drive tables new zone agrees is lowest two new-is =
     rw new-is (record {
@@ -284,11 +276,8 @@ take-here drive old new clean host is none (inr (no_next, two, lowest, host-is, 
       stays = array-stays (mounted drive old) (mounted drive new) clean is kept;
     }
 
+-- and makes it the host zone
 pub take_gives : (a b : MountedView) (clean : Option CleanView) (host : Filling) → AgreesWithClean a clean → a.tables.roles.host ≡ None → b.drive ≡ a.drive → TakesHost a.tables host b.tables → TakeGives a b clean host
 take_gives a b clean host is none drive takes =
     let here : TakeGives a (mounted a.drive b.tables) clean host = take-here a.drive a.tables b.tables clean host is none takes in
     subst (λ (d : DriveState). TakeGives a (mounted d b.tables) clean host) (sym drive) here
-
--- where a zone is next, one is found
-pub must-take : (old : TablesView) → is_some (next_of old.roles.second) ≡ true → next_of old.roles.second ≡ None → ⊥
-must-take old some none = let bad : is_some (next_of old.roles.second) ≡ false = rw none refl in absurd (cc)

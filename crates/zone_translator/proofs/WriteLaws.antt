@@ -61,6 +61,7 @@ pub record IsBuiltBatch (block size sequence : ℕ) (trim : Bool) (first count :
   pub says : IsHeading block builder.heading
   pub batch_is : built block builder ≡ host_batch size sequence trim first count (cut_blocks block (data_count (entries_from trim first count)) body)
 
+-- the batch that was built has these entries and this body
 pub built-batch : (block size sequence : ℕ) (trim : Bool) (first count : ℕ) (body : List ℕ) (builder : BuilderView) → 32 ≤ block → IsSize size → count ≤ entry_room block → sequence < 2 ^ 64 → first + count ≤ 2 ^ 63 → length body ≡ data_count (entries_from trim first count) * block
     → builder.heading ≡ host_heading size sequence trim first count → builder.bytes ≡ header_block block (host_heading size sequence trim first count) ++ body → IsBuiltBatch block size sequence trim first count body builder
 built-batch block size sequence trim first count body builder large is_size room short le long heading-is bytes-are =
@@ -86,7 +87,8 @@ pub record TakesCount (g : Geometry) (host : Filling) (left : ℕ) (trim : Bool)
   pub most : count ≤ batch_most g
   pub room : host.written + 1 + data_count (entries_from trim 0 count) ≤ g.capacity
 
-pub count-takes : (g : Geometry) (host : Filling) (left : ℕ) (trim : Bool) → IsInRange g → host.written + 2 ≤ g.capacity → 1 ≤ left → TakesCount g host left trim (batch_count g host left trim)
+-- a batch takes one block at least, and no more than are left
+count-takes : (g : Geometry) (host : Filling) (left : ℕ) (trim : Bool) → IsInRange g → host.written + 2 ≤ g.capacity → 1 ≤ left → TakesCount g host left trim (batch_count g host left trim)
 count-takes g host left true range free some =
     let most = positive-most g range in
     record { some = omega (arith, most, some); few = omega arith; most = omega arith; room = omega (arith, free, data_count-trims 0 (batch_count g host left true)) }
@@ -165,7 +167,7 @@ next-batch disk host rest count builder agrees room write count-is reserved head
 -- ---- after a zone and memory were found for it
 
 -- the tables have more room, and the drive is the same
-pub room-array : (b w : MountedView) → w.drive ≡ b.drive → SameButReady b.tables w.tables → Agrees b → KeepsArray b w
+room-array : (b w : MountedView) → w.drive ≡ b.drive → SameButReady b.tables w.tables → Agrees b → KeepsArray b w
 room-array b w drive room agrees =
     let kept : KeepsArray b (mounted b.drive w.tables) = keeps-room b.drive b.tables w.tables room agrees in
     subst (λ (d : DriveState). KeepsArray b (mounted d w.tables)) (sym drive) kept
@@ -241,6 +243,7 @@ keeps-placed a b c clean zone batch kept placed is = record {
   appended = omega (arith, kept.appended, placed.appended);
 }
 
+-- the batch was appended, and writes its part
 pub writes : (a b c : MountedView) (old new : Option CleanView) (host : Filling) (rest : Rest) (count : ℕ) (builder : BuilderView) → KeepsByCleaning a b → AgreesWithClean b old → CanWrite a rest
     → IsNextBatch b host rest builder count → HostLeaves b old host.zone (built b.drive.geometry.block builder) (Ok tt) c new → WritesRest a rest (Ok count) c new
 writes a b c old new host rest count builder kept is write next leaves =
@@ -330,9 +333,11 @@ write_without trim a b clean first blocks Smaller leaves cause = leaves
 write_without trim a b clean first blocks Reserve leaves cause = leaves
 write_without trim a b clean first blocks Unmounted leaves cause = leaves
 
+-- there was no room for it
 pub write_no_room : (a b : MountedView) (clean : Option CleanView) (rest : Rest) (fault : DiskFault) (result : Result ℕ DiskFault) → result ≡ Err fault → RoomLeaves {V = Filling} a b clean (Err fault) → IsCause b.drive b.tables.next fault → WritesRest a rest result b clean
 write_no_room a b clean rest fault result is leaves cause = rw is (write_without (is_trim rest.content) a b clean rest.first (rest_blocks a.drive.geometry rest) fault leaves cause)
 
+-- or no memory
 pub write_no_memory : (a b : MountedView) (clean : Option CleanView) (rest : Rest) (result : Result ℕ DiskFault) → result ≡ Err OutOfMemory → KeepsByCleaning a b × AgreesWithClean b clean → WritesRest a rest result b clean
 write_no_memory a b clean rest result is kept = rw is kept
 

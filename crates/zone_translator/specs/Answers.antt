@@ -23,7 +23,7 @@ use Rattle.zone_translator.specs.Changes.{AreNamed, batch_commands}
 use Rattle.zone_translator.specs.Cleaning.{AreNewer, log_in_zone}
 use Rattle.zone_translator.specs.Flat.{Call, FlatCall, FlatRemount, read, with_nothing, write}
 use Rattle.zone_translator.specs.Mount.{MountsDisk}
-use Rattle.zone_translator.specs.View.{DiskCause, DiskView, KeepsDisk, disk_size, disk_turns, flat_of, given_size}
+use Rattle.zone_translator.specs.View.{CompletesAtMost, DiskCause, DiskView, KeepsDisk, disk_size, disk_turns, flat_of, given_size}
 use Rattle.zone_translator.specs.View.{logs_of, mounted_of, most_batches, next_sequence, disk_places, size_on}
 
 -- ---- what is asked, and what it takes
@@ -88,6 +88,13 @@ pub record Stores (trim : Bool) (old : DiskView) (first n : ℕ) (result : Resul
 -- the call, and its victim was emptied, in which only batches of the call are. Another clean may run then.
 abbrev pub KeepsClean : DiskView → DiskView → Type 0
 KeepsClean old new = IfSome old.clean (λ clean. (disk_turns new ≤ disk_turns old) ⊎ AreNewer (next_sequence old) (log_in_zone new.drive clean.victim))
+
+-- What a write costs, whatever it answers: so many commands at most. One that is done adds no turns of a clean, and one
+-- after which the disk serves throws none back that runs.
+pub record CostsAtMost (old : DiskView) (commands : ℕ) (result : Result (Unit {0}) DiskFault) (new : DiskView) : Type 0 where
+  pub turns : OnOk result (disk_turns new ≤ disk_turns old)
+  pub clean : new.status ≡ statuses.Serving → KeepsClean old new
+  pub completed : CompletesAtMost old commands new
 
 -- once a growth is done, a header that was written says the size, and the sequences kept for repairs are left
 pub record SaysSize (old : DiskView) (size : ℕ) (new : DiskView) : Type 0 where

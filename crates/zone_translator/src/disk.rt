@@ -1,4 +1,5 @@
-ghost use Rattle.std.specs.Prelude.{◌≡◌, ◌+◌, ◌<◌, ◌≤◌, ◌^◌, ◌++◌, [], IfErr, IfOk, None, OnErr, OnOk, false, is_some, length, slice_index_or, true};
+ghost use Rattle.std.specs.Prelude.{◌≡◌, ◌+◌, ◌<◌, ◌≤◌, ◌^◌, ◌++◌, [], IfErr, IfOk, None, OnErr, OnOk, false};
+ghost use Rattle.std.specs.Prelude.{is_some, length, slice_index_or, true};
 ghost use Rattle.logical_map.specs.declared.place.Place.TheVariants as places;
 ghost use Rattle.remount.specs.Kept.{KeepsMountable};
 ghost use Rattle.remount.specs.Mount.{MountFails, Mounts};
@@ -6,7 +7,9 @@ ghost use Rattle.drive_survey.specs.Scan.{FailsBy};
 ghost use Rattle.drive_array.specs.Reserve.{FitsReserve};
 ghost use Rattle.zone_choice.specs.Roles.{empty_count};
 ghost use Rattle.zone_choice.specs.Tables.{size_of};
-ghost use Rattle.zone_translator.specs.Answers.{Answers, AnswersRead, AreBlocksOf, IsMounted, KeepsClean, Remounts, SaysSize, Stores, TakesTurn, count_of_blocks, write_bytes, write_commands, write_content};
+ghost use Rattle.zone_translator.specs.Answers.{Answers, AnswersRead, AreBlocksOf, CostsAtMost, IsMounted};
+ghost use Rattle.zone_translator.specs.Answers.{KeepsClean, Remounts, SaysSize, Stores, TakesTurn};
+ghost use Rattle.zone_translator.specs.Answers.{count_of_blocks, write_bytes, write_commands, write_content};
 ghost use Rattle.zone_translator.specs.Batches.{CanWrite, HasBlocks, KeepsCut, is_trim};
 ghost use Rattle.zone_translator.specs.Calls.{IsSound, ReportsAll, answer_before, done_of, refusal_before, status_left};
 ghost use Rattle.zone_translator.specs.Changes.{batch_commands};
@@ -14,7 +17,8 @@ ghost use Rattle.zone_translator.specs.Cleaning.{KeepsCleaning};
 ghost use Rattle.zone_translator.specs.Flat.{answer_while, fill, grow, idle, known_growth, known_range, report, trim};
 ghost use Rattle.zone_translator.specs.Mount.{GivesBack};
 ghost use Rattle.zone_translator.specs.Parts.{KeepsByRead, ReadStops, RefusedSome, WroteSome};
-ghost use Rattle.zone_translator.specs.View.{CompletesAtMost, DiskCause, KeepsDisk, disk_array, HasLive, disk_size, disk_turns, flat_of, mounted_of, disk_places};
+ghost use Rattle.zone_translator.specs.View.{CompletesAtMost, DiskCause, HasLive, KeepsDisk, disk_array};
+ghost use Rattle.zone_translator.specs.View.{disk_places, disk_size, disk_turns, flat_of, mounted_of};
 ghost use Rattle.zone_translator.specs.declared.status.DiskStatus.TheVariants.{Serving};
 
 use crate::fault::DiskFault;
@@ -45,7 +49,12 @@ impl<D: Device + Drop> Model for Disk<D> {
 
     ghost Value = { DiskView };
 
-    ghost view = { λ d. record { drive = d.mounted.drive; tables = d.mounted.tables; clean = d.cleaner; status = d.status } };
+    ghost view = { λ d. record {
+      drive = d.mounted.drive;
+      tables = d.mounted.tables;
+      clean = d.cleaner;
+      status = d.status;
+    } };
 
     ghost invariant = { λ d. Holds d.mounted d.cleaner d.status };
 }
@@ -66,8 +75,10 @@ fn new_cleaner<D: Device>(disk: &Mounted<D>) -> Cleaner
 
 /// Finds the tables again on the drive. After a refusal they are the old ones.
 fn mount_again<D: Device>(disk: &mut Mounted<D>) -> Result<(), MountFault>
-    ensures ok { OnOk result (Mounts disk.old.drive disk.new.drive disk.old.tables.given disk.new.tables) }
-    ensures err { IfErr result (FailsBy (MountFails disk.old.drive disk.old.tables.given) disk.new.drive) }
+    ensures ok { OnOk result
+        (Mounts disk.old.drive disk.new.drive disk.old.tables.given disk.new.tables) }
+    ensures err { IfErr result
+        (FailsBy (MountFails disk.old.drive disk.old.tables.given) disk.new.drive) }
     ensures tables { OnErr result (disk.new.tables ≡ disk.old.tables) }
     ensures kept { KeepsMountable disk.old.tables.given disk.old.drive disk.new.drive }
 {
@@ -97,7 +108,8 @@ impl<D: Device + Drop> Disk<D> {
     /// With the fault the drive is given back, and can be mounted if it could before.
     pub fn mount(alloc: Global, mut device: D, blocks: u64) -> Result<Disk<D>, (MountFault, D)>
         ensures disk { IfOk result (IsMounted (D.drive device) blocks) }
-        ensures err { IfErr result (λ refusal. GivesBack (D.drive device) blocks refusal.0 (D.drive refusal.1)) }
+        ensures err { IfErr result
+            (λ refusal. GivesBack (D.drive device) blocks refusal.0 (D.drive refusal.1)) }
     {
         match mount(alloc, &mut device, blocks) {
             Ok(tables) => Ok(Disk {
@@ -128,7 +140,8 @@ impl<D: Device + Drop> Disk<D> {
     pub fn blocks(&self) -> u64
         ensures size { result ≡ disk_size self.now }
         ensures few { result ≤ 2 ^ 31 }
-        ensures array { self.now.status ≡ Serving → length (disk_array self.now) ≡ disk_size self.now }
+        ensures array { self.now.status ≡ Serving
+            → length (disk_array self.now) ≡ disk_size self.now }
     {
         mounted_blocks(&self.mounted)
     }
@@ -144,7 +157,8 @@ impl<D: Device + Drop> Disk<D> {
     /// Where the newest record of a block lies on the drive. A block that no record names has no place, and
     /// neither has one past the end. After `Stopped` it is the place that was known before.
     pub fn place_of(&self, block: u64) -> Place
-        ensures { self.now.status ≡ Serving → result ≡ slice_index_or (disk_places self.now) block places.None }
+        ensures { self.now.status ≡ Serving
+            → result ≡ slice_index_or (disk_places self.now) block places.None }
     {
         if block >= mounted_blocks(&self.mounted) {
             return Place::None;
@@ -177,8 +191,10 @@ impl<D: Device + Drop> Disk<D> {
         ensures kept { KeepsDisk self.old self.new }
         ensures size { disk_size self.new ≡ disk_size self.old }
         ensures cut { KeepsCut self.old.drive rest.entry self.new.drive }
-        ensures clean { KeepsCleaning (mounted_of self.old) self.old.clean result (mounted_of self.new) self.new.clean }
-        ensures completed { CompletesAtMost self.old (batch_commands self.old.drive.geometry) self.new }
+        ensures clean { KeepsCleaning (mounted_of self.old) self.old.clean result
+            (mounted_of self.new) self.new.clean }
+        ensures completed { CompletesAtMost self.old
+            (batch_commands self.old.drive.geometry) self.new }
     {
         match next_batch(&mut self.mounted, &mut self.cleaner, &mut self.batch, rest) {
             Ok(count) => Ok(count),
@@ -192,11 +208,13 @@ impl<D: Device + Drop> Disk<D> {
     /// Writes n blocks from `first` on, batch by batch.
     fn write_all(&mut self, first: u64, blocks: u64, content: Content) -> Result<(), DiskFault>
         requires whole { HasBlocks self.old.drive.geometry.block blocks content }
-        ensures answers { Answers self.old (write_content self.old first blocks content.entry) result self.new }
+        ensures answers { Answers self.old
+            (write_content self.old first blocks content.entry) result self.new }
         ensures stores { Stores (is_trim content.entry) self.old first blocks result self.new }
         ensures turns { OnOk result (disk_turns self.new ≤ disk_turns self.old) }
         ensures clean { self.new.status ≡ Serving → KeepsClean self.old self.new }
-        ensures completed { CompletesAtMost self.old (write_commands (is_trim content.entry) self.old blocks) self.new }
+        ensures completed { CompletesAtMost self.old
+            (write_commands (is_trim content.entry) self.old blocks) self.new }
     {
         if self.is_done(first, blocks)? {
             return Ok(());
@@ -223,7 +241,8 @@ impl<D: Device + Drop> Disk<D> {
         requires in_range { block < disk_size self.old }
         requires serving { self.old.status ≡ Serving }
         ensures keeps { KeepsByRead self.old self.new }
-        ensures ok { OnOk result (into.new.items ≡ into.old.items ++ slice_index_or (disk_array self.old) block []) }
+        ensures ok { OnOk result (into.new.items ≡ into.old.items
+            ++ slice_index_or (disk_array self.old) block []) }
         ensures serving { OnOk result (self.new.status ≡ Serving) }
         ensures err { IfErr result (ReadStops self.old block self.new) }
         ensures completed { CompletesAtMost self.old 1 self.new }
@@ -255,9 +274,11 @@ impl<D: Device + Drop> Disk<D> {
     /// end is refused, and so is each while the disk does not serve.
     fn is_done(&self, first: u64, blocks: u64) -> Result<bool, DiskFault>
         ensures known { known_range (flat_of self.now) first blocks ≡ answer_before result }
-        ensures in_range { IfOk result (λ done. done ≡ false → (1 ≤ blocks) × (first + blocks ≤ disk_size self.now)) }
+        ensures in_range { IfOk result (λ done. done ≡ false
+            → (1 ≤ blocks) × (first + blocks ≤ disk_size self.now)) }
         ensures serving { IfOk result (λ done. done ≡ false → self.now.status ≡ Serving) }
-        ensures long { IfOk result (λ done. done ≡ false → length (disk_array self.now) ≡ disk_size self.now) }
+        ensures long { IfOk result (λ done. done ≡ false
+            → length (disk_array self.now) ≡ disk_size self.now) }
         ensures none { IfOk result (λ done. done ≡ true → blocks ≡ 0) }
         ensures cause { IfErr result (DiskCause self.now) }
         ensures sound { IsSound self.now }
@@ -278,11 +299,11 @@ impl<D: Device + Drop> Disk<D> {
     /// After a refusal on its way a front of them is written. After `OutOfMemory` or `Spent` the
     /// disk goes on; after `Stopped` it needs a mount of the restarted drive, or a remount, which finds the front.
     pub fn fill(&mut self, first: u64, blocks: u64, byte: u8) -> Result<(), DiskFault>
-        ensures answers { Answers self.old (fill self.old.drive.geometry.block first blocks byte) result self.new }
+        ensures answers { Answers self.old
+            (fill self.old.drive.geometry.block first blocks byte) result self.new }
         ensures stores { Stores false self.old first blocks result self.new }
-        ensures turns { OnOk result (disk_turns self.new ≤ disk_turns self.old) }
-        ensures clean { self.new.status ≡ Serving → KeepsClean self.old self.new }
-        ensures completed { CompletesAtMost self.old (write_commands false self.old blocks) self.new }
+        ensures costs { CostsAtMost self.old
+            (write_commands false self.old blocks) result self.new }
     {
         self.write_all(first, blocks, Content::Byte(byte))
     }
@@ -293,11 +314,10 @@ impl<D: Device + Drop> Disk<D> {
     pub fn write(&mut self, first: u64, bytes: &[u8]) -> Result<(), DiskFault>
         requires whole { AreBlocksOf self.old bytes.now }
         ensures answers { Answers self.old (write_bytes self.old first bytes.now) result self.new }
-        ensures stores { Stores false self.old first (count_of_blocks self.old bytes.now) result self.new }
-        ensures turns { OnOk result (disk_turns self.new ≤ disk_turns self.old) }
-        ensures clean { self.new.status ≡ Serving → KeepsClean self.old self.new }
-        ensures completed { CompletesAtMost self.old
-            (write_commands false self.old (count_of_blocks self.old bytes.now)) self.new }
+        ensures stores { Stores false self.old first
+            (count_of_blocks self.old bytes.now) result self.new }
+        ensures costs { CostsAtMost self.old
+            (write_commands false self.old (count_of_blocks self.old bytes.now)) result self.new }
     {
         let block = self.mounted.geometry().block as usize;
         self.write_all(first, (bytes.len() / block) as u64, Content::Bytes(bytes))
@@ -308,11 +328,11 @@ impl<D: Device + Drop> Disk<D> {
     ///
     /// After a refusal on its way a front of the blocks is trimmed, as after one of a `fill`.
     pub fn trim(&mut self, first: u64, blocks: u64) -> Result<(), DiskFault>
-        ensures answers { Answers self.old (trim self.old.drive.geometry.block first blocks) result self.new }
+        ensures answers { Answers self.old
+            (trim self.old.drive.geometry.block first blocks) result self.new }
         ensures stores { Stores true self.old first blocks result self.new }
-        ensures turns { OnOk result (disk_turns self.new ≤ disk_turns self.old) }
-        ensures clean { self.new.status ≡ Serving → KeepsClean self.old self.new }
-        ensures completed { CompletesAtMost self.old (write_commands true self.old blocks) self.new }
+        ensures costs { CostsAtMost self.old
+            (write_commands true self.old blocks) result self.new }
     {
         self.write_all(first, blocks, Content::Trim)
     }
@@ -320,7 +340,8 @@ impl<D: Device + Drop> Disk<D> {
     /// Whether a growth to `blocks` blocks is refused before it begins.
     fn check_growth(&self, blocks: u64) -> Result<(), DiskFault>
         ensures known { known_growth (flat_of self.now) blocks ≡ refusal_before result }
-        ensures grows { OnOk result ((disk_size self.now ≤ blocks) × FitsReserve self.now.drive.geometry blocks) }
+        ensures grows { OnOk result ((disk_size self.now ≤ blocks)
+            × FitsReserve self.now.drive.geometry blocks) }
         ensures serving { OnOk result (self.now.status ≡ Serving) }
         ensures cause { IfErr result (DiskCause self.now) }
         ensures sound { IsSound self.now }
@@ -343,7 +364,8 @@ impl<D: Device + Drop> Disk<D> {
         ensures says { OnOk result (SaysSize self.old blocks self.new) }
         ensures turns { OnOk result (disk_turns self.new ≤ disk_turns self.old) }
         ensures clean { is_some self.old.clean ≡ true → disk_turns self.new ≤ disk_turns self.old }
-        ensures completed { CompletesAtMost self.old (batch_commands self.old.drive.geometry) self.new }
+        ensures completed { CompletesAtMost self.old
+            (batch_commands self.old.drive.geometry) self.new }
     {
         self.check_growth(blocks)?;
         let blocks = blocks as u32;
@@ -384,7 +406,8 @@ impl<D: Device + Drop> Disk<D> {
     /// Whether a clean runs, of which turns are left. While none runs, a zone is kept empty for the next one.
     pub fn is_cleaning(&self) -> bool
         ensures runs { result ≡ is_some self.now.clean }
-        ensures spare { self.now.status ≡ Serving → result ≡ false → 1 ≤ empty_count self.now.tables.roles }
+        ensures spare { self.now.status ≡ Serving → result ≡ false
+            → 1 ≤ empty_count self.now.tables.roles }
     {
         self.cleaner.running()
     }
@@ -414,7 +437,8 @@ impl<D: Device + Drop> Disk<D> {
     /// Set 1.1, section 3.4.2): a head of 64 bytes and a descriptor of 64 bytes for each zone.
     pub fn report(&mut self) -> Result<Vec<u8>, DiskFault>
         ensures answers { Answers self.old report (done_of result) self.new }
-        ensures zones { IfOk result (λ bytes. ReportsAll self.old.drive bytes.items self.new.drive) }
+        ensures zones { IfOk result
+            (λ bytes. ReportsAll self.old.drive bytes.items self.new.drive) }
         ensures turns { disk_turns self.new ≡ disk_turns self.old }
         ensures completed { CompletesAtMost self.old 1 self.new }
     {

@@ -30,7 +30,8 @@ pub(crate) fn read_block<D: Device>(
     requires in_range { block < size_of disk.old.tables }
     ensures kept { KeepsArray disk.old disk.new }
     ensures tables { disk.new.tables ≡ disk.old.tables }
-    ensures ok { OnOk result (into.new.items ≡ into.old.items ++ slice_index_or (mounted_array disk.old) block []) }
+    ensures ok { OnOk result (into.new.items ≡ into.old.items
+        ++ slice_index_or (mounted_array disk.old) block []) }
     ensures err { IfErr result (IsBlockFault disk.new block) }
     ensures completed { disk.new.drive.completed ≤ disk.old.drive.completed + 1 }
 {

@@ -75,7 +75,8 @@ fn find_host<D: Device>(disk: &mut Mounted<D>, cleaner: &mut Cleaner) -> Result<
     ensures ok { IfOk result (IsHost disk.new) }
     ensures err { IfErr result (IsCause disk.new.drive disk.new.tables.next) }
     ensures clean { KeepsCleaning disk.old cleaner.old result disk.new cleaner.new }
-    ensures completed { disk.new.drive.completed + 2 ≤ disk.old.drive.completed + 2 * disk.old.drive.geometry.capacity }
+    ensures completed { disk.new.drive.completed + 2
+        ≤ disk.old.drive.completed + 2 * disk.old.drive.geometry.capacity }
 {
     if let Some(host) = take(disk) {
         return Ok(host);
@@ -99,7 +100,8 @@ pub(crate) fn make_room<D: Device>(
     ensures ok { IfOk result (IsHost disk.new) }
     ensures err { IfErr result (IsCause disk.new.drive disk.new.tables.next) }
     ensures clean { KeepsCleaning disk.old cleaner.old result disk.new cleaner.new }
-    ensures completed { disk.new.drive.completed + 1 ≤ disk.old.drive.completed + 2 * disk.old.drive.geometry.capacity }
+    ensures completed { disk.new.drive.completed + 1
+        ≤ disk.old.drive.completed + 2 * disk.old.drive.geometry.capacity }
 {
     let Some(host) = host_of(disk) else {
         return find_host(disk, cleaner);

@@ -5,7 +5,9 @@ ghost use Rattle.drive_array.specs.Reserve.{FitsReserve};
 ghost use Rattle.zone_choice.specs.Tables.{SameButReady, size_of};
 ghost use Rattle.zone_cleaner.specs.Start.{AgreesWithClean};
 ghost use Rattle.zone_states.specs.Geometry.{IsInRange};
-ghost use Rattle.zone_translator.specs.Batches.{CanWrite, IsAfter, IsNextBatch, IsRoom, IsTaken, HasBytes, KeepsCut, WritesRest, batch_count, bytes_of, header_of, next_heading, is_trim, named_with, next_count};
+ghost use Rattle.zone_translator.specs.Batches.{CanWrite, HasBytes, IsAfter, IsNextBatch, IsRoom, IsTaken, KeepsCut};
+ghost use Rattle.zone_translator.specs.Batches.{WritesRest, batch_count, bytes_of, header_of, is_trim, named_with};
+ghost use Rattle.zone_translator.specs.Batches.{next_count, next_heading};
 ghost use Rattle.zone_translator.specs.Changes.{GrowLeaves, IsCause, RoomLeaves, batch_commands};
 ghost use Rattle.zone_translator.specs.Cleaning.{KeepsCleaning};
 
@@ -85,7 +87,8 @@ fn find_room<D: Device>(disk: &mut Mounted<D>, cleaner: &mut Cleaner) -> Result<
     ensures ok { IfOk result (IsRoom disk.new) }
     ensures cause { IfErr result (IsCause disk.new.drive disk.new.tables.next) }
     ensures clean { KeepsCleaning disk.old cleaner.old result disk.new cleaner.new }
-    ensures completed { disk.new.drive.completed + 1 ≤ disk.old.drive.completed + 2 * disk.old.drive.geometry.capacity }
+    ensures completed { disk.new.drive.completed + 1
+        ≤ disk.old.drive.completed + 2 * disk.old.drive.geometry.capacity }
 {
     let host = make_room(disk, cleaner)?;
     let capacity = disk.geometry().capacity as u64;
@@ -137,7 +140,8 @@ fn add_content(batch: &mut BatchBuilder, content: Content, count: usize) -> Resu
     requires within { HasBytes count content }
     requires few { count < 2 ^ 62 }
     ensures heading { batch.new.heading ≡ batch.old.heading }
-    ensures bytes { OnOk result (batch.new.bytes ≡ batch.old.bytes ++ bytes_of count content.entry) }
+    ensures bytes { OnOk result (batch.new.bytes ≡ batch.old.bytes
+        ++ bytes_of count content.entry) }
 {
     match content {
         Content::Byte(byte) => batch.fill(count, byte),
@@ -158,7 +162,8 @@ fn build_batch<D: Device>(
     requires room { IsRoom disk.old host }
     requires can { CanWrite disk.old rest }
     ensures ok { IfOk result (IsNextBatch disk.new host rest.entry batch.new) }
-    ensures count { IfOk result (λ count. count ≡ next_count disk.old.drive.geometry host rest.entry) }
+    ensures count { IfOk result
+        (λ count. count ≡ next_count disk.old.drive.geometry host rest.entry) }
     ensures drive { disk.new.drive ≡ disk.old.drive }
     ensures kept { SameButReady disk.old.tables disk.new.tables }
 {
@@ -189,7 +194,8 @@ pub(crate) fn next_batch<D: Device>(
     ensures cut { KeepsCut disk.old.drive rest.entry disk.new.drive }
     ensures cause { IfErr result (IsCause disk.new.drive disk.new.tables.next) }
     ensures clean { KeepsCleaning disk.old cleaner.old result disk.new cleaner.new }
-    ensures completed { disk.new.drive.completed ≤ disk.old.drive.completed + batch_commands disk.old.drive.geometry }
+    ensures completed { disk.new.drive.completed
+        ≤ disk.old.drive.completed + batch_commands disk.old.drive.geometry }
 {
     let host = find_room(disk, cleaner)?;
     let count = build_batch(disk, batch, host, rest)?;
@@ -212,7 +218,8 @@ pub(crate) fn grow_batch<D: Device>(
     ensures leaves { GrowLeaves disk.old disk.new cleaner.new blocks result }
     ensures cause { IfErr result (IsCause disk.new.drive disk.new.tables.next) }
     ensures clean { KeepsCleaning disk.old cleaner.old result disk.new cleaner.new }
-    ensures completed { disk.new.drive.completed ≤ disk.old.drive.completed + batch_commands disk.old.drive.geometry }
+    ensures completed { disk.new.drive.completed
+        ≤ disk.old.drive.completed + batch_commands disk.old.drive.geometry }
 {
     let host = find_room(disk, cleaner)?;
     batch.start(Kind::Host, next_sequence(disk), 0, Some(blocks));

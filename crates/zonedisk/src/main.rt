@@ -11,22 +11,23 @@
 //! ```
 //!
 //! The lines are `read`, `fill`, `write`, `trim`, `idle`, `grow` and `remount`, as `docs/formats.md` describes them.
-//! [`job_of`] reads the words of the command line, [`run_job`] does what they ask for, and [`do_job`] does it on
+//! [`task_of`] reads the words of the command line, [`run_job`] does what they ask for, and [`do_job`] does it on
 //! the drive of a file, which it locks: each change is in the file before the reply to it, and the drive is saved at the
 //! end. What the replies are is promised by the runs below,
-//! [`run_trace`], [`answer_trace`] and [`run_raw`]; what a job holds, and which words ask for none, by [`job_of`];
+//! [`run_trace`], [`answer_trace`] and [`run_raw`]; what a task holds, and which words ask for none, by [`task_of`];
 //! which drive is saved, and what is shown of it, by [`run_job`]; and the image of a drive by `drive_images`.
+//! `zonedisk nbd` serves a drive by the Network Block Device protocol, as [`serve_drive`] promises.
 //! `--statistics`, the file and the exit status 0 are tested. [`explain`] says on standard error what a fault is.
 #![tactic(auto)]
 
 use clap::error::ErrorKind;
-pub use command_line::job_of;
-use disk_files::LineReader;
+pub use command_line::{Task, task_of};
 pub use disk_jobs::{
-    Done, FileFault, Habit, Job, ProgramFault, Stop, SystemError, do_job, explain, run_job,
-    write_program_fault,
+    Done, FileFault, Gate, Habit, Job, JobInput, ProgramFault, Stop, SystemError, do_job, explain,
+    run_job, write_program_fault,
 };
 pub use disk_runs::{RunFault, answer_trace, run_raw, run_trace, write_fault};
+pub use nbd_jobs::{NbdJob, do_nbd_job, serve_drive};
 use std::alloc::Global;
 use std::env::Env;
 use std::io::{BufWriter, Write};
@@ -55,11 +56,52 @@ fn fail<W: Write>(alloc: Global, fault: ProgramFault, output: &mut W) -> ExitCod
 fn tell<R: Eprint>(rt: &R, alloc: Global, job: &Job, done: Done, line: &[u8]) {
     for ended in [done.job, done.saved] {
         if let Err(fault) = ended
-            && let Ok(text) = explain(alloc, job, fault, line)
+            && let Ok(text) = explain(alloc, job, fault, line, done.mounting)
         {
             let _ = eprintln!(rt; "zonedisk: {text}");
         }
     }
+}
+
+/// Does a job whose lines are on standard input.
+fn do_lines<R: Eprint + Files<File = fs::File> + Input, W: Write>(
+    rt: &R,
+    alloc: Global,
+    job: &Job,
+    output: &mut W,
+) -> ExitCode {
+    let gate = Gate::open();
+    let mut input = JobInput::new(alloc, &gate, rt.reader());
+    let done = do_job(rt, alloc, job, &mut input, output);
+    let Some(fault) = done.fault() else {
+        return ExitCode::SUCCESS;
+    };
+    let code = fail(alloc, fault, output);
+    tell(rt, alloc, job, done, input.line());
+    code
+}
+
+/// Serves a drive on the standard streams. What people are told goes to standard error.
+fn do_nbd<R: Eprint + Files<File = fs::File> + Input, W: Write>(
+    rt: &R,
+    alloc: Global,
+    job: &NbdJob,
+    output: &mut W,
+) -> ExitCode {
+    let done = do_nbd_job(rt, alloc, job, rt.reader(), output);
+    if let Some(text) = &done.statistics {
+        let _ = eprint!(rt; "{text}");
+    }
+    let mut code = ExitCode::SUCCESS;
+    for ended in [done.session, done.saved] {
+        if let Err(fault) = ended {
+            code = ExitCode::FAILURE;
+            if let Ok(text) = nbd_jobs::explain(alloc, job, fault) {
+                let _ = eprintln!(rt; "zonedisk: {text}");
+            }
+        }
+    }
+    code
 }
 
 /// Opens the root folder three times. Where a standard stream is closed, the next file that is opened takes its place:
@@ -88,8 +130,8 @@ fn main(rt: HostRuntime) -> io::Result<ExitCode> {
             return Ok(ExitCode::from(REFUSED));
         }
     };
-    let job = match job_of(alloc, &words) {
-        Ok(job) => job,
+    let task = match task_of(alloc, &words) {
+        Ok(task) => task,
         Err(error) if error.kind() == ErrorKind::OutOfMemory => {
             return Ok(fail(alloc, OUT_OF_MEMORY, &mut output));
         }
@@ -98,12 +140,8 @@ fn main(rt: HostRuntime) -> io::Result<ExitCode> {
             return Ok(ExitCode::from(REFUSED));
         }
     };
-    let mut input = LineReader::new(alloc, rt.reader());
-    let done = do_job(&rt, alloc, &job, &mut input, &mut output);
-    let Some(fault) = done.fault() else {
-        return Ok(ExitCode::SUCCESS);
-    };
-    let code = fail(alloc, fault, &mut output);
-    tell(&rt, alloc, &job, done, input.line());
-    Ok(code)
+    Ok(match task {
+        Task::Lines(job) => do_lines(&rt, alloc, &job, &mut output),
+        Task::Nbd(job) => do_nbd(&rt, alloc, &job, &mut io::writer(&rt)),
+    })
 }

@@ -5,13 +5,16 @@ ghost use Rattle.std.specs.Ordering.{nat_cmp};
 ghost use Rattle.batch_log.specs.Log.{Batch};
 ghost use Rattle.drive_port.specs.Drive.{DriveState};
 ghost use Rattle.drive_array.specs.Records.{newest, records, without};
-ghost use Rattle.drive_survey.specs.BlockRecords.{HasNoRecord, HoldsBlocks, HoldsMore, HoldsRecords, IsLastOutside, forgets, held_of, notes, slot_after, slot_of};
+ghost use Rattle.drive_survey.specs.BlockRecords.{HasNoRecord, HoldsBlocks, HoldsMore, HoldsRecords, IsLastOutside};
+ghost use Rattle.drive_survey.specs.BlockRecords.{NotesNewest};
+ghost use Rattle.drive_survey.specs.BlockRecords.{forgets, held_of, notes, slot_after, slot_of};
 ghost use Rattle.drive_survey.specs.Clearing.{AreOf, CoversMoved, CoversZone};
-ghost use Rattle.drive_survey.specs.KeptRecords.{kept_entries, kept_of_zone, kept_record, kept_records};
+ghost use Rattle.drive_survey.specs.KeptRecords.{kept_entries, kept_of_zone, kept_record};
 ghost use Rattle.drive_survey.specs.Known.{Knows};
 ghost use Rattle.drive_survey.specs.Scan.{heads_in};
 
 use crate::clearing::moved::is_moved;
+use crate::clearing::newest::newest_records;
 use crate::heads::{Head, ZoneHeads};
 use crate::records::{KeptRecord, block_in, entry_record, is_trim};
 use crate::scan::ScannedZone;
@@ -19,7 +22,7 @@ use crate::survey::Survey;
 use std::alloc::{AllocError, Global};
 use std::collections::BTreeMap;
 
-/// All records of some blocks: those of each block by their sequences.
+/// The records of some blocks: of each zone the newest one of each block, by the sequences.
 #[derive(Drop)]
 pub struct BlockRecords {
     blocks: BTreeMap<u32, BTreeMap<u64, KeptRecord>>,
@@ -75,57 +78,33 @@ fn note(table: &mut BlockRecords, found: KeptRecord) -> Result<(), AllocError>
     Ok(())
 }
 
-/// Takes the records of a batch.
-fn note_batch(
+/// Takes these records.
+fn note_each(table: &mut BlockRecords, own: &[KeptRecord]) -> Result<(), AllocError>
+    ensures { OnOk result ((block sequence : ℕ)
+        → slot_of table.new block sequence ≡ slot_after notes block sequence (slot_of table.old block sequence)
+        own.now) }
+{
+    for found in own {
+        note(table, *found)?;
+    }
+    Ok(())
+}
+
+/// Takes of each zone the newest record of each block.
+fn note_all(
+    alloc: Global,
     table: &mut BlockRecords,
-    zone: u32,
-    head: &Head,
-    entries: &[u32],
+    scanned: &[ScannedZone],
 ) -> Result<(), AllocError>
-    ensures { OnOk result ((block sequence : ℕ)
-        → slot_of table.new block sequence ≡ slot_after notes block sequence (slot_of table.old block sequence)
-        (kept_entries head.now.sequence zone head.now.offset 0 entries.now)) }
-{
-    let mut before = 0;
-    for entry in entries {
-        note(table, entry_record(zone, head, before, *entry))?;
-        if !is_trim(*entry) {
-            before += 1;
-        }
-    }
-    Ok(())
-}
-
-/// Takes the records of a zone's batches.
-fn note_zone(table: &mut BlockRecords, zone: u32, heads: &ZoneHeads) -> Result<(), AllocError>
-    ensures { OnOk result ((block sequence : ℕ)
-        → slot_of table.new block sequence ≡ slot_after notes block sequence (slot_of table.old block sequence)
-        (kept_of_zone zone heads.now)) }
-{
-    let mut from = 0;
-    let mut rest = heads.entries();
-    for head in heads.heads() {
-        let count = head.end.saturating_sub(from) as usize;
-        let (own, others) = rest.split_at(count.min(rest.len()));
-        note_batch(table, zone, head, own)?;
-        from = head.end;
-        rest = others;
-    }
-    Ok(())
-}
-
-/// Takes the records of all batches.
-fn note_all(table: &mut BlockRecords, scanned: &[ScannedZone]) -> Result<(), AllocError>
     ensures more { OnOk result (HoldsMore table.old table.new) }
-    ensures noted { OnOk result (length scanned.now < 2 ^ 32 → (block sequence : ℕ)
-        → slot_of table.new block sequence ≡ slot_after notes block sequence (slot_of table.old block sequence)
-        (kept_records 0 (heads_in scanned.now))) }
+    ensures noted { OnOk result (length scanned.now < 2 ^ 32 → NotesNewest (heads_in scanned.now) table.old table.new) }
 {
     for (number, found) in scanned.iter().enumerate() {
         let Ok(zone) = u32::try_from(number) else {
             return Ok(());
         };
-        note_zone(table, zone, &found.heads)?;
+        let own = newest_records(alloc, zone, &found.heads)?;
+        note_each(table, &own)?;
     }
     Ok(())
 }
@@ -196,7 +175,7 @@ impl BlockRecords {
             blocks: BTreeMap::new(alloc),
         };
         hold_moved(alloc, &mut table, &survey.scanned)?;
-        note_all(&mut table, &survey.scanned)?;
+        note_all(alloc, &mut table, &survey.scanned)?;
         Ok(table)
     }
 
@@ -217,7 +196,7 @@ impl BlockRecords {
             return Ok(table);
         };
         hold_blocks(alloc, &mut table, &found.heads)?;
-        note_all(&mut table, &survey.scanned)?;
+        note_all(alloc, &mut table, &survey.scanned)?;
         Ok(table)
     }
 

@@ -1,4 +1,5 @@
-ghost use Rattle.std.specs.Prelude.{◌≡◌, ◌<◌, ℕ, List, Option, length, replicate, IfErr, IfNone, IfOk, IfSome, IsSome, OnOk};
+ghost use Rattle.std.specs.Prelude.{◌≡◌, ◌+◌, ◌*◌, ◌<◌, ◌≤◌, ℕ, List, Option, length, replicate, IfErr, IfNone};
+ghost use Rattle.std.specs.Prelude.{IfOk, IfSome, IsSome, OnOk};
 ghost use Rattle.std.specs.Option.{option_map};
 ghost use Rattle.batch_log.specs.Log.{Batch};
 ghost use Rattle.drive_array.specs.Records.{Record, shown};
@@ -66,6 +67,7 @@ fn read_data<D: Device>(
         → into.new.items ≡ block_of (D.drive device.old) found.zone found.offset) }
     ensures err { IfErr result (IsInterruption (D.drive device.new)) }
     ensures kept { KeepsZones (D.drive device.old) (D.drive device.new) }
+    ensures completed { (D.drive device.new).completed ≤ (D.drive device.old).completed + 1 }
 {
     let Some(reported) = zones.get(found.zone as usize) else {
         return Ok(());
@@ -92,6 +94,7 @@ fn read_shown<D: Device>(
         → IfStands (D.drive device.old) found → into.new.items ≡ shown (D.drive device.old).geometry.block found) }
     ensures err { IfErr result (IsInterruption (D.drive device.new)) }
     ensures kept { KeepsZones (D.drive device.old) (D.drive device.new) }
+    ensures completed { (D.drive device.new).completed ≤ (D.drive device.old).completed + 1 }
 {
     if let Some(found) = kept {
         if !found.trim {
@@ -113,6 +116,7 @@ fn show_same<D: Device>(
     ensures ok { IfOk result (TellsRivals (D.drive device.old) rivals) }
     ensures err { IfErr result (IsInterruption (D.drive device.new)) }
     ensures kept { KeepsZones (D.drive device.old) (D.drive device.new) }
+    ensures completed { (D.drive device.new).completed ≤ (D.drive device.old).completed + 2 }
 {
     read_shown(device, zones, Some(rivals.newest), &mut buffers.first)?;
     read_shown(device, zones, rivals.other, &mut buffers.second)?;
@@ -140,7 +144,7 @@ fn rivals_of(table: &BlockRecords, zone: u32, block: u32) -> Option<Rivals>
 }
 
 /// The first block that a zone names and that shows something else without it. Only blocks whose newest record is in
-/// the zone are read. A block that the zone names again is not looked at again.
+/// the zone are read, by two Reads at most. A block that the zone names again is not looked at again.
 pub(crate) fn first_needed<D: Device>(
     device: &mut D,
     survey: &Survey,
@@ -152,6 +156,8 @@ pub(crate) fn first_needed<D: Device>(
     ensures ok { IfOk result (LooksFor (D.drive device.old) table.now zone (entries_at survey.now.scanned.items zone)) }
     ensures err { IfErr result (IsInterruption (D.drive device.new)) }
     ensures kept { KeepsZones (D.drive device.old) (D.drive device.new) }
+    ensures completed { (D.drive device.new).completed
+        ≤ (D.drive device.old).completed + 2 * length (entries_at survey.now.scanned.items zone) }
 {
     let Some(found) = survey.scanned.get(zone as usize) else {
         return Ok(None);

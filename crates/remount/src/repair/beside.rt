@@ -1,8 +1,9 @@
-ghost use Rattle.std.specs.Prelude.{◌≡◌, ◌≢◌, ◌<◌, ◌≤◌, ◌^◌, ℕ, true, false, length, slice_get, slice_index_or, Some, IfErr, IfNone, IfOk, IfSome, OnOk};
+ghost use Rattle.std.specs.Prelude.{◌≡◌, ◌≢◌, ◌<◌, ◌≤◌, ◌^◌, ℕ, true, false, length, slice_get, slice_index_or};
+ghost use Rattle.std.specs.Prelude.{Some, IfErr, IfNone, IfOk, IfSome, OnOk};
 ghost use Rattle.drive_port.specs.Contents.{contents};
 ghost use Rattle.zone_choice.specs.Agreement.{IsShut};
 ghost use Rattle.drive_array.specs.ZoneLogs.{drive_logs, zone_tails};
-ghost use Rattle.remount.specs.Kept.{AreVacantEmpty, KeepsMountable};
+ghost use Rattle.remount.specs.Kept.{AreVacantEmpty, KeepsMountable, NotesNoneOpen};
 ghost use Rattle.drive_survey.specs.Known.{Knows};
 ghost use Rattle.remount.specs.Mount.{IsCleared, IsOnlyTorn};
 ghost use Rattle.remount.specs.Moving.{KeepsShut, SettlesOthers, SettlesZone};
@@ -33,6 +34,7 @@ fn finish_other<D: Device>(
     requires in_range { zone < length survey.old.zones.items }
     ensures ok { OnOk result ((n : ℕ) → Knows (D.drive device.old) n (drive_logs (D.drive device.old)) survey.old
         → SettlesZone n (D.drive device.old) (D.drive device.new) survey.old survey.new torn zone) }
+    ensures noted { OnOk result (NotesNoneOpen survey.old.zones.items survey.new.zones.items) }
     ensures err { IfErr result (IsInterruption (D.drive device.new)) }
     ensures kept { (n : ℕ) → KeepsMountable n (D.drive device.old) (D.drive device.new) }
 {
@@ -57,6 +59,7 @@ pub(crate) fn finish_beside<D: Device>(
         (zone_tails (contents (D.drive device.old).zones)) torn }
     ensures cleared { OnOk result (IsCleared (D.drive device.new) survey.old.given survey.new) }
     ensures left { OnOk result (SettlesOthers (D.drive device.old) (D.drive device.new) torn) }
+    ensures noted { OnOk result (NotesNoneOpen survey.old.zones.items survey.new.zones.items) }
     ensures err { IfErr result (IsInterruption (D.drive device.new)) }
     ensures kept { KeepsMountable survey.old.given (D.drive device.old) (D.drive device.new) }
 {

@@ -1,4 +1,5 @@
-ghost use Rattle.std.specs.Prelude.{◌≡◌, ◌++◌, [], ◌∷◌, ◌+◌, ◌*◌, ◌<◌, ◌≤◌, ◌^◌, ℕ, List, length, take, drop, slice_index_or, IfErr, IfOk, OnOk};
+ghost use Rattle.std.specs.Prelude.{◌≡◌, ◌++◌, [], ◌∷◌, ◌+◌, ◌*◌, ◌<◌, ◌≤◌, ◌^◌, ℕ, List, length, take, drop};
+ghost use Rattle.std.specs.Prelude.{slice_index_or, IfErr, IfOk, OnOk};
 ghost use Rattle.std.specs.List.{AllByRecursion, concat};
 ghost use Rattle.batch_log.specs.Header.{IsHeading, header_block};
 ghost use Rattle.batch_log.specs.Log.{batch_size, data_count};
@@ -8,7 +9,9 @@ ghost use Rattle.zone_choice.specs.Builder.{IsBuilt, built};
 ghost use Rattle.zone_choice.specs.Tables.{size_of};
 ghost use Rattle.drive_survey.specs.Heads.{no_heads, with_heading};
 ghost use Rattle.remount.specs.Kept.{KeepsMountable};
-ghost use Rattle.remount.specs.Moving.{CanTake, IsAtMove, IsBlockAt, IsBuiltAs, IsReadableAt, TakesFirst, TakesSome, blocks_listed, move_by, move_count, moved_data, moved_entries, named_by, placed_entry, said_at, size_by, source_of};
+ghost use Rattle.remount.specs.Moving.{CanTake, IsAtMove, IsBlockAt, IsBuiltAs, IsReadableAt, TakesFirst, TakesSome};
+ghost use Rattle.remount.specs.Moving.{blocks_listed, move_by, move_count, moved_data, moved_entries, named_by};
+ghost use Rattle.remount.specs.Moving.{placed_entry, said_at, size_by, source_of};
 ghost use Rattle.drive_survey.specs.Reported.{IsKnown, KeepsZones};
 ghost use Rattle.drive_survey.specs.Scan.{IsInterruption, readable_at};
 

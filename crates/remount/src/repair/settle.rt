@@ -1,4 +1,4 @@
-ghost use Rattle.std.specs.Prelude.{◌≡◌, ◌<◌, ◌≤◌, ◌^◌, ℕ, false, List, length, IfErr, OnOk};
+ghost use Rattle.std.specs.Prelude.{◌≡◌, ◌⊎◌, ◌<◌, ◌≤◌, ◌^◌, ℕ, false, List, length, IfErr, OnOk};
 ghost use Rattle.zone_states.specs.Transition.{is_open};
 ghost use Rattle.batch_log.specs.Log.{Batch};
 ghost use Rattle.drive_port.specs.Contents.{contents, full, usage_of};
@@ -6,7 +6,7 @@ ghost use Rattle.drive_port.specs.Drive.{DriveState};
 ghost use Rattle.drive_array.specs.ZoneLogs.{drive_logs};
 ghost use Rattle.zone_choice.specs.Tables.{TablesView};
 ghost use Rattle.drive_survey.specs.Heads.{HeadsView, heads_of};
-ghost use Rattle.remount.specs.Kept.{AreVacantEmpty, KeepsMountable};
+ghost use Rattle.remount.specs.Kept.{AreVacantEmpty, IsNotedOpen, KeepsMountable};
 ghost use Rattle.drive_survey.specs.Known.{Knows};
 ghost use Rattle.remount.specs.Moving.{EmptiesTorn, IsAtMove, move_count, moves_before, source_of, usage_with};
 ghost use Rattle.drive_survey.specs.Scan.{IsInterruption};
@@ -73,6 +73,8 @@ pub(crate) fn note_repair(
     ensures known { (n : ℕ) (start new : DriveState) (made : List Batch) → start.geometry.capacity ≡ capacity
         → heads ≡ heads_of made → Knows start n (drive_logs start) survey.old
         → EmptiesTorn n start new plan.now made → Knows new n (drive_logs new) survey.new }
+    ensures noted { (zone : ℕ) → IsNotedOpen survey.new.zones.items zone
+        → IsNotedOpen survey.old.zones.items zone ⊎ (zone ≡ plan.now.into) }
     ensures vacant { (n : ℕ) (start new : DriveState) (made : List Batch)
         → Knows start n (drive_logs start) survey.old → AreVacantEmpty survey.old.zones.items (drive_logs start)
         → EmptiesTorn n start new plan.now made → AreVacantEmpty survey.new.zones.items (drive_logs new) }

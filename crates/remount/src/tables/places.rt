@@ -7,7 +7,8 @@ ghost use Rattle.drive_survey.specs.Heads.{no_heads};
 ghost use Rattle.drive_survey.specs.KeptRecords.{kept_entries, kept_of_zone};
 ghost use Rattle.drive_survey.specs.Known.{Knows};
 ghost use Rattle.remount.specs.Mount.{IsPlaced};
-ghost use Rattle.remount.specs.Placing.{AreAscending, SameButPlaces, heads_at, is_later, kept_place, placed_all, placed_one, placed_sequence, sequence_of};
+ghost use Rattle.remount.specs.Placing.{AreAscending, SameButPlaces, heads_at, is_later, kept_place, placed_all};
+ghost use Rattle.remount.specs.Placing.{placed_one, placed_sequence, sequence_of};
 ghost use Rattle.drive_survey.specs.Scan.{heads_in};
 
 use drive_survey::{Head, KeptRecord, ScannedZone, Survey, ZoneHeads, entry_record, is_trim};

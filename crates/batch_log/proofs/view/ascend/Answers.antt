@@ -1,7 +1,7 @@
 use Rattle.std.proofs.Common.{◌≡◌, ◌-◌, true, sym, ap, ◌∙◌, arith, zero, drop, ℕ, ◌*◌}
 use Rattle.std.proofs.lemmas.Bool.{le-leb}
 use Rattle.batch_log.specs.Reading.{entries_in}
-use Rattle.batch_log.specs.Causes.{blocks_named}
+use Rattle.batch_log.specs.Causes.{entry_blocks}
 use Rattle.batch_log.proofs.EntryLaws.{ascending, ascends, ascends_from, ascends_more}
 use Rattle.batch_log.proofs.view.ascend.Goals as goal
 
@@ -14,5 +14,5 @@ loop-i-preserved c =
 pub returns : goal.returns
 returns c = λ yes.
     let done : c.args.count - c.loop-i.i ≡ zero = omega (arith, c.loop-i-test.false) in
-    let all : ascends_from c.args.bytes.now c.args.count c.loop-i.least c.loop-i.i ≡ true = ap (λ (n : ℕ). ascends c.loop-i.least (blocks_named (entries_in n (drop (8 * c.loop-i.i) c.args.bytes.now)))) done in
-    ascending (blocks_named (entries_in c.args.count c.args.bytes.now)) (sym c.loop-i.invariant ∙ all)
+    let all : ascends_from c.args.bytes.now c.args.count c.loop-i.least c.loop-i.i ≡ true = ap (λ (n : ℕ). ascends c.loop-i.least (entry_blocks (entries_in n (drop (8 * c.loop-i.i) c.args.bytes.now)))) done in
+    ascending (entry_blocks (entries_in c.args.count c.args.bytes.now)) (sym c.loop-i.invariant ∙ all)

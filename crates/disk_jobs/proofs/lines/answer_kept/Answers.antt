@@ -10,11 +10,12 @@ returns g c =
     record {
       drive = left.drive;
       answers = record {
-        ran = c.run_lines-device.result.1;
+        ran = c.run_lines-device.result.2;
         middle = g.W.Write.contents c.run_lines-device.new.output;
         runs = c.run_lines-device.ensures;
         shows = c.show_after-shown.ensures;
       };
-      back = λ kept. let same = c.into_parts-drive.ensures.device (sym c.store_failed-failed.ensures ∙ kept) in (ap (λ (d : DriveState). d.geometry) same, ap (λ (d : DriveState). d.zones) same);
+      failed_is = c.has_failed-failed.ensures;
+      back = λ kept. let same = c.into_parts-drive.ensures.device kept in (ap (λ (d : DriveState). d.geometry) same, ap (λ (d : DriveState). d.zones) same);
       stored = stores-drive c.args.job.now c.args.device.contents held left.drive c.requires (rw c.into_parts-drive.ensures.store c.into_parts-drive.ensures.kept.stored);
     }

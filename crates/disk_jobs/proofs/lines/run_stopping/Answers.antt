@@ -1,15 +1,43 @@
-use Rattle.std.proofs.Common.{ap}
+use Rattle.std.proofs.Common.{ap, inl, rules}
 use Rattle.drive_port.specs.Drive.{DriveState}
 use Rattle.drive_port.specs.Stop.{drive_of}
+use Rattle.disk_runs.specs.Run.{exchange}
+use Rattle.disk_runs.specs.Trace.{IsNotMounted, RunGives, RunLeaves}
+use Rattle.disk_runs.proofs.TraceLaws.{led, led_gives, led_leaves}
+use Rattle.disk_jobs.specs.Saved.{stopping}
 use Rattle.disk_jobs.proofs.lines.run_stopping.Goals as goal
 
+-- the lines were answered by the disk that was mounted
 pub returns : goal.returns
 returns g c =
-    let device = c.stopping-device.ensures in
+    let n = c.args.how.blocks in
+    let old = drive_of c.stopping.result in
+    let made = c.in-Ok.ensures in
+    let bytes = exchange c.args.input.now.left (g.W.Write.contents c.args.output.now) (g.W.Write.contents c.answer_trace-disk.new.writer) in
+    let ended = c.answer_trace-disk.result.1 in
+    let seen = drive_of c.into_device.result in
+    let gives : RunGives n bytes old ended seen = rw c.into_device.ensures
+    (led_gives n bytes old ended _ (led n bytes old c.in-Ok.disk c.answer_trace-disk.result.0 ended made.disk.mounts made.disk.kept made.disk.mountable c.answer_trace-disk.ensures)) in
+    let leaves : RunLeaves n bytes old ended seen = rw c.into_device.ensures
+    (led_leaves n bytes old ended _ (led n bytes old c.in-Ok.disk c.answer_trace-disk.result.0 ended made.disk.mounts made.disk.kept made.disk.mountable c.answer_trace-disk.ensures)) in
     record {
-      seen = drive_of c.run_trace-device.result.0;
-      gives = rw device at c.run_trace-device.ensures.gives;
-      leaves = rw device at c.run_trace-device.ensures.leaves;
+      seen = seen;
+      gives = rw c.stopping.ensures at gives;
+      leaves = rw c.stopping.ensures at leaves;
+      geometry = ap (λ (d : DriveState). d.geometry) c.into_inner-2.ensures;
+      zones = ap (λ (d : DriveState). d.zones) c.into_inner-2.ensures;
+    }
+
+-- the drive was not mounted
+pub returns-in-Err : goal.returns-in-Err
+returns-in-Err g c =
+    let bytes = exchange c.args.input.now.left (g.W.Write.contents c.args.output.now) (g.W.Write.contents c.args.output.now) in
+    let none : IsNotMounted c.args.how.blocks bytes (drive_of (stopping c.args.how.stop (g.D.Device.drive c.args.device))) c.in-Err.fault (drive_of c.in-Err.device) =
+    record { back = rw c.stopping.ensures at c.in-Err.ensures.err; unwritten = search rules } in
+    record {
+      seen = drive_of c.in-Err.device;
+      gives = inl none;
+      leaves = inl none;
       geometry = ap (λ (d : DriveState). d.geometry) c.into_inner.ensures;
       zones = ap (λ (d : DriveState). d.zones) c.into_inner.ensures;
     }

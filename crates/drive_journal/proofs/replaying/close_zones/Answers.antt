@@ -7,7 +7,7 @@ use Rattle.drive_journal.proofs.StoredLaws.{whole-sent}
 use Rattle.drive_journal.proofs.replaying.close_zones.Goals as goal
 
 pub returns-clause-zones : goal.returns-clause-zones
-returns-clause-zones c = rw c.send_to_each.ensures (zones_of-sent c.args.block Close c.args.zones.now ∙ closed-all (zones_of c.args.block c.args.zones.now))
+returns-clause-zones c = rw c.apply_to_each.ensures (zones_of-sent c.args.block Close c.args.zones.now ∙ closed-all (zones_of c.args.block c.args.zones.now))
 
 pub returns-clause-whole : goal.returns-clause-whole
-returns-clause-whole c whole = rw c.send_to_each.ensures (whole-sent c.args.block Close c.args.zones.now whole)
+returns-clause-whole c whole = rw c.apply_to_each.ensures (whole-sent c.args.block Close c.args.zones.now whole)

@@ -1,6 +1,7 @@
 use Rattle.std.proofs.Common.{[], slice_index_or, length, sym, ap, ◌∙◌}
 use Rattle.drive_survey.proofs.ReadLaws.{keeps-both, kept-known, kept-blocks}
 use Rattle.drive_survey.proofs.NextLaws.{bad-kept, end-ok, if-fault, meet-few, meets, met-err, met-few, met-ok}
+use Rattle.drive_survey.proofs.CountLaws.{met-reads}
 use Rattle.drive_survey.proofs.scan.next_head.Goals as goal
 
 pub meet_header-requires-clause-few : goal.meet_header-requires-clause-few
@@ -41,3 +42,7 @@ returns-in_ok-end_at-in-Err-clause-ok g c =
 
 pub returns-in_ok-end_at-in-Err-clause-kept : goal.returns-in_ok-end_at-in-Err-clause-kept
 returns-in_ok-end_at-in-Err-clause-kept g c = keeps-both _ _ _ c.read_block.ensures.kept c.end_at.ensures.kept
+
+pub returns-in-Ok-clause-reads : goal.returns-in-Ok-clause-reads
+returns-in-Ok-clause-reads g c =
+    met-reads c.args.zone.number c.args.zone.reported c.args.heads.now _ _ _ c.in-Ok.header c.meet_header.result _ _ c.requires.in_range c.read_block.ensures.completed c.meet_header.ensures

@@ -3,10 +3,11 @@ use Rattle.drive_survey.proofs.ReadLaws.{keeps-both, keeps-none, kept-known}
 use Rattle.drive_survey.proofs.TakeLaws.{takes-none}
 use Rattle.drive_survey.proofs.NextLaws.{all-next, if-fault}
 use Rattle.drive_survey.proofs.ScanLaws.{step-err, step-ok, taken-next}
+use Rattle.drive_survey.proofs.CountLaws.{reads-next}
 use Rattle.drive_survey.proofs.scan.scan_zone.Goals as goal
 
 pub loop-zone-init : goal.loop-zone-init
-loop-zone-init g c = (keeps-none _ c.requires.zone.lawful, rw c.new-heads.ensures (takes-none _ _ c.args.seen.now.keys), rw c.new-heads.ensures (omega arith))
+loop-zone-init g c = (keeps-none _ c.requires.zone.lawful, rw c.new-heads.ensures (takes-none _ _ c.args.seen.now.keys), rw c.new-heads.ensures (omega arith), rw c.new-heads.ensures (record { completed = omega arith; few = omega arith; inside = omega arith }))
 
 pub next_head-requires-clause-zone : goal.next_head-requires-clause-zone
 next_head-requires-clause-zone g c = kept-known _ _ c.args.zone.number c.args.zone.reported c.loop-zone.invariant.0 c.requires.zone
@@ -40,7 +41,7 @@ pub loop-zone-preserved : goal.loop-zone-preserved
 loop-zone-preserved g c =
     let next = step-ok (g.D.Device.drive c.args.device.now) (g.D.Device.drive c.loop-zone.device) c.args.zone.number c.args.seen.now.keys c.loop-zone.seen.keys c.next_head.new.seen.keys c.loop-zone.heads c.next_head.new.heads c.in_ok-is_torn.field-0 c.loop-zone.invariant.0 c.loop-zone.invariant.1 c.in_ok-is_torn.ensures.ok in
     let taken = taken-next (g.D.Device.drive c.args.device.now) c.args.zone.number c.args.seen.now.keys c.next_head.new.seen.keys c.loop-zone.heads c.next_head.new.heads c.in_ok-is_torn.field-0 next c.in_default.not-Some in
-    (keeps-both _ _ _ c.loop-zone.invariant.0 c.next_head.ensures.kept, taken.0, c.in_ok-is_torn.ensures.few)
+    (keeps-both _ _ _ c.loop-zone.invariant.0 c.next_head.ensures.kept, taken.0, c.in_ok-is_torn.ensures.few, reads-next c.args.zone.reported c.loop-zone.heads c.next_head.new.heads c.in_ok-is_torn.field-0 _ _ _ c.loop-zone.invariant.3 c.in_ok-is_torn.ensures.reads c.in_default.not-Some)
 
 pub returns-clause-ok : goal.returns-clause-ok
 returns-clause-ok g c =
@@ -48,3 +49,30 @@ returns-clause-ok g c =
 
 pub returns-clause-kept : goal.returns-clause-kept
 returns-clause-kept g c = c.loop-zone.invariant.0
+
+pub returns-in_err-is_torn-clause-completed : goal.returns-in_err-is_torn-clause-completed
+returns-in_err-is_torn-clause-completed g c =
+    let far = c.loop-zone.invariant.3 in
+    omega (arith, far.completed, far.few, far.inside, c.in_err-is_torn.ensures.reads)
+
+pub returns-in-Some-clause-reads : goal.returns-in-Some-clause-reads
+returns-in-Some-clause-reads g c =
+    let far = c.loop-zone.invariant.3 in
+    let reads = rw c.in-Some.is at c.in_ok-is_torn.ensures.reads in
+    rw reads.1 (omega (arith, far.completed, reads.0))
+
+pub returns-in-Some-clause-completed : goal.returns-in-Some-clause-completed
+returns-in-Some-clause-completed g c =
+    let far = c.loop-zone.invariant.3 in
+    let reads = rw c.in-Some.is at c.in_ok-is_torn.ensures.reads in
+    omega (arith, far.completed, far.few, far.inside, reads.0)
+
+pub returns-clause-reads : goal.returns-clause-reads
+returns-clause-reads g c =
+    let far = c.loop-zone.invariant.3 in
+    omega (arith, far.completed, far.inside)
+
+pub returns-clause-completed : goal.returns-clause-completed
+returns-clause-completed g c =
+    let far = c.loop-zone.invariant.3 in
+    omega (arith, far.completed, far.few, far.inside)

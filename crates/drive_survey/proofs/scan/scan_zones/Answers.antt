@@ -1,11 +1,12 @@
-use Rattle.std.proofs.Common.{◌≡◌, ◌++◌, [], ◌∷◌, arith}
+use Rattle.std.proofs.Common.{◌≡◌, ◌++◌, [], ◌∷◌, ◌+◌, arith}
 use Rattle.drive_survey.proofs.ReadLaws.{keeps-both, keeps-none}
 use Rattle.drive_survey.proofs.NextLaws.{if-fault}
 use Rattle.drive_survey.proofs.AllScanLaws.{all-known, scans-all, scans-fail, scans-more, scans-none, there-is}
+use Rattle.drive_survey.proofs.CountLaws.{blocks-more, blocks-within, reads-more}
 use Rattle.drive_survey.proofs.scan.scan_zones.Goals as goal
 
 pub loop-number-init : goal.loop-number-init
-loop-number-init g c = (keeps-none _ c.requires.zones.lawful, rw (c.new-scanned.ensures.items, c.new-seen.ensures.empty) (scans-none (g.D.Device.drive c.args.device.now)))
+loop-number-init g c = (keeps-none _ c.requires.zones.lawful, rw (c.new-scanned.ensures.items, c.new-seen.ensures.empty) (scans-none (g.D.Device.drive c.args.device.now)), rw c.new-scanned.ensures.items (omega arith), omega arith)
 
 pub scan_zone-requires : goal.scan_zone-requires
 scan_zone-requires g c =
@@ -27,6 +28,8 @@ loop-number-preserved g c =
     let pushed : c.push.new.self.items ≡ c.loop-number.scanned.items ++ c.in_ok-heads.heads ∷ [] = rw c.if-is_err.ensures.negation at c.push.ensures.items in (
       keeps-both _ _ _ c.loop-number.invariant.0 c.scan_zone.ensures.kept,
       scans-more (g.D.Device.drive c.args.device.now) (g.D.Device.drive c.loop-number.device) c.loop-number.scanned.items c.push.new.self.items c.in_ok-heads.heads c.loop-number.seen.keys c.scan_zone.new.seen.keys c.loop-number.number c.loop-number.invariant.0 (omega (arith, c.loop-number-test.true, c.requires.zones.count)) pushed c.loop-number.invariant.1 c.in_ok-heads.ensures.ok,
+      reads-more (g.D.Device.drive c.args.device.now) (g.D.Device.drive c.loop-number.device) (g.D.Device.drive c.scan_zone.new.device) c.args.zones.now c.loop-number.number _ c.loop-number.scanned.items c.push.new.self.items c.in_ok-heads.heads c.loop-number-test.true pushed c.loop-number.invariant.2 c.in_ok-heads.ensures.reads,
+      blocks-more (g.D.Device.drive c.args.device.now) (g.D.Device.drive c.loop-number.device) (g.D.Device.drive c.scan_zone.new.device) c.args.zones.now c.loop-number.number _ c.loop-number-test.true c.loop-number.invariant.3 c.scan_zone.ensures.completed,
     )
 
 pub returns-clause-ok : goal.returns-clause-ok
@@ -35,3 +38,19 @@ returns-clause-ok g c =
 
 pub returns-clause-kept : goal.returns-clause-kept
 returns-clause-kept g c = c.loop-number.invariant.0
+
+pub returns-in_err-heads-clause-completed : goal.returns-in_err-heads-clause-completed
+returns-in_err-heads-clause-completed g c =
+    let more = blocks-more (g.D.Device.drive c.args.device.now) (g.D.Device.drive c.loop-number.device) (g.D.Device.drive c.scan_zone.new.device) c.args.zones.now c.loop-number.number _ c.loop-number-test.true c.loop-number.invariant.3 c.scan_zone.ensures.completed in
+    omega (arith, more, blocks-within c.args.zones.now (c.loop-number.number + 1))
+
+pub returns-then-is_err-clause-completed : goal.returns-then-is_err-clause-completed
+returns-then-is_err-clause-completed g c =
+    let more = blocks-more (g.D.Device.drive c.args.device.now) (g.D.Device.drive c.loop-number.device) (g.D.Device.drive c.scan_zone.new.device) c.args.zones.now c.loop-number.number _ c.loop-number-test.true c.loop-number.invariant.3 c.scan_zone.ensures.completed in
+    omega (arith, more, blocks-within c.args.zones.now (c.loop-number.number + 1))
+
+pub returns-clause-reads : goal.returns-clause-reads
+returns-clause-reads g c = omega (arith, blocks-within c.args.zones.now c.loop-number.number, c.loop-number.invariant.2)
+
+pub returns-clause-completed : goal.returns-clause-completed
+returns-clause-completed g c = omega (arith, blocks-within c.args.zones.now c.loop-number.number, c.loop-number.invariant.3)

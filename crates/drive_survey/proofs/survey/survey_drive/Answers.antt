@@ -1,4 +1,4 @@
-use Rattle.std.proofs.Common.{List, ℕ, ◌≡◌, true, false, refl, sym, ap, subst, ◌∙◌}
+use Rattle.std.proofs.Common.{List, ℕ, ◌≡◌, true, false, refl, sym, ap, subst, ◌∙◌, arith}
 use Rattle.zone_states.specs.declared.geometry.Geometry.{Geometry}
 use Rattle.drive_port.specs.Contents.{contents}
 use Rattle.drive_array.specs.Reserve.{FitsReserve}
@@ -9,6 +9,8 @@ use Rattle.drive_survey.specs.Survey.{AreBelow, drive_size, greatest_in}
 use Rattle.drive_survey.proofs.ReadLaws.{keeps-both}
 use Rattle.drive_survey.proofs.NextLaws.{if-fault}
 use Rattle.drive_survey.proofs.SurveyLaws.{block-refused, known-kept, reserve-refused, scan-refused, scans-kept, size-found, sound-found}
+use Rattle.drive_survey.specs.Reads.{blocks_reported}
+use Rattle.drive_survey.proofs.CountLaws.{kept-count, known-count}
 use Rattle.drive_survey.proofs.survey.survey_drive.Goals as goal
 
 pub returns-in_err-scanned-clause-err : goal.returns-in_err-scanned-clause-err
@@ -74,6 +76,7 @@ returns-clause-ok g c =
       given_is = refl;
       reserve = subst (λ (k : ℕ). FitsReserve old.geometry k) size fits;
       zones = known-kept middle last c.in_ok-zones.zones.items c.scan_zones.ensures.kept c.in_ok-zones.ensures.ok.1;
+      shut = c.in_ok-zones.ensures.ok.2;
       scans = scans;
     }
 
@@ -91,3 +94,36 @@ returns-then-not-are_below-clause-unsent g c never = absurd (never (record { geo
 
 pub returns-clause-unsent : goal.returns-clause-unsent
 returns-clause-unsent g c never = absurd (never (record { geometry = c.in_ok-zones.ensures.ok.0.geometry; reserve = c.in_ok-zones.ensures.ok.0.reserve }))
+
+pub returns-in_err-scanned-clause-completed : goal.returns-in_err-scanned-clause-completed
+returns-in_err-scanned-clause-completed g c =
+    let count = known-count (g.D.Device.drive c.usable_zones.new.device) c.in_ok-zones.zones.items c.in_ok-zones.ensures.ok.1 in
+    let same = kept-count (g.D.Device.drive c.args.device.now) (g.D.Device.drive c.usable_zones.new.device) c.usable_zones.ensures.kept in
+    let zones = ap blocks_reported c.deref.ensures.value in
+    omega (arith, count, same, zones, c.usable_zones.ensures.completed, c.scan_zones.ensures.completed)
+
+pub returns-then-not-fits_reserve-clause-completed : goal.returns-then-not-fits_reserve-clause-completed
+returns-then-not-fits_reserve-clause-completed g c =
+    let count = known-count (g.D.Device.drive c.usable_zones.new.device) c.in_ok-zones.zones.items c.in_ok-zones.ensures.ok.1 in
+    let same = kept-count (g.D.Device.drive c.args.device.now) (g.D.Device.drive c.usable_zones.new.device) c.usable_zones.ensures.kept in
+    let zones = ap blocks_reported c.deref.ensures.value in
+    omega (arith, count, same, zones, c.usable_zones.ensures.completed, c.scan_zones.ensures.completed)
+
+pub returns-then-not-are_below-clause-completed : goal.returns-then-not-are_below-clause-completed
+returns-then-not-are_below-clause-completed g c =
+    let count = known-count (g.D.Device.drive c.usable_zones.new.device) c.in_ok-zones.zones.items c.in_ok-zones.ensures.ok.1 in
+    let same = kept-count (g.D.Device.drive c.args.device.now) (g.D.Device.drive c.usable_zones.new.device) c.usable_zones.ensures.kept in
+    let zones = ap blocks_reported c.deref.ensures.value in
+    omega (arith, count, same, zones, c.usable_zones.ensures.completed, c.scan_zones.ensures.completed)
+
+pub returns-clause-completed : goal.returns-clause-completed
+returns-clause-completed g c =
+    let count = known-count (g.D.Device.drive c.usable_zones.new.device) c.in_ok-zones.zones.items c.in_ok-zones.ensures.ok.1 in
+    let same = kept-count (g.D.Device.drive c.args.device.now) (g.D.Device.drive c.usable_zones.new.device) c.usable_zones.ensures.kept in
+    let zones = ap blocks_reported c.deref.ensures.value in
+    omega (arith, count, same, zones, c.usable_zones.ensures.completed, c.scan_zones.ensures.completed)
+
+pub returns-clause-reads : goal.returns-clause-reads
+returns-clause-reads g c =
+    let zones = ap blocks_reported c.deref.ensures.value in
+    omega (arith, zones, c.usable_zones.ensures.completed, c.in_ok-scanned.ensures.reads)

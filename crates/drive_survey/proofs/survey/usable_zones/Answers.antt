@@ -5,7 +5,7 @@ use Rattle.zone_states.specs.Geometry.{IsInRange}
 use Rattle.drive_array.specs.Reserve.{FitsReserve}
 use Rattle.drive_survey.specs.Survey.{AreReportedUsable, is_partly_reported}
 use Rattle.drive_survey.proofs.ReadLaws.{keeps-none}
-use Rattle.drive_survey.proofs.SurveyLaws.{can-scan, few-zones, known-all, partly-old, unusable-old, usable-old}
+use Rattle.drive_survey.proofs.SurveyLaws.{can-scan, few-zones, known-all, partly-old, tells-shut, unusable-old, usable-old}
 use Rattle.drive_survey.proofs.survey.usable_zones.Goals as goal
 
 pub returns-in_default-clause-kept : goal.returns-in_default-clause-kept
@@ -47,6 +47,7 @@ returns-clause-ok g c =
     let count : c.count_partly_written.result ≡ count_by is_partly_reported c.in_ok-zones.zones.items = c.count_partly_written.ensures ∙ ap (count_by is_partly_reported) c.deref-2.ensures.value in (
       can-scan (g.D.Device.drive c.args.device.now) _ c.args.given c.in_ok-zones.zones.items range reserve c.in_ok-zones.ensures.ok usable (omega (arith, c.if-count_partly_written-gt2.false, count)),
       known-all (g.D.Device.drive c.args.device.now) _ c.in_ok-zones.zones.items range c.report_zones.ensures.kept c.in_ok-zones.ensures.ok usable,
+      tells-shut (g.D.Device.drive c.args.device.now) _ c.in_ok-zones.zones.items c.in_ok-zones.ensures.ok,
     )
 
 pub returns-in_err-zones-clause-unsent : goal.returns-in_err-zones-clause-unsent

@@ -4,6 +4,7 @@ use Rattle.drive_array.specs.ZoneLogs.{drive_logs}
 use Rattle.remount.specs.Resets.{MayReset, ResetsAll}
 use Rattle.remount.proofs.KeepLaws.{keeps-mountable-both}
 use Rattle.remount.proofs.EmptyLaws.{CanEmpty, if-ok, knows-cleared, logs-cleared, may-clear, tails-emptied, vacant-emptied, vacant-may, written-stay}
+use Rattle.remount.proofs.NotedLaws.{all-notes}
 use Rattle.remount.proofs.StepLaws.{emptied-cleared, keeps-given}
 use Rattle.remount.proofs.empty.empty_zones.Goals as goal
 
@@ -96,3 +97,16 @@ returns-clause-left g c =
       tails = tails-emptied old middle new before survey after vacant half_clean one done;
     })
     two
+
+pub returns-clause-noted : goal.returns-clause-noted
+returns-clause-noted g c =
+    let old = g.D.Device.drive c.args.device.now in
+    let middle = g.D.Device.drive c.reset_zones.new.device in
+    let new = g.D.Device.drive c.reset_zones-2.new.device in
+    let before = c.args.survey.now in
+    let survey = c.reset_zones.new.survey in
+    let after = c.reset_zones-2.new.survey in
+    let one = c.in_ok-reset_zones.ensures.ok in
+    if-ok c.reset_zones-2.result
+    (λ two zone noted. all-notes before.zones.items survey.zones.items c.deref.result.now one.reported zone (all-notes survey.zones.items after.zones.items c.deref-2.result.now two.reported zone noted))
+    c.reset_zones-2.ensures.ok

@@ -6,6 +6,7 @@ use Rattle.remount.specs.Mount.{IsRepaired, LeavesCleared, LeavesPlanned, Plans}
 use Rattle.remount.proofs.BesideLaws.{carried-zones}
 use Rattle.remount.proofs.CallLaws.{on-two}
 use Rattle.remount.proofs.KeepLaws.{keeps-mountable-both}
+use Rattle.remount.proofs.NotedLaws.{carried-notes}
 use Rattle.remount.proofs.StepLaws.{Empties, carried-left, cleared-own, emptied-plans, keeps-given, on-ok, untorn-own}
 use Rattle.remount.proofs.mounting.carry_out.Goals as goal
 
@@ -106,3 +107,14 @@ returns-clause-zones g c =
     (λ needed logs. carried-zones old middle third new n resets c.args.plan.now.repair first is c.requires.planned.repair left.others left.opens c.in_ok-repair_torn.ensures.beside
     c.repair_torn.ensures.kept.geometry (c.finish_zones.ensures.kept.geometry ∙ c.repair_torn.ensures.kept.geometry) logs needed)
     c.finish_zones.ensures.needed c.finish_zones.ensures.logs
+
+pub returns-clause-noted : goal.returns-clause-noted
+returns-clause-noted g c =
+    let old = g.D.Device.drive c.args.device.now in
+    let middle = g.D.Device.drive c.empty_zones.new.device in
+    let third = g.D.Device.drive c.repair_torn.new.device in
+    let new = g.D.Device.drive c.finish_zones.new.device in
+    on-two c.finish_zones.result
+    (λ noted logs. carried-notes old middle third new c.args.plan.now.half_clean.items c.args.survey.now.zones.items c.empty_zones.new.survey.zones.items c.repair_torn.new.survey.zones.items c.finish_zones.new.survey.zones.items
+    c.in_ok-empty_zones.ensures.left.logs logs c.in_ok-empty_zones.ensures.noted c.in_ok-repair_torn.ensures.noted noted)
+    c.finish_zones.ensures.noted c.finish_zones.ensures.logs

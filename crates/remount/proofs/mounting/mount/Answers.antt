@@ -3,6 +3,9 @@ use Rattle.std.specs.List.{AllByRecursion}
 use Rattle.zone_states.specs.declared.geometry.Geometry.{Geometry}
 use Rattle.drive_port.specs.Contents.{contents}
 use Rattle.drive_array.specs.ZoneLogs.{drive_logs, sequences}
+use Rattle.std.specs.Prelude.{Vec}
+use Rattle.std.specs.declared.alloc.Global.{Global}
+use Rattle.drive_survey.specs.declared.reported.ReportedZone.{ReportedZone}
 use Rattle.drive_survey.specs.declared.scan.ScannedZone.{ScannedZone}
 use Rattle.drive_survey.specs.Heads.{greatest_sequence, sequences_in}
 use Rattle.remount.specs.Mount.{AreMountedRoles, IsPlanned, IsRepaired, LeavesCleared, PlanFails}
@@ -13,6 +16,7 @@ use Rattle.drive_survey.proofs.ReadLaws.{keeps-both}
 use Rattle.drive_survey.proofs.NextLaws.{if-fault}
 use Rattle.remount.proofs.BesideLaws.{needed-since}
 use Rattle.remount.proofs.KeepLaws.{keeps-mountable-both}
+use Rattle.remount.proofs.NotedLaws.{open-mounted}
 use Rattle.remount.proofs.StepLaws.{can-kept, carry-kept, carry-refused, closing-keeps, keeps-given, known-own, mounts, next-is, plan-refused, planned-own, repairs, survey-knows, to-mount}
 use Rattle.remount.proofs.mounting.mount.Goals as goal
 
@@ -89,7 +93,9 @@ returns-clause-ok g c =
     let repaired : IsRepaired last c.args.given final = subst (λ (k : ℕ). IsRepaired last k final) same c.in_ok-carry_out.ensures.repaired in
     let left = subst (λ (k : ℕ). LeavesCleared k third c.in_ok-plan.plan.half_clean.items last) same c.in_ok-carry_out.ensures.left in
     let is = repairs old middle third last c.args.given c.in_ok-survey.survey c.plan_mount.new.survey final c.in_ok-plan.plan c.geometry-geometry.ensures.lawful c.survey_drive.ensures.kept c.in_ok-survey.ensures.ok
-    c.plan_mount.ensures.kept (subst (λ (k : ℕ). IsPlanned (g.D.Device.drive c.plan_mount.new.device) k c.plan_mount.new.survey c.in_ok-plan.plan) c.in_ok-survey.ensures.ok.given_is c.in_ok-plan.ensures.ok) (keeps-given c.plan_mount.new.survey.given c.args.given (g.D.Device.drive c.plan_mount.new.device) _ (c.in_ok-plan.ensures.ok.known.given_is ∙ c.in_ok-survey.ensures.ok.given_is) c.carry_out.ensures.kept) repaired.known repaired left (needed-since old third last c.in_ok-plan.plan.half_clean.items (keeps-both old middle third c.survey_drive.ensures.kept c.plan_mount.ensures.kept) c.in_ok-carry_out.ensures.zones) in
+    c.plan_mount.ensures.kept (subst (λ (k : ℕ). IsPlanned (g.D.Device.drive c.plan_mount.new.device) k c.plan_mount.new.survey c.in_ok-plan.plan) c.in_ok-survey.ensures.ok.given_is c.in_ok-plan.ensures.ok) (keeps-given c.plan_mount.new.survey.given c.args.given (g.D.Device.drive c.plan_mount.new.device) _ (c.in_ok-plan.ensures.ok.known.given_is ∙ c.in_ok-survey.ensures.ok.given_is) c.carry_out.ensures.kept) repaired.known repaired left (needed-since old third last c.in_ok-plan.plan.half_clean.items (keeps-both old middle third c.survey_drive.ensures.kept c.plan_mount.ensures.kept) c.in_ok-carry_out.ensures.zones)
+    (λ fs noted. open-mounted old third last c.in_ok-plan.plan.half_clean.items c.in_ok-survey.survey.zones.items c.plan_mount.new.survey.zones.items final.zones.items fs
+    (keeps-both old middle third c.survey_drive.ensures.kept c.plan_mount.ensures.kept) c.in_ok-survey.ensures.ok.shut (ap (λ (zs : Vec ReportedZone Global). zs.items) c.in_ok-plan.ensures.zones) c.in_ok-carry_out.ensures.noted noted) in
     let own : IsRepaired last final.given final = subst (λ (k : ℕ). IsRepaired last k final) (sym repaired.known.given_is) repaired in
     let was = c.greatest_sequence-greatest.ensures ∙ ap (λ (zs : List ScannedZone). greatest_sequence (sequences_in (heads_in zs))) c.deref.ensures.value in
     let now = c.greatest_sequence.ensures ∙ ap (λ (zs : List ScannedZone). greatest_sequence (sequences_in (heads_in zs))) c.deref-2.ensures.value in
@@ -99,6 +105,7 @@ returns-clause-ok g c =
     mounts old last c.args.given c.carry_out.new.survey c.in_ok-tables.tables is next (c.in_ok-tables.ensures.given ∙ repaired.known.given_is)
     (c.in_ok-tables.ensures.agrees last geometry own (subst (λ (k : ℕ). AllByRecursion (λ s. s < k) (sequences (drive_logs last))) c.in_ok-tables.ensures.next next.above) (subst (λ (k : ℕ). k ≤ 2 ^ 63) c.in_ok-tables.ensures.next next.small))
     (subst (λ (g : Geometry). AreMountedRoles g.capacity (contents last.zones) c.in_ok-tables.tables.roles) (sym geometry) (c.in_ok-tables.ensures.roles last geometry own))
+    c.in_ok-tables.ensures.noted
 
 pub returns-clause-kept : goal.returns-clause-kept
 returns-clause-kept g c =

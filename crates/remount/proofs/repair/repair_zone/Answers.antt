@@ -7,7 +7,8 @@ use Rattle.drive_array.specs.ZoneLogs.{drive_logs, zone_tails}
 use Rattle.drive_survey.specs.declared.reported.ReportedZone.{ReportedZone}
 use Rattle.remount.specs.Mount.{IsOnlyTorn}
 use Rattle.remount.specs.Moving.{IsMovePlan, move_count, moves_before, source_of}
-use Rattle.remount.proofs.BesideLaws.{beside-repaired}
+use Rattle.remount.proofs.BesideLaws.{beside-into, beside-repaired}
+use Rattle.remount.proofs.NotedLaws.{filled-notes}
 use Rattle.remount.proofs.BeginLaws.{has-empty, heads-some, is-finished, is-prepared, is-started, repaired-vacant, repaired-whole, survey-count}
 use Rattle.remount.proofs.CallLaws.{mountable-both, shut-both, shut-known, shut-logs, shut-mountable, zones-shut}
 use Rattle.remount.proofs.TornRepairLaws.{repaired-since, torn-repaired}
@@ -260,6 +261,29 @@ returns-clause-beside g c =
     let e = c.in_ok-empty_torn.ensures.ok n start repair.tables heads at in
     let k = shut-both one middle start (zones-shut one middle c.plan_moves.ensures.kept) c.close_alone.ensures.kept in
     beside-repaired n old one start new survey (source_of start repair.tables plan.torn) plan repair.zone into started.prepared started.torn (c.in_ok-plan.ensures.ok.into_is) c.finish_beside.ensures.kept f.left k at.can e
+
+pub returns-clause-noted : goal.returns-clause-noted
+returns-clause-noted g c =
+    let n = c.args.survey.now.given in
+    let old = g.D.Device.drive c.args.device.now in
+    let one = g.D.Device.drive c.finish_beside.new.device in
+    let survey = c.finish_beside.new.survey in
+    let repair = c.args.repair.now in
+    let f = c.in_ok-finish_beside.ensures in
+    let finished = is-finished n old one survey repair.zone c.requires.cleared.mountable c.requires.cleared.none c.requires.plan.torn c.finish_beside.ensures.kept f.left.logs f.left.tails f.cleared.known f.cleared.empty f.left.settled in
+    let into = c.in-Some.into in
+    let prepared = is-prepared n one survey repair.zone into c.deref.result.now finished c.deref.ensures.value c.in-Some.ensures.some.0 c.in-Some.ensures.some.1 in
+    let middle = g.D.Device.drive c.plan_moves.new.device in
+    let plan = c.in_ok-plan.plan in
+    let start = g.D.Device.drive c.close_alone.new.device in
+    let started = is-started n one middle start survey repair into plan prepared c.plan_moves.ensures.kept (subst (λ (k : ℕ). IsMovePlan one k survey repair into plan) c.in_ok-finish_beside.ensures.cleared.known.given_is c.in_ok-plan.ensures.ok) c.close_alone.ensures.kept c.in_ok-close_alone.ensures.shut in
+    let heads = c.in_ok-heads.heads in
+    let at = c.in_ok-heads.ensures.ok n started.at in
+    let new = g.D.Device.drive c.empty_torn.new.device in
+    let e = c.in_ok-empty_torn.ensures.ok n start repair.tables heads at in
+    let k = shut-both one middle start (zones-shut one middle c.plan_moves.ensures.kept) c.close_alone.ensures.kept in
+    let both = beside-into n old one start new survey (source_of start repair.tables plan.torn) plan repair.zone into started.prepared started.torn (c.in_ok-plan.ensures.ok.into_is) c.finish_beside.ensures.kept f.left k at.can e in
+    filled-notes old new c.args.survey.now.zones.items survey.zones.items c.note_repair.new.survey.zones.items both.0.into plan.into f.noted c.note_repair.ensures.noted both.1 both.0.vacant both.0.some
 
 pub returns-clause-kept : goal.returns-clause-kept
 returns-clause-kept g c =

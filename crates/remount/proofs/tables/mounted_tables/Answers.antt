@@ -2,6 +2,7 @@ use Rattle.std.proofs.Common.{◌∙◌, ap, length, sym}
 use Rattle.zone_choice.specs.Roles.{RolesView}
 use Rattle.remount.proofs.MountedLaws.{mounted-agrees, roles-mounted}
 use Rattle.remount.proofs.MountingLaws.{length-empties}
+use Rattle.remount.proofs.NotedLaws.{fillings-noted}
 use Rattle.remount.proofs.tables.mounted_tables.Goals as goal
 
 pub begin-requires : goal.begin-requires
@@ -17,3 +18,8 @@ pub returns-clause-roles : goal.returns-clause-roles
 returns-clause-roles c drive same repaired =
     let mounts = rw c.deref.ensures.value at c.in_ok-roles.ensures in
     rw c.begin.ensures (roles-mounted drive c.args.geometry.now c.args.survey.now.given c.args.survey.now c.in_ok-roles.roles same repaired.known repaired mounts)
+
+pub returns-clause-noted : goal.returns-clause-noted
+returns-clause-noted c =
+    let mounts = rw c.deref.ensures.value at c.in_ok-roles.ensures in
+    rw c.begin.ensures (fillings-noted c.args.survey.now.zones.items c.args.geometry.now.zones c.in_ok-roles.roles mounts)

@@ -5,57 +5,57 @@ use Rattle.drive_journal.proofs.journaling.Journaling.answer.Goals as goal
 
 pub returns-then-stopped : goal.returns-then-stopped
 returns-then-stopped g c =
-    answers-stopped c.args.self.now c.args.entry.now c.args.bytes.now c.args.into.now.items (sym c.if-stopped.ensures.value) c.if-stopped.ensures.lawful (rw c.self.view_is at c.self.invariant)
+    answers-stopped c.args.self.now c.args.entry.now c.args.bytes.now c.args.into.now.items (sym c.if-stopped.ensures.value) c.if-stopped.ensures.lawful (rw c.self.view_is at c.self.invariant.0)
 
 pub returns-then-not-will_change : goal.returns-then-not-will_change
 returns-then-not-will_change g c =
     let same = err-so c.answer.result (c.answer.new.self ≡ c.self.inside.device) (g.D.Device.drive c.answer.new.self ≡ g.D.Device.drive c.self.inside.device) (λ e. ap g.D.Device.drive e) c.answer.ensures.kept in
     rw (← c.self.view_is)
-    (shown-plain c.self.inside.loss (g.D.Device.drive c.self.inside.device) ((g.D.Foreseeing.foreseen c.self.inside.device (entry_in c.self.inside.change.items) (data_in c.self.inside.change.items)).zones) (g.S.Store.held c.self.inside.store) c.args.entry.now c.args.bytes.now c.args.into.now.items (search rules) (rw (← c.self.view_is) at c.if-stopped.ensures.value) (rw (← c.self.view_is) at c.if-stopped.ensures.lawful) c.self.invariant (g.D.Device.drive c.answer.new.self) ((g.D.Foreseeing.foreseen c.answer.new.self (entry_in c.self.inside.change.items) (data_in c.self.inside.change.items)).zones) c.answer.new.into.items c.answer.result (g.D.Foreseeing.foreseen c.self.inside.device c.args.entry.now c.args.bytes.now) c.if-not-will_change.ensures.value
+    (shown-plain c.self.inside.loss (g.D.Device.drive c.self.inside.device) ((g.D.Foreseeing.foreseen c.self.inside.device (entry_in c.self.inside.change.items) (data_in c.self.inside.change.items)).zones) (g.S.Store.held c.self.inside.store) c.args.entry.now c.args.bytes.now c.args.into.now.items (search rules) (rw (← c.self.view_is) at c.if-stopped.ensures.value) (rw (← c.self.view_is) at c.if-stopped.ensures.lawful) c.self.invariant.0 (g.D.Device.drive c.answer.new.self) ((g.D.Foreseeing.foreseen c.answer.new.self (entry_in c.self.inside.change.items) (data_in c.self.inside.change.items)).zones) c.answer.new.into.items c.answer.result (g.D.Foreseeing.foreseen c.self.inside.device c.args.entry.now c.args.bytes.now) c.if-not-will_change.ensures.value
     c.answer.ensures.lawful c.answer.ensures.gives c.answer.ensures.as_foreseen same)
 
 pub invariant_of-self : goal.invariant_of-self
-invariant_of-self g c = (returns-then-not-will_change g c).kept
+invariant_of-self g c = ((returns-then-not-will_change g c).kept, c.self.invariant.1)
 
 pub renew-requires : goal.renew-requires
-renew-requires g c = shown-whole c.self.inside.loss (g.D.Device.drive c.self.inside.device) ((g.D.Foreseeing.foreseen c.self.inside.device (entry_in c.self.inside.change.items) (data_in c.self.inside.change.items)).zones) (g.S.Store.held c.self.inside.store) c.args.entry.now c.args.bytes.now c.args.into.now.items (search rules) (rw (← c.self.view_is) at c.if-stopped.ensures.value) (rw (← c.self.view_is) at c.if-stopped.ensures.lawful) c.self.invariant
+renew-requires g c = shown-whole c.self.inside.loss (g.D.Device.drive c.self.inside.device) ((g.D.Foreseeing.foreseen c.self.inside.device (entry_in c.self.inside.change.items) (data_in c.self.inside.change.items)).zones) (g.S.Store.held c.self.inside.store) c.args.entry.now c.args.bytes.now c.args.into.now.items (search rules) (rw (← c.self.view_is) at c.if-stopped.ensures.value) (rw (← c.self.view_is) at c.if-stopped.ensures.lawful) c.self.invariant.0
 
 -- there is no memory for the change
 pub returns-in_default : goal.returns-in_default
 returns-in_default g c =
     rw (← c.self.view_is, c.make_ready.ensures.device)
-    (shown-memory c.self.inside.loss (g.D.Device.drive c.self.inside.device) ((g.D.Foreseeing.foreseen c.self.inside.device (entry_in c.self.inside.change.items) (data_in c.self.inside.change.items)).zones) (g.S.Store.held c.self.inside.store) c.args.entry.now c.args.bytes.now c.args.into.now.items (search rules) (rw (← c.self.view_is) at c.if-stopped.ensures.value) (rw (← c.self.view_is) at c.if-stopped.ensures.lawful) c.self.invariant (g.S.Store.held c.renew.new.self) (g.D.Foreseeing.foreseen c.self.inside.device c.args.entry.now c.args.bytes.now) c.if-not-will_change.ensures.value (c.if-not-will_change.ensures.can refl) c.renew.ensures.stored ((g.D.Foreseeing.foreseen c.self.inside.device (entry_in c.make_ready.new.change.items) (data_in c.make_ready.new.change.items)).zones))
+    (shown-memory c.self.inside.loss (g.D.Device.drive c.self.inside.device) ((g.D.Foreseeing.foreseen c.self.inside.device (entry_in c.self.inside.change.items) (data_in c.self.inside.change.items)).zones) (g.S.Store.held c.self.inside.store) c.args.entry.now c.args.bytes.now c.args.into.now.items (search rules) (rw (← c.self.view_is) at c.if-stopped.ensures.value) (rw (← c.self.view_is) at c.if-stopped.ensures.lawful) c.self.invariant.0 (g.S.Store.held c.renew.new.self) (g.D.Foreseeing.foreseen c.self.inside.device c.args.entry.now c.args.bytes.now) c.if-not-will_change.ensures.value (c.if-not-will_change.ensures.can refl) c.renew.ensures.stored ((g.D.Foreseeing.foreseen c.self.inside.device (entry_in c.make_ready.new.change.items) (data_in c.make_ready.new.change.items)).zones))
 
 pub invariant_of-self-in_default : goal.invariant_of-self-in_default
-invariant_of-self-in_default g c = (returns-in_default g c).kept
+invariant_of-self-in_default g c = ((returns-in_default g c).kept, λ lost. c.renew.ensures.failed ∙ c.self.invariant.1 lost)
 
 -- the store failed
 pub returns-in_default-append : goal.returns-in_default-append
 returns-in_default-append g c =
     rw (← c.self.view_is, c.make_ready.ensures.device)
-    (shown-cut c.self.inside.loss (g.D.Device.drive c.self.inside.device) ((g.D.Foreseeing.foreseen c.self.inside.device (entry_in c.self.inside.change.items) (data_in c.self.inside.change.items)).zones) (g.S.Store.held c.self.inside.store) c.args.entry.now c.args.bytes.now c.args.into.now.items (search rules) (rw (← c.self.view_is) at c.if-stopped.ensures.value) (rw (← c.self.view_is) at c.if-stopped.ensures.lawful) c.self.invariant (g.S.Store.held c.renew.new.self) (g.D.Foreseeing.foreseen c.self.inside.device c.args.entry.now c.args.bytes.now) c.if-not-will_change.ensures.value (c.if-not-will_change.ensures.can refl) c.renew.ensures.stored ((g.D.Foreseeing.foreseen c.self.inside.device (entry_in c.make_ready.new.change.items) (data_in c.make_ready.new.change.items)).zones) (g.S.Store.held c.append.new.self) c.make_ready.new.change.items c.in-Ok.ensures.change (rw c.deref.ensures.value at c.in_default-append.ensures.err) c.append.ensures.known)
+    (shown-cut c.self.inside.loss (g.D.Device.drive c.self.inside.device) ((g.D.Foreseeing.foreseen c.self.inside.device (entry_in c.self.inside.change.items) (data_in c.self.inside.change.items)).zones) (g.S.Store.held c.self.inside.store) c.args.entry.now c.args.bytes.now c.args.into.now.items (search rules) (rw (← c.self.view_is) at c.if-stopped.ensures.value) (rw (← c.self.view_is) at c.if-stopped.ensures.lawful) c.self.invariant.0 (g.S.Store.held c.renew.new.self) (g.D.Foreseeing.foreseen c.self.inside.device c.args.entry.now c.args.bytes.now) c.if-not-will_change.ensures.value (c.if-not-will_change.ensures.can refl) c.renew.ensures.stored ((g.D.Foreseeing.foreseen c.self.inside.device (entry_in c.make_ready.new.change.items) (data_in c.make_ready.new.change.items)).zones) (g.S.Store.held c.append.new.self) c.make_ready.new.change.items c.in-Ok.ensures.change (rw c.deref.ensures.value at c.in_default-append.ensures.err) c.append.ensures.known)
 
 pub invariant_of-self-in_default-append : goal.invariant_of-self-in_default-append
-invariant_of-self-in_default-append g c = (returns-in_default-append g c).kept
+invariant_of-self-in_default-append g c = ((returns-in_default-append g c).kept, λ lost. c.in_default-append.ensures.failed)
 
 -- the change was written, and the command done
 pub returns-in-Ok-answer : goal.returns-in-Ok-answer
 returns-in-Ok-answer g c =
     rw (← c.self.view_is)
-    (shown-done c.self.inside.loss (g.D.Device.drive c.self.inside.device) ((g.D.Foreseeing.foreseen c.self.inside.device (entry_in c.self.inside.change.items) (data_in c.self.inside.change.items)).zones) (g.S.Store.held c.self.inside.store) c.args.entry.now c.args.bytes.now c.args.into.now.items (search rules) (rw (← c.self.view_is) at c.if-stopped.ensures.value) (rw (← c.self.view_is) at c.if-stopped.ensures.lawful) c.self.invariant (g.S.Store.held c.renew.new.self) (g.D.Foreseeing.foreseen c.self.inside.device c.args.entry.now c.args.bytes.now) c.if-not-will_change.ensures.value (c.if-not-will_change.ensures.can refl) c.renew.ensures.stored (g.D.Device.drive c.answer-2.new.self) ((g.D.Foreseeing.foreseen c.answer-2.new.self (entry_in c.make_ready.new.change.items) (data_in c.make_ready.new.change.items)).zones) (g.S.Store.held c.append.new.self) c.make_ready.new.change.items c.in-Ok-answer.completion c.answer-2.new.into.items c.in-Ok.ensures.change
+    (shown-done c.self.inside.loss (g.D.Device.drive c.self.inside.device) ((g.D.Foreseeing.foreseen c.self.inside.device (entry_in c.self.inside.change.items) (data_in c.self.inside.change.items)).zones) (g.S.Store.held c.self.inside.store) c.args.entry.now c.args.bytes.now c.args.into.now.items (search rules) (rw (← c.self.view_is) at c.if-stopped.ensures.value) (rw (← c.self.view_is) at c.if-stopped.ensures.lawful) c.self.invariant.0 (g.S.Store.held c.renew.new.self) (g.D.Foreseeing.foreseen c.self.inside.device c.args.entry.now c.args.bytes.now) c.if-not-will_change.ensures.value (c.if-not-will_change.ensures.can refl) c.renew.ensures.stored (g.D.Device.drive c.answer-2.new.self) ((g.D.Foreseeing.foreseen c.answer-2.new.self (entry_in c.make_ready.new.change.items) (data_in c.make_ready.new.change.items)).zones) (g.S.Store.held c.append.new.self) c.make_ready.new.change.items c.in-Ok-answer.completion c.answer-2.new.into.items c.in-Ok.ensures.change
     (rw c.deref.ensures.value at c.in-Ok-append.ensures.ok) c.append.ensures.known c.answer-2.ensures.lawful (rw c.make_ready.ensures.device at c.in-Ok-answer.ensures.gives) (rw c.make_ready.ensures.device at c.in-Ok-answer.ensures.as_foreseen))
 
 pub invariant_of-self-in-Ok-answer : goal.invariant_of-self-in-Ok-answer
-invariant_of-self-in-Ok-answer g c = (returns-in-Ok-answer g c).kept
+invariant_of-self-in-Ok-answer g c = ((returns-in-Ok-answer g c).kept, λ lost. c.in-Ok-append.ensures.as_before ∙ c.renew.ensures.failed ∙ c.self.invariant.1 lost)
 
 -- the change was written, and there is no memory for the command
 pub returns-in-Err : goal.returns-in-Err
 returns-in-Err g c =
     let device = c.in-Err.ensures.kept ∙ c.make_ready.ensures.device in
-    rw (← c.self.view_is, device)
-    (shown-behind c.self.inside.loss (g.D.Device.drive c.self.inside.device) ((g.D.Foreseeing.foreseen c.self.inside.device (entry_in c.self.inside.change.items) (data_in c.self.inside.change.items)).zones) (g.S.Store.held c.self.inside.store) c.args.entry.now c.args.bytes.now c.args.into.now.items (search rules) (rw (← c.self.view_is) at c.if-stopped.ensures.value) (rw (← c.self.view_is) at c.if-stopped.ensures.lawful) c.self.invariant (g.S.Store.held c.renew.new.self) (g.D.Foreseeing.foreseen c.self.inside.device c.args.entry.now c.args.bytes.now) c.if-not-will_change.ensures.value (c.if-not-will_change.ensures.can refl) c.renew.ensures.stored (g.D.Foreseeing.foreseen c.self.inside.device (entry_in c.make_ready.new.change.items) (data_in c.make_ready.new.change.items)) (g.S.Store.held c.append.new.self) c.make_ready.new.change.items c.in-Err.field-0 c.answer-2.new.into.items c.in-Ok.ensures.change
+    rw (← c.self.view_is, device, c.fail.ensures.held)
+    (shown-behind c.self.inside.loss (g.D.Device.drive c.self.inside.device) ((g.D.Foreseeing.foreseen c.self.inside.device (entry_in c.self.inside.change.items) (data_in c.self.inside.change.items)).zones) (g.S.Store.held c.self.inside.store) c.args.entry.now c.args.bytes.now c.args.into.now.items (search rules) (rw (← c.self.view_is) at c.if-stopped.ensures.value) (rw (← c.self.view_is) at c.if-stopped.ensures.lawful) c.self.invariant.0 (g.S.Store.held c.renew.new.self) (g.D.Foreseeing.foreseen c.self.inside.device c.args.entry.now c.args.bytes.now) c.if-not-will_change.ensures.value (c.if-not-will_change.ensures.can refl) c.renew.ensures.stored (g.D.Foreseeing.foreseen c.self.inside.device (entry_in c.make_ready.new.change.items) (data_in c.make_ready.new.change.items)) (g.S.Store.held c.append.new.self) c.make_ready.new.change.items c.in-Err.field-0 c.answer-2.new.into.items c.in-Ok.ensures.change
     (rw c.deref.ensures.value at c.in-Ok-append.ensures.ok) c.append.ensures.known (rw (device, c.make_ready.ensures.device) at c.in-Err.ensures.gives)
     (λ same_entry same_beside. rw (same_entry, same_beside) (g.met.D.Foreseeing.same_data c.self.inside.device c.args.entry.now c.args.bytes.now)))
 
 pub invariant_of-self-in-Err : goal.invariant_of-self-in-Err
-invariant_of-self-in-Err g c = (returns-in-Err g c).kept
+invariant_of-self-in-Err g c = ((returns-in-Err g c).kept, λ lost. c.fail.ensures.failed)

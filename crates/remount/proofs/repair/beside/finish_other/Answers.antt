@@ -3,6 +3,7 @@ use Rattle.std.proofs.lemmas.Option.{slice_get_read}
 use Rattle.drive_port.specs.Contents.{Finishes, content_at, contents}
 use Rattle.remount.proofs.KeepLaws.{CanFinishZone, finish-keeps}
 use Rattle.remount.proofs.CallLaws.{active-usage, active-whole, active-writable, finished-zone, on-ok, reported-active, settles-finished, settles-same}
+use Rattle.remount.proofs.NotedLaws.{finish-notes}
 use Rattle.remount.proofs.repair.beside.finish_other.Goals as goal
 
 pub returns-then-not-is_active-clause-ok : goal.returns-then-not-is_active-clause-ok
@@ -35,3 +36,8 @@ returns-clause-kept g c =
     let whole = active-whole old c.args.survey.now.zones.items c.args.torn c.args.zone c.requires.known.1.zones c.requires.vacant c.requires.torn c.if-zone-torn.false (omega (arith, c.requires.in_range, c.requires.known.1.zones.count)) active in
     let can : CanFinishZone old c.args.zone = record { small = c.requires.known.1.zones.lawful.geometry.block; writable = (active-writable (content_at (contents old.zones) c.args.zone) active).0; whole = whole } in
     λ n. finish-keeps n old (g.D.Device.drive c.finish_zone.new.device) c.args.zone (λ a b. Finishes a b c.args.zone) (λ a b changes. (changes, can)) c.finish_zone.ensures.kept
+
+pub returns-clause-noted : goal.returns-clause-noted
+returns-clause-noted g c =
+    on-ok c.finish_zone.result
+    (λ one. finish-notes (g.D.Device.drive c.args.device.now) (g.D.Device.drive c.finish_zone.new.device) c.args.survey.now c.finish_zone.new.survey c.args.zone one) c.finish_zone.ensures.ok

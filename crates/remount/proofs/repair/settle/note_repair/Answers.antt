@@ -2,7 +2,8 @@ use Rattle.std.proofs.Common.{ℕ, false, set, refl, sym, ap, ◌∙◌}
 use Rattle.drive_survey.specs.declared.scan.ScannedZone.{ScannedZone}
 use Rattle.drive_survey.specs.Heads.{HeadsView}
 use Rattle.remount.specs.Moving.{usage_with}
-use Rattle.remount.proofs.NoteLaws.{noted-knows, noted-vacant}
+use Rattle.remount.proofs.NoteLaws.{empty_report, noted-knows, noted-vacant}
+use Rattle.remount.proofs.NotedLaws.{repair-notes}
 use Rattle.remount.proofs.repair.settle.note_repair.Goals as goal
 
 pub returns-clause-known : goal.returns-clause-known
@@ -20,3 +21,7 @@ returns-clause-known c =
 pub returns-clause-vacant : goal.returns-clause-vacant
 returns-clause-vacant c =
     λ n start new made known vacant e. noted-vacant n start new c.args.plan.now made c.filled_zone-written.result c.args.survey.now.zones.items _ e vacant known.zones.count refl
+
+pub returns-clause-noted : goal.returns-clause-noted
+returns-clause-noted c =
+    repair-notes c.args.survey.now.zones.items _ c.args.plan.now.into c.args.plan.now.torn c.filled_zone-written.result empty_report refl refl

@@ -1,4 +1,4 @@
-use Rattle.std.proofs.Common.{◌∙◌, sym, arith}
+use Rattle.std.proofs.Common.{◌∙◌, sym, arith, rules}
 use Rattle.zone_cleaner.proofs.RoomLaws.{room-more, room-none}
 use Rattle.zone_cleaner.proofs.RunLaws.{takes-more, takes-none}
 use Rattle.zone_cleaner.proofs.TurnLaws.{keeps-more, keeps-none}
@@ -25,11 +25,20 @@ loop-self-preserved g c =
       omega (arith, so_far.4, fewer, turn.completed),
     )
 
-pub returns-in-Err-clause-leaves : goal.returns-in-Err-clause-leaves
-returns-in-Err-clause-leaves g c =
-    let so_far = c.loop-self.invariant.3 in
-    record { turns = so_far.turns; middle = c.loop-self.disk; clean = c.loop-self.self; done = so_far.done; refused = c.in-Err.ensures.leaves }
+pub returns-in-Err : goal.returns-in-Err
+returns-in-Err g c =
+    let before = c.loop-self.invariant in
+    let turn = c.in-Err.ensures in record {
+      leaves = record { turns = before.3.turns; middle = c.loop-self.disk; clean = c.loop-self.self; done = before.3.done; refused = turn.leaves };
+      cleaning = record { goes_on = turn.cleaning.goes_on; keeps = keeps-more c.args.disk.now c.loop-self.disk c.turn.new.disk before.1 turn.cleaning.keeps; cause = turn.cleaning.cause };
+      done = search rules;
+      completed = search rules;
+    }
 
-pub returns-in-Err-clause-cleaning : goal.returns-in-Err-clause-cleaning
-returns-in-Err-clause-cleaning g c =
-    record { goes_on = c.in-Err.ensures.cleaning.goes_on; keeps = keeps-more c.args.disk.now c.loop-self.disk c.turn.new.disk c.loop-self.invariant.1 c.in-Err.ensures.cleaning.keeps; cause = c.in-Err.ensures.cleaning.cause }
+pub returns : goal.returns
+returns g c = record {
+  leaves = search rules;
+  cleaning = search rules;
+  done = search rules;
+  completed = search rules;
+}

@@ -1,0 +1,62 @@
+// An output whose bytes are sent once the file of a drive has the changes before them.
+
+use crate::changes_file::ChangesFile;
+use std::fs::File;
+use std::io;
+use std::io::Write;
+use std::rt::Files;
+
+/// When the bytes of an output are sent.
+#[derive(Clone, Copy, Debug, PartialEq, Eq)]
+pub enum SentAfter {
+    /// Once the file has all changes.
+    Write,
+    /// Once they are on the disk, too.
+    Sync,
+}
+
+/// Sends bytes to an output, once the file of a drive has all changes that were appended before. Before this output
+/// there is a buffer, so all replies that are sent together cost one write of the file. After a fault of the file nothing
+/// more is sent: the system tells of lost bytes only once.
+#[derive(Drop)]
+pub struct ChangesOutput<'s, 'a, F: Files<File = File>, W: Write> {
+    file: &'s ChangesFile<'a, F>,
+    after: SentAfter,
+    output: &'s mut W,
+}
+
+impl<'s, 'a, F: Files<File = File>, W: Write> ChangesOutput<'s, 'a, F, W> {
+    /// An output whose bytes wait for the changes of this file.
+    pub fn new(file: &'s ChangesFile<'a, F>, after: SentAfter, output: &'s mut W) -> Self {
+        ChangesOutput {
+            file,
+            after,
+            output,
+        }
+    }
+
+    // Waits for the file.
+    fn wait(&self) -> io::Result<()> {
+        let ready = match self.after {
+            SentAfter::Write => self.file.write_out(),
+            SentAfter::Sync => self.file.sync(),
+        };
+        ready.map_err(|_| io::Error::from(io::ErrorKind::Other))
+    }
+}
+
+impl<F: Files<File = File>, W: Write> Write for ChangesOutput<'_, '_, F, W> {
+    fn write(&mut self, bytes: &[u8]) -> io::Result<usize> {
+        self.wait()?;
+        self.output.write(bytes)
+    }
+
+    fn write_all(&mut self, bytes: &[u8]) -> io::Result<()> {
+        self.wait()?;
+        self.output.write_all(bytes)
+    }
+
+    fn flush(&mut self) -> io::Result<()> {
+        self.output.flush()
+    }
+}

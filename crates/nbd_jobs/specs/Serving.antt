@@ -1,0 +1,123 @@
+-- A drive in a file that is served: what its session does, and what it leaves in the file.
+use Rattle.std.specs.Prelude.{◌≡◌, ◌≢◌, ◌||◌, if◌then◌else◌, Bool, ℕ, List, [], ◌∷◌, Option, Some, None, Result, Ok, Err, IfSome}
+use Rattle.std.specs.Io.KnownBytes.{Keeps}
+use Rattle.drive_port.specs.Drive.{DriveState}
+use Rattle.drive_port.specs.Stop.{Stopping, drive_of}
+use Rattle.drive_array.specs.Reserve.{most_size}
+use Rattle.drive_survey.specs.declared.fault.MountFault.{MountFault}
+use Rattle.drive_survey.specs.declared.fault.MountFault.TheVariants as mounts
+use Rattle.drive_journal.specs.File.{IsStored}
+use Rattle.drive_journal.specs.FileFaults.{IsFileFault}
+use Rattle.drive_store.specs.Kept.{IsRestarted}
+use Rattle.drive_store.specs.declared.file_fault.FileFault.{FileFault}
+use Rattle.drive_store.specs.declared.kept_drive.Begun.{Begun}
+use Rattle.zone_drive.specs.Habits.{MemoryDrive}
+use Rattle.zone_translator.specs.Answers.{IsMounted}
+use Rattle.zone_translator.specs.Mount.{GivesBack}
+use Rattle.zone_translator.specs.View.{DiskView, KeepsDisk, disk_array, disk_size}
+use Rattle.disk_jobs.specs.Saved.{IsHandedBack, stopping}
+use Rattle.nbd_session.specs.Session.{session}
+use Rattle.nbd_session.specs.Store.{StoreView}
+use Rattle.nbd_session.specs.Streams.{Streams}
+use Rattle.nbd_session.specs.Turns.{Serves}
+use Rattle.nbd_session.specs.declared.fault.SessionFault.{SessionFault}
+use Rattle.nbd_session.specs.declared.phase.Phase.TheVariants.{Greeting}
+use Rattle.nbd_jobs.specs.declared.fault.NbdFault.{NbdFault}
+use Rattle.nbd_jobs.specs.declared.fault.NbdFault.TheVariants.{File, Image, Mount, Reserve, NoSize, Session}
+use Rattle.nbd_jobs.specs.declared.job.NbdJob.{NbdJob}
+use Rattle.nbd_jobs.specs.declared.left.Left.{Left}
+
+-- ---- the disk
+
+-- the number that a mount is given: where none was asked for, the least, since a drive that says its size has that one
+abbrev pub given_of : Option ℕ → ℕ
+given_of (Some n) = n
+given_of None = 1
+
+-- the disk that is mounted on a drive; where no number was asked for, the drive says that it has more than one block
+pub record IsServed (old : DriveState) (blocks : Option ℕ) (disk : DiskView) : Type 0 where
+  pub mounted : IsMounted old (given_of blocks) disk
+  pub said : blocks ≡ None → disk_size disk ≢ 1
+
+-- a drive that says no size, or that it has one block, is mounted and given back, since no number was asked for
+pub record SaysNoSize (old : DriveState) (blocks : Option ℕ) (most : ℕ) (back : DriveState) : Type 0 where
+  pub none : blocks ≡ None
+  pub most_is : most ≡ most_size old.geometry
+  pub disk : DiskView
+  pub mounted : IsMounted old 1 disk
+  pub size : disk_size disk ≡ 1
+  pub back_is : back ≡ disk.drive
+
+-- why a drive is not served, and how it is given back
+abbrev pub IsNotServed : DriveState → Option ℕ → NbdFault → DriveState → Type 0
+IsNotServed old blocks (Mount fault) back = GivesBack old (given_of blocks) fault back
+IsNotServed old blocks (Reserve most) back = (most ≡ most_size old.geometry) × GivesBack old (given_of blocks) mounts.Reserve back
+IsNotServed old blocks (NoSize most) back = SaysNoSize old blocks most back
+IsNotServed old blocks fault back = ⊥
+
+-- ---- the session
+
+-- a disk whose drive keeps each write at once
+abbrev pub at_once : DiskView → StoreView
+at_once disk = record { disk = disk; since = disk_array disk ∷ [] }
+
+-- A session is served by the disk of a drive. What it leaves can be mounted again, with the array that was answered.
+pub record ServesSession (blocks : Option ℕ) (bytes : Streams) (old : DriveState) (ended : Result (Unit {0}) SessionFault) (new : DriveState) : Type 0 where
+  pub first : DiskView
+  pub disk : IsServed old blocks first
+  pub last : StoreView
+  pub serves : Serves bytes (session Greeting (at_once first)) ended last
+  pub keeps : KeepsDisk first last.disk
+  pub drive : new ≡ last.disk.drive
+
+-- no message is read, and nothing is written
+pub record ServesNothing (bytes : Streams) : Type 0 where
+  pub unread : Keeps bytes.input bytes.rest
+  pub unwritten : Keeps bytes.written bytes.contents
+
+-- what is served of a drive, and what is left of it
+abbrev pub ServesDrive : Option ℕ → Streams → DriveState → Result (Unit {0}) NbdFault → DriveState → Type 0
+ServesDrive blocks bytes old (Ok done) new = ServesSession blocks bytes old (Ok tt) new
+ServesDrive blocks bytes old (Err (Session fault)) new = ServesSession blocks bytes old (Err fault) new
+ServesDrive blocks bytes old (Err fault) new = IsNotServed old blocks fault new × ServesNothing bytes
+
+-- the same over a device that stops, and leaves the zones of this drive
+pub record ServesStopping (blocks : Option ℕ) (bytes : Streams) (device : Stopping) (ended : Result (Unit {0}) NbdFault) (new : DriveState) : Type 0 where
+  pub seen : DriveState
+  pub serves : ServesDrive blocks bytes (drive_of device) ended seen
+  pub geometry : new.geometry ≡ seen.geometry
+  pub zones : new.zones ≡ seen.zones
+
+-- ---- the file
+
+-- What a session leaves of its drive, whatever ended it: the store holds that drive, and so has every write that was answered. Whether the store
+-- failed is told.
+pub record LeavesStored (job : NbdJob) (bytes : Streams) (old : DriveState) (ended : Result (Unit {0}) NbdFault) (left : Left) (held : Option (List ℕ)) (failed : Bool) : Type 0 where
+  pub drive : DriveState
+  pub serves : ServesStopping job.blocks bytes (stopping job.stop old) ended drive
+  pub failed_is : left.failed ≡ failed
+  pub back : IsHandedBack failed drive left.drive.state
+  pub stored : IfSome held (λ bytes. IsStored bytes drive)
+
+-- the same of the drive that the bytes of a file hold, restarted
+pub record LeavesFile (job : NbdJob) (file : Option (List ℕ)) (bytes : Streams) (ended : Result (Unit {0}) NbdFault) (left : Left) (held : Option (List ℕ)) (failed : Bool) : Type 0 where
+  pub first : Begun
+  pub begins : IsRestarted file job.habit first
+  pub leaves : LeavesStored job bytes first.drive.state ended left held failed
+
+-- why there is no drive: the bytes of the file have this first fault. Nothing is served.
+abbrev pub HoldsNoDrive : Option (List ℕ) → Streams → Result (Unit {0}) NbdFault → Type 0
+HoldsNoDrive file bytes (Err (Image fault)) = IfSome file (λ held. IsFileFault held fault) × ServesNothing bytes
+HoldsNoDrive file bytes ended = ⊥
+
+-- What is saved of a session: the drive that it left, also after a fault. Nothing is saved where the file stays as it is, nor where it failed: then
+-- the file has all changes before.
+abbrev pub drive_to_save : Result (Unit {0}) NbdFault → Bool → Option Left → Option MemoryDrive
+drive_to_save ended stays None = None
+drive_to_save (Err (File fault)) stays (Some left) = None
+drive_to_save ended stays (Some left) = if (left.failed || stays) then None else Some left.drive
+
+-- a session whose file failed is told by that fault
+abbrev pub first_told : Result (Unit {0}) NbdFault → Option FileFault → Result (Unit {0}) NbdFault
+first_told ended (Some failed) = Err (File failed)
+first_told ended None = ended

@@ -1,0 +1,12 @@
+use zone_drive::Drive;
+
+/// What a session left.
+#[derive(Drop)]
+pub struct Left {
+    pub drive: Drive,
+    /// Whether the store failed. Then it has all changes before that one, and the drive that counts is the one that it
+    /// holds.
+    pub failed: bool,
+    /// What was written and moved, as text, if it was asked for.
+    pub statistics: Option<String>,
+}

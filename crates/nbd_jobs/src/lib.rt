@@ -1,0 +1,39 @@
+//! A drive in a file, served by the Network Block Device protocol.
+//!
+//! ```text
+//! let done = do_nbd_job(&rt, alloc, &job, rt.reader(), io::writer(&rt));
+//! if let Some(fault) = done.fault() {
+//!     let text = explain(alloc, &job, fault)?;
+//! }
+//! ```
+//!
+//! An [`NbdJob`] says which file is served, and how. [`serve_drive`] serves it to one client, and [`do_nbd_job`] does that
+//! on the file of a path: it locks the file, and saves the drive at the end.
+//!
+//! # What is promised
+//!
+//! * [`serve_drive`], over every reader, writer and store: the drive in the file is restarted and mounted, and each message
+//!   of the client is answered by its disk, as `nbd_session` says. Whatever ends the session, the store holds the drive
+//!   that is left, which can be mounted again and has each write that was answered (`specs/Serving.antt`).
+//! * Where no number of blocks was given, the disk has the size that the drive says. A drive that says none is not served.
+//! * Where the drive is not mounted, or the file holds none, no message is read and nothing is written. The fault says why.
+//!
+//! Nothing is promised of [`do_nbd_job`], since no contract says what a file holds. That the changes are in the file before
+//! a reply is sent, and on the disk before a FLUSH is answered, is tried by `tools/nbd_clients` and `tools/kill_runs`.
+#![tactic(auto)]
+
+mod explanation;
+mod fault;
+mod file;
+mod job;
+mod left;
+mod mounted;
+mod saving;
+mod serving;
+
+pub use explanation::explain;
+pub use fault::NbdFault;
+pub use file::{Done, do_nbd_job};
+pub use job::NbdJob;
+pub use left::Left;
+pub use serving::{ServedFile, serve_drive};

@@ -1,0 +1,187 @@
+// A session over the drive of a store.
+
+ghost use Rattle.std.specs.Prelude.{◌≡◌, IfNone, IfSome};
+ghost use Rattle.nbd_session.specs.Streams.{streams};
+ghost use Rattle.drive_store.specs.Kept.{HoldsFile};
+ghost use Rattle.disk_jobs.specs.Saved.{stopping};
+ghost use Rattle.nbd_jobs.specs.Serving.{HoldsNoDrive, LeavesFile, LeavesStored, ServesDrive, ServesStopping};
+
+use crate::fault::NbdFault;
+use crate::job::NbdJob;
+use crate::left::Left;
+use crate::mounted::mount_served;
+use disk_jobs::{statistics_of, stopping};
+use drive_counter::Counter;
+use drive_journal::{Journaling, Store};
+use drive_port::Device;
+use drive_store::{keep, restarted_drive};
+use nbd_session::{Client, Medium, ServedDisk, serve};
+use std::alloc::Global;
+use std::io::{Read, Write};
+use zone_drive::Drive;
+use zone_translator::Disk;
+
+/// The file of a served drive: what it holds, the store of its changes, and what makes them durable.
+#[derive(Drop)]
+pub struct ServedFile<I: Read + Drop, S: Store<Drive> + Drop, M: Medium + Drop> {
+    pub bytes: I,
+    pub store: S,
+    pub medium: M,
+}
+
+/// What is left of a device once its session has ended, and what was counted.
+#[derive(Drop)]
+struct Ended<D: Device + Drop> {
+    device: D,
+    statistics: Option<String>,
+    result: Result<(), NbdFault>,
+}
+
+/// A disk to be served.
+fn served<D: Device + Drop, M: Medium + Drop>(
+    disk: Disk<D>,
+    medium: M,
+    cleans: bool,
+) -> ServedDisk<D, M>
+    ensures { result ≡ disk }
+{
+    if cleans {
+        return ServedDisk::cleaning(disk, medium);
+    }
+    ServedDisk::new(disk, medium)
+}
+
+/// What was written and moved, if the job asks for it and there is memory for the text.
+fn shown_statistics<D: Device + Drop>(
+    alloc: Global,
+    job: &NbdJob,
+    disk: &Disk<Counter<D>>,
+) -> Option<String> {
+    if !job.statistics {
+        return None;
+    }
+    statistics_of(alloc, disk).ok()
+}
+
+/// A device, and what keeps its drive.
+#[derive(Drop)]
+struct Kept<D: Device + Drop, M: Medium + Drop> {
+    device: D,
+    medium: M,
+}
+
+/// Mounts a drive, and serves it to a client. Its commands are counted.
+fn serve_counted<D: Device + Drop, M: Medium + Drop, R: Client, W: Write>(
+    alloc: Global,
+    job: &NbdJob,
+    kept: Kept<D, M>,
+    reader: &mut R,
+    writer: &mut W,
+) -> Ended<D>
+    ensures { ServesDrive job.now.blocks
+        (streams (R.remaining reader.old) (R.remaining reader.new) (W.contents writer.old) (W.contents writer.new))
+        (D.drive kept.device) result.result (D.drive result.device) }
+{
+    let disk = match mount_served(alloc, Counter::new(kept.device), job.blocks) {
+        Ok(disk) => disk,
+        Err((fault, counter)) => {
+            return Ended {
+                device: counter.into_inner(),
+                statistics: None,
+                result: Err(fault),
+            };
+        }
+    };
+    let mut store = served(disk, kept.medium, job.idle);
+    let result = serve(alloc, reader, writer, &mut store);
+    let (disk, _medium) = store.into_parts();
+    let statistics = shown_statistics(alloc, job, &disk);
+    Ended {
+        device: disk.into_device().into_inner(),
+        statistics,
+        result: result.map_err(NbdFault::Session),
+    }
+}
+
+/// The same over a drive that stops when the job says so.
+fn serve_stopping<D: Device + Drop, M: Medium + Drop, R: Client, W: Write>(
+    alloc: Global,
+    job: &NbdJob,
+    kept: Kept<D, M>,
+    reader: &mut R,
+    writer: &mut W,
+) -> Ended<D>
+    ensures { ServesStopping job.now.blocks
+        (streams (R.remaining reader.old) (R.remaining reader.new) (W.contents writer.old) (W.contents writer.new))
+        (stopping job.now.stop (D.drive kept.device)) result.result (D.drive result.device) }
+{
+    let stopping = Kept {
+        device: stopping(kept.device, job.stop),
+        medium: kept.medium,
+    };
+    let ended = serve_counted(alloc, job, stopping, reader, writer);
+    Ended {
+        device: ended.device.into_inner(),
+        statistics: ended.statistics,
+        result: ended.result,
+    }
+}
+
+/// The same over a drive whose changes go to a store.
+fn serve_kept<S: Store<Drive> + Drop, M: Medium + Drop, R: Client, W: Write>(
+    alloc: Global,
+    job: &NbdJob,
+    kept: Kept<Journaling<Drive, S>, M>,
+    reader: &mut R,
+    writer: &mut W,
+) -> (Left, S, Result<(), NbdFault>)
+    ensures { LeavesStored job.now
+        (streams (R.remaining reader.old) (R.remaining reader.new) (W.contents writer.old) (W.contents writer.new))
+        kept.device.drive result.2 result.0 (S.held result.1) (S.failed result.1) }
+{
+    let ended = serve_stopping(alloc, job, kept, reader, writer);
+    let (drive, store) = ended.device.into_parts();
+    let left = Left {
+        drive,
+        failed: store.has_failed(),
+        statistics: ended.statistics,
+    };
+    (left, store, ended.result)
+}
+
+/// Serves the drive of a file to one client, which sends to `reader` and gets what `writer` takes. The changes of the
+/// drive go to the store. What is left of the drive is handed back, also after a fault, if the file holds one.
+pub fn serve_drive<I: Read + Drop, S: Store<Drive> + Drop, M: Medium + Drop, R: Client, W: Write>(
+    alloc: Global,
+    job: &NbdJob,
+    file: ServedFile<I, S, M>,
+    reader: &mut R,
+    writer: &mut W,
+) -> (Option<Left>, S, Result<(), NbdFault>)
+    requires { HoldsFile (S.held file.store) (I.remaining file.bytes) }
+    // What the client sent is answered by the disk of the drive in the file, and the store holds the drive that is left.
+    ensures left { IfSome result.0 (λ left. LeavesFile job.now (I.remaining file.bytes)
+        (streams (R.remaining reader.old) (R.remaining reader.new) (W.contents writer.old) (W.contents writer.new))
+        result.2 left (S.held result.1) (S.failed result.1)) }
+    // Without a drive nothing is read of the client, and nothing is written.
+    ensures none { IfNone result.0 (HoldsNoDrive (I.remaining file.bytes)
+        (streams (R.remaining reader.old) (R.remaining reader.new) (W.contents writer.old) (W.contents writer.new))
+        result.2) }
+    ensures unused { IfNone result.0 (S.held result.1 ≡ S.held file.store) }
+{
+    let ServedFile {
+        mut bytes,
+        store,
+        medium,
+    } = file;
+    let begun = match restarted_drive(alloc, &mut bytes, job.habit) {
+        Ok(begun) => begun,
+        Err(fault) => return (None, store, Err(NbdFault::Image(fault))),
+    };
+    let kept = Kept {
+        device: keep(alloc, begun, store),
+        medium,
+    };
+    let (left, store, result) = serve_kept(alloc, job, kept, reader, writer);
+    (Some(left), store, result)
+}

@@ -1,0 +1,58 @@
+//! Sessions over the drive of a file, whose bytes are kept in memory from one session to the next.
+
+use crate::fault::RowsFault;
+use crate::run::Setting;
+use crate::show::show_replies;
+use disk_jobs::{Habit, Stop};
+use drive_images::write_image;
+use drive_journal::Held;
+use nbd_jobs::{NbdJob, ServedFile, serve_drive};
+use nbd_session::WriteThrough;
+use std::alloc::Global;
+use zone_drive::Drive;
+
+/// How many bytes a file may have before it is written anew.
+const LIMIT: usize = 1 << 20;
+
+/// The image of a fresh drive.
+pub fn fresh_file(alloc: Global, setting: Setting) -> Result<Vec<u8>, RowsFault> {
+    let Ok(drive) = Drive::new(alloc, setting.geometry()) else {
+        return Err(RowsFault::Drive);
+    };
+    let mut file = Vec::new(alloc);
+    write_image(&drive, &mut file).or(Err(RowsFault::Memory))?;
+    Ok(file)
+}
+
+/// Serves the drive in a file, as `blocks` logical blocks if it does not say how many, and cleans between requests. Shows
+/// what the server sent and how the session ended. The file has all changes then.
+pub fn show_kept(
+    alloc: Global,
+    blocks: Option<u64>,
+    input: &[u8],
+    file: &mut Vec<u8>,
+    out: &mut String,
+) -> Result<(), RowsFault> {
+    let job = NbdJob {
+        image: String::new(alloc),
+        blocks,
+        stop: Stop::NEVER,
+        habit: Habit::Lazy,
+        statistics: false,
+        idle: true,
+    };
+    let served = ServedFile {
+        bytes: file.as_slice(),
+        store: Held::new(alloc, Vec::from_slice(alloc, file)?, LIMIT),
+        medium: WriteThrough,
+    };
+    let mut sent = Vec::new(alloc);
+    let (_left, store, result) = serve_drive(alloc, &job, served, &mut &*input, &mut sent);
+    *file = Vec::from_slice(alloc, store.bytes())?;
+    show_replies(&sent, out)?;
+    match result {
+        Ok(()) => write!(out, "ended\n\n")?,
+        Err(fault) => write!(out, "fault: {fault}\n\n")?,
+    }
+    Ok(())
+}

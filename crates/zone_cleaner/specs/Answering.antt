@@ -1,0 +1,50 @@
+-- What the calls of the cleaner promise, whatever they answer.
+use Rattle.std.specs.Prelude.{◌≡◌, ◌+◌, ◌*◌, ◌++◌, ◌≤◌, List, [], ◌∷◌, Option, Result, IfErr, OnErr, OnOk}
+use Rattle.zone_choice.specs.Agreement.{MountedView}
+use Rattle.zone_cleaner.specs.declared.fault.CleanFault.{CleanFault}
+use Rattle.zone_cleaner.specs.Clean.{CleanView, turns_of}
+use Rattle.zone_cleaner.specs.LiveRecords.{LiveRecord}
+use Rattle.zone_cleaner.specs.Reading.{IsGatherFault, OnlyReads}
+use Rattle.zone_cleaner.specs.Start.{CleanDone, CleanLeaves, CleaningLeaves, EndLeaves}
+use Rattle.zone_cleaner.specs.Start.{HasNextZone, KeepsTurns, TurnDone, TurnLeaves}
+
+-- The record of a block is read: one Read was sent at most, and nothing else.
+pub record GatherAnswers (before : MountedView) (gathered : List LiveRecord) (more : LiveRecord)
+    (result : Result (Unit {0}) CleanFault)
+    (after : MountedView) (now : List LiveRecord) : Type 0 where
+  pub reads : OnlyReads before after
+  -- it stands after those that were gathered before
+  pub ok : OnOk result (now ≡ gathered ++ more ∷ [])
+  -- or these are the same
+  pub failed : OnErr result (now ≡ gathered)
+  pub err : IfErr result (IsGatherFault after.drive)
+
+-- One turn of cleaning.
+pub record TurnAnswers (before : MountedView) (old : Option CleanView) (result : Result (Unit {0}) CleanFault)
+    (after : MountedView) (new : Option CleanView) : Type 0 where
+  -- it is exactly this step
+  pub leaves : TurnLeaves before old result after new
+  -- the clean goes on, and the array is kept; each fault has its cause
+  pub cleaning : CleaningLeaves before result after new
+  -- fewer turns are left after one that is done, and as many after one that is refused
+  pub done : OnOk result (TurnDone before after old new)
+  pub refused : OnErr result (KeepsTurns before after old new)
+  pub completed : after.drive.completed ≤ before.drive.completed + 2
+
+-- All turns that are left of a clean.
+pub record EndAnswers (before : MountedView) (old : Option CleanView) (result : Result (Unit {0}) CleanFault)
+    (after : MountedView) (new : Option CleanView) : Type 0 where
+  -- it takes turns, and does nothing else
+  pub leaves : EndLeaves before old result after new
+  pub cleaning : CleaningLeaves before result after new
+  pub done : OnOk result (CleanDone before after old new)
+  pub completed : after.drive.completed ≤ before.drive.completed + 2 * turns_of before old
+
+-- A whole clean, of a disk that lacks zones: the one that runs, or one that is started.
+pub record CleanAnswers (before : MountedView) (old : Option CleanView)
+    (result : Result (Unit {0}) CleanFault) (after : MountedView) (new : Option CleanView) : Type 0 where
+  -- it takes turns, after the start of a clean where none runs
+  pub leaves : CleanLeaves before old result after new
+  pub cleaning : CleaningLeaves before result after new
+  pub done : OnOk result (HasNextZone after new)
+  pub completed : after.drive.completed + 2 ≤ before.drive.completed + 2 * before.drive.geometry.capacity
