@@ -23,9 +23,9 @@ use Rattle.drive_survey.specs.Survey.{AreReportedUsable}
 use Rattle.drive_survey.proofs.ReadLaws.{kept-contents}
 use Rattle.remount.specs.Mount.{IsToMount, MountFails}
 use Rattle.drive_check.specs.declared.finding.Findings.{Findings}
-use Rattle.drive_check.specs.Findings.{AreFindings, IsClean, ListsBy, ListsFaults, ListsNone, ListsZones, Refuses, unusable_zones}
+use Rattle.drive_check.specs.Findings.{AreFindings, ListsNothing, ListsBy, ListsFaults, ListsNone, ListsZones, Refuses, unusable_zones}
 use Rattle.drive_check.specs.Lists.{found_from, found_in, is_unusable, listed_if, unusable_at, unusable_reported}
-use Rattle.drive_check.specs.Reads.{AreReads, ReadsZone}
+use Rattle.drive_check.specs.Reads.{AreReads, ReadsAlone}
 
 -- ---- a zone by itself is not halted
 
@@ -66,7 +66,7 @@ halted-alone drive geometry content zone seen (inr (inr fails)) = absurd (never-
 -- ---- zone after zone is read
 
 abbrev pub EachRead : DriveState → List (Result ScannedZone MountFault) → Type 0
-EachRead drive reads = (zone : ℕ) (read : Result ScannedZone MountFault) → slice_get reads zone ≡ Some read → ReadsZone drive zone read
+EachRead drive reads = (zone : ℕ) (read : Result ScannedZone MountFault) → slice_get reads zone ≡ Some read → ReadsAlone drive zone read
 
 pub each-none : (drive : DriveState) → EachRead drive []
 each-none drive zone read there = absurd (cc)
@@ -79,7 +79,7 @@ each-append P (w ∷ ws) x all here zero y there = all zero y there
 each-append P (w ∷ ws) x all here (suc z) y there = each-append (λ k. P (suc k)) ws x (λ k v h. all (suc k) v h) here z y there
 
 -- what is read of a drive was there before controllers closed zones
-pub read-before : (old new : DriveState) (zone : ℕ) (read : Result ScannedZone MountFault) → KeepsZones old new → ReadsZone new zone read → ReadsZone old zone read
+pub read-before : (old new : DriveState) (zone : ℕ) (read : Result ScannedZone MountFault) → KeepsZones old new → ReadsAlone new zone read → ReadsAlone old zone read
 read-before old new zone (Ok scanned) k is = rw (k.geometry, kept-contents old new k) at is
 read-before old new zone (Err fault) k is = rw (k.geometry, kept-contents old new k) at is
 
@@ -87,10 +87,10 @@ pub one-more : {X : Type 0} (xs more : List X) (x : X) (n : ℕ) → length xs �
 one-more xs more x n count is = rw is (omega (arith, length-append xs (x ∷ []), count))
 
 pub reads-more : (first now : DriveState) (reads more : List (Result ScannedZone MountFault)) (read : Result ScannedZone MountFault) (zone : ℕ) → KeepsZones first now → length reads ≡ zone → more ≡ reads ++ read ∷ []
-    → EachRead first reads → ReadsZone now zone read → EachRead first more
+    → EachRead first reads → ReadsAlone now zone read → EachRead first more
 reads-more first now reads more read zone k count is each one =
-    let here : ReadsZone first (length reads) read = rw count (read-before first now zone read k one) in
-    rw is (each-append (ReadsZone first) reads read each here)
+    let here : ReadsAlone first (length reads) read = rw count (read-before first now zone read k one) in
+    rw is (each-append (ReadsAlone first) reads read each here)
 
 pub reads-before : (old new : DriveState) (reads : List (Result ScannedZone MountFault)) → KeepsZones old new → AreReads new reads → AreReads old reads
 reads-before old new reads k are = record { count = are.count ∙ length-closing old.zones new.zones k.closing; each = λ zone read there. read-before old new zone read k (are.each zone read there) }
@@ -178,14 +178,14 @@ pub lists-some : (drive : DriveState) (n : ℕ) (findings : Findings) (zones : L
 lists-some drive n findings [] some none = absurd (some refl)
 lists-some drive n findings (z ∷ zs) some none = none
 
-pub findings-none : (drive : DriveState) (n : ℕ) (findings : Findings) → findings.refusal ≡ None → IsToMount drive n → IsClean findings → AreFindings drive n findings
+pub findings-none : (drive : DriveState) (n : ℕ) (findings : Findings) → findings.refusal ≡ None → IsToMount drive n → ListsNothing findings → AreFindings drive n findings
 findings-none drive n findings is can clean = record {
   refuses = subst (Refuses drive n) (sym is) can;
   clean = λ none. clean;
   listed = λ range some. let bad : is_some {T = MountFault} None ≡ true = subst IsSome is some in absurd (cc);
 }
 
-pub findings-limits : (drive : DriveState) (n : ℕ) (findings : Findings) → findings.refusal ≡ Some Limits → MountFails drive n Limits → IsClean findings → AreFindings drive n findings
+pub findings-limits : (drive : DriveState) (n : ℕ) (findings : Findings) → findings.refusal ≡ Some Limits → MountFails drive n Limits → ListsNothing findings → AreFindings drive n findings
 findings-limits drive n findings is fails clean = record {
   refuses = subst (Refuses drive n) (sym is) fails;
   clean = λ none. clean;

@@ -9,11 +9,11 @@ use Rattle.drive_survey.specs.declared.scan.ScannedZone.{ScannedZone}
 use Rattle.remount.specs.Mount.{IsPlanned, IsToMount, MountFails}
 use Rattle.drive_check.specs.declared.finding.Findings.{Findings}
 use Rattle.drive_check.specs.declared.foreseen.Foreseen.{Foreseen}
-use Rattle.drive_check.specs.Lists.{fault_at, found_in, past_end_at, repeats_from, size_read, torn_at, unusable_at}
+use Rattle.drive_check.specs.Lists.{fault_at, found_in, past_end_at, repeats_from, size_read, torn_read_at, unusable_at}
 use Rattle.drive_check.specs.Reads.{AreReads}
 
 -- The drive can be mounted, and this is what a mount would do. The zones of the drive that is left may have been closed.
-pub record Foresees (old new : DriveState) (n : ℕ) (foreseen : Foreseen) : Type 0 where
+pub record ForeseesMount (old new : DriveState) (n : ℕ) (foreseen : Foreseen) : Type 0 where
   pub geometry_is : foreseen.geometry ≡ old.geometry
   pub can : IsToMount old n
   pub planned : IsPlanned new n foreseen.survey foreseen.plan
@@ -42,7 +42,7 @@ pub record ListsZones (drive : DriveState) (n : ℕ) (findings : Findings) : Typ
   pub batches : findings.batches.items ≡ found_in fault_at reads
   pub repeated : findings.repeated.items ≡ repeats_from 0 [] reads
   pub past_end : findings.past_end.items ≡ found_in (past_end_at (size_read n reads)) reads
-  pub torn : findings.torn.items ≡ found_in torn_at reads
+  pub torn : findings.torn.items ≡ found_in torn_read_at reads
 
 -- What is listed of a drive with its zones. No zone is read where one cannot be used.
 abbrev pub ListsBy : DriveState → ℕ → Findings → List ℕ → Type 0
@@ -55,12 +55,12 @@ pub record ListsFaults (drive : DriveState) (n : ℕ) (findings : Findings) : Ty
   pub zones : ListsBy drive n findings findings.unusable.items
 
 -- nothing is listed
-pub record IsClean (findings : Findings) : Type 0 where
+pub record ListsNothing (findings : Findings) : Type 0 where
   pub unusable : findings.unusable.items ≡ []
   pub others : ListsNone findings
 
 -- What is found: nothing, where the drive can be mounted or its geometry is out of range; else all of its faults.
 pub record AreFindings (drive : DriveState) (n : ℕ) (findings : Findings) : Type 0 where
   pub refuses : Refuses drive n findings.refusal
-  pub clean : IsNone findings.refusal → IsClean findings
+  pub clean : IsNone findings.refusal → ListsNothing findings
   pub listed : IsInRange drive.geometry → IsSome findings.refusal → ListsFaults drive n findings

@@ -54,9 +54,9 @@ past_end_at size zone (Ok scanned) =
 past_end_at size zone (Err fault) = []
 
 -- it has a batch, and a torn tail after its batches
-abbrev pub torn_at : ℕ → Result ScannedZone MountFault → List ℕ
-torn_at zone (Ok scanned) = listed_if (scanned.is_torn && not (scanned.heads.blocks == 0)) zone
-torn_at zone (Err fault) = []
+abbrev pub torn_read_at : ℕ → Result ScannedZone MountFault → List ℕ
+torn_read_at zone (Ok scanned) = listed_if (scanned.is_torn && not (scanned.heads.blocks == 0)) zone
+torn_read_at zone (Err fault) = []
 
 -- ---- of all zones
 

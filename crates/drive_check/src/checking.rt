@@ -1,4 +1,5 @@
-ghost use Rattle.std.specs.Prelude.{◌≡◌, ◌≢◌, ◌⊎◌, ◌<◌, ◌^◌, [], Some, count_by, length, IfErr, IfOk, IsFalse, IsTrue, OnOk};
+ghost use Rattle.std.specs.Prelude.{◌≡◌, ◌≢◌, ◌⊎◌, ◌<◌, ◌^◌, [], Some, count_by, length};
+ghost use Rattle.std.specs.Prelude.{IfErr, IfOk, IsFalse, IsTrue, OnOk};
 ghost use Rattle.zone_states.specs.Geometry.{IsInRange};
 ghost use Rattle.drive_port.specs.Contents.{contents};
 ghost use Rattle.drive_port.specs.Drive.{IsLawful};
@@ -6,8 +7,8 @@ ghost use Rattle.drive_array.specs.Mountable.{is_partly_written};
 ghost use Rattle.drive_survey.specs.Reported.{KeepsZones};
 ghost use Rattle.drive_survey.specs.Scan.{AreKnown, IsInterruption};
 ghost use Rattle.drive_survey.specs.Survey.{is_partly_reported};
-ghost use Rattle.drive_check.specs.Findings.{AreFindings, IsClean, ListsFaults, ListsZones};
-ghost use Rattle.drive_check.specs.Lists.{fault_at, found_in, past_end_at, repeats_from, size_read, torn_at};
+ghost use Rattle.drive_check.specs.Findings.{AreFindings, ListsNothing, ListsFaults, ListsZones};
+ghost use Rattle.drive_check.specs.Lists.{fault_at, found_in, past_end_at, repeats_from, size_read, torn_read_at};
 
 use crate::finding::Findings;
 use crate::foreseen::foresee_mount;
@@ -22,7 +23,7 @@ use std::alloc::{AllocError, Global};
 /// No findings but the refusal.
 fn no_findings(alloc: Global, refusal: Option<MountFault>) -> Findings
     ensures refusal { result.refusal ≡ refusal }
-    ensures clean { IsClean result }
+    ensures clean { ListsNothing result }
 {
     Findings {
         refusal,
@@ -60,7 +61,7 @@ fn list_reads(
     ensures repeated { OnOk result (findings.new.repeated.items ≡ repeats_from 0 [] reads.now) }
     ensures past_end { OnOk result (findings.new.past_end.items
         ≡ found_in (past_end_at (size_read given reads.now)) reads.now) }
-    ensures torn { OnOk result (findings.new.torn.items ≡ found_in torn_at reads.now) }
+    ensures torn { OnOk result (findings.new.torn.items ≡ found_in torn_read_at reads.now) }
     ensures refusal { findings.new.refusal ≡ findings.old.refusal }
     ensures unusable { findings.new.unusable ≡ findings.old.unusable }
     ensures partly { findings.new.partly_written ≡ findings.old.partly_written }

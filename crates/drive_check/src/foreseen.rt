@@ -2,7 +2,7 @@ ghost use Rattle.std.specs.Prelude.{IfErr, IfOk};
 ghost use Rattle.drive_survey.specs.Reported.{KeepsZones};
 ghost use Rattle.drive_survey.specs.Scan.{FailsBy};
 ghost use Rattle.remount.specs.Mount.{MountFails};
-ghost use Rattle.drive_check.specs.Findings.{Foresees};
+ghost use Rattle.drive_check.specs.Findings.{ForeseesMount};
 
 use drive_port::Device;
 use drive_survey::{MountFault, Survey, survey_drive};
@@ -27,7 +27,7 @@ pub fn foresee_mount<D: Device>(
     device: &mut D,
     given: u64,
 ) -> Result<Foreseen, MountFault>
-    ensures ok { IfOk result (Foresees (D.drive device.old) (D.drive device.new) given) }
+    ensures ok { IfOk result (ForeseesMount (D.drive device.old) (D.drive device.new) given) }
     ensures err { IfErr result (FailsBy (MountFails (D.drive device.old) given) (D.drive device.new)) }
     ensures kept { KeepsZones (D.drive device.old) (D.drive device.new) }
 {

@@ -4,7 +4,9 @@ ghost use Rattle.std.specs.Prelude.{◌≡◌, ◌++◌, ◌<◌, ◌^◌, [], I
 ghost use Rattle.drive_array.specs.Sizes.{larger};
 ghost use Rattle.std.specs.Ordering.{nat_cmp};
 ghost use Rattle.std.specs.BTreeSet.{insert_key};
-ghost use Rattle.drive_check.specs.Lists.{fault_at, found_in, greatest_read, is_unusable, met_with, heads_read, past_end_at, repeat_at, repeats_from, repeats_of, size_of_read, size_read, torn_at, unusable_reported};
+ghost use Rattle.drive_check.specs.Lists.{fault_at, found_in, greatest_read, heads_read, is_unusable};
+ghost use Rattle.drive_check.specs.Lists.{met_with, past_end_at, repeat_at, repeats_from};
+ghost use Rattle.drive_check.specs.Lists.{repeats_of, size_of_read, size_read, torn_read_at, unusable_reported};
 
 use crate::finding::{PastEnd, Repeat, ZoneFault};
 use crate::reading::ZoneReading;
@@ -209,7 +211,7 @@ pub fn zones_past_end(
 
 /// Adds a zone with a torn tail after a batch.
 fn add_torn(found: &mut Vec<u32>, zone: u32, read: &ZoneReading) -> Result<(), AllocError>
-    ensures { OnOk result (found.new.items ≡ found.old.items ++ torn_at zone read.now) }
+    ensures { OnOk result (found.new.items ≡ found.old.items ++ torn_read_at zone read.now) }
 {
     let Ok(scanned) = read else {
         return Ok(());
@@ -223,7 +225,7 @@ fn add_torn(found: &mut Vec<u32>, zone: u32, read: &ZoneReading) -> Result<(), A
 /// The zones with a torn tail after a batch.
 pub fn torn_zones(alloc: Global, reads: &[ZoneReading]) -> Result<Vec<u32>, AllocError>
     requires { length reads.now < 2 ^ 32 }
-    ensures { IfOk result (λ found. found.items ≡ found_in torn_at reads.now) }
+    ensures { IfOk result (λ found. found.items ≡ found_in torn_read_at reads.now) }
 {
     let mut found = Vec::new(alloc);
     for (number, read) in reads.iter().enumerate() {

@@ -1,7 +1,7 @@
 ghost use Rattle.std.specs.Prelude.{IfErr, IfOk};
 ghost use Rattle.drive_survey.specs.Reported.{IsKnown, KeepsZones};
 ghost use Rattle.drive_survey.specs.Scan.{AreKnown, IsInterruption};
-ghost use Rattle.drive_check.specs.Reads.{AreReads, ReadsZone};
+ghost use Rattle.drive_check.specs.Reads.{AreReads, ReadsAlone};
 
 use drive_port::Device;
 use drive_survey::{MountFault, ReadableZone, ReportedZone, ScannedZone, scan_zone};
@@ -19,7 +19,7 @@ fn read_zone<D: Device>(
     block: &mut Vec<u8>,
 ) -> Result<ZoneReading, MountFault>
     requires zone { IsKnown (D.drive device.old) zone.number zone.reported }
-    ensures ok { IfOk result (ReadsZone (D.drive device.old) zone.number) }
+    ensures ok { IfOk result (ReadsAlone (D.drive device.old) zone.number) }
     ensures err { IfErr result (IsInterruption (D.drive device.new)) }
     ensures kept { KeepsZones (D.drive device.old) (D.drive device.new) }
 {

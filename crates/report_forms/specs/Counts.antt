@@ -6,6 +6,6 @@ use Rattle.nvme_wire.specs.Descriptor.{state_code}
 abbrev pub is_in : ZoneState → ZoneState → Bool
 is_in state zone = state_code state == state_code zone
 
-abbrev pub one_if : Bool → ℕ
-one_if true = 1
-one_if false = 0
+abbrev pub one_where : Bool → ℕ
+one_where true = 1
+one_where false = 0

@@ -54,9 +54,9 @@ fn is_shown(state: Option<ZoneState>, zone: ZoneState) -> bool {
     }
 }
 
-/// The zones as JSON, with the names of nvme-cli: `nr_zones` zones in `zone_list`, each with its start `slba`, its write
-/// pointer `wp` (all ones where it has none), its capacity `cap`, `state`, `type` and `attrs`. With a state only those in
-/// it.
+/// The zones as JSON, with the names of nvme-cli: `nr_zones` zones in `zone_list`. Each has its start `slba`, its
+/// write pointer `wp` (all ones where it has none), its capacity `cap`, `state`, `type` and `attrs`. With a state
+/// only the zones in it.
 pub fn zones_json<Z: ReportedZones>(
     alloc: Global,
     zones: &Z,

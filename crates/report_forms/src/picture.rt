@@ -79,8 +79,8 @@ struct Share {
     ghost some: { 1 ≤ capacity },
 }
 
-/// The part of a zone's cell that is as high as a share of its blocks, from the bottom on: as wide as the cell, or a bar
-/// within it.
+/// The part of a zone's cell that is as high as a share of its blocks, from the bottom on. It is as wide as the cell,
+/// or a bar within it.
 #[derive(Clone, Copy)]
 struct Part {
     share: Share,
@@ -238,10 +238,11 @@ fn write_head<Z: ReportedZones>(
         block,
         ..
     } = *geometry;
-    writeln!(
+    write!(
         text,
-        "<text x=\"8\" y=\"20\">{count} zones of {capacity} blocks of {block} bytes; each cell is filled as far as its zone is written</text>"
+        "<text x=\"8\" y=\"20\">{count} zones of {capacity} blocks of {block} bytes;"
     )?;
+    text.push_str(" each cell is filled as far as its zone is written</text>\n")?;
     for (line, state) in STATES.iter().enumerate() {
         let found = count_zones(zones, count, *state);
         write_key(text, *state, found, 36 + LINE * line as u64)?;
@@ -265,10 +266,11 @@ pub fn zones_svg<Z: ReportedZones>(
     let rows = u64::from(geometry.zones.div_ceil(grid.columns));
     let high = TOP + rows * grid.cell + 4;
     let mut text = String::new(alloc);
-    writeln!(
+    write!(
         text,
-        "<svg xmlns=\"http://www.w3.org/2000/svg\" viewBox=\"-2 0 1028 {high}\" font-family=\"sans-serif\" font-size=\"14\">"
+        "<svg xmlns=\"http://www.w3.org/2000/svg\" viewBox=\"-2 0 1028 {high}\""
     )?;
+    text.push_str(" font-family=\"sans-serif\" font-size=\"14\">\n")?;
     writeln!(
         text,
         "<rect x=\"-2\" width=\"1028\" height=\"{high}\" fill=\"#fff\"/>"

@@ -1,7 +1,7 @@
 ghost use Rattle.std.specs.Prelude.{◌≡◌, ◌≢◌, ◌<◌, ◌≤◌, length, count_by, IfNone, IfSome};
 ghost use Rattle.nvme_wire.specs.declared.zone_state.ZoneState.{ZoneState};
 ghost use Rattle.zone_report.specs.ReportText.{state_text};
-ghost use Rattle.report_forms.specs.Counts.{is_in, one_if};
+ghost use Rattle.report_forms.specs.Counts.{is_in, one_where};
 
 use nvme_wire::ZoneState;
 use zone_report::ReportedZones;
@@ -56,8 +56,8 @@ pub(crate) fn is_in(state: ZoneState, zone: ZoneState) -> bool
 }
 
 /// One for what is so, and none for what is not.
-fn one_if(is_so: bool) -> u32
-    ensures { result ≡ one_if is_so }
+fn one_where(is_so: bool) -> u32
+    ensures { result ≡ one_where is_so }
 {
     if is_so { 1 } else { 0 }
 }
@@ -69,7 +69,7 @@ pub fn count_zones<Z: ReportedZones>(zones: &Z, count: u32, state: ZoneState) ->
 {
     let mut found = 0;
     for number in 0..count {
-        found += one_if(is_in(state, zones.status(number).state));
+        found += one_where(is_in(state, zones.status(number).state));
     }
     found
 }
