@@ -43,6 +43,6 @@ pub use fault::MountFault;
 pub use heads::{Head, ZoneHeads};
 pub use records::{KeptRecord, entry_record, is_trim};
 pub use reported::{ReportedZone, fault_of, report_zones};
-pub use scan::{ReadableZone, ScannedZone, read_block, scan_zones};
+pub use scan::{ReadableZone, ScannedZone, read_block, scan_zone, scan_zones};
 pub use sequences::greatest_sequence;
 pub use survey::{Survey, is_partly_written, survey_drive};

@@ -45,3 +45,5 @@ mod tables;
 
 pub use drive_survey::{MountFault, Survey, survey_drive};
 pub use mounting::mount;
+pub use plan::{Plan, plan_mount};
+pub use repair::Repair;

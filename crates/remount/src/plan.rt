@@ -60,7 +60,7 @@ fn is_to_empty(survey: &Survey, zone: usize) -> bool
 }
 
 /// What is to be done to a drive, once all headers are read. Its half clean zones are forgotten.
-pub(crate) fn plan_mount<D: Device>(
+pub fn plan_mount<D: Device>(
     alloc: Global,
     device: &mut D,
     survey: &mut Survey,

@@ -1,0 +1,16 @@
+//! What `drive_check` finds of a drive, as text and as JSON.
+//!
+//! ```text
+//! let findings = check_drive(alloc, &mut device, 9)?;
+//! let text = findings_text(alloc, &findings)?;   // a line for each fault, that of the refusal first
+//! let text = findings_json(alloc, &findings)?;   // the same as JSON
+//! ```
+//!
+//! Nothing is promised beyond safety; what they show is tested.
+#![tactic(auto)]
+
+mod json;
+mod text;
+
+pub use json::findings_json;
+pub use text::findings_text;

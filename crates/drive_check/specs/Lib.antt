@@ -1,0 +1,3 @@
+pub mod Reads
+pub mod Lists
+pub mod Findings

@@ -1,0 +1,87 @@
+//! The write amplification of random writes, by bisection.
+
+ghost use Rattle.std.specs.Prelude.{◌≤◌};
+ghost use Rattle.drive_array.specs.Reserve.{FitsReserve};
+ghost use Rattle.zone_states.specs.Geometry.{IsInRange};
+
+use drive_array::batch_most;
+use std::num::{saturating_f64_to_u32, saturating_f64_to_u64};
+use zone_states::Geometry;
+
+/// How many blocks the random writes have for which a row has an estimate.
+pub const WRITES: [u32; 3] = [1, 8, 64];
+
+/// What random writes of one length are expected to cost, long after the drive was filled.
+#[derive(Clone, Copy, Debug, PartialEq, Eq)]
+pub struct Estimate {
+    /// Blocks that are appended for each block of the host, in hundredths.
+    pub amplification: u32,
+    /// Reads that a mount sends for the headers on the drive.
+    pub reads: u64,
+}
+
+/// What a zone holds when it is full, as shares of its blocks.
+#[derive(Clone, Copy)]
+struct Filling {
+    /// Blocks that were moved into it.
+    moved: f64,
+    /// Data blocks of the host.
+    host: f64,
+}
+
+/// How often the interval is halved: its length is below 2^-60 then.
+const HALVINGS: u32 = 60;
+
+/// Of the blocks that the host's batches take, the share that is data.
+fn data_share(batch_most: u32, write: u32) -> f64
+    requires { 1 ≤ batch_most }
+{
+    let data = f64::from(write);
+    let headers = f64::from(write.div_ceil(batch_most));
+    data / (data + headers)
+}
+
+/// What a zone holds, if that share of its blocks is moved into it first.
+fn zone_with(moved: f64, batch_most: u32, data_share: f64) -> Filling {
+    let headers = moved / f64::from(batch_most);
+    Filling {
+        moved,
+        host: (1.0 - moved - headers) * data_share,
+    }
+}
+
+/// The share of a zone's blocks that are live when it is cleaned.
+fn live_share(filling: Filling, rho: f64) -> f64 {
+    (filling.moved + filling.host) * (-filling.host / rho).exp()
+}
+
+/// What the zones of a drive hold in the long run: as much is moved into each as is live when it is cleaned.
+fn settled(batch_most: u32, data_share: f64, rho: f64) -> Filling {
+    let most = f64::from(batch_most);
+    let mut low = 0.0;
+    let mut high = most / (most + 1.0);
+    for _ in 0..HALVINGS {
+        let middle = (low + high) / 2.0;
+        if live_share(zone_with(middle, batch_most, data_share), rho) > middle {
+            low = middle;
+        } else {
+            high = middle;
+        }
+    }
+    zone_with(low, batch_most, data_share)
+}
+
+/// The estimate for random writes of `write` blocks each to a drive with that many logical blocks.
+pub fn expected(geometry: &Geometry, blocks: u64, write: u32) -> Estimate
+    requires in_range { IsInRange geometry.now }
+    requires fits { FitsReserve geometry.now blocks }
+{
+    let batch_most = batch_most(geometry);
+    let room = f64::from(geometry.zones - 1) * f64::from(geometry.capacity);
+    let data_share = data_share(batch_most, write);
+    let full = settled(batch_most, data_share, f64::from(blocks as u32) / room);
+    Estimate {
+        amplification: saturating_f64_to_u32(100.0 / full.host + 0.5),
+        reads: saturating_f64_to_u64(room * (1.0 - full.moved - full.host) + 0.5),
+    }
+}

@@ -1,0 +1,36 @@
+//! How many logical blocks to give a drive: what each number is expected to cost.
+//!
+//! ```text
+//! let rows = plan(alloc, &geometry, Aim::Shares)?;    // 50 to 99 percent, and the greatest number
+//! let text = plan_text(alloc, &geometry, &rows)?;     // a table
+//! let text = plan_json(alloc, &geometry, &rows)?;     // the same as JSON
+//! let text = plan_svg(alloc, &geometry)?;             // write amplification by share, as a plot
+//! let (geometry, blocks) = drive_for(256 << 20);      // a drive for 256 MiB, and its number of blocks
+//! ```
+//!
+//! Nothing here sends a command. What is promised: each row is that of a number of blocks that the drive can
+//! serve, and says exactly how many bytes they are and how many Reads a mount sends at least (`IsRow` in
+//! specs/Rows). The numbers that were asked for are those of specs/Rows, too (`AreAimed`).
+//!
+//! The write amplification and the Reads of a drive that is full are estimates. They are for random writes of
+//! 1, 8 and 64 blocks, long after the drive was filled. `docs/placement.md` says where they come from;
+//! `bench/plan` compares them with runs.
+#![tactic(auto)]
+
+mod aims;
+mod drive;
+mod estimate;
+mod fault;
+mod json;
+mod plot;
+mod row;
+mod text;
+
+pub use aims::{Aim, SHARES, plan};
+pub use drive::{PLANNED_SHARE, drive_for};
+pub use estimate::{Estimate, WRITES, expected};
+pub use fault::PlanFault;
+pub use json::plan_json;
+pub use plot::plan_svg;
+pub use row::{Row, row_of, share_of};
+pub use text::{format_words, plan_text};
