@@ -1,5 +1,5 @@
 -- What the store of a job holds once its lines were answered.
-use Rattle.std.proofs.Common.{◌≡◌, ℕ, List, Option, Some, None, true, false, refl}
+use Rattle.std.proofs.Common.{◌≡◌, true, false, refl}
 use Rattle.std.specs.Prelude.{IfSome}
 use Rattle.drive_port.specs.Drive.{DriveState}
 use Rattle.disk_runs.specs.Run.{Known}

@@ -1,4 +1,4 @@
-use Rattle.std.proofs.Common.{◌≡◌, ap, false, sym, ◌∙◌}
+use Rattle.std.proofs.Common.{ap}
 use Rattle.drive_port.specs.Drive.{DriveState}
 use Rattle.disk_jobs.proofs.StoreLaws.{stores-drive}
 use Rattle.disk_jobs.proofs.lines.answer_kept.Goals as goal

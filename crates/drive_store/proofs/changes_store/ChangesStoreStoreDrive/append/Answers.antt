@@ -1,4 +1,4 @@
-use Rattle.std.proofs.Common.{arith, rules}
+use Rattle.std.proofs.Common.{rules}
 use Rattle.drive_store.proofs.changes_store.ChangesStoreStoreDrive.append.Goals as goal
 
 pub returns-in-Err-clause-err : goal.returns-in-Err-clause-err
