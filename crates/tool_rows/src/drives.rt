@@ -1,0 +1,68 @@
+//! Drives that are checked: some batches in their zones, encoded by hand.
+
+use drive_port::Device;
+use nvme_wire::Command;
+use std::alloc::Global;
+use std::test::Fail;
+use zone_drive::Drive;
+use zone_states::Geometry;
+
+/// A batch of the host that writes some blocks, as `docs/formats.md` encodes it.
+pub struct Written {
+    pub zone: u32,
+    pub sequence: u64,
+    pub blocks: &'static [u64],
+    /// How many of the blocks that its Append writes are left out at the end.
+    pub cut: usize,
+}
+
+/// How many logical blocks the headers say.
+const SIZE: u32 = 6;
+
+/// The blocks of the batch, each of 512 bytes.
+fn batch_bytes(alloc: Global, written: &Written) -> Result<Vec<u8>, Fail> {
+    let mut bytes = Vec::new(alloc);
+    bytes.extend_from_slice(b"ZLOGBAT1")?;
+    bytes.extend_from_slice(&2u16.to_le_bytes())?;
+    bytes.extend_from_slice(&1u16.to_le_bytes())?;
+    bytes.extend_from_slice(&u32::try_from(written.blocks.len())?.to_le_bytes())?;
+    bytes.extend_from_slice(&written.sequence.to_le_bytes())?;
+    bytes.extend_from_slice(&0u32.to_le_bytes())?;
+    bytes.extend_from_slice(&SIZE.to_le_bytes())?;
+    for block in written.blocks {
+        bytes.extend_from_slice(&block.to_le_bytes())?;
+    }
+    let blocks = written
+        .blocks
+        .len()
+        .saturating_add(1)
+        .saturating_sub(written.cut);
+    bytes.resize(blocks.saturating_mul(512), 0)?;
+    Ok(bytes)
+}
+
+/// Appends a batch to its zone.
+fn put(
+    alloc: Global,
+    drive: &mut Drive,
+    geometry: Geometry,
+    written: &Written,
+) -> Result<(), Fail> {
+    let bytes = batch_bytes(alloc, written)?;
+    let command = Command::Append {
+        zslba: geometry.start_of(written.zone),
+        blocks: u32::try_from(bytes.len() / 512)?.max(1).min(65536),
+    };
+    let mut returned = Vec::new(alloc);
+    let _ = drive.submit(&command.encode(0), &bytes, &mut returned);
+    Ok(())
+}
+
+/// A drive with these batches.
+pub fn drive_with(alloc: Global, geometry: Geometry, all: &[Written]) -> Result<Drive, Fail> {
+    let mut drive = Drive::new(alloc, geometry)?;
+    for written in all {
+        put(alloc, &mut drive, geometry, written)?;
+    }
+    Ok(drive)
+}
