@@ -3,7 +3,7 @@
 
 use crate::runs::FINISH;
 use clap::error::ErrorKind;
-use command_line::job_of;
+use command_line::{Task, task_of};
 use disk_jobs::{Gate, Job, JobInput, do_job, explain, write_program_fault};
 use std::alloc::{AllocError, Global};
 use std::fs;
@@ -22,19 +22,27 @@ const DISK: &str =
 const RAW: &str =
     "zonedisk fresh-raw --block 512 --zones 4 --size 8 --capacity 6 --transfer 4 --active 2 --open 2";
 
-// The job of a command line whose words have one space between them.
-fn job(rt: &impl Abort, alloc: Global, line: &str) -> Result<Job, clap::Error> {
+// What a command line asks for whose words have one space between them.
+fn task(rt: &impl Abort, alloc: Global, line: &str) -> Result<Task, clap::Error> {
     let mut words = Vec::new(alloc);
     for word in line.split(' ') {
         let word = String::from_str(alloc, word).expect(rt, "memory");
         words.push(word).expect(rt, "memory");
     }
-    job_of(alloc, &words)
+    task_of(alloc, &words)
+}
+
+// The job of a command line that has lines.
+fn job(rt: &impl Abort, alloc: Global, line: &str) -> Option<Job> {
+    match task(rt, alloc, line) {
+        Ok(Task::Lines(job)) => Some(job),
+        _ => None,
+    }
 }
 
 // How the words of a command line are refused, if they are.
 fn refusal(rt: &impl Abort, alloc: Global, line: &str) -> Option<ErrorKind> {
-    match job(rt, alloc, line) {
+    match task(rt, alloc, line) {
         Ok(_) => None,
         Err(error) => Some(error.kind()),
     }
@@ -47,7 +55,7 @@ fn answer<R: Files<File = File> + Abort>(
     line: &str,
     lines: &[u8],
 ) -> (Vec<u8>, String) {
-    let job = job(rt, alloc, line).ok().expect(rt, "a job");
+    let job = job(rt, alloc, line).expect(rt, "a job");
     let gate = Gate::open();
     let mut input = JobInput::new(alloc, &gate, lines);
     let mut written = Vec::new(alloc);
@@ -130,8 +138,17 @@ fn reads_the_words(rt: HostRuntime) -> Result<(), Fail> {
 }
 
 // Which other words are refused, and how.
-const OTHER_WORDS: [(&str, Option<ErrorKind>); 12] = [
+const OTHER_WORDS: [(&str, Option<ErrorKind>); 15] = [
     ("zonedisk run --zones --blocks=9 --image=a/b", None),
+    ("zonedisk nbd --image b", None),
+    (
+        "zonedisk nbd --image b --blocks 9 --idle --stop-after 7",
+        None,
+    ),
+    (
+        "zonedisk nbd --image b --blocks +9",
+        Some(ErrorKind::ValueValidation),
+    ),
     ("zonedisk nvme --habit=closing --image b", None),
     ("zonedisk", Some(ErrorKind::MissingSubcommand)),
     ("zonedisk mount", Some(ErrorKind::InvalidSubcommand)),
@@ -170,7 +187,7 @@ fn reads_other_words(rt: HostRuntime) {
 #[test]
 fn says_why_words_are_refused(rt: HostRuntime) -> Result<(), Fail> {
     let line = format!(in rt.alloc(); "{FRESH} --blocks +5")?;
-    let Err(error) = job(&rt, rt.alloc(), &line) else {
+    let Err(error) = task(&rt, rt.alloc(), &line) else {
         panic!(rt; "the words were taken");
     };
     let text = format!(in rt.alloc(); "{error}")?;
