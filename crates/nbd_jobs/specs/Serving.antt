@@ -77,6 +77,11 @@ pub record ServesSession (blocks : Option ℕ) (bytes : Streams) (old : DriveSta
   pub keeps : KeepsDisk first last.disk
   pub drive : new ≡ last.disk.drive
 
+-- the end of a session, as it is told
+abbrev pub session_end : Result (Unit {0}) SessionFault → Result (Unit {0}) NbdFault
+session_end (Ok done) = Ok tt
+session_end (Err fault) = Err (Session fault)
+
 -- no message is read, and nothing is written
 pub record ServesNothing (bytes : Streams) : Type 0 where
   pub unread : Keeps bytes.input bytes.rest

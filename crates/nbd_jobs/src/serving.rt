@@ -4,7 +4,7 @@ ghost use Rattle.std.specs.Prelude.{◌≡◌, IfNone, IfSome};
 ghost use Rattle.nbd_session.specs.Streams.{streams};
 ghost use Rattle.drive_store.specs.Kept.{HoldsFile};
 ghost use Rattle.disk_jobs.specs.Saved.{stopping};
-ghost use Rattle.nbd_jobs.specs.Serving.{HoldsNoDrive, LeavesFile, LeavesStored, ServesDrive, ServesStopping};
+ghost use Rattle.nbd_jobs.specs.Serving.{HoldsNoDrive, LeavesFile, LeavesStored, ServesDrive, ServesStopping, session_end};
 
 use crate::fault::NbdFault;
 use crate::job::NbdJob;
@@ -15,7 +15,7 @@ use drive_counter::Counter;
 use drive_journal::{Journaling, Store};
 use drive_port::Device;
 use drive_store::{keep, restarted_drive};
-use nbd_session::{Client, Medium, ServedDisk, serve};
+use nbd_session::{Client, Medium, ServedDisk, SessionFault, serve};
 use std::alloc::Global;
 use std::io::{Read, Write};
 use zone_drive::Drive;
@@ -63,6 +63,16 @@ fn shown_statistics<D: Device + Drop>(
     statistics_of(alloc, disk).ok()
 }
 
+/// How a session ended, as it is told.
+fn session_end(ended: Result<(), SessionFault>) -> Result<(), NbdFault>
+    ensures { result ≡ session_end ended }
+{
+    match ended {
+        Ok(()) => Ok(()),
+        Err(fault) => Err(NbdFault::Session(fault)),
+    }
+}
+
 /// A device, and what keeps its drive.
 #[derive(Drop)]
 struct Kept<D: Device + Drop, M: Medium + Drop> {
@@ -99,7 +109,7 @@ fn serve_counted<D: Device + Drop, M: Medium + Drop, R: Client, W: Write>(
     Ended {
         device: disk.into_device().into_inner(),
         statistics,
-        result: result.map_err(NbdFault::Session),
+        result: session_end(result),
     }
 }
 
