@@ -11,7 +11,7 @@ use std::rt::Files;
 use zone_drive::Drive;
 
 /// How many bytes of changes are gathered at most. A longer change is written directly.
-const MOST_GATHERED: usize = 1 << 18;
+const MOST_GATHERED: usize = 1 << 16;
 
 /// By how much a file has to be longer than twice the image of its drive, before it is written anew.
 const ROOM: u64 = 1 << 20;
