@@ -1,6 +1,7 @@
 -- What clap makes of the words of the program, and what refutes each job.
-use Rattle.std.proofs.Common.{◌≡◌, ◌∙◌, ◌⊎◌, ◌≢◌, inl, inr, ℕ, ◌<◌, ◌≤◌, ◌^◌, Bool, true, false, ◌&&◌, List, [], ◌∷◌, ap, refl, sym, subst, Option, Some, None, Result, Ok, Err, IsErrAnd, IsSomeAnd, arith, ne_eqb, leb-true, codes}
+use Rattle.std.proofs.Common.{◌≡◌, ◌∙◌, ◌⊎◌, ◌≢◌, inl, inr, ℕ, ◌<◌, ◌≤◌, ◌^◌, Bool, true, false, ◌&&◌, List, [], ◌∷◌, ap, refl, sym, subst, Option, Some, None, Result, Ok, Err, IsErrAnd, IsSomeAnd, arith, ne_eqb, leb-true, codes, is_some, option_map}
 use Rattle.std.proofs.lemmas.Result.{err_from_is_err_and}
+use Rattle.std.specs.Prelude.{MatchOption}
 use Rattle.std.specs.Borrow.{Bor}
 use Rattle.std.specs.Char.{digit_value, is_ascii_digit}
 use Rattle.std.specs.List.{list_all}
@@ -18,7 +19,7 @@ use Rattle.command_line.specs.declared.task.Task.TheVariants.{Lines, Nbd}
 use Rattle.command_line.specs.declared.words.WordFault.{WordFault}
 use Rattle.command_line.specs.declared.words.WordFault.TheVariants.{Memory}
 use Rattle.command_line.specs.Program.{habit_names, program}
-use Rattle.command_line.specs.Words.{AskFor, AsksFor, AsksForJob, Finds, HasNumber, IsAnswerTo, IsNumber}
+use Rattle.command_line.specs.Words.{AskFor, AsksFor, AsksForJob, Finds, HasNumber, HasNumberIf, IsAnswerTo, IsNumber}
 
 -- ---- the program
 
@@ -137,7 +138,15 @@ exits IsPart Is (Err f) fault is part why = record {
 pub refuted : {B : Type 0} (Is : B → Type 0) (fault : WordFault) → ((value : B) → Is value → ⊥) → Finds Is (Err fault)
 refuted Is fault none = record { value = tt; fault = inr none }
 
--- what asks for a task that is not served asks for a job
-pub asks_for_job : (name : Text) (rows : List Row) → name ≢ codes "nbd" → (task : Task) → AsksFor name rows task → (job : Job) × AsksForJob name rows job
-asks_for_job name rows other (Lines job) asks = (job, asks)
-asks_for_job name rows other (Nbd job) asks = absurd (other asks.0)
+-- what is made of a value that is there is there
+pub is_some-map : {A B : Type 0} (f : A → B) (o : Option A) → is_some (option_map f o) ≡ is_some o
+is_some-map f None = refl
+is_some-map f (Some x) = refl
+
+-- an option that was given has a number, if it has one or none
+pub number_part : (rows : List Row) (name : Text) → is_some (first_of name rows) ≡ true → (whole : Option ℕ) → HasNumberIf rows name whole → (n : ℕ) × HasNumber 64 rows name n
+number_part rows name some whole has = by (first_of name rows) some whole has where
+  by : (given : Option Text) → is_some given ≡ true → (whole : Option ℕ) → MatchOption given (whole ≡ None) (λ text. IsSomeAnd whole (IsNumber 64 text)) → (n : ℕ) × IsSomeAnd given (λ text. IsNumber 64 text n)
+  by None some whole has = absurd (cc some)
+  by (Some text) some (Some n) has = (n, has)
+  by (Some text) some None has = absurd has

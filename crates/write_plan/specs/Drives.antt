@@ -10,7 +10,7 @@ planned_drive zones capacity =
     record { block = 4096; zones = zones; size = capacity; capacity = capacity; transfer = 128; active = 8; «open» = 8 }
 
 -- 80 percent of the greatest number of logical blocks are as many, at least
-pub record HasRoomFor (blocks : ℕ) (geometry : Geometry) : Type 0 where
+pub record HasRoomForBytes (blocks : ℕ) (geometry : Geometry) : Type 0 where
   pub range : IsInRange geometry
   pub block : geometry.block ≡ 4096
   pub holds : blocks ≤ share_of geometry 80

@@ -2,7 +2,7 @@
 
 ghost use Rattle.std.specs.Prelude.{◌≡◌, ◌≤◌, ◌<◌, ◌^◌, IfSome, OnSome, IsNone, IsSome};
 ghost use Rattle.zone_states.specs.Geometry.{IsInRange};
-ghost use Rattle.write_plan.specs.Drives.{HasRoomFor, IsDriveFor, most_planned, planned_drive};
+ghost use Rattle.write_plan.specs.Drives.{HasRoomForBytes, IsDriveFor, most_planned, planned_drive};
 
 use crate::row::share_of;
 use drive_array::most_blocks;
@@ -36,7 +36,7 @@ fn planned_drive(zones: u32, capacity: u32) -> Geometry
 fn drive_of(blocks: u64, capacity: u32) -> Option<Geometry>
     requires capacity { 4 ≤ capacity × capacity ≤ 2 ^ 20 }
     requires blocks { blocks ≤ 2 ^ 30 }
-    ensures { IfSome result (HasRoomFor blocks) }
+    ensures { IfSome result (HasRoomForBytes blocks) }
 {
     let two_zones = most_blocks(&planned_drive(3, capacity));
     let zones = (5 * blocks).div_ceil(2 * two_zones) + 1;
@@ -53,7 +53,7 @@ fn drive_of(blocks: u64, capacity: u32) -> Option<Geometry>
 /// The drive of the largest zones that holds the logical blocks.
 fn largest_drive(blocks: u64) -> Geometry
     requires { blocks ≤ 2 ^ 30 }
-    ensures { HasRoomFor blocks result }
+    ensures { HasRoomForBytes blocks result }
 {
     let zones = (5 * blocks).div_ceil(4 * 1_040_382) + 1;
     planned_drive(zones.max(8) as u32, LARGEST)
