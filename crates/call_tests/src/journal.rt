@@ -188,8 +188,8 @@ fn a_store_that_fails_holds_what_was_answered(rt: HostRuntime) -> Result<(), Fai
         let writer = FailAfter::in_steps(bytes, left, 100);
         let mut device = Journaling::new(rt.alloc(), drive, Unknown::new(writer));
         let answered = run_five(rt.alloc(), &mut device);
-        assert_eq!(rt; device.store_failed(), left < 1936);
         let (_, store) = device.into_parts();
+        assert_eq!(rt; Store::<Drive>::has_failed(&store), left < 1936);
         let written = store.into_inner().inner;
         assert_eq!(rt; answered, changes_within((IMAGE + left) as u64));
         assert!(rt; holds(rt.alloc(), &written, answered.min(5)));
