@@ -1,5 +1,5 @@
 -- A session is served, whatever ended it.
-use Rattle.std.proofs.Common.{◌≡◌, ℕ, Option, Result, Ok, Err}
+use Rattle.std.proofs.Common.{ℕ, Option, Result, Ok, Err}
 use Rattle.drive_port.specs.Drive.{DriveState}
 use Rattle.nbd_session.specs.Streams.{Streams}
 use Rattle.nbd_session.specs.declared.fault.SessionFault.{SessionFault}
