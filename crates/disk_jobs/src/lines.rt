@@ -140,7 +140,8 @@ fn show_after<W: Write>(
     ran: Result<(), RunFault>,
     output: &mut W,
 ) -> Result<(), RunFault>
-    ensures { ThenShows (shows_zones job.now) drive.now.state ran (W.contents output.old) result (W.contents output.new) }
+    ensures { ThenShows (shows_zones job.now) drive.now.state ran
+        (W.contents output.old) result (W.contents output.new) }
 {
     if ran.is_err() || !shows_zones(job) {
         return ran;

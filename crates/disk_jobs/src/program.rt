@@ -89,8 +89,8 @@ pub fn run_job<I: Read + Drop, S: Store<Drive> + Drop, R: Read + Drop, W: Write>
         (exchange input.old.left (W.contents output.old) (W.contents output.new))
         (ended_by result.2) left (S.held file.store) (S.held result.1) (S.failed result.1)) }
     ensures told { IfSome result.0 (λ left. IfErr result.2 (TellsRun left.drive.state.geometry)) }
-    // Without a drive no line was read and no change written, and of what the job writes at most a beginning is written:
-    // the fault says why there is no drive, by the bytes of the file. Only a report is done without one.
+    // Without a drive no line was read and no change written, and of what the job writes at most a beginning is
+    // written: the fault says why there is no drive, by the bytes of the file. Only a report is done without one.
     ensures unread { IfNone result.0 ((input.new ≡ input.old) × (S.held result.1 ≡ S.held file.store)) }
     ensures none { IfNone result.0 (IfErr result.2 (λ fault. HasNoDrive job.now (I.remaining file.bytes) fault
         (W.contents output.old) (W.contents output.new))) }

@@ -7,9 +7,9 @@ use crate::lines::Left;
 use drive_store::FileFault;
 use zone_drive::Drive;
 
-/// What is saved of a job, by what its lines left and how it ended, once what it wrote was sent: the drive, also after a
-/// fault. A fresh drive is saved only if its `ok` was sent. Nothing is saved if the file is unchanged, nor if a change
-/// could not be written to it.
+/// What is saved of a job, by what its lines left and how it ended, once what it wrote was sent: the drive, also after
+/// a fault. A fresh drive is saved only if its `ok` was sent. Nothing is saved if the file is unchanged, nor if a
+/// change could not be written to it.
 pub(crate) fn drive_to_save(
     job: &Job,
     sent: Result<(), ProgramFault>,

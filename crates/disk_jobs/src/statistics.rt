@@ -38,8 +38,8 @@ fn show_statistics<W: Write, D: Device + Drop>(
     Ok(())
 }
 
-/// Answers a trace over a device whose commands are counted, and then shows what was counted. It tells how many commands
-/// the mount took.
+/// Answers a trace over a device whose commands are counted, and then shows what was counted. It tells how many
+/// commands the mount took.
 pub fn run_counted<R: Read + Drop, W: Write, D: Device + Drop>(
     alloc: Global,
     input: &mut LineReader<R>,

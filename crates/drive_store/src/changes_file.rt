@@ -16,11 +16,12 @@ use zone_drive::Drive;
 /// The file of a drive, open and locked, to which changes are appended. Until the first one it is as it was.
 ///
 /// Changes are gathered, and written together: by [`write_out`](ChangesFile::write_out) at the latest, and before more
-/// than 64 KiB of them are held. After a fault the file takes no more of them. It has the first ones, in order, with all
-/// that were written out; and what needs others is refused by that fault.
+/// than 64 KiB of them are held. After a fault the file takes no more of them. It has the first ones, in order, with
+/// all that were written out; and what needs others is refused by that fault.
 ///
-/// The file is written anew as the image of the drive when it is more than 1 MiB longer than twice that image. So it is
-/// never longer than that and 1 MiB more, unless it cannot be written anew.
+/// The file is written anew as the image of the drive when it is more than 1 MiB longer than twice that image. That is
+/// looked at only now and then. So the file stays below twice the longest image that the drive had, and 2 MiB and one
+/// change more, unless it cannot be written anew.
 #[derive(Drop)]
 pub struct ChangesFile<'a, F: Files<File = File>> {
     file: RefCell<GatheredFile<'a, F>>,

@@ -16,8 +16,8 @@ pub enum SentAfter {
 }
 
 /// Sends bytes to an output, once the file of a drive has all changes that were appended before. Before this output
-/// there is a buffer, so all replies that are sent together cost one write of the file. After a fault of the file nothing
-/// more is sent: the system tells of lost bytes only once.
+/// there is a buffer, so all replies that are sent together cost one write of the file. Nothing more is sent once a
+/// change could not be written that was appended, or synced: the system tells of lost bytes only once.
 #[derive(Drop)]
 pub struct ChangesOutput<'s, 'a, F: Files<File = File>, W: Write> {
     file: &'s ChangesFile<'a, F>,

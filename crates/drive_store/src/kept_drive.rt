@@ -63,7 +63,11 @@ pub fn saved_drive<I: Read>(alloc: Global, file: &mut I) -> Result<Drive, ReadFa
 /// A drive whose changes go to a store, after the bytes of the store that are the image and whole changes.
 pub fn keep<S: Store<Drive> + Drop>(alloc: Global, begun: Begun, store: S) -> Journaling<Drive, S>
     requires { IfSome (front_of begun.whole (S.held store)) (λ bytes. IsStoredWhole bytes begun.drive.state) }
-    ensures { result ≡ record { drive = begun.drive.state; lost = false; contents = front_of begun.whole (S.held store) } }
+    ensures { result ≡ record {
+      drive = begun.drive.state;
+      lost = false;
+      contents = front_of begun.whole (S.held store);
+    } }
 {
     let mut store = store;
     store.cut(begun.whole);

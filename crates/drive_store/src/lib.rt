@@ -1,5 +1,5 @@
-//! The file that keeps a drive: it is opened and locked, its drive is read and restarted, each change is appended to it,
-//! and the drive is saved in it.
+//! The file that keeps a drive: it is opened and locked, its drive is read and restarted, each change is appended to
+//! it, and the drive is saved in it.
 //!
 //! ```text
 //! let image = open_to_save(files, alloc, path)?; // locked: no other program reads or changes it
@@ -15,13 +15,13 @@
 //!
 //! # What is promised
 //!
-//! * [`restarted_drive`] gives the drive that the bytes of a file hold, restarted, and [`saved_drive`] gives it as it was
-//!   saved; or they tell the first fault in the bytes.
+//! * [`restarted_drive`] gives the drive that the bytes of a file hold, restarted, and [`saved_drive`] gives it as it
+//!   was saved; or they tell the first fault in the bytes.
 //! * [`keep`] makes a device of that drive and a store: the device shows the drive, and the store holds it.
 //!
 //! Of files nothing is promised by contract, since std says nothing of what a path names, what a file holds or who has
-//! locked it. `tools/two_programs` and `tools/kill_runs` try them: an answered change is found again after a kill, and two
-//! programs never share a file.
+//! locked it. `tools/two_programs` and `tools/kill_runs` try them: an answered change is found again after a kill, and
+//! two programs never share a file.
 #![tactic(auto)]
 
 mod changes_file;

@@ -159,8 +159,8 @@ fn fill<F: Files<File = File>>(
     Ok(new)
 }
 
-/// Puts a new file with the image of a drive in the place of an image, and hands it back. Its name is not brought to the
-/// disk. After a fault no new file is left, and the image is as before.
+/// Puts a new file with the image of a drive in the place of an image, and hands it back. Its name is not brought to
+/// the disk. After a fault no new file is left, and the image is as before.
 pub fn replace<F: Files<File = File>>(
     how: &Saving<'_, F>,
     drive: &Drive,
@@ -177,8 +177,8 @@ pub fn replace<F: Files<File = File>>(
     saved
 }
 
-/// Saves a drive in the place of an image. After a fault no new file is left, and the image is as before, unless its name
-/// could not be brought to the disk.
+/// Saves a drive in the place of an image. After a fault no new file is left, and the image is as before, unless its
+/// name could not be brought to the disk.
 pub fn save<F: Files<File = File>>(
     how: &Saving<'_, F>,
     drive: &Drive,
