@@ -17,7 +17,7 @@ use crate::lists::{
 };
 use crate::reading::{ZoneReading, read_zones};
 use drive_port::Device;
-use drive_survey::{MountFault, ReportedZone, is_partly_written, report_zones};
+use drive_survey::{MountFault, ReportedZone, count_partly_written, report_zones};
 use std::alloc::{AllocError, Global};
 
 /// No findings but the refusal.
@@ -34,19 +34,6 @@ fn no_findings(alloc: Global, refusal: Option<MountFault>) -> Findings
         past_end: Vec::new(alloc),
         torn: Vec::new(alloc),
     }
-}
-
-/// How many zones are partly written.
-fn count_partly_written(zones: &[ReportedZone]) -> usize
-    ensures { result ≡ count_by is_partly_reported zones.now }
-{
-    let mut count = 0;
-    for zone in zones {
-        if is_partly_written(*zone) {
-            count += 1;
-        }
-    }
-    count
 }
 
 /// The lists that are made from the headers.

@@ -1,7 +1,6 @@
 //! The lists of findings, made from what was read of each zone.
 
 ghost use Rattle.std.specs.Prelude.{◌≡◌, ◌++◌, ◌<◌, ◌^◌, [], IfOk, OnOk, length};
-ghost use Rattle.drive_array.specs.Sizes.{larger};
 ghost use Rattle.std.specs.Ordering.{nat_cmp};
 ghost use Rattle.std.specs.BTreeSet.{insert_key};
 ghost use Rattle.drive_check.specs.Lists.{fault_at, found_in, greatest_read, heads_read, is_unusable};
@@ -10,7 +9,7 @@ ghost use Rattle.drive_check.specs.Lists.{repeats_of, size_of_read, size_read, t
 
 use crate::finding::{PastEnd, Repeat, ZoneFault};
 use crate::reading::ZoneReading;
-use drive_survey::{Head, ReportedZone};
+use drive_survey::{Head, ReportedZone, larger};
 use nvme_wire::ZoneState;
 use std::alloc::{AllocError, Global};
 use std::collections::BTreeSet;
@@ -127,19 +126,6 @@ pub fn repeated_sequences(alloc: Global, reads: &[ZoneReading]) -> Result<Vec<Re
         add_repeats(&mut found, &mut seen, number as u32, heads_read(read))?;
     }
     Ok(found)
-}
-
-/// The greater of two sizes, where there is one.
-fn larger(size: Option<u32>, other: Option<u32>) -> Option<u32>
-    ensures { result ≡ larger size other }
-{
-    let Some(first) = size else {
-        return other;
-    };
-    let Some(second) = other else {
-        return size;
-    };
-    Some(first.max(second))
 }
 
 /// The size that a zone's headers say.

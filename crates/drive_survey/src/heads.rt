@@ -114,7 +114,8 @@ fn is_move(kind: Kind) -> bool
     }
 }
 
-pub(crate) fn larger(size: Option<u32>, other: Option<u32>) -> Option<u32>
+/// The greater of two sizes, of which each may be unknown.
+pub fn larger(size: Option<u32>, other: Option<u32>) -> Option<u32>
     ensures { result ≡ larger size other }
 {
     let Some(first) = size else {

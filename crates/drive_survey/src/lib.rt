@@ -40,9 +40,9 @@ mod survey;
 
 pub use clearing::{Finding, clear_zones, examine_zone};
 pub use fault::MountFault;
-pub use heads::{Head, ZoneHeads};
+pub use heads::{Head, ZoneHeads, larger};
 pub use records::{KeptRecord, entry_record, is_trim};
 pub use reported::{ReportedZone, fault_of, report_zones};
 pub use scan::{ReadableZone, ScannedZone, read_block, scan_zone, scan_zones};
 pub use sequences::greatest_sequence;
-pub use survey::{Survey, is_partly_written, survey_drive};
+pub use survey::{Survey, count_partly_written, is_partly_written, survey_drive};

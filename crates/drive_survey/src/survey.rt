@@ -64,7 +64,7 @@ pub fn is_partly_written(zone: ReportedZone) -> bool
 }
 
 /// How many zones are partly written.
-fn count_partly_written(zones: &[ReportedZone]) -> usize
+pub fn count_partly_written(zones: &[ReportedZone]) -> usize
     ensures { result ≡ count_by is_partly_reported zones.now }
 {
     let mut count = 0;

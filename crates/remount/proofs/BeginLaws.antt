@@ -28,8 +28,8 @@ use Rattle.drive_survey.specs.declared.scan.ScannedZone.{ScannedZone}
 use Rattle.drive_survey.specs.Heads.{HeadsView, heads_of, no_heads}
 use Rattle.remount.specs.Kept.{AreVacantEmpty, KeepsMountable}
 use Rattle.drive_survey.specs.Known.{HasVacant, Knows}
-use Rattle.remount.specs.Mount.{AreWhole, IsOnlyTorn}
-use Rattle.remount.specs.Moving.{AreSettled, EmptiesTorn, IsAtMove, IsMovePlan, IsMoving, KeepsShut, move_count, moves_before, source_of}
+use Rattle.remount.specs.Mount.{AreWhole, IsCleared, IsOnlyTorn, IsPlan}
+use Rattle.remount.specs.Moving.{AreSettled, EmptiesTorn, IsAtMove, IsMovePlan, IsMoving, KeepsShut, SettlesOthers, move_count, moves_before, source_of}
 use Rattle.drive_survey.specs.Reported.{KeepsZones}
 use Rattle.drive_survey.specs.Scan.{AreKnown}
 use Rattle.remount.proofs.CallLaws.{in-get, shut-both, shut-count, shut-known, shut-knows, shut-mountable, zones-shut}
@@ -213,20 +213,22 @@ pub record IsFinished (n : ℕ) (drive : DriveState) (survey : Survey) (torn : �
   pub only : IsOnlyTorn (drive_logs drive) (zone_tails (contents drive.zones)) torn
   pub settled : AreSettled drive torn (length drive.zones)
 
-pub is-finished : (n : ℕ) (old new : DriveState) (survey : Survey) (torn : ℕ) → IsMountable old n → NoneBelow old.geometry.block n (drive_logs old) (length old.zones) → IsOnlyTorn (drive_logs old) (zone_tails (contents old.zones)) torn → KeepsMountable n old new → drive_logs new ≡ drive_logs old
-    → zone_tails (contents new.zones) ≡ zone_tails (contents old.zones) → Knows new n (drive_logs new) survey → AreVacantEmpty survey.zones.items (drive_logs new) → AreSettled new torn (length new.zones) → IsFinished n new survey torn
-is-finished n old new survey torn mountable none only kept logs tails known vacant settled = record {
-  mountable = kept.mountable mountable;
-  none_left = cleared-kept n old new mountable.lawful kept logs none;
-  known = known;
-  vacant = vacant;
-  only = subst (λ (l : List (List Batch)). IsOnlyTorn l (zone_tails (contents new.zones)) torn) (sym logs) (subst (λ (t : List Bool). IsOnlyTorn (drive_logs old) t torn) (sym tails) only);
-  settled = settled;
-}
+pub is-finished : (old new : DriveState) (before survey : Survey) (repair : Repair) → IsCleared old before.given before → IsPlan old.geometry before.given (drive_logs old) (zone_tails (contents old.zones)) repair → KeepsMountable before.given old new
+    → SettlesOthers old new repair.zone → IsCleared new before.given survey → IsFinished before.given new survey repair.zone
+is-finished old new before survey repair was plan kept left cleared =
+    let torn = repair.zone in
+    record {
+      mountable = kept.mountable was.mountable;
+      none_left = cleared-kept before.given old new was.mountable.lawful kept left.logs was.none;
+      known = cleared.known;
+      vacant = cleared.empty;
+      only = subst (λ (l : List (List Batch)). IsOnlyTorn l (zone_tails (contents new.zones)) torn) (sym left.logs) (subst (λ (t : List Bool). IsOnlyTorn (drive_logs old) t torn) (sym left.tails) plan.torn);
+      settled = left.settled;
+    }
 
-pub is-prepared : (n : ℕ) (drive : DriveState) (survey : Survey) (torn into : ℕ) (zones : List ReportedZone) → IsFinished n drive survey torn → zones ≡ survey.zones.items → into < length zones → ((r : ReportedZone) → slice_get zones into ≡ Some r → r.state ≡ states.Empty) → IsPrepared n drive survey torn into
-is-prepared n drive survey torn into zones f is lt found =
-    let below : into < length survey.zones.items = omega (arith, lt, ap length is) in
+pub is-prepared : (n : ℕ) (drive : DriveState) (survey : Survey) (torn into : ℕ) (zones : List ReportedZone) → IsFinished n drive survey torn → zones ≡ survey.zones.items → (into < length zones) × ((r : ReportedZone) → slice_get zones into ≡ Some r → r.state ≡ states.Empty) → IsPrepared n drive survey torn into
+is-prepared n drive survey torn into zones f is found =
+    let below : into < length survey.zones.items = omega (arith, found.0, ap length is) in
     let there = in-get survey.zones.items into (record { state = states.Empty; blocks = 0 }) below in
     record {
       mountable = f.mountable;
@@ -235,7 +237,7 @@ is-prepared n drive survey torn into zones f is lt found =
       vacant = f.vacant;
       only = f.only;
       settled = f.settled;
-      there = reported-emptied drive survey.zones.items into there.0 f.known.zones there.1 (found there.0 (subst (λ (zs : List ReportedZone). slice_get zs into ≡ Some there.0) (sym is) there.1));
+      there = reported-emptied drive survey.zones.items into there.0 f.known.zones there.1 (found.1 there.0 (subst (λ (zs : List ReportedZone). slice_get zs into ≡ Some there.0) (sym is) there.1));
       in_range = omega (arith, below, f.known.zones.count);
     }
 
@@ -246,12 +248,12 @@ pub record IsStarted (n : ℕ) (drive start : DriveState) (survey : Survey) (rep
   pub at : IsAtMove n start start repair.tables plan 0 no_heads
   pub torn : plan.torn ≡ repair.zone
 
-pub is-started : (n : ℕ) (drive middle start : DriveState) (survey : Survey) (repair : Repair) (into : ℕ) (plan : MovePlan) → IsPrepared n drive survey repair.zone into → KeepsZones drive middle → IsMovePlan drive n survey repair into plan → KeepsShut middle start
+pub is-started : (n : ℕ) (drive middle start : DriveState) (survey : Survey) (repair : Repair) (into : ℕ) (plan : MovePlan) → IsPrepared n drive survey repair.zone into → KeepsZones drive middle → IsMovePlan drive survey.given survey repair into plan → KeepsShut middle start
     → (middle.geometry.open < 2 → IsShut start.zones plan.torn) → IsStarted n drive start survey repair into plan
 is-started n drive middle start survey repair into plan p looked is closed shut =
     let k = shut-both drive middle start (zones-shut drive middle looked) closed in
     let prepared = prepared-kept n drive start survey repair.zone into k p in
-    let is' = plan-kept n drive start survey repair into plan k is in
+    let is' = plan-kept n drive start survey repair into plan k (subst (λ (m : ℕ). IsMovePlan drive m survey repair into plan) p.known.given_is is) in
     record {
       kept = shut-mountable n drive start k;
       prepared = prepared;

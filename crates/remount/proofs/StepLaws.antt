@@ -29,13 +29,14 @@ use Rattle.drive_survey.specs.declared.survey.Survey.{Survey}
 use Rattle.drive_survey.specs.Heads.{HeadsView, greatest_sequence, heads_of, sequences_in}
 use Rattle.remount.specs.Kept.{AreVacantEmpty, IsNotedOpen, KeepsMountable}
 use Rattle.drive_survey.specs.Known.{HasVacant, Knows}
-use Rattle.remount.specs.Mount.{AreMountedRoles, AreToEmpty, AreWhole, CannotRepair, IsCleared, IsPlan, IsPlanned, IsRepaired, IsToMount, IsUntorn, FinishesByNeed, KeepsOthers, LeavesCleared, LeavesPlanned, LeavesRepaired, MountFails, Mounts, NoneIsTorn, PlanFails, Plans, WasOpenOrTook}
+use Rattle.remount.specs.Mount.{AreMountedRoles, AreToEmpty, AreWhole, CannotRepair, IsCleared, IsPlan, IsPlanned, IsRepaired, IsToMount, IsUntorn, FinishesByNeed, KeepsOthers, LeavesCleared, LeavesEmptied, LeavesPlanned, LeavesRepaired, MountFails, Mounts, NoneIsTorn, PlanFails, Plans, WasOpenOrTook}
 use Rattle.drive_survey.specs.Reported.{KeepsZones}
-use Rattle.remount.specs.Resets.{CanBeFilled, KeepsGoing, KeepsWritten}
+use Rattle.remount.specs.Resets.{CanBeFilled, KeepsGoing, KeepsWritten, ResetsAll}
 use Rattle.drive_survey.specs.Scan.{FailsBy, heads_in}
 use Rattle.drive_survey.specs.Survey.{CanScan, HoldLogs, SurveyFails, Surveys, drive_size}
 use Rattle.drive_array.proofs.ClearingLaws.{clearing_keeps, one_clearing}
 use Rattle.drive_survey.proofs.AllScanLaws.{there-is}
+use Rattle.remount.proofs.EmptyLaws.{CanEmpty, knows-cleared, logs-cleared, tails-emptied, vacant-emptied, written-stay}
 use Rattle.remount.proofs.KeepLaws.{keeps-mountable-both}
 use Rattle.drive_survey.proofs.NextLaws.{fails-more}
 use Rattle.remount.proofs.TornPlanLaws.{sequences-kept}
@@ -229,6 +230,24 @@ plans-kept geometry n logs old new (Some repair) same is = record {
   placed = is.placed;
 }
 
+can-empty : (drive : DriveState) (n : ℕ) (survey : Survey) (plan : Plan) → IsPlanned drive n survey plan → CanEmpty drive n survey plan.vacant.items plan.half_clean.items
+can-empty drive n survey plan planned = record { known = planned.known; to_empty = planned.vacant; clearing = planned.clearing }
+
+-- the vacant zones of a plan were reset, and then the half clean ones: what is left of their batches
+pub leaves-emptied : (old middle new : DriveState) (before survey after : Survey) (plan : Plan) (vacant half_clean : List ℕ) → IsPlanned old before.given before plan → vacant ≡ plan.vacant.items → ResetsAll old middle before survey vacant
+    → half_clean ≡ plan.half_clean.items → ResetsAll middle new survey after half_clean → LeavesEmptied old new plan.half_clean.items
+leaves-emptied old middle new before survey after plan vacant half_clean planned vacant_is one half_clean_is two =
+    let all = plan.vacant.items in
+    let can = can-empty old before.given before plan planned in
+    let one' = subst (λ (zs : List ℕ). ResetsAll old middle before survey zs) vacant_is one in
+    let two' = subst (λ (zs : List ℕ). ResetsAll middle new survey after zs) half_clean_is two in
+    record {
+      logs = logs-cleared old middle new before survey after before.given all plan.half_clean.items can one' two';
+      others = written-stay old middle new before survey after all plan.half_clean.items one' two';
+      opens = λ zone h. two.opens zone (one.opens zone h);
+      tails = tails-emptied old middle new before survey after all plan.half_clean.items one' two';
+    }
+
 -- what an emptying leaves
 pub record Empties (old new : DriveState) (n : ℕ) (resets : List ℕ) (survey : Survey) : Type 0 where
   pub known : Knows new n (drive_logs new) survey
@@ -237,7 +256,7 @@ pub record Empties (old new : DriveState) (n : ℕ) (resets : List ℕ) (survey 
   pub tails : (zone : ℕ) → log_at (drive_logs new) zone ≢ [] → get_or (zone_tails (contents new.zones)) zone false ≡ get_or (zone_tails (contents old.zones)) zone false
   pub kept : KeepsMountable n old new
 
-pub emptied-cleared : (old new : DriveState) (n : ℕ) (before survey : Survey) (plan : Plan) → IsPlanned old n before plan → Empties old new n plan.half_clean.items survey → IsCleared new n survey
+emptied-cleared : (old new : DriveState) (n : ℕ) (before survey : Survey) (plan : Plan) → IsPlanned old n before plan → Empties old new n plan.half_clean.items survey → IsCleared new n survey
 emptied-cleared old new n before survey plan planned is = record {
   known = is.known;
   mountable = is.kept.mountable planned.mountable;
@@ -248,6 +267,28 @@ emptied-cleared old new n before survey plan planned is = record {
     none : NoneBelow new.geometry.block n (drive_logs new) (length new.zones)
     none = λ zone lt half. left-none old.geometry.block n (drive_logs old) plan.half_clean.items planned.clearing zone
         (omega (arith, lt, logs-count new, ap length is.logs)) (subst (λ (ls : List (List Batch)). IsHalfClean old.geometry.block n ls zone) is.logs (subst (λ (g : Geometry). IsHalfClean g.block n (drive_logs new) zone) is.kept.geometry half))
+
+-- then the drive is cleared
+pub leaves-cleared : (old middle new : DriveState) (before survey after : Survey) (plan : Plan) (vacant half_clean : List ℕ) → IsPlanned old before.given before plan → vacant ≡ plan.vacant.items → ResetsAll old middle before survey vacant
+    → KeepsMountable before.given old middle → half_clean ≡ plan.half_clean.items → ResetsAll middle new survey after half_clean → KeepsMountable survey.given middle new → IsCleared new before.given after
+leaves-cleared old middle new before survey after plan vacant half_clean planned vacant_is one first half_clean_is two second =
+    let n = before.given in
+    let all = plan.vacant.items in
+    let can = can-empty old n before plan planned in
+    let one' = subst (λ (zs : List ℕ). ResetsAll old middle before survey zs) vacant_is one in
+    let two' = subst (λ (zs : List ℕ). ResetsAll middle new survey after zs) half_clean_is two in
+    let kept = keeps-mountable-both n old middle new first (keeps-given survey.given n middle new one.given second) in
+    emptied-cleared old new n before after plan planned (record {
+      known = knows-cleared old middle new before survey after n all plan.half_clean.items can one' two' (kept.mountable planned.mountable);
+      logs = logs-cleared old middle new before survey after n all plan.half_clean.items can one' two';
+      vacant = vacant-emptied old middle new before survey after n all plan.half_clean.items can one' two';
+      tails = tails-emptied old middle new before survey after all plan.half_clean.items one' two';
+      kept = kept;
+    })
+
+-- a cleared drive is left by it
+pub empties : (old new : DriveState) (n : ℕ) (resets : List ℕ) (survey : Survey) → IsCleared new n survey → LeavesEmptied old new resets → KeepsMountable n old new → Empties old new n resets survey
+empties old new n resets survey now left kept = record { known = now.known; logs = left.logs; vacant = now.empty; tails = left.tails; kept = kept }
 
 pub emptied-plans : (old new : DriveState) (n : ℕ) (before survey : Survey) (plan : Plan) → IsPlanned old n before plan → Empties old new n plan.half_clean.items survey
     → Plans new.geometry n (drive_logs new) (zone_tails (contents new.zones)) plan.repair

@@ -112,7 +112,7 @@ pub some-of : (P : ℕ → Type 0) (o : Option ℕ) → is_some o ≡ true → I
 some-of P None is holds = absurd (cc)
 some-of P (Some k) is holds = (k, holds)
 
-pub none-of : (P : Type 0) (o : Option ℕ) → is_some o ≡ false → IfNone o P → P
+none-of : (P : Type 0) (o : Option ℕ) → is_some o ≡ false → IfNone o P → P
 none-of P None is holds = holds
 none-of P (Some k) is holds = absurd (cc)
 
@@ -289,6 +289,17 @@ pub record IsReady (geometry : Geometry) (n : ℕ) (survey : Survey) (tables : T
   pub none : (other : ℕ) → zone + 1 ≤ other → is_torn_in survey.scanned.items other ≡ false
   pub placed : (drive : DriveState) (logs : List (List Batch)) → drive.geometry ≡ geometry → Knows drive n logs survey → IsPlaced geometry n logs tables
   pub counted : Counted geometry n tables zone count blocks with_data
+
+-- it is so by what two searches found, and by the count of its live records
+pub is-ready : (geometry : Geometry) (n : ℕ) (survey : Survey) (tables : TablesView) (zone count most long : ℕ) (blocks : List ℕ) (with_data : ℕ) (rest : List ScannedZone) (found : Option ℕ) → IsNextTorn survey.scanned.items 0 zone
+    → rest ≡ survey.scanned.items → false ≡ is_some found → IfNone found ((other : ℕ) → zone + 1 ≤ other → is_torn_in rest other ≡ false) → ((drive : DriveState) (logs : List (List Batch)) → drive.geometry ≡ geometry → Knows drive n logs survey → IsPlaced geometry n logs tables)
+    → blocks ≡ blocks_in tables.map.zone_size zone 0 tables.map.places → with_data ≡ data_in tables.map.zone_size zone tables.map.places → count ≡ moves most long → most ≡ batch_most geometry → long ≡ length blocks → IsReady geometry n survey tables zone count blocks with_data
+is-ready geometry n survey tables zone count most long blocks with_data rest found next same not none placed blocks_are data_is count_is most_is long_is = record {
+  next = next;
+  none = subst (λ (zs : List ScannedZone). (other : ℕ) → zone + 1 ≤ other → is_torn_in zs other ≡ false) same (none-of ((other : ℕ) → zone + 1 ≤ other → is_torn_in rest other ≡ false) found (sym not) none);
+  placed = placed;
+  counted = record { blocks_are = blocks_are; data_is = data_is; count_is = count_is ∙ ap (λ (m : ℕ). moves m long) most_is ∙ ap (moves (batch_most geometry)) long_is };
+}
 
 record ReadyAt (drive : DriveState) (n : ℕ) (logs : List (List Batch)) (tables : TablesView) (zone count : ℕ) (blocks : List ℕ) (with_data : ℕ) : Type 0 where
   placed : IsPlaced drive.geometry n logs tables

@@ -1,9 +1,9 @@
 ghost use Rattle.std.specs.Prelude.{◌≡◌, length};
 
-use crate::states::{STATES, count_zones, is_in, state_name};
+use crate::states::{STATES, count_zones, is_in};
 use nvme_wire::ZoneState;
 use std::alloc::{AllocError, Global};
-use zone_report::ReportedZones;
+use zone_report::{ReportedZones, state_text};
 
 /// Adds a run of zones.
 fn write_run(text: &mut String, first: u32, end: u32) -> Result<(), AllocError> {
@@ -56,7 +56,7 @@ pub fn brief_text<Z: ReportedZones>(
         if found == 0 {
             continue;
         }
-        let name = state_name(state);
+        let name = state_text(state);
         write!(text, "state {name} zones {found} at")?;
         write_runs(&mut text, zones, count, state)?;
         text.push('\n')?;

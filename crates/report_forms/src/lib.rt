@@ -19,4 +19,4 @@ mod states;
 pub use brief::brief_text;
 pub use json::zones_json;
 pub use picture::zones_svg;
-pub use states::{STATES, count_zones, state_name, state_named};
+pub use states::{STATES, count_zones, state_named};

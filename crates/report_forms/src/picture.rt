@@ -3,10 +3,10 @@
 ghost use Rattle.std.specs.Prelude.{◌≡◌, ◌≤◌, length};
 ghost use Rattle.zone_states.specs.Geometry.{IsInRange};
 
-use crate::states::{STATES, count_zones, is_in, state_name};
+use crate::states::{STATES, count_zones, is_in};
 use nvme_wire::ZoneState;
 use std::alloc::{AllocError, Global};
-use zone_report::ReportedZones;
+use zone_report::{ReportedZones, state_text};
 use zone_states::Geometry;
 
 /// How large the cells are, and how many stand in a row of 1,024 units.
@@ -213,7 +213,7 @@ fn write_state<Z: ReportedZones>(
 /// Adds a line of the key: a state, and how many zones are in it.
 fn write_key(text: &mut String, state: ZoneState, found: u32, y: u64) -> Result<(), AllocError> {
     let shade = shade(state);
-    let name = state_name(state);
+    let name = state_text(state);
     writeln!(
         text,
         "<rect x=\"8\" y=\"{y}\" width=\"26\" height=\"14\" stroke=\"#777\" fill=\"{shade}\"/>"

@@ -17,21 +17,6 @@ pub const STATES: [ZoneState; 7] = [
     ZoneState::Offline,
 ];
 
-/// The name of a state, as in the lines of a report.
-pub fn state_name(state: ZoneState) -> &'static str
-    ensures { result.now ≡ state_text state }
-{
-    match state {
-        ZoneState::Empty => "Empty",
-        ZoneState::ImplicitlyOpened => "ImplicitlyOpened",
-        ZoneState::ExplicitlyOpened => "ExplicitlyOpened",
-        ZoneState::Closed => "Closed",
-        ZoneState::ReadOnly => "ReadOnly",
-        ZoneState::Full => "Full",
-        ZoneState::Offline => "Offline",
-    }
-}
-
 /// The state with that name.
 pub fn state_named(name: &str) -> Option<ZoneState>
     ensures { IfSome result (λ state. name.now ≡ state_text state) }

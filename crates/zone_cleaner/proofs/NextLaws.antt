@@ -1,5 +1,5 @@
 -- What holds between two turns is kept where tables and array are, and where the next zone becomes the host zone.
-use Rattle.std.proofs.Common.{◌≡◌, ℕ, ◌+◌, ◌≤◌, Bool, List, map, length, Option, Some, None, refl, ap, subst, ◌∙◌, arith}
+use Rattle.std.proofs.Common.{◌≡◌, ℕ, ◌+◌, ◌≤◌, Bool, List, Option, Some, None, refl, ap, subst, ◌∙◌, arith}
 use Rattle.std.specs.Option.{option_map}
 use Rattle.drive_port.specs.Drive.{DriveState}
 use Rattle.logical_map.specs.Places.{MapView}
@@ -14,10 +14,10 @@ use Rattle.zone_choice.specs.Tables.{TablesView}
 use Rattle.zone_choice.proofs.AgreementLaws.{agrees-roles, tables_with}
 use Rattle.zone_choice.proofs.RolesLaws.{roles_with}
 use Rattle.zone_cleaner.specs.Clean.{CleanView, HasNoDestination}
-use Rattle.zone_cleaner.specs.Start.{AgreesWithClean, KeepsByCleaning, trims}
+use Rattle.zone_cleaner.specs.Start.{AgreesWithClean, KeepsByCleaning}
 use Rattle.zone_cleaner.proofs.CleanLaws.{clean_kept}
 use Rattle.zone_cleaner.proofs.OnlyLaws.{only-same}
-use Rattle.zone_cleaner.proofs.TurnLaws.{cleans_mountable}
+use Rattle.zone_cleaner.proofs.TurnLaws.{array_keeps, cleans_mountable}
 
 -- ---- the array is kept
 
@@ -43,18 +43,7 @@ cleaned_kept before after (Some c) is kept = (kept.agrees, clean_kept before aft
 
 -- what keeps the array is kept by cleaning
 pub cleaning_kept : (before after : MountedView) (clean : Option CleanView) → AgreesWithClean before clean → KeepsArray before after → KeepsByCleaning before after
-cleaning_kept before after clean is kept = record {
-  mountable = cleans_mountable after clean (cleaned_kept before after clean is kept);
-  array = kept.array;
-  moves = only-same (drive_logs before.drive) (drive_logs after.drive) kept.logs;
-  size = ap length kept.places;
-  trimmed = ap (map trims) kept.places;
-  given = kept.given;
-  geometry = kept.geometry;
-  refused = kept.refused;
-  next = omega (arith, kept.next, kept.appended);
-  appended = omega (arith, kept.appended);
-}
+cleaning_kept before after clean is kept = array_keeps before after clean (cleaned_kept before after clean is kept) kept
 
 -- ---- the next zone becomes the host zone
 

@@ -92,20 +92,24 @@ step_forward before after c new Reset is due done =
       fewer = omega arith;
     })
 
+-- what keeps the array is kept by cleaning
+pub array_keeps : (before after : MountedView) (new : Option CleanView) → AgreesWithClean after new → KeepsArray before after → KeepsByCleaning before after
+array_keeps before after new cleaned kept = record {
+  mountable = cleans_mountable after new cleaned;
+  array = kept.array;
+  moves = only-same (drive_logs before.drive) (drive_logs after.drive) kept.logs;
+  size = ap length kept.places;
+  trimmed = ap (map trims) kept.places;
+  given = kept.given;
+  geometry = kept.geometry;
+  refused = kept.refused;
+  next = omega (arith, kept.next, kept.appended);
+  appended = omega (arith, kept.appended);
+}
+
 -- what a step keeps that is done
 step-keeps : (before after : MountedView) (c : CleanView) (new : Option CleanView) (step : Step) → AgreesWithClean before (Some c) → AgreesWithClean after new → StepDone step before c after new → KeepsByCleaning before after
-step-keeps before after c new (Gather block place) is cleaned done = record {
-  mountable = cleans_mountable after new cleaned;
-  array = done.0.array;
-  moves = only-same (drive_logs before.drive) (drive_logs after.drive) done.0.logs;
-  size = ap length done.0.places;
-  trimmed = ap (map trims) done.0.places;
-  given = done.0.given;
-  geometry = done.0.geometry;
-  refused = done.0.refused;
-  next = omega (arith, done.0.next, done.0.appended);
-  appended = omega (arith, done.0.appended);
-}
+step-keeps before after c new (Gather block place) is cleaned done = array_keeps before after new cleaned done.0
 step-keeps before after c new Move is cleaned done = let moved = move-trims before after c is.0 is.1 done.0 in record {
   mountable = cleans_mountable after new cleaned;
   array = done.0.array;
@@ -135,21 +139,8 @@ step-keeps before after c new Reset is cleaned done = record {
 
 keeps-kept : (before after : MountedView) (c : CleanView) → AgreesWithClean before (Some c) → KeepsArray before after → AgreesWithClean after (Some c) × KeepsByCleaning before after
 keeps-kept before after c is kept =
-    let cleaned : AgreesWithClean after (Some c) = (kept.agrees, clean_kept before after c is.0 kept is.1) in (
-      cleaned,
-      record {
-        mountable = cleans_mountable after (Some c) cleaned;
-        array = kept.array;
-        moves = only-same (drive_logs before.drive) (drive_logs after.drive) kept.logs;
-        size = ap length kept.places;
-        trimmed = ap (map trims) kept.places;
-        given = kept.given;
-        geometry = kept.geometry;
-        refused = kept.refused;
-        next = omega (arith, kept.next, kept.appended);
-        appended = omega (arith, kept.appended);
-      },
-    )
+    let cleaned : AgreesWithClean after (Some c) = (kept.agrees, clean_kept before after c is.0 kept is.1) in
+    (cleaned, array_keeps before after (Some c) cleaned kept)
 
 -- a Move alone lacks a sequence
 spent-move : (before after : MountedView) (step : Step) → StepFails step faults.Spent before after → (after ≡ before) × (sequence_end before.drive.geometry ≤ before.tables.next)

@@ -29,5 +29,5 @@ mod zones;
 pub use fault::ReportFault;
 pub use report::report_bytes;
 pub use status::ZoneStatus;
-pub use text::report_text;
+pub use text::{report_text, state_text};
 pub use zones::ReportedZones;

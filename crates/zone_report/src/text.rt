@@ -8,7 +8,8 @@ use crate::fault::ReportFault;
 use nvme_wire::{Descriptor, ReportHead, ZoneState};
 use std::alloc::Global;
 
-fn state_text(state: ZoneState) -> &'static str
+/// The name of a state, as in the lines of a report.
+pub fn state_text(state: ZoneState) -> &'static str
     ensures { result.now ≡ state_text state }
 {
     match state {

@@ -1,11 +1,10 @@
 use Rattle.std.proofs.Common.{List, ℕ, sym, subst}
-use Rattle.std.specs.Prelude.{OnOk}
 use Rattle.drive_array.specs.ZoneLogs.{drive_logs}
 use Rattle.remount.specs.Resets.{MayReset, ResetsAll}
 use Rattle.remount.proofs.KeepLaws.{keeps-mountable-both}
-use Rattle.remount.proofs.EmptyLaws.{CanEmpty, if-ok, knows-cleared, logs-cleared, may-clear, tails-emptied, vacant-emptied, vacant-may, written-stay}
+use Rattle.remount.proofs.EmptyLaws.{CanEmpty, if-ok, may-clear, vacant-may}
 use Rattle.remount.proofs.NotedLaws.{all-notes}
-use Rattle.remount.proofs.StepLaws.{emptied-cleared, keeps-given}
+use Rattle.remount.proofs.StepLaws.{keeps-given, leaves-cleared, leaves-emptied}
 use Rattle.remount.proofs.empty.empty_zones.Goals as goal
 
 pub reset_zones-requires-clause-may : goal.reset_zones-requires-clause-may
@@ -30,73 +29,19 @@ reset_zones-requires-2-clause-may g c =
     (subst (λ (k : ℕ). MayReset middle.geometry.block k (drive_logs middle) half_clean) (sym one.given) (may-clear old middle before survey n vacant half_clean can one))
 
 pub returns-clause-kept : goal.returns-clause-kept
-returns-clause-kept g c =
-    let old = g.D.Device.drive c.args.device.now in
-    let middle = g.D.Device.drive c.reset_zones.new.device in
-    let new = g.D.Device.drive c.reset_zones-2.new.device in
-    let before = c.args.survey.now in
-    let survey = c.reset_zones.new.survey in
-    let after = c.reset_zones-2.new.survey in
-    let n = before.given in
-    let plan = c.args.plan.now in
-    let vacant = plan.vacant.items in
-    let half_clean = plan.half_clean.items in
-    let can : CanEmpty old n before vacant half_clean = record { known = c.requires.planned.known; to_empty = c.requires.planned.vacant; clearing = c.requires.planned.clearing } in
-    let one : ResetsAll old middle before survey vacant = subst (λ (zs : List ℕ). ResetsAll old middle before survey zs) c.deref.ensures.value c.in_ok-reset_zones.ensures.ok in
-    keeps-mountable-both n old middle (g.D.Device.drive c.reset_zones-2.new.device) c.reset_zones.ensures.kept (keeps-given survey.given n middle (g.D.Device.drive c.reset_zones-2.new.device) one.given c.reset_zones-2.ensures.kept)
+returns-clause-kept g c = keeps-mountable-both _ _ _ _ c.reset_zones.ensures.kept (keeps-given _ _ _ _ c.in_ok-reset_zones.ensures.ok.given c.reset_zones-2.ensures.kept)
 
 pub returns-clause-cleared : goal.returns-clause-cleared
 returns-clause-cleared g c =
-    let old = g.D.Device.drive c.args.device.now in
-    let middle = g.D.Device.drive c.reset_zones.new.device in
-    let new = g.D.Device.drive c.reset_zones-2.new.device in
-    let before = c.args.survey.now in
-    let survey = c.reset_zones.new.survey in
-    let after = c.reset_zones-2.new.survey in
-    let n = before.given in
-    let plan = c.args.plan.now in
-    let vacant = plan.vacant.items in
-    let half_clean = plan.half_clean.items in
-    let can : CanEmpty old n before vacant half_clean = record { known = c.requires.planned.known; to_empty = c.requires.planned.vacant; clearing = c.requires.planned.clearing } in
-    let one : ResetsAll old middle before survey vacant = subst (λ (zs : List ℕ). ResetsAll old middle before survey zs) c.deref.ensures.value c.in_ok-reset_zones.ensures.ok in
-    let kept = keeps-mountable-both n old middle new c.reset_zones.ensures.kept (keeps-given survey.given n middle new one.given c.reset_zones-2.ensures.kept) in
-    let two : OnOk c.reset_zones-2.result (ResetsAll middle new survey after half_clean) =
-    subst (λ (zs : List ℕ). OnOk c.reset_zones-2.result (ResetsAll middle new survey after zs)) c.deref-2.ensures.value c.reset_zones-2.ensures.ok in
     if-ok c.reset_zones-2.result
-    (λ done. emptied-cleared old new n before after plan c.requires.planned (record {
-      known = knows-cleared old middle new before survey after n vacant half_clean can one done (kept.mountable c.requires.planned.mountable);
-      logs = logs-cleared old middle new before survey after n vacant half_clean can one done;
-      vacant = vacant-emptied old middle new before survey after n vacant half_clean can one done;
-      tails = tails-emptied old middle new before survey after vacant half_clean one done;
-      kept = kept;
-    }))
-    two
+    (λ done. leaves-cleared _ _ _ c.args.survey.now c.reset_zones.new.survey c.reset_zones-2.new.survey c.args.plan.now _ _ c.requires.planned c.deref.ensures.value c.in_ok-reset_zones.ensures.ok c.reset_zones.ensures.kept c.deref-2.ensures.value done c.reset_zones-2.ensures.kept)
+    c.reset_zones-2.ensures.ok
 
 pub returns-clause-left : goal.returns-clause-left
 returns-clause-left g c =
-    let old = g.D.Device.drive c.args.device.now in
-    let middle = g.D.Device.drive c.reset_zones.new.device in
-    let new = g.D.Device.drive c.reset_zones-2.new.device in
-    let before = c.args.survey.now in
-    let survey = c.reset_zones.new.survey in
-    let after = c.reset_zones-2.new.survey in
-    let n = before.given in
-    let plan = c.args.plan.now in
-    let vacant = plan.vacant.items in
-    let half_clean = plan.half_clean.items in
-    let can : CanEmpty old n before vacant half_clean = record { known = c.requires.planned.known; to_empty = c.requires.planned.vacant; clearing = c.requires.planned.clearing } in
-    let one : ResetsAll old middle before survey vacant = subst (λ (zs : List ℕ). ResetsAll old middle before survey zs) c.deref.ensures.value c.in_ok-reset_zones.ensures.ok in
-    let kept = keeps-mountable-both n old middle new c.reset_zones.ensures.kept (keeps-given survey.given n middle new one.given c.reset_zones-2.ensures.kept) in
-    let two : OnOk c.reset_zones-2.result (ResetsAll middle new survey after half_clean) =
-    subst (λ (zs : List ℕ). OnOk c.reset_zones-2.result (ResetsAll middle new survey after zs)) c.deref-2.ensures.value c.reset_zones-2.ensures.ok in
     if-ok c.reset_zones-2.result
-    (λ done. record {
-      logs = logs-cleared old middle new before survey after n vacant half_clean can one done;
-      others = written-stay old middle new before survey after vacant half_clean one done;
-      opens = λ zone h. done.opens zone (one.opens zone h);
-      tails = tails-emptied old middle new before survey after vacant half_clean one done;
-    })
-    two
+    (λ done. leaves-emptied _ _ _ c.args.survey.now c.reset_zones.new.survey c.reset_zones-2.new.survey c.args.plan.now _ _ c.requires.planned c.deref.ensures.value c.in_ok-reset_zones.ensures.ok c.deref-2.ensures.value done)
+    c.reset_zones-2.ensures.ok
 
 pub returns-clause-noted : goal.returns-clause-noted
 returns-clause-noted g c =

@@ -1,11 +1,9 @@
-use Rattle.std.proofs.Common.{ℕ, ◌≡◌, ◌+◌, ◌≤◌, false, inr, List, length, refl, sym, ap, subst, ◌∙◌, arith}
-use Rattle.drive_array.specs.Repair.{moves}
-use Rattle.drive_array.specs.Reserve.{batch_most}
+use Rattle.std.proofs.Common.{ℕ, ◌≡◌, ◌+◌, ◌≤◌, false, inr, List, refl, sym, ap, subst, ◌∙◌, arith}
 use Rattle.drive_survey.specs.declared.scan.ScannedZone.{ScannedZone}
 use Rattle.drive_survey.specs.Heads.{greatest_sequence, sequences_in}
 use Rattle.drive_survey.specs.Scan.{heads_in}
 use Rattle.remount.specs.Torn.{IsNextTorn, is_torn_in}
-use Rattle.remount.proofs.TornPlanLaws.{IsReady, answer-past, answer-plan, answer-spent, answer-two, can-count, can-plan, none-of, none-torn, some-of}
+use Rattle.remount.proofs.TornPlanLaws.{answer-past, answer-plan, answer-spent, answer-two, can-count, can-plan, is-ready, none-torn, some-of}
 use Rattle.remount.proofs.repair.torn.plan_repair.Goals as goal
 
 pub returns-in_default-clause-ok : goal.returns-in_default-clause-ok
@@ -35,70 +33,22 @@ live_blocks-requires-clause-zone c =
 
 pub returns-then-geometry-moves-clause-err : goal.returns-then-geometry-moves-clause-err
 returns-then-geometry-moves-clause-err c =
-    let survey = c.args.survey.now in
-    let zone = c.in-Some.zone in
-    let next : IsNextTorn survey.scanned.items 0 zone = subst (λ (zs : List ScannedZone). IsNextTorn zs 0 zone) c.deref.ensures.value c.in-Some.ensures.some in
-    let geometry = c.args.geometry.now in
-    let blocks = c.in_ok-live.live.blocks.items in
-    let with_data = c.in_ok-live.live.with_data in
-    let tables = c.in_ok-tables.tables in
-    let none : (other : ℕ) → zone + 1 ≤ other → is_torn_in survey.scanned.items other ≡ false =
-    subst (λ (zs : List ScannedZone). (other : ℕ) → zone + 1 ≤ other → is_torn_in zs other ≡ false) c.deref-2.ensures.value (none-of ((other : ℕ) → zone + 1 ≤ other → is_torn_in c.deref-2.result.now other ≡ false) c.find_torn-2.result (sym c.if-is_some.ensures) c.find_torn-2.ensures.none) in
-    let count = c.count_moves-moves.result in
-    let long : c.len.result ≡ length blocks = omega (arith, c.len.ensures) in
-    let count-is : count ≡ moves (batch_most geometry) (length blocks) = c.count_moves-moves.ensures.moves ∙ ap (λ (most : ℕ). moves most c.len.result) c.batch_most.ensures.most ∙ ap (λ (n : ℕ). moves (batch_most geometry) n) long in
-    let ready : IsReady geometry c.args.survey.now.given survey tables zone count blocks with_data = record {
-      next = next;
-      none = none;
-      placed = c.in_ok-tables.ensures.placed;
-      counted = record { blocks_are = c.in_ok-live.ensures.blocks; data_is = c.in_ok-live.ensures.data; count_is = count-is };
-    } in
-    inr (answer-past geometry c.args.survey.now.given survey tables zone count blocks with_data ready c.if-geometry-moves.true)
+    let next = subst (λ (zs : List ScannedZone). IsNextTorn zs 0 c.in-Some.zone) c.deref.ensures.value c.in-Some.ensures.some in
+    let ready = is-ready _ _ c.args.survey.now c.in_ok-tables.tables _ _ _ c.len.result _ _ _ _ next c.deref-2.ensures.value c.if-is_some.ensures c.find_torn-2.ensures.none c.in_ok-tables.ensures.placed c.in_ok-live.ensures.blocks c.in_ok-live.ensures.data c.count_moves-moves.ensures.moves c.batch_most.ensures.most (omega (arith, c.len.ensures)) in
+    inr (answer-past _ _ _ _ _ _ _ _ ready c.if-geometry-moves.true)
 
 pub returns-then-greatest_sequence-moves-clause-err : goal.returns-then-greatest_sequence-moves-clause-err
 returns-then-greatest_sequence-moves-clause-err c =
-    let survey = c.args.survey.now in
-    let zone = c.in-Some.zone in
-    let next : IsNextTorn survey.scanned.items 0 zone = subst (λ (zs : List ScannedZone). IsNextTorn zs 0 zone) c.deref.ensures.value c.in-Some.ensures.some in
-    let geometry = c.args.geometry.now in
-    let blocks = c.in_ok-live.live.blocks.items in
-    let with_data = c.in_ok-live.live.with_data in
-    let tables = c.in_ok-tables.tables in
-    let none : (other : ℕ) → zone + 1 ≤ other → is_torn_in survey.scanned.items other ≡ false =
-    subst (λ (zs : List ScannedZone). (other : ℕ) → zone + 1 ≤ other → is_torn_in zs other ≡ false) c.deref-2.ensures.value (none-of ((other : ℕ) → zone + 1 ≤ other → is_torn_in c.deref-2.result.now other ≡ false) c.find_torn-2.result (sym c.if-is_some.ensures) c.find_torn-2.ensures.none) in
-    let count = c.count_moves-moves.result in
-    let long : c.len.result ≡ length blocks = omega (arith, c.len.ensures) in
-    let count-is : count ≡ moves (batch_most geometry) (length blocks) = c.count_moves-moves.ensures.moves ∙ ap (λ (most : ℕ). moves most c.len.result) c.batch_most.ensures.most ∙ ap (λ (n : ℕ). moves (batch_most geometry) n) long in
-    let ready : IsReady geometry c.args.survey.now.given survey tables zone count blocks with_data = record {
-      next = next;
-      none = none;
-      placed = c.in_ok-tables.ensures.placed;
-      counted = record { blocks_are = c.in_ok-live.ensures.blocks; data_is = c.in_ok-live.ensures.data; count_is = count-is };
-    } in
-    let greatest : c.greatest_sequence.result ≡ greatest_sequence (sequences_in (heads_in survey.scanned.items)) = c.greatest_sequence.ensures ∙ ap (λ (zs : List ScannedZone). greatest_sequence (sequences_in (heads_in zs))) c.deref-3.ensures.value in
-    inr (answer-spent geometry c.args.survey.now.given survey tables zone count blocks with_data c.greatest_sequence.result ready c.if-geometry-moves.false greatest (omega (arith, c.if-greatest_sequence-moves.true)))
+    let next = subst (λ (zs : List ScannedZone). IsNextTorn zs 0 c.in-Some.zone) c.deref.ensures.value c.in-Some.ensures.some in
+    let ready = is-ready _ _ c.args.survey.now c.in_ok-tables.tables _ _ _ c.len.result _ _ _ _ next c.deref-2.ensures.value c.if-is_some.ensures c.find_torn-2.ensures.none c.in_ok-tables.ensures.placed c.in_ok-live.ensures.blocks c.in_ok-live.ensures.data c.count_moves-moves.ensures.moves c.batch_most.ensures.most (omega (arith, c.len.ensures)) in
+    let greatest = c.greatest_sequence.ensures ∙ ap (λ (zs : List ScannedZone). greatest_sequence (sequences_in (heads_in zs))) c.deref-3.ensures.value in
+    inr (answer-spent _ _ _ _ _ _ _ _ _ ready c.if-geometry-moves.false greatest (omega (arith, c.if-greatest_sequence-moves.true)))
 
 pub returns-clause-ok : goal.returns-clause-ok
 returns-clause-ok c =
-    let survey = c.args.survey.now in
-    let zone = c.in-Some.zone in
-    let next : IsNextTorn survey.scanned.items 0 zone = subst (λ (zs : List ScannedZone). IsNextTorn zs 0 zone) c.deref.ensures.value c.in-Some.ensures.some in
-    let geometry = c.args.geometry.now in
-    let blocks = c.in_ok-live.live.blocks.items in
-    let with_data = c.in_ok-live.live.with_data in
-    let tables = c.in_ok-tables.tables in
-    let none : (other : ℕ) → zone + 1 ≤ other → is_torn_in survey.scanned.items other ≡ false =
-    subst (λ (zs : List ScannedZone). (other : ℕ) → zone + 1 ≤ other → is_torn_in zs other ≡ false) c.deref-2.ensures.value (none-of ((other : ℕ) → zone + 1 ≤ other → is_torn_in c.deref-2.result.now other ≡ false) c.find_torn-2.result (sym c.if-is_some.ensures) c.find_torn-2.ensures.none) in
-    let count = c.count_moves-moves.result in
-    let long : c.len.result ≡ length blocks = omega (arith, c.len.ensures) in
-    let count-is : count ≡ moves (batch_most geometry) (length blocks) = c.count_moves-moves.ensures.moves ∙ ap (λ (most : ℕ). moves most c.len.result) c.batch_most.ensures.most ∙ ap (λ (n : ℕ). moves (batch_most geometry) n) long in
-    let ready : IsReady geometry c.args.survey.now.given survey tables zone count blocks with_data = record {
-      next = next;
-      none = none;
-      placed = c.in_ok-tables.ensures.placed;
-      counted = record { blocks_are = c.in_ok-live.ensures.blocks; data_is = c.in_ok-live.ensures.data; count_is = count-is };
-    } in
-    let plan = can-plan c.args.geometry.now c.args.survey.now.given survey c.requires.surveyed in
-    let greatest : c.greatest_sequence.result ≡ greatest_sequence (sequences_in (heads_in survey.scanned.items)) = c.greatest_sequence.ensures ∙ ap (λ (zs : List ScannedZone). greatest_sequence (sequences_in (heads_in zs))) c.deref-3.ensures.value in
-    answer-plan geometry c.args.survey.now.given survey tables zone count blocks with_data c.greatest_sequence.result _ refl refl c.in_ok-live.ensures.kept ready c.if-geometry-moves.false greatest
+    let next = subst (λ (zs : List ScannedZone). IsNextTorn zs 0 c.in-Some.zone) c.deref.ensures.value c.in-Some.ensures.some in
+    let ready = is-ready _ _ c.args.survey.now c.in_ok-tables.tables _ _ _ c.len.result _ _ _ _ next c.deref-2.ensures.value c.if-is_some.ensures c.find_torn-2.ensures.none c.in_ok-tables.ensures.placed c.in_ok-live.ensures.blocks c.in_ok-live.ensures.data c.count_moves-moves.ensures.moves c.batch_most.ensures.most (omega (arith, c.len.ensures)) in
+    let greatest = c.greatest_sequence.ensures ∙ ap (λ (zs : List ScannedZone). greatest_sequence (sequences_in (heads_in zs))) c.deref-3.ensures.value in
+    let plan = can-plan _ _ c.args.survey.now c.requires.surveyed in
+    answer-plan _ _ _ _ _ _ _ _ _ _ refl refl c.in_ok-live.ensures.kept ready c.if-geometry-moves.false greatest
     (omega (arith, c.if-greatest_sequence-moves.false, c.if-geometry-moves.false, plan.range.capacity, plan.range.size))
