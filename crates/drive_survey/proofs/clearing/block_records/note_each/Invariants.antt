@@ -4,4 +4,5 @@ use Rattle.drive_survey.proofs.clearing.block_records.note_each.Given as goal
 
 abbrev pub invariant-loop-found : goal.invariant-loop-found
 invariant-loop-found l =
-    (block sequence : ℕ) → slot_after notes block sequence (slot_of l.table block sequence) (drop l.found-index l.own) ≡ slot_after notes block sequence (slot_of l.fn.table block sequence) l.own
+    ((block sequence : ℕ) → slot_after notes block sequence (slot_of l.table block sequence) (drop l.found-index l.own) ≡ slot_after notes block sequence (slot_of l.fn.table block sequence) l.own)
+    × (l.table.own ≡ l.fn.table.own)
