@@ -15,8 +15,10 @@ use Rattle.drive_survey.specs.declared.records.KeptRecord.{KeptRecord}
 use Rattle.drive_survey.specs.declared.scan.ScannedZone.{ScannedZone}
 use Rattle.drive_survey.specs.declared.clearing.block_records.BlockRecords.{BlockRecords}
 use Rattle.drive_survey.specs.BlockRecords.{HasNoRecord, HoldsEach, HoldsMore, held_of, own_list, own_of}
-use Rattle.drive_survey.specs.Clearing.{AreFew, AreOf, CoversHeads, CoversMoved, CoversZone, entries_at, kept_entries_of, without_heads}
+use Rattle.drive_survey.specs.Clearing.{AreFew, AreOf, AreOwn, CoversHeads, CoversMoved, CoversZone, IsOwn, entries_at, kept_entries_of, without_heads}
 use Rattle.drive_survey.specs.Heads.{HeadsView, no_heads}
+use Rattle.drive_survey.specs.KeptRecords.{kept_of_zone}
+use Rattle.drive_survey.specs.NewestRecords.{AreNewest}
 use Rattle.drive_survey.specs.Scan.{heads_in}
 use Rattle.drive_survey.proofs.MovedLaws.{not-found, not-there, there}
 use Rattle.drive_survey.proofs.RecordTableLaws.{at-is}
@@ -81,10 +83,10 @@ PutsOwn zone own old new = (q : ℕ) → get nat_cmp new.own q ≡ cond (is_at (
 pub put-own : (zone : ℕ) (own : Option Own) (old new : BlockRecords) → PutsOwn zone own old new → own_of new zone ≡ own_list own
 put-own zone own old new puts = ap own_list (puts zone ∙ ap (λ (b : Bool). cond b own (get nat_cmp old.own zone)) (at-is zone zone ∙ eq-eqb zone zone refl))
 
-pub put-others : (zone : ℕ) (own : Option Own) (old new : BlockRecords) → PutsOwn zone own old new → (q : ℕ) → q ≢ zone → own_of new q ≡ own_of old q
-put-others zone own old new puts q apart = ap own_list (puts q ∙ ap (λ (b : Bool). cond b own (get nat_cmp old.own q)) (at-is zone q ∙ ne_eqb zone q (λ e. apart (sym e))))
+pub put-others : (zone : ℕ) (own : Option Own) (old new : BlockRecords) → PutsOwn zone own old new → (q : ℕ) → q ≢ zone → get nat_cmp new.own q ≡ get nat_cmp old.own q
+put-others zone own old new puts q apart = puts q ∙ ap (λ (b : Bool). cond b own (get nat_cmp old.own q)) (at-is zone q ∙ ne_eqb zone q (λ e. apart (sym e)))
 
-pub no-own : (own : BTreeMap ℕ Own) (zone : ℕ) → IsEmpty own → own_list (get nat_cmp own zone) ≡ []
+pub no-own : (own : BTreeMap ℕ Own) (zone : ℕ) → IsEmpty own → get nat_cmp own zone ≡ None
 no-own own zone empty = rw empty refl
 
 pub same-own : (old new : BlockRecords) (zone : ℕ) → new.own ≡ old.own → own_of new zone ≡ own_of old zone
@@ -128,8 +130,37 @@ covers-all scanned limit table le covers logs are zone moved = elim (cases_lt zo
 
 -- ---- at most one for each entry
 
-pub few-none : (scanned : List ScannedZone) (table : BlockRecords) → ((zone : ℕ) → own_of table zone ≡ []) → AreFew scanned table
-few-none scanned table none zone = rw (none zone) (omega arith)
+pub few-none : (scanned : List ScannedZone) (table : BlockRecords) → ((zone : ℕ) → get nat_cmp table.own zone ≡ None) → AreFew scanned table
+few-none scanned table none zone = rw (ap own_list (none zone)) (omega arith)
+
+-- ---- what is kept of a zone
+
+pub own-none : (scanned : List ScannedZone) (table : BlockRecords) → ((zone : ℕ) → get nat_cmp table.own zone ≡ None) → AreOwn scanned table
+own-none scanned table none zone found there_is some = absurd (let bad = rw (none zone) at some in cc)
+
+pub own-kept : (old new : BlockRecords) (zone : ℕ) (heads : HeadsView) → new.own ≡ old.own → IsOwn old zone heads → IsOwn new zone heads
+own-kept old new zone heads same kept = subst (λ (own : BTreeMap ℕ Own). IsSome (get nat_cmp own zone) → AreNewest (kept_of_zone zone heads) (own_list (get nat_cmp own zone))) (sym same) kept
+
+pub some-own : (table : BlockRecords) (zone : ℕ) (heads : HeadsView) (own : Own) → Some own ≡ get nat_cmp table.own zone → IsOwn table zone heads → AreNewest (kept_of_zone zone heads) own.items
+some-own table zone heads own is kept =
+    let newest = kept (rw (← is) refl) in
+    subst (AreNewest (kept_of_zone zone heads)) (ap own_list (sym is)) newest
+
+pub own-more : (scanned : List ScannedZone) (zone : ℕ) (one : ScannedZone) (old new : BlockRecords) → slice_get scanned zone ≡ Some one → CoversHeads new zone one.heads → ((q : ℕ) → q ≢ zone → get nat_cmp new.own q ≡ get nat_cmp old.own q) → AreOwn scanned old → AreOwn scanned new
+own-more scanned zone one old new there_is here others kept q found found_is = elim (cases_eq q zone) as (λ _. IsOwn new q found.heads) [
+  | inl at ↦ (
+      let found_is' = rw at at found_is in
+      let one_is : one ≡ found = (let e = sym there_is ∙ found_is' in cc) in
+      λ some. rw at (subst (λ (z : ScannedZone). AreNewest (kept_of_zone zone z.heads) (own_of new zone)) one_is here.0)
+      )
+  | inr apart ↦ (
+      let same = others q apart in
+      λ some. subst (AreNewest (kept_of_zone q found.heads)) (ap own_list (sym same)) (kept q found found_is (rw same at some))
+      )
+]
+
+pub others-own : (old new : BlockRecords) (zone : ℕ) → ((q : ℕ) → q ≢ zone → get nat_cmp new.own q ≡ get nat_cmp old.own q) → (q : ℕ) → q ≢ zone → own_of new q ≡ own_of old q
+others-own old new zone others q apart = ap own_list (others q apart)
 
 pub few-same : (scanned : List ScannedZone) (old new : BlockRecords) → new.own ≡ old.own → AreFew scanned old → AreFew scanned new
 few-same scanned old new same few zone = rw (same-own old new zone same) (few zone)

@@ -10,8 +10,8 @@ use Rattle.drive_array.specs.Records.{Record, records}
 use Rattle.drive_survey.specs.declared.records.KeptRecord.{KeptRecord}
 use Rattle.drive_survey.specs.declared.clearing.block_records.BlockRecords.{BlockRecords}
 use Rattle.drive_survey.specs.Heads.{HeadsView}
-use Rattle.drive_survey.specs.KeptRecords.{kept_record}
-use Rattle.drive_survey.specs.NewestRecords.{AreNewestOfAll}
+use Rattle.drive_survey.specs.KeptRecords.{kept_of_zone, kept_record}
+use Rattle.drive_survey.specs.NewestRecords.{AreNewest, AreNewestOfAll}
 
 -- what a table holds of a block
 abbrev pub held_of : BlockRecords → ℕ → Option (BTreeMap ℕ KeptRecord)
@@ -56,9 +56,12 @@ HoldsMore old new = (block : ℕ) → IsSome (held_of old block) → IsSome (hel
 
 -- ---- a table changes
 
--- what a table has of a block at a sequence, where it holds the block
+-- what these blocks have at a sequence, where the block is among them
+abbrev pub slot_in : BTreeMap ℕ (BTreeMap ℕ KeptRecord) → ℕ → ℕ → Option (Option KeptRecord)
+slot_in blocks block sequence = option_map (λ (held : BTreeMap ℕ KeptRecord). get nat_cmp held sequence) (get nat_cmp blocks block)
+
 abbrev pub slot_of : BlockRecords → ℕ → ℕ → Option (Option KeptRecord)
-slot_of table block sequence = option_map (λ (held : BTreeMap ℕ KeptRecord). get nat_cmp held sequence) (held_of table block)
+slot_of table block sequence = slot_in table.blocks block sequence
 
 -- what stands there after these records were put in, or taken out, by what `put` makes of a record
 abbrev pub slot_after : (KeptRecord → Option KeptRecord) → ℕ → ℕ → Option (Option KeptRecord) → List KeptRecord → Option (Option KeptRecord)
@@ -70,7 +73,13 @@ slot_after put block sequence slot (r ∷ rs) =
 abbrev pub notes : KeptRecord → Option KeptRecord
 notes r = Some r
 
--- the newest record of each block of each zone was put in
+-- the newest record of each block of a zone was put in
+abbrev pub NotesZone : ℕ → HeadsView → BlockRecords → BlockRecords → Type 0
+NotesZone zone view old new =
+    (own : List KeptRecord) × AreNewest (kept_of_zone zone view) own
+    × ((block sequence : ℕ) → slot_of new block sequence ≡ slot_after notes block sequence (slot_of old block sequence) own)
+
+-- and that of each block of each zone
 abbrev pub NotesNewest : List HeadsView → BlockRecords → BlockRecords → Type 0
 NotesNewest views old new =
     (all : List KeptRecord) × AreNewestOfAll 0 views all

@@ -1,5 +1,7 @@
 -- What is found of the zones that a mount empties.
-use Rattle.std.specs.Prelude.{◌≡◌, ℕ, ◌<◌, ◌≤◌, Bool, true, false, List, [], ◌∷◌, length, map, slice_get, slice_set, Option, Some, None}
+use Rattle.std.specs.Prelude.{◌≡◌, ℕ, ◌<◌, ◌≤◌, Bool, true, false, List, [], ◌∷◌, length, map, slice_get, slice_set, Option, Some, None, IsSome}
+use Rattle.std.specs.BTreeMap.{get}
+use Rattle.std.specs.Ordering.{nat_cmp}
 use Rattle.std.specs.List.{AllByRecursion}
 use Rattle.std.specs.Option.{option_map}
 use Rattle.drive_port.specs.Drive.{DriveState}
@@ -83,6 +85,13 @@ entries_at scanned zone = kept_entries_of (slice_get scanned zone)
 -- at most one record is kept for each entry of a zone
 abbrev pub AreFew : List ScannedZone → BlockRecords → Type 0
 AreFew scanned table = (zone : ℕ) → length (own_of table zone) ≤ length (entries_at scanned zone)
+
+-- the records that a table keeps of a zone with these headers are its newest ones
+abbrev pub IsOwn : BlockRecords → ℕ → HeadsView → Type 0
+IsOwn table zone heads = IsSome (get nat_cmp table.own zone) → AreNewest (kept_of_zone zone heads) (own_of table zone)
+
+abbrev pub AreOwn : List ScannedZone → BlockRecords → Type 0
+AreOwn scanned table = (zone : ℕ) (found : ScannedZone) → slice_get scanned zone ≡ Some found → IsOwn table zone found.heads
 
 -- a table keeps the newest records of a zone with these headers, and holds their blocks
 abbrev pub CoversHeads : BlockRecords → ℕ → HeadsView → Type 0

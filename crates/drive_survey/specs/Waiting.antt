@@ -78,8 +78,8 @@ LeavesWaiting drive n survey old new zone =
 
 -- ---- a zone is forgotten
 
--- A table without the records of a zone: it holds the blocks still, and keeps what it kept of the other zones. Where it held the newest records of the logs, and
--- kept those of the zone, it holds those of the logs without the zone.
+-- A table without the records of a zone. It holds the blocks still, and keeps what it kept of the other zones. Where it held the newest records of
+-- some logs, and kept those of the zone, it holds those of the logs without the zone.
 pub record LosesZone (old new : BlockRecords) (zone : ℕ) : Type 0 where
   pub gone : own_of new zone ≡ []
   pub others : (q : ℕ) → q ≢ zone → own_of new q ≡ own_of old q

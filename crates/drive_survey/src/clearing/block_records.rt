@@ -1,14 +1,14 @@
 ghost use Rattle.std.specs.Prelude.{◌≡◌, ◌≢◌, ◌≤◌, ◌<◌, ◌^◌, ℕ, [], ◌∷◌, List, length, IfOk, IsSome, None, OnOk, Some};
-ghost use Rattle.std.specs.BTreeMap.{IsOrdered};
+ghost use Rattle.std.specs.BTreeMap.{IsOrdered, get};
 ghost use Rattle.std.specs.Option.{option_map};
 ghost use Rattle.std.specs.Ordering.{nat_cmp};
 ghost use Rattle.batch_log.specs.Log.{Batch};
 ghost use Rattle.drive_port.specs.Drive.{DriveState};
 ghost use Rattle.drive_array.specs.Records.{newest, records, without};
 ghost use Rattle.drive_survey.specs.BlockRecords.{HasNoRecord, HoldsEach, HoldsMore, HoldsRecords, IsLastOutside};
-ghost use Rattle.drive_survey.specs.BlockRecords.{NotesNewest};
-ghost use Rattle.drive_survey.specs.BlockRecords.{forgets, held_of, own_list, notes, own_of, slot_after, slot_of};
-ghost use Rattle.drive_survey.specs.Clearing.{AreFew, AreOf, CoversHeads, CoversMoved, CoversZone};
+ghost use Rattle.drive_survey.specs.BlockRecords.{NotesNewest, NotesZone};
+ghost use Rattle.drive_survey.specs.BlockRecords.{forgets, held_of, own_list, notes, own_of, slot_after, slot_in};
+ghost use Rattle.drive_survey.specs.Clearing.{AreFew, AreOf, AreOwn, CoversHeads, CoversMoved, CoversZone, IsOwn};
 ghost use Rattle.drive_survey.specs.KeptRecords.{kept_record};
 ghost use Rattle.drive_survey.specs.Known.{Knows};
 ghost use Rattle.drive_survey.specs.Scan.{heads_in};
@@ -62,7 +62,7 @@ fn hold_zone(
     ensures more { OnOk result (HoldsMore table.old table.new) }
     ensures covers { OnOk result (CoversHeads table.new zone heads.now) }
     ensures few { OnOk result (length (own_of table.new zone) ≤ length heads.now.entries) }
-    ensures others { OnOk result ((q : ℕ) → q ≢ zone → own_of table.new q ≡ own_of table.old q) }
+    ensures others { OnOk result ((q : ℕ) → q ≢ zone → get nat_cmp table.new.own q ≡ get nat_cmp table.old.own q) }
 {
     let own = newest_records(alloc, zone, heads)?;
     hold_blocks(alloc, table, &own)?;
@@ -78,8 +78,10 @@ fn hold_moved(
 ) -> Result<(), AllocError>
     requires none { HasNoRecord table.old }
     requires few { AreFew scanned.now table.old }
+    requires own { AreOwn scanned.now table.old }
     ensures none { OnOk result (HasNoRecord table.new) }
     ensures few { OnOk result (AreFew scanned.now table.new) }
+    ensures own { OnOk result (AreOwn scanned.now table.new) }
     ensures covers { OnOk result (length scanned.now < 2 ^ 32 → (logs : List (List Batch))
         → AreOf scanned.now logs → CoversMoved logs scanned.now table.new) }
 {
@@ -95,14 +97,16 @@ fn hold_moved(
     Ok(())
 }
 
-/// Takes a record, if its block is in the table.
-fn note(table: &mut BlockRecords, found: KeptRecord) -> Result<(), AllocError>
-    ensures slots { OnOk result ((block sequence : ℕ)
-        → slot_of table.new block sequence ≡ slot_after notes block sequence (slot_of table.old block sequence)
+/// Takes a record, if its block is among these.
+fn note(
+    blocks: &mut BTreeMap<u32, BTreeMap<u64, KeptRecord>>,
+    found: KeptRecord,
+) -> Result<(), AllocError>
+    ensures { OnOk result ((block sequence : ℕ)
+        → slot_in blocks.new block sequence ≡ slot_after notes block sequence (slot_in blocks.old block sequence)
         (found ∷ [])) }
-    ensures own { OnOk result (table.new.own ≡ table.old.own) }
 {
-    let Some(held) = table.blocks.get_mut(&found.block) else {
+    let Some(held) = blocks.get_mut(&found.block) else {
         return Ok(());
     };
     held.insert(found.sequence, found)?;
@@ -110,15 +114,37 @@ fn note(table: &mut BlockRecords, found: KeptRecord) -> Result<(), AllocError>
 }
 
 /// Takes these records.
-fn note_each(table: &mut BlockRecords, own: &[KeptRecord]) -> Result<(), AllocError>
-    ensures slots { OnOk result ((block sequence : ℕ)
-        → slot_of table.new block sequence ≡ slot_after notes block sequence (slot_of table.old block sequence)
+fn note_each(
+    blocks: &mut BTreeMap<u32, BTreeMap<u64, KeptRecord>>,
+    own: &[KeptRecord],
+) -> Result<(), AllocError>
+    ensures { OnOk result ((block sequence : ℕ)
+        → slot_in blocks.new block sequence ≡ slot_after notes block sequence (slot_in blocks.old block sequence)
         own.now) }
-    ensures own { OnOk result (table.new.own ≡ table.old.own) }
 {
     for found in own {
-        note(table, *found)?;
+        note(blocks, *found)?;
     }
+    Ok(())
+}
+
+/// Takes the newest records of a zone: those that are kept of it or, where none are, those that its headers tell.
+fn note_zone(
+    alloc: Global,
+    table: &mut BlockRecords,
+    zone: u32,
+    heads: &ZoneHeads,
+) -> Result<(), AllocError>
+    requires kept { IsOwn table.old zone heads.now }
+    ensures noted { OnOk result (NotesZone zone heads.now table.old table.new) }
+    ensures own { OnOk result (table.new.own ≡ table.old.own) }
+{
+    if let Some(own) = table.own.get(&zone) {
+        note_each(&mut table.blocks, own)?;
+        return Ok(());
+    }
+    let own = newest_records(alloc, zone, heads)?;
+    note_each(&mut table.blocks, &own)?;
     Ok(())
 }
 
@@ -128,6 +154,7 @@ fn note_all(
     table: &mut BlockRecords,
     scanned: &[ScannedZone],
 ) -> Result<(), AllocError>
+    requires kept { AreOwn scanned.now table.old }
     ensures more { OnOk result (HoldsMore table.old table.new) }
     ensures own { OnOk result (table.new.own ≡ table.old.own) }
     ensures noted { OnOk result (length scanned.now < 2 ^ 32 → NotesNewest (heads_in scanned.now) table.old table.new) }
@@ -136,31 +163,28 @@ fn note_all(
         let Ok(zone) = u32::try_from(number) else {
             return Ok(());
         };
-        let own = newest_records(alloc, zone, &found.heads)?;
-        note_each(table, &own)?;
+        note_zone(alloc, table, zone, &found.heads)?;
     }
     Ok(())
 }
 
-/// Takes a record out, if its block is in the table.
-fn forget_record(table: &mut BlockRecords, found: KeptRecord)
-    ensures slots { (block sequence : ℕ) → slot_of table.new block sequence ≡ slot_after forgets block sequence
-        (slot_of table.old block sequence) (found ∷ []) }
-    ensures own { table.new.own ≡ table.old.own }
+/// Takes a record out, if its block is among these.
+fn forget_record(blocks: &mut BTreeMap<u32, BTreeMap<u64, KeptRecord>>, found: KeptRecord)
+    ensures { (block sequence : ℕ) → slot_in blocks.new block sequence ≡ slot_after forgets block sequence
+        (slot_in blocks.old block sequence) (found ∷ []) }
 {
-    if let Some(held) = table.blocks.get_mut(&found.block) {
+    if let Some(held) = blocks.get_mut(&found.block) {
         held.remove(&found.sequence);
     }
 }
 
 /// Takes these records out.
-fn forget_each(table: &mut BlockRecords, own: &[KeptRecord])
-    ensures slots { (block sequence : ℕ) → slot_of table.new block sequence ≡ slot_after forgets block sequence
-        (slot_of table.old block sequence) own.now }
-    ensures own { table.new.own ≡ table.old.own }
+fn forget_each(blocks: &mut BTreeMap<u32, BTreeMap<u64, KeptRecord>>, own: &[KeptRecord])
+    ensures { (block sequence : ℕ) → slot_in blocks.new block sequence ≡ slot_after forgets block sequence
+        (slot_in blocks.old block sequence) own.now }
 {
     for found in own {
-        forget_record(table, *found);
+        forget_record(blocks, *found);
     }
 }
 
@@ -183,7 +207,7 @@ impl BlockRecords {
     fn new(alloc: Global) -> BlockRecords
         ensures none { HasNoRecord result }
         ensures held { (block : ℕ) → held_of result block ≡ None }
-        ensures own { (zone : ℕ) → own_of result zone ≡ [] }
+        ensures own { (zone : ℕ) → get nat_cmp result.own zone ≡ None }
     {
         BlockRecords {
             blocks: BTreeMap::new(alloc),
@@ -250,7 +274,7 @@ impl BlockRecords {
         ensures loses { LosesZone self.old self.new zone }
     {
         let own = self.own.remove(&zone)?;
-        forget_each(self, &own);
+        forget_each(&mut self.blocks, &own);
         Some(own)
     }
 }

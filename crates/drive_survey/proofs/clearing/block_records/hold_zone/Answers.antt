@@ -1,6 +1,8 @@
-use Rattle.std.proofs.Common.{Some, ◌∙◌}
+use Rattle.std.proofs.Common.{Some, ap, ◌∙◌}
+use Rattle.std.specs.BTreeMap.{get}
+use Rattle.std.specs.Ordering.{nat_cmp}
 use Rattle.drive_survey.specs.declared.clearing.block_records.BlockRecords.{BlockRecords}
-use Rattle.drive_survey.proofs.RecordHoldLaws.{put-others, put-own, same-own}
+use Rattle.drive_survey.proofs.RecordHoldLaws.{put-others, put-own}
 use Rattle.drive_survey.proofs.clearing.block_records.hold_zone.Goals as goal
 
 pub returns-clause-covers : goal.returns-clause-covers
@@ -17,4 +19,4 @@ returns-clause-few c =
 pub returns-clause-others : goal.returns-clause-others
 returns-clause-others c q apart =
     let new : BlockRecords = record { blocks = c.hold_blocks.new.table.blocks; own = c.insert.new.self } in
-    put-others c.args.zone (Some c.in_ok-own.own) c.hold_blocks.new.table new c.in_ok-insert.ensures.updates.0 q apart ∙ same-own c.args.table.now c.hold_blocks.new.table q c.in_ok-hold_blocks.ensures.own
+    put-others c.args.zone (Some c.in_ok-own.own) c.hold_blocks.new.table new c.in_ok-insert.ensures.updates.0 q apart ∙ ap (λ own. get nat_cmp own q) c.in_ok-hold_blocks.ensures.own
