@@ -3,7 +3,6 @@ use Rattle.std.proofs.Common.{◌≡◌, ◌≢◌, ◌⊎◌, inl, inr, ℕ, ze
 use Rattle.std.specs.Prelude.{IfOk, IsTrue, slice_get}
 use Rattle.std.specs.BTreeSet.{BTreeSet, IsLowerBound, Updates, btree_set_len, contains}
 use Rattle.std.specs.Ordering.{is_gt, nat_cmp}
-use Rattle.std.specs.List.{AllByRecursion}
 use Rattle.std.proofs.lemmas.Bool.{cases_eq, cases_lt, ne_eqb}
 use Rattle.std.proofs.lemmas.Bool.Decides.{nat_tests}
 use Rattle.std.proofs.lemmas.List.{get_or_past, map-set, nil_from_length}
@@ -23,18 +22,18 @@ use Rattle.drive_survey.specs.declared.scan.ScannedZone.{ScannedZone}
 use Rattle.drive_survey.specs.declared.survey.Survey.{Survey}
 use Rattle.drive_survey.specs.declared.clearing.Finding.{Finding}
 use Rattle.drive_survey.specs.declared.clearing.Finding.TheVariants.{HalfClean, NotMoves, NeedsBlock, NeedsSize}
-use Rattle.drive_survey.specs.Clearing.{AreOf, CoversZone, FindsLowest, FindsNeeded, LooksFor, ShowsSame, entries_at, without_heads, kept_entries_of}
-use Rattle.drive_survey.specs.Heads.{HeadsView, no_heads}
-use Rattle.drive_survey.specs.KeptRecords.{block_of_kept}
+use Rattle.drive_survey.specs.Clearing.{AreOf, CoversHeads, CoversZone, FindsLowest, FindsNeeded, LooksFor, ShowsSame, without_heads}
+use Rattle.drive_survey.specs.Heads.{HeadsView, heads_of, no_heads}
+use Rattle.drive_survey.specs.KeptRecords.{kept_of_zone}
+use Rattle.drive_survey.specs.NewestRecords.{AreNewest}
 use Rattle.drive_array.specs.Repairing.{IsMoved}
 use Rattle.drive_survey.specs.Known.{Finds, Knows}
 use Rattle.drive_survey.specs.Reported.{KeepsZones}
-use Rattle.drive_survey.specs.BlockRecords.{HoldsBlocks, HoldsRecords}
+use Rattle.drive_survey.specs.BlockRecords.{HoldsRecords, own_of}
 use Rattle.drive_survey.specs.Scan.{heads_in, tails_in}
 use Rattle.drive_survey.specs.SizeCounts.{size_counts}
 use Rattle.drive_survey.specs.Waiting.{AllWait, AreCandidates, IsNeeded, OthersWait, TellsFinding, TellsSize}
-use Rattle.drive_survey.proofs.HeadRecordLaws.{entries-are, entries_of}
-use Rattle.drive_survey.proofs.MovedLaws.{found-heads, missing-log, there}
+use Rattle.drive_survey.proofs.MovedLaws.{found-heads, not-found, there}
 use Rattle.drive_survey.proofs.SpareLaws.{all-same, knows-kept, knows-small, knows-stand, needed-inside, spare-all, spare-at}
 use Rattle.drive_survey.proofs.RecordTableLaws.{at-is}
 
@@ -60,20 +59,11 @@ pub finds-needed : (drive : DriveState) (n : ℕ) (logs : List (List Batch)) (su
 finds-needed drive n logs survey zone block known moved differs =
     (moved, record { in_range = needed-inside drive.geometry.block (encoded_size n logs) logs zone block known.sound.inside differs; differs = differs })
 
-own-entries : (scanned : List ScannedZone) (logs : List (List Batch)) (zone : ℕ) → AreOf scanned logs → entries_at scanned zone ≡ entries_of (log_at logs zone)
-own-entries scanned logs zone are = by (slice_get scanned zone) refl
-  where
-    by : (x : Option ScannedZone) → slice_get scanned zone ≡ x → kept_entries_of x ≡ entries_of (log_at logs zone)
-    by None e = sym (ap entries_of (missing-log scanned logs zone are e))
-    by (Some found) e = ap (λ (h : HeadsView). h.entries) (found-heads scanned logs zone found are e) ∙ entries-are (log_at logs zone)
-
-pub finds-half : (drive : DriveState) (n : ℕ) (logs : List (List Batch)) (survey : Survey) (zone : ℕ) → Knows drive n logs survey → IsMoved logs zone
-    → FindsNeeded drive.geometry.block logs zone (entries_at survey.scanned.items zone) None → encoded_size n (without logs zone) ≡ encoded_size n logs → Finds drive.geometry.block n logs zone HalfClean
-finds-half drive n logs survey zone known moved same sizes =
-    let b = drive.geometry.block in
-    let own = own-entries survey.scanned.items logs zone known.heads in
-    let each = all-same b logs zone (knows-small drive n logs survey known) (subst (λ (xs : List ℕ). AllByRecursion (λ entry. ShowsSame b logs zone (block_of_kept entry)) xs) own same) in
-    record { victim = moved.victim; apart = moved.apart; moves = moved.moves; older = moved.older; spare = spare-all b n logs zone sizes each }
+pub finds-half : (drive : DriveState) (n : ℕ) (logs : List (List Batch)) (survey : Survey) (zone : ℕ) (table : BlockRecords) → Knows drive n logs survey → IsMoved logs zone → AreNewest (kept_of_zone zone (heads_of (log_at logs zone))) (own_of table zone)
+    → FindsNeeded drive.geometry.block logs zone (own_of table zone) None → encoded_size n (without logs zone) ≡ encoded_size n logs → Finds drive.geometry.block n logs zone HalfClean
+finds-half drive n logs survey zone table known moved newest same sizes =
+    let each = all-same drive.geometry.block logs zone (own_of table zone) (knows-small drive n logs survey known) newest same in
+    record { victim = moved.victim; apart = moved.apart; moves = moved.moves; older = moved.older; spare = spare-all drive.geometry.block n logs zone sizes each }
 
 pub needed-not : (block_bytes n : ℕ) (logs : List (List Batch)) (zone : ℕ) → IsNeeded block_bytes n logs zone → IsHalfClean block_bytes n logs zone → ⊥
 needed-not block_bytes n logs zone (inl never) half = never (half-moved block_bytes n logs zone half)
@@ -171,20 +161,21 @@ lowest-none drive n survey begin now none so_far logs are wait zone lt half = el
 abbrev pub AllMoved : Survey → ℕ → Type 0
 AllMoved survey zone = (logs : List (List Batch)) → AreOf survey.scanned.items logs → IsMoved logs zone
 
-covered-at : (scanned : List ScannedZone) (table : BlockRecords) (zone : ℕ) → CoversZone scanned table zone → HoldsBlocks table (entries_at scanned zone)
-covered-at scanned table zone covers = by (slice_get scanned zone) refl
+-- the records of a zone of Moves are kept
+own-covered : (survey : Survey) (logs : List (List Batch)) (table : BlockRecords) (zone : ℕ) → AreOf survey.scanned.items logs → IsMoved logs zone → CoversZone survey.scanned.items table zone → CoversHeads table zone (heads_of (log_at logs zone))
+own-covered survey logs table zone are moved covers = by (slice_get survey.scanned.items zone) refl
   where
-    by : (x : Option ScannedZone) → slice_get scanned zone ≡ x → HoldsBlocks table (kept_entries_of x)
-    by None e = tt
-    by (Some found) e = covers found e
+    by : (x : Option ScannedZone) → slice_get survey.scanned.items zone ≡ x → CoversHeads table zone (heads_of (log_at logs zone))
+    by None e = absurd (not-found survey.scanned.items logs zone are e moved)
+    by (Some found) e = subst (CoversHeads table zone) (found-heads survey.scanned.items logs zone found are e) (covers found e)
 
-looked : (drive : DriveState) (n : ℕ) (survey : Survey) (table : BlockRecords) (zone : ℕ) (block : Option ℕ) → AllMoved survey zone → LooksFor drive table zone (entries_at survey.scanned.items zone) block
-    → (logs : List (List Batch)) → Knows drive n logs survey → HoldsRecords logs table → (IsMoved logs zone → CoversZone survey.scanned.items table zone) → FindsNeeded drive.geometry.block logs zone (entries_at survey.scanned.items zone) block
+looked : (drive : DriveState) (n : ℕ) (survey : Survey) (table : BlockRecords) (zone : ℕ) (block : Option ℕ) → AllMoved survey zone → LooksFor drive table zone block
+    → (logs : List (List Batch)) → Knows drive n logs survey → HoldsRecords logs table → (IsMoved logs zone → CoversZone survey.scanned.items table zone) → FindsNeeded drive.geometry.block logs zone (own_of table zone) block
 looked drive n survey table zone block moved looks logs known holds covers =
-    looks logs holds (knows-stand drive n logs survey known) (covered-at survey.scanned.items table zone (covers (moved logs known.heads)))
+    let is = moved logs known.heads in
+    looks logs holds (knows-stand drive n logs survey known) (own-covered survey logs table zone known.heads is (covers is)).1
 
-pub examine-needs : (drive : DriveState) (n : ℕ) (survey : Survey) (table : BlockRecords) (zone block : ℕ) → AllMoved survey zone
-    → LooksFor drive table zone (entries_at survey.scanned.items zone) (Some block) → TellsFinding drive n survey table zone (NeedsBlock block)
+pub examine-needs : (drive : DriveState) (n : ℕ) (survey : Survey) (table : BlockRecords) (zone block : ℕ) → AllMoved survey zone → LooksFor drive table zone (Some block) → TellsFinding drive n survey table zone (NeedsBlock block)
 examine-needs drive n survey table zone block moved looks logs known holds covers =
     finds-needed drive n logs survey zone block known (moved logs known.heads) (looked drive n survey table zone (Some block) moved looks logs known holds covers)
 
@@ -194,11 +185,12 @@ examine-size drive n survey table sizes zone told moved counts is tells logs kno
     let tells' = rw is at tells in
     (moved logs known.heads, tells' drive logs known counts)
 
-pub examine-half : (drive : DriveState) (n : ℕ) (survey : Survey) (table : BlockRecords) (sizes : SizeCounts) (zone : ℕ) (told : Bool) → AllMoved survey zone → LooksFor drive table zone (entries_at survey.scanned.items zone) None
+pub examine-half : (drive : DriveState) (n : ℕ) (survey : Survey) (table : BlockRecords) (sizes : SizeCounts) (zone : ℕ) (told : Bool) → AllMoved survey zone → LooksFor drive table zone None
     → sizes ≡ size_counts survey.size (heads_in survey.scanned.items) → told ≡ true → TellsSize n survey sizes zone told → TellsFinding drive n survey table zone HalfClean
 examine-half drive n survey table sizes zone told moved looks counts is tells logs known holds covers =
     let tells' = rw is at tells in
-    finds-half drive n logs survey zone known (moved logs known.heads) (looked drive n survey table zone None moved looks logs known holds covers) (tells' drive logs known counts)
+    let there = moved logs known.heads in
+    finds-half drive n logs survey zone table known there (own-covered survey logs table zone known.heads there (covers there)).0 (looked drive n survey table zone None moved looks logs known holds covers) (tells' drive logs known counts)
 
 pub found-in : (items : List ScannedZone) (survey : Survey) (zone : ℕ) (found : ScannedZone) → items ≡ survey.scanned.items → zone < length items → found ≡ get_or items zone found → slice_get survey.scanned.items zone ≡ Some found
 found-in items survey zone found same lt is = subst (λ (xs : List ScannedZone). slice_get xs zone ≡ Some found) same (there items zone found lt is)

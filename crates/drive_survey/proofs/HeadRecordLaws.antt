@@ -1,5 +1,5 @@
 -- The records of a zone's log, read back from the headers that are kept.
-use Rattle.std.proofs.Common.{◌≡◌, ℕ, zero, suc, ◌+◌, ◌-◌, ◌^◌, ◌<◌, Bool, true, false, List, [], ◌∷◌, ◌++◌, length, map, take, drop, refl, sym, ap, subst, ◌∙◌, arith, append_assoc, append-nil}
+use Rattle.std.proofs.Common.{◌≡◌, ℕ, zero, suc, ◌+◌, ◌-◌, ◌^◌, ◌<◌, Bool, true, false, List, [], ◌∷◌, ◌++◌, length, map, take, drop, refl, sym, ap, ◌∙◌, arith, append_assoc, append-nil}
 use Rattle.std.specs.List.{AllByRecursion}
 use Rattle.std.proofs.lemmas.Bool.{lt-ltb}
 use Rattle.std.proofs.lemmas.Bool.Decides.{nat_tests}
@@ -7,7 +7,7 @@ use Rattle.std.proofs.lemmas.List.{length-append, length-map, map-append}
 use Rattle.batch_log.specs.declared.header.Entry.{Entry}
 use Rattle.batch_log.specs.Log.{Batch, batch_size, data_count, one_unless}
 use Rattle.drive_array.specs.Mountable.{IsInside}
-use Rattle.drive_array.specs.Records.{Record, batch_records, entry_content, entry_offset, entry_records, log_records, record_of, records}
+use Rattle.drive_array.specs.Records.{batch_records, entry_content, entry_offset, entry_records, log_records, record_of, records}
 use Rattle.drive_survey.specs.declared.heads.Head.{Head}
 use Rattle.drive_survey.specs.declared.records.KeptRecord.{KeptRecord}
 use Rattle.drive_survey.specs.Heads.{HeadsView, heads_after, heads_of, kept_bit, kept_block, kept_entry, no_heads, with_heading}
@@ -129,9 +129,3 @@ kept-are zone (log ∷ logs) all =
     ap (λ (xs : List KeptRecord). xs ++ kept_records (suc zone) (map heads_of logs)) (kept-is zone log all.0)
     ∙ ap (λ (xs : List KeptRecord). map kept_record (log_records zone 0 log) ++ xs) (kept-are (suc zone) logs all.1)
     ∙ sym (map-append kept_record (log_records zone 0 log) (records (suc zone) logs))
-
--- what holds of the blocks of all entries holds of the records' blocks
-pub entries-named : (P : ℕ → Type 0) (sequence zone header k : ℕ) (body : List (List ℕ)) (es : List Entry) → AllByRecursion (λ (e : Entry). e.block < 2 ^ 31) es → AllByRecursion (λ x. P (block_of_kept x)) (map kept_entry es)
-    → AllByRecursion (λ (r : Record). P r.block) (entry_records sequence body zone header k es)
-entries-named P sequence zone header k body [] inside all = tt
-entries-named P sequence zone header k body (e ∷ es) inside all = (subst P (block-is e inside.0) all.0, entries-named P sequence zone header (k + one_unless e.trim) body es inside.1 all.1)

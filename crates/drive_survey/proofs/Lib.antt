@@ -21,6 +21,7 @@ pub mod RecordKnownLaws
 pub mod RecordNewestLaws
 pub mod HeadRecordLaws
 pub mod OutsideLaws
+pub mod OwnLaws
 pub mod SpareLaws
 pub mod MovedLaws
 pub mod FindLaws

@@ -18,6 +18,7 @@ use Rattle.drive_survey.specs.KeptRecords.{kept_of_zone, kept_record}
 use Rattle.drive_survey.specs.NewestRecords.{AreNewest, AreNewestOfAll}
 use Rattle.drive_survey.specs.Scan.{heads_in}
 use Rattle.drive_survey.proofs.HeadRecordLaws.{kept-is}
+use Rattle.drive_survey.proofs.OutsideLaws.{records-from}
 use Rattle.drive_survey.proofs.RecordKeyLaws.{AreApart, same-record}
 use Rattle.drive_survey.proofs.RecordTableLaws.{Changes, slot-append}
 
@@ -25,15 +26,15 @@ use Rattle.drive_survey.proofs.RecordTableLaws.{Changes, slot-append}
 
 -- These are the newest records of all zones.
 pub record IsNewestList (logs : List (List Batch)) (all : List KeptRecord) : Type 0 where
-  pub from : (k : KeptRecord) → Contains all k → (r : Record) × Contains (records 0 logs) r × (kept_record r ≡ k)
+  pub from : (k : KeptRecord) → Contains all k → (r : Record) × Contains (records 0 logs) r × (kept_record r ≡ k) × IsNewestInZone logs r
   pub has : (r : Record) → Contains (records 0 logs) r → IsNewestInZone logs r → Contains all (kept_record r)
 
-map-among : (rs : List Record) (k : KeptRecord) → Contains (map kept_record rs) k → (r : Record) × Contains rs r × (kept_record r ≡ k)
+pub map-among : (rs : List Record) (k : KeptRecord) → Contains (map kept_record rs) k → (r : Record) × Contains rs r × (kept_record r ≡ k)
 map-among [] k c = absurd (omega (arith, c.1))
 map-among (r ∷ rs) k (zero, lt, is) = (r, (0, omega arith, refl), is)
 map-among (r ∷ rs) k (suc n, lt, is) = let rest = map-among rs k (n, omega (arith, lt), is) in (rest.0, (suc rest.1.0, omega (arith, rest.1.1), rest.1.2), rest.2)
 
-among-map : (rs : List Record) (r : Record) → Contains rs r → Contains (map kept_record rs) (kept_record r)
+pub among-map : (rs : List Record) (r : Record) → Contains rs r → Contains (map kept_record rs) (kept_record r)
 among-map [] r c = absurd (omega (arith, c.1))
 among-map (x ∷ rs) r (zero, lt, is) = (0, omega arith, ap kept_record is)
 among-map (x ∷ rs) r (suc n, lt, is) = let rest = among-map rs r (n, omega (arith, lt), is) in (suc rest.0, omega (arith, rest.1), rest.2)
@@ -47,20 +48,49 @@ abbrev IsLast : ℕ → List (List Batch) → Record → Type 0
 IsLast first logs r = (s : Record) → Contains (records first logs) s → s.block ≡ r.block → s.zone ≡ r.zone → s.sequence ≤ r.sequence
 
 from-all : (first : ℕ) (logs : List (List Batch)) (all : List KeptRecord) → AllByRecursion (AllByRecursion (IsInside (2 ^ 31))) logs → AreNewestOfAll first (map heads_of logs) all
-    → (k : KeptRecord) → Contains all k → (r : Record) × Contains (records first logs) r × (kept_record r ≡ k)
+    → (k : KeptRecord) → Contains all k → (r : Record) × Contains (records first logs) r × (kept_record r ≡ k) × IsLast first logs r
 from-all first [] all inside are k c = absurd (let none : Contains [] k = subst (λ (ks : List KeptRecord). Contains ks k) are c in omega (arith, none.1))
 from-all first (log ∷ logs) all inside are k c = by (Contains-append_cases are.0 are.1 k (subst (λ (ks : List KeptRecord). Contains ks k) are.2 c)) (λ others. from-all (suc first) logs are.1 inside.1 are.4 k others)
   where
     Found : Type 0
-    Found = (r : Record) × Contains (records first (log ∷ logs)) r × (kept_record r ≡ k)
+    Found = (r : Record) × Contains (records first (log ∷ logs)) r × (kept_record r ≡ k) × IsLast first (log ∷ logs) r
 
-    by : Contains are.0 k ⊎ Contains are.1 k → (Contains are.1 k → (r : Record) × Contains (records (suc first) logs) r × (kept_record r ≡ k)) → Found
-    by (inl own) more =
-        let r = map-among (log_records first 0 log) k (subst (λ (ks : List KeptRecord). Contains ks k) (kept-is first log inside.0) (are.3.among k own)) in
-        (r.0, Contains-append_left (log_records first 0 log) (records (suc first) logs) r.0 r.1, r.2)
+    own : List Record
+    own = log_records first 0 log
+
+    rest : List Record
+    rest = records (suc first) logs
+
+    in-own : (s : Record) → Contains own s → s.zone ≡ first
+    in-own s d = all-among (λ (x : Record). x.zone ≡ first) own s (log-zone first 0 log) d
+
+    in-rest : (s : Record) → Contains rest s → suc first ≤ s.zone
+    in-rest s d = all-among (λ (x : Record). suc first ≤ x.zone) rest s (records-from (suc first) (suc first) logs (omega arith)) d
+
+    last-own : Contains are.0 k → (r : Record) → Contains own r → kept_record r ≡ k → IsLast first (log ∷ logs) r
+    last-own c r d is s e block zone = elim (Contains-append_cases own rest s e) as (λ _. s.sequence ≤ r.sequence) [
+      | inl f ↦ (
+          let there = subst (λ (ks : List KeptRecord). Contains ks (kept_record s)) (sym (kept-is first log inside.0)) (among-map own s f) in
+          let le = are.3.latest k (kept_record s) c there (block ∙ ap (λ (x : KeptRecord). x.block) is) in
+          let same : r.sequence ≡ k.sequence = ap (λ (x : KeptRecord). x.sequence) is in
+          omega (arith, le, same)
+          )
+      | inr f ↦ absurd (omega (arith, in-own r d, in-rest s f, zone))
+    ]
+
+    last-rest : (r : Record) → Contains rest r → IsLast (suc first) logs r → IsLast first (log ∷ logs) r
+    last-rest r d last s e block zone = elim (Contains-append_cases own rest s e) as (λ _. s.sequence ≤ r.sequence) [
+      | inl f ↦ absurd (omega (arith, in-own s f, in-rest r d, zone))
+      | inr f ↦ last s f block zone
+    ]
+
+    by : Contains are.0 k ⊎ Contains are.1 k → (Contains are.1 k → (r : Record) × Contains (records (suc first) logs) r × (kept_record r ≡ k) × IsLast (suc first) logs r) → Found
+    by (inl c) more =
+        let r = map-among (log_records first 0 log) k (subst (λ (ks : List KeptRecord). Contains ks k) (kept-is first log inside.0) (are.3.among k c)) in
+        (r.0, Contains-append_left (log_records first 0 log) (records (suc first) logs) r.0 r.1, r.2, last-own c r.0 r.1 r.2)
     by (inr others) more =
         let r = more others in
-        (r.0, Contains-append_right (log_records first 0 log) (records (suc first) logs) r.0 r.1, r.2)
+        (r.0, Contains-append_right (log_records first 0 log) (records (suc first) logs) r.0 r.1, r.2, last-rest r.0 r.1 r.3)
 
 has-all : (first : ℕ) (logs : List (List Batch)) (all : List KeptRecord) → AllByRecursion (AllByRecursion (IsInside (2 ^ 31))) logs → AreApart (records first logs) → AreNewestOfAll first (map heads_of logs) all
     → (r : Record) → Contains (records first logs) r → IsLast first logs r → Contains all (kept_record r)

@@ -6,7 +6,7 @@ use Rattle.std.specs.List.{Contains}
 use Rattle.std.specs.Ordering.{nat_cmp}
 use Rattle.std.specs.Cmp.{nat_cmp_total}
 use Rattle.std.proofs.lemmas.Bool.{cases_eq, eq-eqb, ne_eqb}
-use Rattle.std.proofs.lemmas.List.{take_min}
+use Rattle.std.proofs.lemmas.List.{length-append, length-drop, length-map, length-take, take_min}
 use Rattle.std.proofs.lemmas.List.Elements.{Contains-append_left, Contains-push, Contains-push_cases}
 use Rattle.std.proofs.lemmas.Map.Lookups.{exact_unsigned}
 use Rattle.std.proofs.lemmas.Map.Views.{btree_map_get_iff}
@@ -14,7 +14,8 @@ use Rattle.std.proofs.Math.Seq.{drop-cons}
 use Rattle.batch_log.specs.Log.{one_unless}
 use Rattle.drive_survey.specs.declared.heads.Head.{Head}
 use Rattle.drive_survey.specs.declared.records.KeptRecord.{KeptRecord}
-use Rattle.drive_survey.specs.KeptRecords.{entry_record, is_kept_trim, kept_batches, kept_entries}
+use Rattle.drive_survey.specs.Heads.{HeadsView}
+use Rattle.drive_survey.specs.KeptRecords.{entry_record, is_kept_trim, kept_batches, kept_entries, kept_of_zone}
 use Rattle.drive_survey.specs.NewestRecords.{AreNewest, KeepsNewest}
 use Rattle.drive_survey.proofs.RecordTableLaws.{at-is, drop-min}
 
@@ -34,8 +35,8 @@ put-other block q value old new apart puts =
     puts q ∙ ap (λ (b : Bool). cond b (Some value) (get nat_cmp old q)) (at-is block q ∙ ne_eqb block q (λ e. apart (sym e)))
 
 -- it is put in where none of its block is later
-put-newest : (all : List KeptRecord) (found : KeptRecord) (old new : Found) → PutsAt found.block found old new → ((s : KeptRecord) → Contains all s → s.block ≡ found.block → s.sequence ≤ found.sequence) → KeepsNewest all old → KeepsNewest (all ++ found ∷ []) new
-put-newest all found old new puts earlier k = record { among = among; latest = latest; covers = covers }
+put-newest : (all : List KeptRecord) (found : KeptRecord) (old new : Found) → PutsAt found.block found old new → length new.entries ≤ length old.entries + 1 → ((s : KeptRecord) → Contains all s → s.block ≡ found.block → s.sequence ≤ found.sequence) → KeepsNewest all old → KeepsNewest (all ++ found ∷ []) new
+put-newest all found old new puts few earlier k = record { among = among; latest = latest; covers = covers; few = omega (arith, few, k.few, length-append all (found ∷ [])) }
   where
     among : (block : ℕ) (r : KeptRecord) → get nat_cmp new block ≡ Some r → Contains (all ++ found ∷ []) r × (r.block ≡ block)
     among block r there = elim (cases_eq block found.block) as (λ _. Contains (all ++ found ∷ []) r × (r.block ≡ block)) [
@@ -77,17 +78,17 @@ put-newest all found old new puts earlier k = record { among = among; latest = l
         either true some = refl
         either false some = some
 
-pub put-first : (all : List KeptRecord) (found : KeptRecord) (old new : Found) → get nat_cmp old found.block ≡ None → PutsAt found.block found old new → KeepsNewest all old → KeepsNewest (all ++ found ∷ []) new
-put-first all found old new none puts k =
-    put-newest all found old new puts (λ s c same. absurd (let some = k.covers s c in let bad : IsSome (get nat_cmp old found.block) = rw same at some in let bad' = rw none at bad in cc)) k
+pub put-first : (all : List KeptRecord) (found : KeptRecord) (old new : Found) → get nat_cmp old found.block ≡ None → PutsAt found.block found old new → length new.entries ≤ length old.entries + 1 → KeepsNewest all old → KeepsNewest (all ++ found ∷ []) new
+put-first all found old new none puts few k =
+    put-newest all found old new puts few (λ s c same. absurd (let some = k.covers s c in let bad : IsSome (get nat_cmp old found.block) = rw same at some in let bad' = rw none at bad in cc)) k
 
-pub put-later : (all : List KeptRecord) (found taken : KeptRecord) (old new : Found) → get nat_cmp old found.block ≡ Some taken → taken.sequence < found.sequence → PutsAt found.block found old new → KeepsNewest all old → KeepsNewest (all ++ found ∷ []) new
-put-later all found taken old new there lt puts k =
-    put-newest all found old new puts (λ s c same. let le = k.latest found.block taken s there c same in omega (arith, le, lt)) k
+pub put-later : (all : List KeptRecord) (found taken : KeptRecord) (old new : Found) → get nat_cmp old found.block ≡ Some taken → taken.sequence < found.sequence → PutsAt found.block found old new → length new.entries ≡ length old.entries → KeepsNewest all old → KeepsNewest (all ++ found ∷ []) new
+put-later all found taken old new there lt puts count k =
+    put-newest all found old new puts (omega (arith, count)) (λ s c same. let le = k.latest found.block taken s there c same in omega (arith, le, lt)) k
 
 -- it is left out where one of its block is no earlier
-pub leave-out : (all : List KeptRecord) (found taken : KeptRecord) (old new : Found) → get nat_cmp old found.block ≡ Some taken → found.sequence ≤ taken.sequence → PutsAt found.block taken old new → KeepsNewest all old → KeepsNewest (all ++ found ∷ []) new
-leave-out all found taken old new there le puts k = record {
+pub leave-out : (all : List KeptRecord) (found taken : KeptRecord) (old new : Found) → get nat_cmp old found.block ≡ Some taken → found.sequence ≤ taken.sequence → PutsAt found.block taken old new → length new.entries ≡ length old.entries → KeepsNewest all old → KeepsNewest (all ++ found ∷ []) new
+leave-out all found taken old new there le puts count k = record {
   among = λ block r e. let was = k.among block r (sym (same block) ∙ e) in (Contains-append_left all (found ∷ []) r was.0, was.1);
   latest = λ block r s e c at. elim (Contains-push_cases all found s c) as (λ _. s.sequence ≤ r.sequence) [
     | inl d ↦ k.latest block r s (sym (same block) ∙ e) d at
@@ -101,6 +102,7 @@ leave-out all found taken old new there le puts k = record {
     | inl d ↦ rw (same s.block) (k.covers s d)
     | inr is ↦ rw (← is, same found.block, there) refl
   ];
+  few = omega (arith, count, k.few, length-append all (found ∷ []));
 }
   where
     same : (q : ℕ) → get nat_cmp new q ≡ get nat_cmp old q
@@ -114,7 +116,13 @@ keeps-none found empty = record {
   among = λ block r there. absurd (let bad = rw empty at there in cc);
   latest = λ block r s there c. absurd (omega (arith, c.1));
   covers = λ s c. absurd (omega (arith, c.1));
+  few = omega (arith, ap length empty);
 }
+
+-- one entry more at most
+pub one-more : (is_old : Bool) (n m : ℕ) → n ≡ m + cond is_old 0 1 → n ≤ m + 1
+one-more true n m e = omega (arith, e)
+one-more false n m e = omega (arith, e)
 
 -- ---- one part after the other
 
@@ -198,3 +206,21 @@ listed-newest all own found ordered is k = record {
     at r c =
         let e = among-second found.entries r (subst (λ (xs : List KeptRecord). Contains xs r) is c) in
         (e.0, (btree_map_get_iff nat_cmp_total exact_unsigned found ordered e.0 r).1 e.1)
+
+-- ---- how many there are
+
+kept-count : (sequence zone header k : ℕ) (entries : List ℕ) → length (kept_entries sequence zone header k entries) ≡ length entries
+kept-count sequence zone header k [] = refl
+kept-count sequence zone header k (e ∷ es) = ap suc (kept-count sequence zone header (k + one_unless (is_kept_trim e)) es)
+
+kept-few : (zone from : ℕ) (heads : List Head) (entries : List ℕ) → length (kept_batches zone from heads entries) ≤ length entries
+kept-few zone from [] entries = omega arith
+kept-few zone from (h ∷ hs) entries =
+    let n = h.end - from in
+    let own = kept_entries h.sequence zone h.offset 0 (take n entries) in
+    let rest = kept-few zone h.end hs (drop n entries) in
+    omega (arith, length-append own (kept_batches zone h.end hs (drop n entries)), kept-count h.sequence zone h.offset 0 (take n entries), length-take n entries, length-drop n entries, rest)
+
+-- at most one is listed for each entry
+pub listed-few : (zone : ℕ) (heads : HeadsView) (own : List KeptRecord) (found : Found) → own ≡ map second found.entries → KeepsNewest (kept_of_zone zone heads) found → length own ≤ length heads.entries
+listed-few zone heads own found is k = omega (arith, ap length is, length-map found.entries second, k.few, kept-few zone 0 heads.heads heads.entries)

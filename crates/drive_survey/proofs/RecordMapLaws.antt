@@ -18,7 +18,8 @@ use Rattle.drive_survey.specs.declared.clearing.block_records.BlockRecords.{Bloc
 use Rattle.drive_survey.specs.BlockRecords.{AreRecords, HasNoRecord, HoldsRecords, IsNewestInZone, forgets, held_of, notes, slot_after, slot_of}
 use Rattle.drive_survey.specs.KeptRecords.{kept_record}
 use Rattle.drive_survey.proofs.OutsideLaws.{is_outside, outside, outside-is, records-from}
-use Rattle.drive_survey.proofs.NewestListLaws.{IsNewestList}
+use Rattle.drive_survey.specs.NewestRecords.{AreNewest}
+use Rattle.drive_survey.proofs.NewestListLaws.{IsNewestList, among-map, map-among}
 use Rattle.drive_survey.proofs.RecordKeyLaws.{AreApart, same-record}
 use Rattle.drive_survey.proofs.RecordTableLaws.{Changes}
 
@@ -91,7 +92,7 @@ now-at of put old new rs block sequence first held changes was there =
 abbrev itself : KeptRecord → KeptRecord
 itself k = k
 
-kept-among : (P : KeptRecord → Type 0) (ks : List KeptRecord) (k : KeptRecord) → AllByRecursion P ks → Contains ks k → P k
+pub kept-among : (P : KeptRecord → Type 0) (ks : List KeptRecord) (k : KeptRecord) → AllByRecursion P ks → Contains ks k → P k
 kept-among P ks k all c = All-contains P ks k (All-from_recursion P ks all) c
 
 noted-records : (logs : List (List Batch)) (all : List KeptRecord) (block : ℕ) (held : BTreeMap ℕ KeptRecord) → AreApart (records 0 logs) → IsNewestList logs all → ((sequence : ℕ) → Comes itself notes block sequence None all (Some (get nat_cmp held sequence))) → AreRecords logs block held
@@ -111,11 +112,12 @@ noted-records logs all block held apart newest at = record {
             now ∙ ap (λ (k : KeptRecord). Some k) (sym from.2) ∙ ap (λ (y : Record). Some (kept_record y)) one
         by (inr none) = absurd (kept-among (λ (k : KeptRecord). k.block ≡ block → k.sequence ≡ r.sequence → ⊥) all (kept_record r) none.0 (newest.has r c last) same refl)
 
-    other : (sequence : ℕ) (found : KeptRecord) → get nat_cmp held sequence ≡ Some found → Comes itself notes block sequence None all (Some (get nat_cmp held sequence)) → (r : Record) × Contains (records 0 logs) r × (r.block ≡ block) × (r.sequence ≡ sequence) × (kept_record r ≡ found)
+    other : (sequence : ℕ) (found : KeptRecord) → get nat_cmp held sequence ≡ Some found → Comes itself notes block sequence None all (Some (get nat_cmp held sequence))
+        → (r : Record) × Contains (records 0 logs) r × (r.block ≡ block) × (r.sequence ≡ sequence) × (kept_record r ≡ found) × IsNewestInZone logs r
     other sequence found e (inl x) =
         let from = newest.from x.0 x.1 in
         let one : x.0 ≡ found = (let now = x.4 in cc) in
-        (from.0, from.1, ap (λ (k : KeptRecord). k.block) from.2 ∙ x.2, ap (λ (k : KeptRecord). k.sequence) from.2 ∙ x.3, from.2 ∙ one)
+        (from.0, from.1, ap (λ (k : KeptRecord). k.block) from.2 ∙ x.2, ap (λ (k : KeptRecord). k.sequence) from.2 ∙ x.3, from.2 ∙ one, from.3)
     other sequence found e (inr none) = absurd (let now = none.1 in cc)
 
 pub holds-noted : (logs : List (List Batch)) (old new : BlockRecords) (all : List KeptRecord) → AreApart (records 0 logs) → IsNewestList logs all → HasNoRecord old → Changes notes old new all → HoldsRecords logs new
@@ -165,7 +167,7 @@ own-among first (suc index) zone (log ∷ logs) r e c =
     Contains-append_right (log_records first 0 log) (records (suc first) logs) r (own-among (suc first) index zone logs r (omega (arith, e)) c)
 
 -- what holds of a zone's records holds of all that lie in it
-zone-own : (P : Record → Type 0) (first index zone : ℕ) (logs : List (List Batch)) → zone ≡ first + index → AllByRecursion P (log_records zone 0 (log_at logs index)) → AllByRecursion (λ (r : Record). r.zone ≡ zone → P r) (records first logs)
+pub zone-own : (P : Record → Type 0) (first index zone : ℕ) (logs : List (List Batch)) → zone ≡ first + index → AllByRecursion P (log_records zone 0 (log_at logs index)) → AllByRecursion (λ (r : Record). r.zone ≡ zone → P r) (records first logs)
 zone-own P first index zone [] e all = tt
 zone-own P first zero zone (log ∷ logs) e all =
     let same : zone ≡ first = omega (arith, e) in
@@ -178,9 +180,13 @@ zone-own P first (suc index) zone (log ∷ logs) e all =
     (all-weaker (λ (r : Record). r.zone ≡ first) (λ (r : Record). r.zone ≡ zone → P r) (log_records first 0 log) (λ r is here. absurd (omega (arith, e, is, here))) (log-zone first 0 log))
     (zone-own P (suc first) index zone logs (omega (arith, e)) all)
 
-forgotten-records : (logs : List (List Batch)) (zone block : ℕ) (first held : BTreeMap ℕ KeptRecord) → AreApart (records 0 logs) → AreRecords logs block first
-    → ((sequence : ℕ) → Comes kept_record forgets block sequence (get nat_cmp first sequence) (log_records zone 0 (log_at logs zone)) (Some (get nat_cmp held sequence))) → AreRecords (without logs zone) block held
-forgotten-records logs zone block first held apart are at = record {
+pub all-self : {X : Type 0} (P : X → Type 0) (xs : List X) → ((x : X) → Contains xs x → P x) → AllByRecursion P xs
+all-self P [] each = tt
+all-self P (x ∷ xs) each = (each x (0, omega arith, refl), all-self P xs (λ y c. each y (in-rest x y xs c)))
+
+forgotten-records : (logs : List (List Batch)) (zone block : ℕ) (own : List KeptRecord) (first held : BTreeMap ℕ KeptRecord) → AreApart (records 0 logs) → AreNewest (map kept_record (log_records zone 0 (log_at logs zone))) own → AreRecords logs block first
+    → ((sequence : ℕ) → Comes itself forgets block sequence (get nat_cmp first sequence) own (Some (get nat_cmp held sequence))) → AreRecords (without logs zone) block held
+forgotten-records logs zone block own first held apart newest are at = record {
   all_held = λ r c same last. all r (among-outside zone all_records r (subst (λ (rs : List Record). Contains rs r) (sym others) c)) same last (at r.sequence);
   no_other = λ sequence found e. other sequence found e (at sequence);
 }
@@ -188,36 +194,58 @@ forgotten-records logs zone block first held apart are at = record {
     all_records : List Record
     all_records = records 0 logs
 
-    own : List Record
-    own = log_records zone 0 (log_at logs zone)
+    zone_records : List Record
+    zone_records = log_records zone 0 (log_at logs zone)
 
     others : outside zone all_records ≡ records 0 (without logs zone)
     others = outside-is 0 zone zone logs (omega arith)
 
+    among : (r : Record) → Contains zone_records r → Contains all_records r × (r.zone ≡ zone)
+    among r c = (own-among 0 zone zone logs r (omega arith) c, all-among (λ (y : Record). y.zone ≡ zone) zone_records r (log-zone zone 0 (log_at logs zone)) c)
+
+    among-zone : (r : Record) → Contains all_records r → r.zone ≡ zone → Contains zone_records r
+    among-zone r c here = all-among (λ (y : Record). y.zone ≡ zone → Contains zone_records y) all_records r (zone-own (λ (y : Record). Contains zone_records y) 0 zone zone logs (omega arith) (all-self (λ (y : Record). Contains zone_records y) zone_records (λ y d. d))) c here
+
     still : (r : Record) → r.zone ≢ zone → IsNewestInZone (without logs zone) r → IsNewestInZone logs r
     still r apart_zone last s c same here = last s (subst (λ (rs : List Record). Contains rs s) others (outside-among zone all_records s c (λ gone. apart_zone (sym here ∙ gone)))) same here
 
-    all : (r : Record) → Contains all_records r × (r.zone ≢ zone) → r.block ≡ block → IsNewestInZone (without logs zone) r → Comes kept_record forgets block r.sequence (get nat_cmp first r.sequence) own (Some (get nat_cmp held r.sequence)) → get nat_cmp held r.sequence ≡ Some (kept_record r)
+    less : (r : Record) → IsNewestInZone logs r → IsNewestInZone (without logs zone) r
+    less r last s c same here = last s (among-outside zone all_records s (subst (λ (rs : List Record). Contains rs s) (sym others) c)).0 same here
+
+    all : (r : Record) → Contains all_records r × (r.zone ≢ zone) → r.block ≡ block → IsNewestInZone (without logs zone) r → Comes itself forgets block r.sequence (get nat_cmp first r.sequence) own (Some (get nat_cmp held r.sequence)) → get nat_cmp held r.sequence ≡ Some (kept_record r)
     all r both same last (inl x) =
-        let one : x.0 ≡ r = same-record all_records x.0 r apart (own-among 0 zone zone logs x.0 (omega arith) x.1) both.0 (x.2 ∙ sym same) x.3 in
-        let here : x.0.zone ≡ zone = all-among (λ (y : Record). y.zone ≡ zone) own x.0 (log-zone zone 0 (log_at logs zone)) x.1 in
-        absurd (both.1 (ap (λ (y : Record). y.zone) (sym one) ∙ here))
+        let s = map-among zone_records x.0 (newest.among x.0 x.1) in
+        let from = among s.0 s.1 in
+        let one : s.0 ≡ r = same-record all_records s.0 r apart from.0 both.0 (ap (λ (k : KeptRecord). k.block) s.2 ∙ x.2 ∙ sym same) (ap (λ (k : KeptRecord). k.sequence) s.2 ∙ x.3) in
+        absurd (both.1 (ap (λ (y : Record). y.zone) (sym one) ∙ from.1))
     all r both same last (inr none) =
         let now : get nat_cmp held r.sequence ≡ get nat_cmp first r.sequence = (let e = none.1 in cc) in
         now ∙ are.all_held r both.0 same (still r both.1 last)
 
-    other : (sequence : ℕ) (found : KeptRecord) → get nat_cmp held sequence ≡ Some found → Comes kept_record forgets block sequence (get nat_cmp first sequence) own (Some (get nat_cmp held sequence))
-        → (r : Record) × Contains (records 0 (without logs zone)) r × (r.block ≡ block) × (r.sequence ≡ sequence) × (kept_record r ≡ found)
+    -- the newest record of the zone is one of those that were taken out
+    taken : (sequence : ℕ) (r : Record) → Contains all_records r → r.block ≡ block → r.sequence ≡ sequence → IsNewestInZone logs r → AllByRecursion (λ (k : KeptRecord). k.block ≡ block → k.sequence ≡ sequence → ⊥) own → r.zone ≡ zone → ⊥
+    taken sequence r c same number last none here =
+        let there = among-map zone_records r (among-zone r c here) in
+        let k = newest.covers (kept_record r) there in
+        let s = map-among zone_records k.0 (newest.among k.0 k.1) in
+        let from = among s.0 s.1 in
+        let le = newest.latest k.0 (kept_record r) k.1 there (sym k.2) in
+        let ge = last s.0 from.0 (ap (λ (x : KeptRecord). x.block) s.2 ∙ k.2) (from.1 ∙ sym here) in
+        let is : s.0.sequence ≡ k.0.sequence = ap (λ (x : KeptRecord). x.sequence) s.2 in
+        kept-among (λ (x : KeptRecord). x.block ≡ block → x.sequence ≡ sequence → ⊥) own k.0 none k.1 (k.2 ∙ same) (omega (arith, le, ge, is, number))
+
+    other : (sequence : ℕ) (found : KeptRecord) → get nat_cmp held sequence ≡ Some found → Comes itself forgets block sequence (get nat_cmp first sequence) own (Some (get nat_cmp held sequence))
+        → (r : Record) × Contains (records 0 (without logs zone)) r × (r.block ≡ block) × (r.sequence ≡ sequence) × (kept_record r ≡ found) × IsNewestInZone (without logs zone) r
     other sequence found e (inl x) = absurd (let now = x.4 in cc)
     other sequence found e (inr none) =
         let was : get nat_cmp first sequence ≡ Some found = (let now = none.1 in cc) in
         let r = are.no_other sequence found was in
-        let apart_zone : r.0.zone ≢ zone = (λ here. all-among (λ (y : Record). y.zone ≡ zone → y.block ≡ block → y.sequence ≡ sequence → ⊥) all_records r.0
-        (zone-own (λ (y : Record). y.block ≡ block → y.sequence ≡ sequence → ⊥) 0 zone zone logs (omega arith) none.0) r.1 here r.2 r.3) in
-        (r.0, subst (λ (rs : List Record). Contains rs r.0) others (outside-among zone all_records r.0 r.1 apart_zone), r.2, r.3, r.4)
+        let apart_zone : r.0.zone ≢ zone = (λ here. taken sequence r.0 r.1 r.2 r.3 r.5 none.0 here) in
+        (r.0, subst (λ (rs : List Record). Contains rs r.0) others (outside-among zone all_records r.0 r.1 apart_zone), r.2, r.3, r.4, less r.0 r.5)
 
-pub holds-forgotten : (logs : List (List Batch)) (zone : ℕ) (old new : BlockRecords) → AreApart (records 0 logs) → HoldsRecords logs old → Changes forgets old new (map kept_record (log_records zone 0 (log_at logs zone))) → HoldsRecords (without logs zone) new
-holds-forgotten logs zone old new apart holds changes block held there =
-    let own = log_records zone 0 (log_at logs zone) in
-    let was = was-held forgets old new (map kept_record own) block held changes there in
-    forgotten-records logs zone block was.0 held apart (holds block was.0 was.1) (λ sequence. now-at kept_record forgets old new own block sequence was.0 held changes was.1 there)
+pub holds-forgotten : (logs : List (List Batch)) (zone : ℕ) (own : List KeptRecord) (old new : BlockRecords) → AreApart (records 0 logs) → AreNewest (map kept_record (log_records zone 0 (log_at logs zone))) own → HoldsRecords logs old → Changes forgets old new own
+    → HoldsRecords (without logs zone) new
+holds-forgotten logs zone own old new apart newest holds changes block held there =
+    let was = was-held forgets old new own block held changes there in
+    let changes' : Changes forgets old new (map itself own) = subst (Changes forgets old new) (sym (map-id own)) changes in
+    forgotten-records logs zone block own was.0 held apart newest (holds block was.0 was.1) (λ sequence. now-at itself forgets old new own block sequence was.0 held changes' was.1 there)

@@ -123,7 +123,7 @@ last-is logs zone block held front sequence found ordered are apart others =
     there : Contains held.entries e
     there = subst (λ (es : Entries). Contains es e) (sym others.split) (Contains-append_left (front ++ e ∷ []) others.after e (Contains-push front e))
 
-    r : (r : Record) × Contains (records 0 logs) r × (r.block ≡ block) × (r.sequence ≡ sequence) × (kept_record r ≡ found)
+    r : (r : Record) × Contains (records 0 logs) r × (r.block ≡ block) × (r.sequence ≡ sequence) × (kept_record r ≡ found) × IsNewestInZone logs r
     r = are.no_other sequence found ((get-is sequence found).1 there)
 
     before : AllByRecursion (λ (x : ℕ × KeptRecord). x.0 < sequence) front

@@ -1,12 +1,8 @@
 -- What blocks show, as it is read.
-use Rattle.std.proofs.Common.{◌≡◌, ◌≢◌, inl, inr, ℕ, suc, ◌<◌, ◌≤◌, Bool, true, false, cond, List, [], ◌∷◌, length, drop, get_or, Option, Some, None, refl, sym, ap, subst, ◌∙◌, arith}
-use Rattle.std.specs.Prelude.{IsTrue, slice_get}
-use Rattle.std.specs.BTreeSet.{BTreeSet, Updates, btree_set_len, contains}
-use Rattle.std.specs.Ordering.{nat_cmp}
+use Rattle.std.proofs.Common.{◌≡◌, ◌≢◌, ℕ, suc, ◌<◌, ◌≤◌, Bool, true, false, cond, List, [], ◌∷◌, length, drop, get_or, Option, Some, None, refl, sym, ap, subst, ◌∙◌, arith}
 use Rattle.std.specs.List.{AllByRecursion}
 use Rattle.std.specs.Option.{IsSome, option_map}
-use Rattle.std.proofs.lemmas.Bool.{cases_eq, ne_eqb}
-use Rattle.std.proofs.lemmas.List.{drop_all, nil_from_length}
+use Rattle.std.proofs.lemmas.List.{drop_all}
 use Rattle.std.proofs.Math.Seq.{drop-cons}
 use Rattle.drive_port.specs.Drive.{DriveState}
 use Rattle.drive_port.proofs.ClosingLaws.{length-closing}
@@ -16,18 +12,16 @@ use Rattle.drive_array.proofs.AllLaws.{all-at, all-weaker}
 use Rattle.drive_array.proofs.NewestLaws.{all-among, newest-is}
 use Rattle.drive_survey.specs.declared.records.KeptRecord.{KeptRecord}
 use Rattle.drive_survey.specs.declared.reported.ReportedZone.{ReportedZone}
-use Rattle.drive_survey.specs.declared.scan.ScannedZone.{ScannedZone}
 use Rattle.drive_survey.specs.declared.clearing.block_records.BlockRecords.{BlockRecords}
 use Rattle.drive_survey.specs.declared.clearing.shown.Rivals.{Rivals}
-use Rattle.drive_survey.specs.Clearing.{AllStand, AreRivals, FindsNeeded, IfStands, ShowsSame, StandsAt, Tells, TellsRivals, entries_at, kept_entries_of}
-use Rattle.drive_survey.specs.KeptRecords.{block_of_kept, kept_record}
+use Rattle.drive_survey.specs.Clearing.{AllStand, AreRivals, IfStands, LooksFor, ShowsSame, StandsAt, Tells, TellsRivals}
+use Rattle.drive_survey.specs.KeptRecords.{kept_record}
 use Rattle.drive_survey.specs.Reported.{IsKnown, KeepsZones}
-use Rattle.drive_survey.specs.BlockRecords.{HoldsBlocks, HoldsRecords, held_of}
+use Rattle.drive_survey.specs.BlockRecords.{HoldsEach, HoldsRecords, held_of, own_of}
 use Rattle.drive_survey.specs.Scan.{block_of, readable_at}
 use Rattle.drive_survey.proofs.OutsideLaws.{is_outside, outside, outside-is}
 use Rattle.drive_survey.proofs.ReadLaws.{kept-blocks}
 use Rattle.drive_survey.proofs.SpareLaws.{same-none, same-other}
-use Rattle.drive_survey.proofs.RecordTableLaws.{at-is}
 
 -- ---- the drive stays as it is
 
@@ -96,12 +90,12 @@ same-apart block_bytes logs table zone block kept tells apart holds some = by (n
 
 -- ---- block after block
 
-abbrev AreSame : ℕ → List (List Batch) → ℕ → List ℕ → Type 0
-AreSame block_bytes logs zone entries = AllByRecursion (λ entry. ShowsSame block_bytes logs zone (block_of_kept entry)) entries
+abbrev AreSame : ℕ → List (List Batch) → ℕ → List KeptRecord → Type 0
+AreSame block_bytes logs zone own = AllByRecursion (λ (r : KeptRecord). ShowsSame block_bytes logs zone r.block) own
 
--- the blocks of the first entries show the same
-abbrev pub SameSoFar : DriveState → BlockRecords → ℕ → List ℕ → ℕ → Type 0
-SameSoFar drive table zone entries i = (logs : List (List Batch)) → HoldsRecords logs table → AllStand drive logs → HoldsBlocks table entries → AreSame drive.geometry.block logs zone (drop i entries) → AreSame drive.geometry.block logs zone entries
+-- the blocks of the first records show the same
+abbrev pub SameSoFar : DriveState → BlockRecords → ℕ → List KeptRecord → ℕ → Type 0
+SameSoFar drive table zone own i = (logs : List (List Batch)) → HoldsRecords logs table → AllStand drive logs → HoldsEach table own → AreSame drive.geometry.block logs zone (drop i own) → AreSame drive.geometry.block logs zone own
 
 abbrev pub TellsBlock : DriveState → BlockRecords → ℕ → ℕ → Bool → Type 0
 TellsBlock drive table zone block same = (logs : List (List Batch)) → HoldsRecords logs table → AllStand drive logs → IsSome (held_of table block) → Tells same (ShowsSame drive.geometry.block logs zone block)
@@ -119,50 +113,28 @@ tells-first : (first now : DriveState) (table : BlockRecords) (zone block : ℕ)
 tells-first first now table zone block same kept tells logs holds stand some =
     rw (← kept.geometry) (tells logs holds (all-kept first now logs kept stand) some)
 
-block-held : (table : BlockRecords) (entries : List ℕ) (i d : ℕ) → HoldsBlocks table entries → i < length entries → IsSome (held_of table (block_of_kept (get_or entries i d)))
-block-held table entries i d holds lt = all-at (λ entry. IsSome (held_of table (block_of_kept entry))) entries i d holds lt
+block-held : (table : BlockRecords) (own : List KeptRecord) (i : ℕ) (d : KeptRecord) → HoldsEach table own → i < length own → IsSome (held_of table (get_or own i d).block)
+block-held table own i d holds lt = all-at (λ (r : KeptRecord). IsSome (held_of table r.block)) own i d holds lt
 
-pub same-more : (first now : DriveState) (table : BlockRecords) (zone : ℕ) (entries : List ℕ) (i i' block : ℕ) (same : Bool) → KeepsZones first now → i < length entries → i' ≡ suc i → block ≡ block_of_kept (get_or entries i 0) → same ≡ true → TellsBlock now table zone block same
-    → SameSoFar first table zone entries i → SameSoFar first table zone entries i'
-same-more first now table zone entries i i' block same kept lt more is yes_same tells so_far logs holds stand held rest =
-    let here = rw (yes_same, is) at (tells-first first now table zone block same kept tells) in
-    so_far logs holds stand held (rw (drop-cons entries i 0 lt) (here logs holds stand (block-held table entries i 0 held lt), rw more at rest))
+pub same-more : (first now : DriveState) (table : BlockRecords) (zone : ℕ) (own : List KeptRecord) (i i' : ℕ) (d : KeptRecord) (same : Bool) → KeepsZones first now → i < length own → i' ≡ suc i → same ≡ true → TellsBlock now table zone (get_or own i d).block same
+    → SameSoFar first table zone own i → SameSoFar first table zone own i'
+same-more first now table zone own i i' d same kept lt more yes_same tells so_far logs holds stand held rest =
+    let here = rw yes_same at (tells-first first now table zone (get_or own i d).block same kept tells) in
+    so_far logs holds stand held (rw (drop-cons own i d lt) (here logs holds stand (block-held table own i d held lt), rw more at rest))
 
-pub needed-here : (first now : DriveState) (table : BlockRecords) (zone : ℕ) (entries : List ℕ) (i block : ℕ) (same : Bool) → KeepsZones first now → i < length entries → block ≡ block_of_kept (get_or entries i 0) → same ≡ false → TellsBlock now table zone block same
-    → (logs : List (List Batch)) → HoldsRecords logs table → AllStand first logs → HoldsBlocks table entries → FindsNeeded first.geometry.block logs zone entries (Some block)
-needed-here first now table zone entries i block same kept lt is not_same tells logs holds stand held =
-    let here = rw not_same at (tells-first first now table zone block same kept tells) in
-    here logs holds stand (rw is (block-held table entries i 0 held lt))
+pub needed-here : (first now : DriveState) (table : BlockRecords) (zone : ℕ) (own : List KeptRecord) (i : ℕ) (d : KeptRecord) (same : Bool) → KeepsZones first now → own ≡ own_of table zone → i < length own → same ≡ false → TellsBlock now table zone (get_or own i d).block same
+    → LooksFor first table zone (Some (get_or own i d).block)
+needed-here first now table zone own i d same kept is lt not_same tells logs holds stand held =
+    let here = rw not_same at (tells-first first now table zone (get_or own i d).block same kept tells) in
+    here logs holds stand (block-held table own i d (rw is held) lt)
 
-pub none-needed : (drive : DriveState) (table : BlockRecords) (zone : ℕ) (entries : List ℕ) (i : ℕ) → length entries ≤ i → SameSoFar drive table zone entries i
-    → (logs : List (List Batch)) → HoldsRecords logs table → AllStand drive logs → HoldsBlocks table entries → FindsNeeded drive.geometry.block logs zone entries None
-none-needed drive table zone entries i le so_far logs holds stand held = so_far logs holds stand held (rw (drop_all i entries le) tt)
+pub none-needed : (drive : DriveState) (table : BlockRecords) (zone : ℕ) (own : List KeptRecord) (i : ℕ) → own ≡ own_of table zone → length own ≤ i → SameSoFar drive table zone own i → LooksFor drive table zone None
+none-needed drive table zone own i is le so_far logs holds stand held =
+    subst (AreSame drive.geometry.block logs zone) is (so_far logs holds stand (rw is held) (rw (drop_all i own le) tt))
 
--- ---- blocks that were looked at
-
--- each block of a set shows the same without the zone
-abbrev pub SeenSame : DriveState → BlockRecords → ℕ → BTreeSet ℕ → Type 0
-SeenSame drive table zone seen = (block : ℕ) → IsTrue (contains nat_cmp seen block) → TellsBlock drive table zone block true
-
--- no block was looked at yet
-pub seen-none : (drive : DriveState) (table : BlockRecords) (zone : ℕ) (seen : BTreeSet ℕ) → btree_set_len seen ≡ 0 → SeenSame drive table zone seen
-seen-none drive table zone seen none block named =
-    let empty : seen.keys ≡ [] = nil_from_length seen.keys none in
-    let bad = rw empty at named in
-    absurd (cc)
-
--- one block more was looked at
-pub seen-more : (first now : DriveState) (table : BlockRecords) (zone block : ℕ) (old new : BTreeSet ℕ) (same : Bool) → KeepsZones first now → same ≡ true → Updates nat_cmp old new block true
-    → TellsBlock now table zone block same → SeenSame first table zone old → SeenSame first table zone new
-seen-more first now table zone block old new same kept is_same updates tells seen q named = elim (cases_eq q block) as (λ _. TellsBlock first table zone q true) [
-  | inl here ↦ rw here (tells-first first now table zone block true kept (rw is_same at tells))
-  | inr apart ↦ seen q (sym (updates.0 q ∙ ap (λ (b : Bool). cond b true (contains nat_cmp old q)) (at-is block q ∙ ne_eqb block q (λ e. apart (sym e)))) ∙ named)
-]
-
--- ---- the entries of a zone
-
-pub found-entries : (scanned : List ScannedZone) (zone : ℕ) (found : ScannedZone) (entries : List ℕ) → slice_get scanned zone ≡ Some found → entries ≡ found.heads.entries → entries ≡ entries_at scanned zone
-found-entries scanned zone found entries there_is are = are ∙ sym (ap kept_entries_of there_is)
+-- no record is kept of the zone
+pub none-kept : (drive : DriveState) (table : BlockRecords) (zone : ℕ) → own_of table zone ≡ [] → LooksFor drive table zone None
+none-kept drive table zone none logs holds stand held = rw none tt
 
 -- ---- two records are compared
 

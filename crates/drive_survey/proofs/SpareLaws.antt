@@ -1,5 +1,5 @@
 -- When nothing is lost with a zone.
-use Rattle.std.proofs.Common.{◌≡◌, ◌≢◌, ◌⊎◌, inl, inr, ℕ, zero, suc, ◌+◌, ◌^◌, ◌<◌, ◌≤◌, List, [], ◌∷◌, length, map, get_or, Option, Some, None, refl, sym, ap, subst, ◌∙◌, arith}
+use Rattle.std.proofs.Common.{◌≡◌, ◌≢◌, ◌⊎◌, inl, inr, ℕ, suc, ◌+◌, ◌^◌, ◌<◌, ◌≤◌, List, [], ◌∷◌, length, map, get_or, Option, Some, None, refl, sym, ap, subst, ◌∙◌, arith}
 use Rattle.std.specs.List.{AllByRecursion, range_with_len}
 use Rattle.std.proofs.lemmas.Bool.{cases_eq}
 use Rattle.std.proofs.lemmas.List.{length-map}
@@ -8,26 +8,27 @@ use Rattle.drive_port.specs.Contents.{Content, content_at, content_of, contents,
 use Rattle.drive_port.specs.Drive.{DriveState}
 use Rattle.drive_port.proofs.ClosingLaws.{length-closing}
 use Rattle.batch_log.specs.declared.header.Entry.{Entry}
-use Rattle.batch_log.specs.Log.{Batch, batch_size}
+use Rattle.batch_log.specs.Log.{Batch}
 use Rattle.drive_array.specs.ZoneLogs.{HasLog, drive_logs, log_at, readable, zone_log}
 use Rattle.drive_array.specs.Mountable.{IsInside}
-use Rattle.drive_array.specs.Records.{IsNewest, Record, batch_records, log_records, newest, records, shown, without}
+use Rattle.drive_array.specs.Records.{IsNewest, Record, log_records, newest, records, shown, without}
 use Rattle.drive_array.specs.Sizes.{encoded_size}
 use Rattle.drive_array.specs.Spare.{IsSpare}
-use Rattle.drive_array.proofs.AllLaws.{all-append, all-at, all-parts, all-weaker}
+use Rattle.drive_array.proofs.AllLaws.{all-append, all-at, all-weaker}
 use Rattle.drive_array.proofs.NewestLaws.{all-among, map_same, newest-is}
 use Rattle.zone_choice.proofs.ReadLaws.{StandsIn, zone_stands}
 use Rattle.drive_array.proofs.SizeLaws.{inside-records}
 use Rattle.drive_array.proofs.ZoneLogLaws.{log_at-zone}
-use Rattle.drive_array.proofs.DeadLaws.{log-zone}
 use Rattle.drive_survey.specs.declared.survey.Survey.{Survey}
 use Rattle.drive_survey.specs.Clearing.{AllStand, ShowsSame, StandsAt}
-use Rattle.drive_survey.specs.Heads.{kept_entry}
-use Rattle.drive_survey.specs.KeptRecords.{block_of_kept}
+use Rattle.drive_survey.specs.declared.records.KeptRecord.{KeptRecord}
+use Rattle.drive_survey.specs.Heads.{heads_of}
+use Rattle.drive_survey.specs.KeptRecords.{kept_of_zone}
+use Rattle.drive_survey.specs.NewestRecords.{AreNewest}
 use Rattle.drive_survey.specs.Known.{Knows}
 use Rattle.drive_survey.specs.Reported.{KeepsZones}
-use Rattle.drive_survey.proofs.HeadRecordLaws.{entries-named, entries_of}
-use Rattle.drive_survey.proofs.OutsideLaws.{none-outside, outside-is, records-from, stays-outside}
+use Rattle.drive_survey.proofs.OwnLaws.{own-named}
+use Rattle.drive_survey.proofs.OutsideLaws.{none-outside, outside-is, stays-outside}
 use Rattle.drive_survey.proofs.ReadLaws.{kept-contents}
 use Rattle.drive_survey.proofs.SurveyLaws.{known-kept}
 
@@ -106,32 +107,10 @@ needed-inside block_bytes size logs zone block inside differs = by (newest block
     by None e is = absurd (differs (same-none block_bytes logs zone block e))
     by (Some r) e is = let lt = all-among (λ (x : Record). x.block < size) (records 0 logs) r (inside-records size 0 logs inside) is.1.among in omega (arith, lt, is.0)
 
--- ---- the blocks that a zone names
-
-log-named : (P : ℕ → Type 0) (zone offset : ℕ) (log : List Batch) → AllByRecursion (IsInside (2 ^ 31)) log → AllByRecursion (λ x. P (block_of_kept x)) (entries_of log) → AllByRecursion (λ (r : Record). P r.block) (log_records zone offset log)
-log-named P zone offset [] inside all = tt
-log-named P zone offset (b ∷ bs) inside all =
-    let parts = all-parts (λ x. P (block_of_kept x)) (map kept_entry b.heading.entries) (entries_of bs) all in
-    all-append (λ (r : Record). P r.block) (batch_records zone offset b) (log_records zone (offset + batch_size b) bs)
-    (entries-named P b.heading.sequence zone offset 0 b.body b.heading.entries inside.0 parts.0) (log-named P zone (offset + batch_size b) bs inside.1 parts.1)
-
--- what holds of the blocks of a zone's entries holds of all records that lie in it
-pub zone-named : (P : ℕ → Type 0) (first index zone : ℕ) (logs : List (List Batch)) → zone ≡ first + index → AllByRecursion (AllByRecursion (IsInside (2 ^ 31))) logs → AllByRecursion (λ x. P (block_of_kept x)) (entries_of (log_at logs index))
-    → AllByRecursion (λ (r : Record). r.zone ≡ zone → P r.block) (records first logs)
-zone-named P first index zone [] e inside all = tt
-zone-named P first zero zone (log ∷ logs) e inside all =
-    all-append (λ (r : Record). r.zone ≡ zone → P r.block) (log_records first 0 log) (records (suc first) logs)
-    (all-weaker (λ (r : Record). P r.block) (λ (r : Record). r.zone ≡ zone → P r.block) (log_records first 0 log) (λ r p same. p) (log-named P first 0 log inside.0 all))
-    (all-weaker (λ (r : Record). suc first ≤ r.zone) (λ (r : Record). r.zone ≡ zone → P r.block) (records (suc first) logs) (λ r le same. absurd (omega (arith, e, le, same))) (records-from (suc first) (suc first) logs (omega arith)))
-zone-named P first (suc index) zone (log ∷ logs) e inside all =
-    all-append (λ (r : Record). r.zone ≡ zone → P r.block) (log_records first 0 log) (records (suc first) logs)
-    (all-weaker (λ (r : Record). r.zone ≡ first) (λ (r : Record). r.zone ≡ zone → P r.block) (log_records first 0 log) (λ r is same. absurd (omega (arith, e, is, same))) (log-zone first 0 log))
-    (zone-named P (suc first) index zone logs (omega (arith, e)) inside.1 all)
-
 -- a zone is not needed where each of its blocks shows the same
-pub all-same : (block_bytes : ℕ) (logs : List (List Batch)) (zone : ℕ) → AllByRecursion (AllByRecursion (IsInside (2 ^ 31))) logs → AllByRecursion (λ entry. ShowsSame block_bytes logs zone (block_of_kept entry)) (entries_of (log_at logs zone))
-    → (block : ℕ) → ShowsSame block_bytes logs zone block
-all-same block_bytes logs zone inside all block = by (newest block (records 0 logs)) refl (newest-is block (records 0 logs))
+pub all-same : (block_bytes : ℕ) (logs : List (List Batch)) (zone : ℕ) (own : List KeptRecord) → AllByRecursion (AllByRecursion (IsInside (2 ^ 31))) logs → AreNewest (kept_of_zone zone (heads_of (log_at logs zone))) own
+    → AllByRecursion (λ (r : KeptRecord). ShowsSame block_bytes logs zone r.block) own → (block : ℕ) → ShowsSame block_bytes logs zone block
+all-same block_bytes logs zone own inside newest_own all block = by (newest block (records 0 logs)) refl (newest-is block (records 0 logs))
   where
     P : ℕ → Type 0
     P k = ShowsSame block_bytes logs zone k
@@ -139,7 +118,7 @@ all-same block_bytes logs zone inside all block = by (newest block (records 0 lo
     by : (x : Option Record) → newest block (records 0 logs) ≡ x → IsNewest (records 0 logs) block x → ShowsSame block_bytes logs zone block
     by None e is = same-none block_bytes logs zone block e
     by (Some r) e is = elim (cases_eq r.zone zone) as (λ _. ShowsSame block_bytes logs zone block) [
-      | inl same ↦ subst P is.0 (all-among (λ (x : Record). x.zone ≡ zone → P x.block) (records 0 logs) r (zone-named P 0 zone zone logs (omega arith) inside all) is.1.among same)
+      | inl same ↦ subst P is.0 (all-among (λ (x : Record). x.zone ≡ zone → P x.block) (records 0 logs) r (own-named P zone logs own inside newest_own all) is.1.among same)
       | inr other ↦ same-other block_bytes logs zone block r e other
     ]
 

@@ -26,25 +26,25 @@ use Rattle.drive_survey.specs.declared.records.KeptRecord.{KeptRecord}
 use Rattle.drive_survey.specs.declared.scan.ScannedZone.{ScannedZone}
 use Rattle.drive_survey.specs.declared.clearing.sizes.SizeCounts.{SizeCounts}
 use Rattle.drive_survey.specs.declared.survey.Survey.{Survey}
-use Rattle.drive_survey.specs.BlockRecords.{HoldsBlocks, HoldsMore, HoldsRecords, held_of}
-use Rattle.drive_survey.specs.Clearing.{AreOf, CoversMoved, Tells, without_heads}
+use Rattle.drive_survey.specs.BlockRecords.{HoldsEach, HoldsMore, HoldsRecords, held_of, own_of}
+use Rattle.drive_survey.specs.Clearing.{AreOf, CoversHeads, CoversMoved, Tells, without_heads}
 use Rattle.drive_survey.specs.Heads.{HeadsView, heads_of}
-use Rattle.drive_survey.specs.KeptRecords.{block_of_kept, kept_record}
-use Rattle.drive_survey.specs.Known.{Knows}
+use Rattle.drive_survey.specs.KeptRecords.{kept_of_zone, kept_record}
+use Rattle.drive_survey.specs.NewestRecords.{AreNewest}
 use Rattle.drive_survey.specs.Scan.{heads_in}
 use Rattle.drive_survey.specs.SizeCounts.{IsSized, says_some, size_counts}
 use Rattle.drive_survey.specs.Survey.{greatest_in}
-use Rattle.drive_survey.specs.Waiting.{AllWait, AreCandidates, HolderWaits, HoldersWait, IsNeeded, LastWaits, OthersWait}
+use Rattle.drive_survey.specs.Waiting.{AllWait, AreCandidates, HolderWaits, HoldersWait, IsNeeded, LastWaits, LosesZone, OthersWait}
 use Rattle.drive_survey.proofs.ClearLaws.{Forgets, knows-less}
 use Rattle.drive_survey.proofs.FindLaws.{half-moved}
-use Rattle.drive_survey.proofs.HeadRecordLaws.{entries-are, entries_of}
 use Rattle.drive_survey.proofs.MovedLaws.{forgotten-are, found-heads, moved-batch, not-found, not-there, size-forgotten, none-before}
 use Rattle.drive_survey.proofs.OutsideLaws.{none-outside, outside, outside-is, stays-outside}
 use Rattle.drive_survey.proofs.SizeCountLaws.{size-needs}
 use Rattle.drive_survey.proofs.SurveyLaws.{greatest-heads}
-use Rattle.drive_survey.proofs.SpareLaws.{knows-small, same-none, same-other, zone-named}
+use Rattle.drive_survey.proofs.OwnLaws.{own-named}
+use Rattle.drive_survey.proofs.SpareLaws.{knows-small, same-none, same-other}
 use Rattle.drive_survey.proofs.ShowLaws.{outside-stands}
-use Rattle.drive_survey.proofs.RecordHoldLaws.{blocks-more}
+use Rattle.drive_survey.proofs.RecordHoldLaws.{each-more, heads-more}
 use Rattle.drive_survey.proofs.RecordTableLaws.{at-is}
 
 -- ---- sets of zones
@@ -59,8 +59,8 @@ added-more old new zone updates q waits = updates.0 q ∙ by (is_at (nat_cmp zon
     by true = refl
     by false = waits
 
-holders-more : (logs : List (List Batch)) (old new : BTreeSet ℕ) (entries : List ℕ) → IsSubset nat_cmp old new → HoldersWait logs old entries → HoldersWait logs new entries
-holders-more logs old new entries more all = all-weaker (λ entry. HolderWaits logs old (block_of_kept entry)) (λ entry. HolderWaits logs new (block_of_kept entry)) entries (λ entry waits r is. more r.zone (waits r is)) all
+holders-more : (logs : List (List Batch)) (old new : BTreeSet ℕ) (own : List KeptRecord) → IsSubset nat_cmp old new → HoldersWait logs old own → HoldersWait logs new own
+holders-more logs old new own more all = all-weaker (λ (k : KeptRecord). HolderWaits logs old k.block) (λ (k : KeptRecord). HolderWaits logs new k.block) own (λ k waits r is. more r.zone (waits r is)) all
 
 -- ---- a zone of Moves
 
@@ -152,18 +152,17 @@ needed-still block_bytes n logs views gone zone waiting are apart size woken las
 -- what is done of the candidates
 pub record Wakes (before after : Survey) (old new : Candidates) (woken : BTreeSet ℕ) (zone : ℕ) : Type 0 where
   pub forgets : Forgets before after zone
-  pub more : HoldsMore old.records new.records
-  pub holds : (drive : DriveState) (n : ℕ) (logs : List (List Batch)) → Knows drive n logs before → HoldsRecords logs old.records → HoldsRecords (without logs zone) new.records
+  pub loses : LosesZone old.records new.records zone
   pub sizes : old.sizes ≡ size_counts before.size (heads_in before.scanned.items) → new.sizes ≡ size_counts before.size (without_heads (heads_in before.scanned.items) zone)
   pub first : IsSubset nat_cmp old.waiting woken
-  pub holders : (logs : List (List Batch)) (found : ScannedZone) → slice_get before.scanned.items zone ≡ Some found → HoldsRecords logs new.records → HoldsBlocks new.records found.heads.entries → HoldersWait logs woken found.heads.entries
+  pub holders : (logs : List (List Batch)) → HoldsRecords logs new.records → HoldsEach new.records (own_of old.records zone) → HoldersWait logs woken (own_of old.records zone)
   pub then : IsSubset nat_cmp woken new.waiting
   pub last : new.sizes.any ≡ 1 → old.sizes.any ≢ 1 → LastWaits (heads_in after.scanned.items) new.waiting
 
--- the blocks of zones of Moves are held still
+-- the records of the other zones of Moves are kept still
 covers-less : (logs : List (List Batch)) (before after : Survey) (old new : BlockRecords) (gone : ℕ) → heads_in before.scanned.items ≡ map heads_of logs → heads_in after.scanned.items ≡ without_heads (heads_in before.scanned.items) gone → HoldsMore old new
-    → CoversMoved logs before.scanned.items old → CoversMoved (without logs gone) after.scanned.items new
-covers-less logs before after old new gone are forgets more covers zone moved found there_is = by (slice_get before.scanned.items zone) refl
+    → ((q : ℕ) → q ≢ gone → own_of new q ≡ own_of old q) → CoversMoved logs before.scanned.items old → CoversMoved (without logs gone) after.scanned.items new
+covers-less logs before after old new gone are forgets more others covers zone moved found there_is = by (slice_get before.scanned.items zone) refl
   where
     apart : zone ≢ gone
     apart same = moved-batch (without logs gone) zone moved (rw same (without-same logs gone))
@@ -171,21 +170,29 @@ covers-less logs before after old new gone are forgets more covers zone moved fo
     was : IsMoved logs zone
     was = moved-less logs gone zone apart moved
 
-    by : (x : Option ScannedZone) → slice_get before.scanned.items zone ≡ x → HoldsBlocks new found.heads.entries
+    by : (x : Option ScannedZone) → slice_get before.scanned.items zone ≡ x → CoversHeads new zone found.heads
     by None is = absurd (not-found before.scanned.items logs zone are is was)
     by (Some old_found) is =
         let own : log_at (without logs gone) zone ≡ log_at logs zone = get_or-set_other logs gone zone [] [] apart in
         let now = found-heads after.scanned.items (without logs gone) zone found (forgets ∙ forgotten-are logs (heads_in before.scanned.items) gone are) there_is in
         let then = found-heads before.scanned.items logs zone old_found are is in
         let same : old_found.heads ≡ found.heads = then ∙ ap heads_of (sym own) ∙ sym now in
-        subst (λ (h : HeadsView). HoldsBlocks new h.entries) same (blocks-more old new old_found.heads.entries more (covers zone was old_found is))
+        subst (CoversHeads new zone) same (heads-more old new zone old_found.heads more (others zone apart) (covers zone was old_found is))
+
+holds-less : (before after : Survey) (old new : Candidates) (woken : BTreeSet ℕ) (gone : ℕ) → Wakes before after old new woken gone → (drive : DriveState) (n : ℕ) (logs : List (List Batch)) → AreCandidates drive n logs before old → IsMoved logs gone
+    → HoldsRecords (without logs gone) new.records
+holds-less before after old new woken gone wakes drive n logs are moved = by (slice_get before.scanned.items gone) refl
+  where
+    by : (x : Option ScannedZone) → slice_get before.scanned.items gone ≡ x → HoldsRecords (without logs gone) new.records
+    by None is = absurd (not-found before.scanned.items logs gone are.known.heads is moved)
+    by (Some found) is = wakes.loses.holds drive n logs before found are.known is (are.covers gone moved found is) are.records
 
 pub given-are : (before after : Survey) (old new : Candidates) (woken : BTreeSet ℕ) (gone : ℕ) → Wakes before after old new woken gone
     → (drive : DriveState) (n : ℕ) (logs : List (List Batch)) → AreCandidates drive n logs before old → IsHalfClean drive.geometry.block n logs gone → AreCandidates drive n (without logs gone) after new
 given-are before after old new woken gone wakes drive n logs are half = record {
   known = knows-less drive n logs before after gone are.known half wakes.forgets;
-  records = wakes.holds drive n logs are.known are.records;
-  covers = covers-less logs before after old.records new.records gone are.known.heads wakes.forgets.heads wakes.more are.covers;
+  records = holds-less before after old new woken gone wakes drive n logs are (half-moved drive.geometry.block n logs gone half);
+  covers = covers-less logs before after old.records new.records gone are.known.heads wakes.forgets.heads wakes.loses.more wakes.loses.others are.covers;
   sizes = wakes.sizes are.sizes ∙ ap (λ (size : ℕ). size_counts size (without_heads (heads_in before.scanned.items) gone)) (sym wakes.forgets.size) ∙ ap (λ (hs : List HeadsView). size_counts after.size hs) (sym wakes.forgets.heads);
 }
 
@@ -200,11 +207,12 @@ all-woken drive n logs before after old new woken gone wakes are moved = by (sli
     by : (x : Option ScannedZone) → slice_get before.scanned.items gone ≡ x → AllWoken logs gone new.waiting
     by None is = absurd (not-found before.scanned.items logs gone are.known.heads is moved)
     by (Some found) is =
-        let held = blocks-more old.records new.records found.heads.entries wakes.more (are.covers gone moved found is) in
-        let wait = wakes.holders (without logs gone) found is (wakes.holds drive n logs are.known are.records) held in
-        let entries : found.heads.entries ≡ entries_of (log_at logs gone) = ap (λ (h : HeadsView). h.entries) (found-heads before.scanned.items logs gone found are.known.heads is) ∙ entries-are (log_at logs gone) in
-        let all : AllByRecursion (λ x. P (block_of_kept x)) (entries_of (log_at logs gone)) = subst (HoldersWait (without logs gone) new.waiting) entries (holders-more (without logs gone) woken new.waiting found.heads.entries wakes.then wait) in
-        zone-named P 0 gone gone logs (omega arith) (knows-small drive n logs before are.known) all
+        let own = own_of old.records gone in
+        let covers = are.covers gone moved found is in
+        let held = each-more old.records new.records own wakes.loses.more covers.1 in
+        let wait = wakes.holders (without logs gone) (holds-less before after old new woken gone wakes drive n logs are moved) held in
+        let newest_own : AreNewest (kept_of_zone gone (heads_of (log_at logs gone))) own = subst (λ (h : HeadsView). AreNewest (kept_of_zone gone h) own) (found-heads before.scanned.items logs gone found are.known.heads is) covers.0 in
+        own-named P gone logs own (knows-small drive n logs before are.known) newest_own (holders-more (without logs gone) woken new.waiting own wakes.then wait)
 
 pub given-wait : (before after : Survey) (old new : Candidates) (woken : BTreeSet ℕ) (gone : ℕ) → Wakes before after old new woken gone
     → (drive : DriveState) (n : ℕ) (logs : List (List Batch)) → AreCandidates drive n logs before old → IsHalfClean drive.geometry.block n logs gone → OthersWait drive n logs old gone → AllWait drive n (without logs gone) new
@@ -228,21 +236,28 @@ pub ok-both : {T E P Q R : Type 0} (result : Result T E) → (P → Q → R) →
 ok-both (Ok x) f p q = f p q
 ok-both (Err e) f p q = tt
 
--- ---- entry after entry
+pub ok-given : {T E P : Type 0} (result : Result T E) → P → OnOk result P
+ok-given (Ok x) p = p
+ok-given (Err e) p = tt
 
--- the holders of the first entries' blocks wait
-abbrev pub WokenSoFar : BlockRecords → BTreeSet ℕ → List ℕ → ℕ → Type 0
-WokenSoFar table now entries i = (logs : List (List Batch)) → HoldsRecords logs table → HoldsBlocks table entries → (more : BTreeSet ℕ) → IsSubset nat_cmp now more → HoldersWait logs more (drop i entries) → HoldersWait logs more entries
+-- ---- record after record
 
-pub woken-more : (table : BlockRecords) (old new : BTreeSet ℕ) (entries : List ℕ) (i i' block : ℕ) → i < length entries → i' ≡ suc i → block ≡ block_of_kept (get_or entries i 0) → IsSubset nat_cmp old new
-    → ((logs : List (List Batch)) → HoldsRecords logs table → IsSome (held_of table block) → HolderWaits logs new block) → WokenSoFar table old entries i → WokenSoFar table new entries i'
-woken-more table old new entries i i' block lt next is grown tells so_far logs holds held more larger rest =
-    let tells' = rw is at tells in
-    let here : HolderWaits logs more (block_of_kept (get_or entries i 0)) = λ r shows. larger r.zone (tells' logs holds (all-at (λ entry. IsSome (held_of table (block_of_kept entry))) entries i 0 held lt) r shows) in
-    so_far logs holds held more (λ q waits. larger q (grown q waits)) (rw (drop-cons entries i 0 lt) (here, rw next at rest))
+-- the holders of the first records' blocks wait
+abbrev pub WokenSoFar : BlockRecords → BTreeSet ℕ → List KeptRecord → ℕ → Type 0
+WokenSoFar table now own i = (logs : List (List Batch)) → HoldsRecords logs table → HoldsEach table own → (more : BTreeSet ℕ) → IsSubset nat_cmp now more → HoldersWait logs more (drop i own) → HoldersWait logs more own
 
-pub woken-all : (table : BlockRecords) (now : BTreeSet ℕ) (entries : List ℕ) (i : ℕ) → length entries ≤ i → WokenSoFar table now entries i → (logs : List (List Batch)) → HoldsRecords logs table → HoldsBlocks table entries → HoldersWait logs now entries
-woken-all table now entries i le so_far logs holds held = so_far logs holds held now (λ q waits. waits) (rw (drop_all i entries le) tt)
+pub woken-more : (table : BlockRecords) (old new : BTreeSet ℕ) (own : List KeptRecord) (i i' : ℕ) (d : KeptRecord) → i < length own → i' ≡ suc i → IsSubset nat_cmp old new
+    → ((logs : List (List Batch)) → HoldsRecords logs table → IsSome (held_of table (get_or own i d).block) → HolderWaits logs new (get_or own i d).block) → WokenSoFar table old own i → WokenSoFar table new own i'
+woken-more table old new own i i' d lt next grown tells so_far logs holds held more larger rest =
+    let here : HolderWaits logs more (get_or own i d).block = λ r shows. larger r.zone (tells logs holds (all-at (λ (k : KeptRecord). IsSome (held_of table k.block)) own i d held lt) r shows) in
+    so_far logs holds held more (λ q waits. larger q (grown q waits)) (rw (drop-cons own i d lt) (here, rw next at rest))
+
+pub woken-all : (table : BlockRecords) (now : BTreeSet ℕ) (own : List KeptRecord) (i : ℕ) → length own ≤ i → WokenSoFar table now own i → (logs : List (List Batch)) → HoldsRecords logs table → HoldsEach table own → HoldersWait logs now own
+woken-all table now own i le so_far logs holds held = so_far logs holds held now (λ q waits. waits) (rw (drop_all i own le) tt)
+
+-- no record of the zone is kept
+pub woken-none : (waiting : BTreeSet ℕ) (own : List KeptRecord) (logs : List (List Batch)) → own ≡ [] → HoldersWait logs waiting own
+woken-none waiting own logs none = rw none tt
 
 -- the zone of the newest record was added
 pub holder-waits : (table : BlockRecords) (old new : BTreeSet ℕ) (block : ℕ) (found : KeptRecord) → Updates nat_cmp old new found.zone true

@@ -1,5 +1,6 @@
 -- The records of some blocks, each found by its block and its sequence.
-use Rattle.std.specs.Prelude.{◌≡◌, ◌≢◌, ◌≤◌, ◌++◌, ℕ, ◌==◌, ◌&&◌, if◌then◌else◌, List, [], ◌∷◌, Option, Some, None, IsSome, Contains}
+use Rattle.std.specs.Prelude.{◌≡◌, ◌≢◌, ◌≤◌, ◌++◌, ℕ, ◌==◌, ◌&&◌, if◌then◌else◌, List, [], ◌∷◌, Option, Some, None, IsSome, Contains, Vec}
+use Rattle.std.specs.declared.alloc.Global.{Global}
 use Rattle.std.specs.BTreeMap.{BTreeMap, get, IsEmpty}
 use Rattle.std.specs.List.{AllByRecursion}
 use Rattle.std.specs.Option.{option_map}
@@ -9,16 +10,25 @@ use Rattle.drive_array.specs.Records.{Record, records}
 use Rattle.drive_survey.specs.declared.records.KeptRecord.{KeptRecord}
 use Rattle.drive_survey.specs.declared.clearing.block_records.BlockRecords.{BlockRecords}
 use Rattle.drive_survey.specs.Heads.{HeadsView}
-use Rattle.drive_survey.specs.KeptRecords.{block_of_kept, kept_record}
-use Rattle.drive_survey.specs.NewestRecords.{AreNewestOfAll}
+use Rattle.drive_survey.specs.KeptRecords.{kept_of_zone, kept_record}
+use Rattle.drive_survey.specs.NewestRecords.{AreNewest, AreNewestOfAll}
 
 -- what a table holds of a block
 abbrev pub held_of : BlockRecords → ℕ → Option (BTreeMap ℕ KeptRecord)
 held_of table block = get nat_cmp table.blocks block
 
--- it holds the blocks of these entries
-abbrev pub HoldsBlocks : BlockRecords → List ℕ → Type 0
-HoldsBlocks table entries = AllByRecursion (λ entry. IsSome (held_of table (block_of_kept entry))) entries
+-- it holds the blocks of these records
+abbrev pub HoldsEach : BlockRecords → List KeptRecord → Type 0
+HoldsEach table own = AllByRecursion (λ (r : KeptRecord). IsSome (held_of table r.block)) own
+
+-- these records, where there are some
+abbrev pub own_list : Option (Vec KeptRecord Global) → List KeptRecord
+own_list None = []
+own_list (Some own) = own.items
+
+-- those of a zone that are kept
+abbrev pub own_of : BlockRecords → ℕ → List KeptRecord
+own_of table zone = own_list (get nat_cmp table.own zone)
 
 -- it has no record yet
 abbrev pub HasNoRecord : BlockRecords → Type 0
@@ -34,7 +44,7 @@ pub record AreRecords (logs : List (List Batch)) (block : ℕ) (held : BTreeMap 
   pub all_held : (r : Record) → Contains (records 0 logs) r → r.block ≡ block → IsNewestInZone logs r
       → get nat_cmp held r.sequence ≡ Some (kept_record r)
   pub no_other : (sequence : ℕ) (found : KeptRecord) → get nat_cmp held sequence ≡ Some found
-      → (r : Record) × Contains (records 0 logs) r × (r.block ≡ block) × (r.sequence ≡ sequence) × (kept_record r ≡ found)
+      → (r : Record) × Contains (records 0 logs) r × (r.block ≡ block) × (r.sequence ≡ sequence) × (kept_record r ≡ found) × IsNewestInZone logs r
 
 -- and so of all blocks that a table holds
 abbrev pub HoldsRecords : List (List Batch) → BlockRecords → Type 0
@@ -46,9 +56,12 @@ HoldsMore old new = (block : ℕ) → IsSome (held_of old block) → IsSome (hel
 
 -- ---- a table changes
 
--- what a table has of a block at a sequence, where it holds the block
+-- what these blocks have at a sequence, where the block is among them
+abbrev pub slot_in : BTreeMap ℕ (BTreeMap ℕ KeptRecord) → ℕ → ℕ → Option (Option KeptRecord)
+slot_in blocks block sequence = option_map (λ (held : BTreeMap ℕ KeptRecord). get nat_cmp held sequence) (get nat_cmp blocks block)
+
 abbrev pub slot_of : BlockRecords → ℕ → ℕ → Option (Option KeptRecord)
-slot_of table block sequence = option_map (λ (held : BTreeMap ℕ KeptRecord). get nat_cmp held sequence) (held_of table block)
+slot_of table block sequence = slot_in table.blocks block sequence
 
 -- what stands there after these records were put in, or taken out, by what `put` makes of a record
 abbrev pub slot_after : (KeptRecord → Option KeptRecord) → ℕ → ℕ → Option (Option KeptRecord) → List KeptRecord → Option (Option KeptRecord)
@@ -60,7 +73,13 @@ slot_after put block sequence slot (r ∷ rs) =
 abbrev pub notes : KeptRecord → Option KeptRecord
 notes r = Some r
 
--- the newest record of each block of each zone was put in
+-- the newest record of each block of a zone was put in
+abbrev pub NotesZone : ℕ → HeadsView → BlockRecords → BlockRecords → Type 0
+NotesZone zone view old new =
+    (own : List KeptRecord) × AreNewest (kept_of_zone zone view) own
+    × ((block sequence : ℕ) → slot_of new block sequence ≡ slot_after notes block sequence (slot_of old block sequence) own)
+
+-- and that of each block of each zone
 abbrev pub NotesNewest : List HeadsView → BlockRecords → BlockRecords → Type 0
 NotesNewest views old new =
     (all : List KeptRecord) × AreNewestOfAll 0 views all

@@ -1,5 +1,7 @@
 -- What is found of the zones that a mount empties.
-use Rattle.std.specs.Prelude.{◌≡◌, ℕ, ◌<◌, Bool, true, false, List, [], ◌∷◌, length, map, slice_get, slice_set, Option, Some, None}
+use Rattle.std.specs.Prelude.{◌≡◌, ℕ, ◌<◌, ◌≤◌, Bool, true, false, List, [], ◌∷◌, length, map, slice_get, slice_set, Option, Some, None, IsSome}
+use Rattle.std.specs.BTreeMap.{get}
+use Rattle.std.specs.Ordering.{nat_cmp}
 use Rattle.std.specs.List.{AllByRecursion}
 use Rattle.std.specs.Option.{option_map}
 use Rattle.drive_port.specs.Drive.{DriveState}
@@ -11,9 +13,11 @@ use Rattle.drive_survey.specs.declared.clearing.block_records.BlockRecords.{Bloc
 use Rattle.drive_survey.specs.declared.clearing.shown.Rivals.{Rivals}
 use Rattle.drive_survey.specs.declared.scan.ScannedZone.{ScannedZone}
 use Rattle.drive_survey.specs.Heads.{HeadsView, heads_of, no_heads}
-use Rattle.drive_survey.specs.KeptRecords.{block_of_kept, kept_record}
+use Rattle.drive_survey.specs.KeptRecords.{kept_of_zone, kept_record}
+use Rattle.drive_survey.specs.NewestRecords.{AreNewest}
+use Rattle.drive_survey.specs.declared.records.KeptRecord.{KeptRecord}
 use Rattle.drive_array.specs.Repairing.{IsMoved}
-use Rattle.drive_survey.specs.BlockRecords.{HoldsBlocks, HoldsRecords}
+use Rattle.drive_survey.specs.BlockRecords.{HoldsEach, HoldsRecords, own_of}
 use Rattle.drive_survey.specs.Scan.{block_of, readable_at, heads_in}
 
 -- a test tells whether something holds
@@ -50,10 +54,10 @@ pub record AreRivals (logs : List (List Batch)) (zone block : ℕ) (rivals : Riv
   pub newest_is : Some rivals.newest ≡ option_map kept_record (newest block (records 0 logs))
   pub other_is : rivals.other ≡ option_map kept_record (newest block (records 0 (without logs zone)))
 
--- of the blocks of these entries one shows something else without the zone, or none does
-abbrev pub FindsNeeded : ℕ → List (List Batch) → ℕ → List ℕ → Option ℕ → Type 0
-FindsNeeded block_bytes logs zone entries (Some block) = ShowsSame block_bytes logs zone block → ⊥
-FindsNeeded block_bytes logs zone entries None = AllByRecursion (λ entry. ShowsSame block_bytes logs zone (block_of_kept entry)) entries
+-- of the blocks of these records one shows something else without the zone, or none does
+abbrev pub FindsNeeded : ℕ → List (List Batch) → ℕ → List KeptRecord → Option ℕ → Type 0
+FindsNeeded block_bytes logs zone own (Some block) = ShowsSame block_bytes logs zone block → ⊥
+FindsNeeded block_bytes logs zone own None = AllByRecursion (λ (r : KeptRecord). ShowsSame block_bytes logs zone r.block) own
 
 -- whether the two show the same
 abbrev pub TellsRivals : DriveState → Rivals → Bool → Type 0
@@ -62,11 +66,11 @@ TellsRivals drive rivals same =
     → IfStands drive new → IfStands drive old
     → Tells same (shown drive.geometry.block old ≡ shown drive.geometry.block new)
 
--- a block of these entries that shows something else without the zone, by a table that holds their blocks
-abbrev pub LooksFor : DriveState → BlockRecords → ℕ → List ℕ → Option ℕ → Type 0
-LooksFor drive table zone entries found =
-    (logs : List (List Batch)) → HoldsRecords logs table → AllStand drive logs → HoldsBlocks table entries
-    → FindsNeeded drive.geometry.block logs zone entries found
+-- a block of the records that a table keeps of a zone, which shows something else without the zone
+abbrev pub LooksFor : DriveState → BlockRecords → ℕ → Option ℕ → Type 0
+LooksFor drive table zone found =
+    (logs : List (List Batch)) → HoldsRecords logs table → AllStand drive logs → HoldsEach table (own_of table zone)
+    → FindsNeeded drive.geometry.block logs zone (own_of table zone) found
 
 -- ---- zones
 
@@ -78,11 +82,25 @@ kept_entries_of (Some found) = found.heads.entries
 abbrev pub entries_at : List ScannedZone → ℕ → List ℕ
 entries_at scanned zone = kept_entries_of (slice_get scanned zone)
 
--- a table holds the blocks that a zone names
-abbrev pub CoversZone : List ScannedZone → BlockRecords → ℕ → Type 0
-CoversZone scanned table zone = (found : ScannedZone) → slice_get scanned zone ≡ Some found → HoldsBlocks table found.heads.entries
+-- at most one record is kept for each entry of a zone
+abbrev pub AreFew : List ScannedZone → BlockRecords → Type 0
+AreFew scanned table = (zone : ℕ) → length (own_of table zone) ≤ length (entries_at scanned zone)
 
--- and those of all zones with Moves from an older zone alone
+-- the records that a table keeps of a zone with these headers are its newest ones
+abbrev pub IsOwn : BlockRecords → ℕ → HeadsView → Type 0
+IsOwn table zone heads = IsSome (get nat_cmp table.own zone) → AreNewest (kept_of_zone zone heads) (own_of table zone)
+
+abbrev pub AreOwn : List ScannedZone → BlockRecords → Type 0
+AreOwn scanned table = (zone : ℕ) (found : ScannedZone) → slice_get scanned zone ≡ Some found → IsOwn table zone found.heads
+
+-- a table keeps the newest records of a zone with these headers, and holds their blocks
+abbrev pub CoversHeads : BlockRecords → ℕ → HeadsView → Type 0
+CoversHeads table zone heads = AreNewest (kept_of_zone zone heads) (own_of table zone) × HoldsEach table (own_of table zone)
+
+abbrev pub CoversZone : List ScannedZone → BlockRecords → ℕ → Type 0
+CoversZone scanned table zone = (found : ScannedZone) → slice_get scanned zone ≡ Some found → CoversHeads table zone found.heads
+
+-- and so of all zones with Moves from an older zone alone
 abbrev pub CoversMoved : List (List Batch) → List ScannedZone → BlockRecords → Type 0
 CoversMoved logs scanned table = (zone : ℕ) → IsMoved logs zone → CoversZone scanned table zone
 

@@ -1,5 +1,5 @@
 -- Of the records of a zone the newest one of each block.
-use Rattle.std.specs.Prelude.{◌≡◌, ◌≤◌, ◌++◌, ℕ, suc, List, [], ◌∷◌, Some, IsSome, Contains}
+use Rattle.std.specs.Prelude.{◌≡◌, ◌≤◌, ◌++◌, ℕ, suc, List, [], ◌∷◌, Some, IsSome, Contains, length}
 use Rattle.std.specs.BTreeMap.{BTreeMap, get}
 use Rattle.std.specs.Ordering.{nat_cmp}
 use Rattle.drive_survey.specs.declared.records.KeptRecord.{KeptRecord}
@@ -18,6 +18,7 @@ pub record KeepsNewest (all : List KeptRecord) (newest : BTreeMap ℕ KeptRecord
   pub latest : (block : ℕ) (r s : KeptRecord) → get nat_cmp newest block ≡ Some r → Contains all s → s.block ≡ block
       → s.sequence ≤ r.sequence
   pub covers : (s : KeptRecord) → Contains all s → IsSome (get nat_cmp newest s.block)
+  pub few : length newest.entries ≤ length all
 
 -- those of each zone, one zone after the other: `zone` is the number of the first
 abbrev pub AreNewestOfAll : ℕ → List HeadsView → List KeptRecord → Type 0

@@ -1,5 +1,5 @@
 -- What a mount keeps while it looks for half clean zones, so that no zone is looked at without need.
-use Rattle.std.specs.Prelude.{◌≡◌, ◌≢◌, ◌⊎◌, ℕ, ◌<◌, Bool, List, Option, Some, length, IsTrue}
+use Rattle.std.specs.Prelude.{◌≡◌, ◌≢◌, ◌⊎◌, ℕ, ◌<◌, Bool, List, [], Option, Some, length, slice_get, IsTrue}
 use Rattle.std.specs.List.{AllByRecursion}
 use Rattle.std.specs.BTreeSet.{BTreeSet, contains}
 use Rattle.std.specs.Ordering.{nat_cmp}
@@ -13,10 +13,11 @@ use Rattle.drive_survey.specs.declared.clearing.Finding.{Finding}
 use Rattle.drive_survey.specs.declared.clearing.block_records.BlockRecords.{BlockRecords}
 use Rattle.drive_survey.specs.declared.clearing.sizes.SizeCounts.{SizeCounts}
 use Rattle.drive_survey.specs.declared.survey.Survey.{Survey}
-use Rattle.drive_survey.specs.BlockRecords.{HoldsRecords}
-use Rattle.drive_survey.specs.Clearing.{CoversMoved, CoversZone, FindsLowest, Tells}
+use Rattle.drive_survey.specs.declared.scan.ScannedZone.{ScannedZone}
+use Rattle.drive_survey.specs.BlockRecords.{HoldsMore, HoldsRecords, own_of}
+use Rattle.drive_survey.specs.Clearing.{CoversHeads, CoversMoved, CoversZone, FindsLowest, Tells}
 use Rattle.drive_survey.specs.Heads.{HeadsView}
-use Rattle.drive_survey.specs.KeptRecords.{block_of_kept}
+use Rattle.drive_survey.specs.declared.records.KeptRecord.{KeptRecord}
 use Rattle.drive_survey.specs.Known.{Finds, Knows}
 use Rattle.drive_survey.specs.Scan.{heads_in}
 use Rattle.drive_survey.specs.SizeCounts.{IsSized, size_counts}
@@ -75,15 +76,26 @@ abbrev pub LeavesWaiting : DriveState → ℕ → Survey → Candidates → Cand
 LeavesWaiting drive n survey old new zone =
     (logs : List (List Batch)) → AreCandidates drive n logs survey old → AllWait drive n logs old → OthersWait drive n logs new zone
 
+-- ---- a zone is forgotten
+
+-- A table without the records of a zone. It holds the blocks still, and keeps what it kept of the other zones. Where it held the newest records of
+-- some logs, and kept those of the zone, it holds those of the logs without the zone.
+pub record LosesZone (old new : BlockRecords) (zone : ℕ) : Type 0 where
+  pub gone : own_of new zone ≡ []
+  pub others : (q : ℕ) → q ≢ zone → own_of new q ≡ own_of old q
+  pub more : HoldsMore old new
+  pub holds : (drive : DriveState) (n : ℕ) (logs : List (List Batch)) (survey : Survey) (found : ScannedZone) → Knows drive n logs survey
+      → slice_get survey.scanned.items zone ≡ Some found → CoversHeads old zone found.heads → HoldsRecords logs old → HoldsRecords (without logs zone) new
+
 -- ---- zones that wait again
 
 -- the zone in which the newest record of a block lies waits
 abbrev pub HolderWaits : List (List Batch) → BTreeSet ℕ → ℕ → Type 0
 HolderWaits logs waiting block = (r : Record) → newest block (records 0 logs) ≡ Some r → IsTrue (contains nat_cmp waiting r.zone)
 
--- and so do those of the blocks of these entries
-abbrev pub HoldersWait : List (List Batch) → BTreeSet ℕ → List ℕ → Type 0
-HoldersWait logs waiting entries = AllByRecursion (λ entry. HolderWaits logs waiting (block_of_kept entry)) entries
+-- and so do those of the blocks of these records
+abbrev pub HoldersWait : List (List Batch) → BTreeSet ℕ → List KeptRecord → Type 0
+HoldersWait logs waiting own = AllByRecursion (λ (r : KeptRecord). HolderWaits logs waiting r.block) own
 
 -- a zone that says a size waits, where there is one
 abbrev pub LastWaits : List HeadsView → BTreeSet ℕ → Type 0

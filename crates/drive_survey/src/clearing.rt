@@ -1,4 +1,4 @@
-ghost use Rattle.std.specs.Prelude.{◌≡◌, ◌≢◌, ◌+◌, ◌*◌, ◌<◌, ◌≤◌, ◌^◌, ℕ, List, Some, false, length, slice_get};
+ghost use Rattle.std.specs.Prelude.{◌≡◌, ◌≢◌, ◌+◌, ◌*◌, ◌<◌, ◌≤◌, ◌^◌, ℕ, List, false, length};
 ghost use Rattle.std.specs.Prelude.{IfErr, IfOk, IfSome, IsSome, OnOk};
 ghost use Rattle.std.specs.BTreeSet.{IsSubset, contains};
 ghost use Rattle.std.specs.Ordering.{nat_cmp};
@@ -10,15 +10,17 @@ ghost use Rattle.drive_array.specs.Repairing.{IsMoved};
 ghost use Rattle.drive_array.specs.Spare.{HasSpare, IsClearing, IsHalfClean, cleared};
 ghost use Rattle.drive_survey.specs.declared.fault.MountFault.TheVariants.{NoSpare};
 ghost use Rattle.drive_survey.specs.declared.scan.ScannedZone.{ScannedZone};
-ghost use Rattle.drive_survey.specs.BlockRecords.{HoldsBlocks, HoldsRecords, held_of};
-ghost use Rattle.drive_survey.specs.Clearing.{AreOf, CoversZone, FindsLowest, Tells, entries_at, without_heads};
+ghost use Rattle.drive_survey.specs.BlockRecords.{HoldsEach, HoldsRecords, held_of, own_of};
+ghost use Rattle.drive_survey.specs.Clearing.{AreFew, AreOf, FindsLowest, Tells, entries_at};
+ghost use Rattle.drive_survey.specs.Clearing.{without_heads};
 ghost use Rattle.drive_survey.specs.Known.{Finds, Knows};
 ghost use Rattle.drive_survey.specs.Reads.{SearchesBy, entries_kept};
 ghost use Rattle.drive_survey.specs.Reported.{KeepsZones};
 ghost use Rattle.drive_survey.specs.Scan.{AreKnown, FailsBy, IsInterruption, heads_in, tails_in};
 ghost use Rattle.drive_survey.specs.SizeCounts.{size_counts};
 ghost use Rattle.drive_survey.specs.Waiting.{AllWait, AreCandidates, FindsLowestWaiting, FindsOf, HolderWaits};
-ghost use Rattle.drive_survey.specs.Waiting.{HoldersWait, LastWaits, LeavesWaiting, OthersWait, TellsFinding};
+ghost use Rattle.drive_survey.specs.Waiting.{TellsFinding};
+ghost use Rattle.drive_survey.specs.Waiting.{HoldersWait, LastWaits, LeavesWaiting, LosesZone, OthersWait};
 
 mod block_records;
 mod moved;
@@ -27,7 +29,7 @@ mod shown;
 mod sizes;
 
 use crate::fault::MountFault;
-use crate::records::block_in;
+use crate::records::KeptRecord;
 use crate::scan::ScannedZone;
 use crate::survey::Survey;
 use block_records::BlockRecords;
@@ -71,6 +73,7 @@ fn examine_by<D: Device>(
 ) -> Result<Finding, MountFault>
     requires zones { AreKnown (D.drive device.old) survey.now.zones.items }
     requires sizes { candidates.now.sizes ≡ size_counts survey.now.size (heads_in survey.now.scanned.items) }
+    requires few { AreFew survey.now.scanned.items candidates.now.records }
     ensures ok { IfOk result (TellsFinding (D.drive device.old) survey.now.given survey.now
         candidates.now.records zone) }
     ensures err { IfErr result (IsInterruption (D.drive device.new)) }
@@ -81,7 +84,8 @@ fn examine_by<D: Device>(
     if !is_moved(&survey.scanned, zone) {
         return Ok(Finding::NotMoves);
     }
-    if let Some(block) = first_needed(device, survey, &candidates.records, zone, buffers)? {
+    let needed = first_needed(device, &survey.zones, &candidates.records, zone, buffers)?;
+    if let Some(block) = needed {
         return Ok(Finding::NeedsBlock(block));
     }
     if !candidates.sizes.keep_size(survey, zone) {
@@ -155,6 +159,7 @@ impl Candidates {
             → Knows drive n logs survey.now → AreCandidates drive n logs survey.now candidates) }
         ensures wait { IfOk result (λ candidates. (drive : DriveState) (n : ℕ) (logs : List (List Batch))
             → Knows drive n logs survey.now → AllWait drive n logs candidates) }
+        ensures own { IfOk result (λ candidates. AreFew survey.now.scanned.items candidates.records) }
     {
         let records = BlockRecords::of_moved(alloc, survey)?;
         let waiting = moved_zones(alloc, &survey.scanned)?;
@@ -175,6 +180,7 @@ fn next_half_clean<D: Device>(
 ) -> Result<Option<u32>, MountFault>
     requires zones { AreKnown (D.drive device.old) survey.now.zones.items }
     requires sizes { candidates.old.sizes ≡ size_counts survey.now.size (heads_in survey.now.scanned.items) }
+    requires few { AreFew survey.now.scanned.items candidates.old.records }
     ensures ok { IfOk result (FindsLowestWaiting (D.drive device.old) survey.now.given survey.now candidates.old) }
     ensures others { IfOk result (λ found. IfSome found
         (LeavesWaiting (D.drive device.old) survey.now.given survey.now candidates.old candidates.new)) }
@@ -212,38 +218,38 @@ fn wake_one(
     Ok(())
 }
 
-/// The zones that show the blocks of these entries are to be looked at.
+/// The zones that show the blocks of these records are to be looked at.
 fn wake(
     records: &BlockRecords,
     waiting: &mut BTreeSet<u32>,
-    entries: &[u32],
+    own: &[KeptRecord],
 ) -> Result<(), AllocError>
     ensures more { OnOk result (IsSubset nat_cmp waiting.old waiting.new) }
     ensures holders { OnOk result ((logs : List (List Batch)) → HoldsRecords logs records.now
-        → HoldsBlocks records.now entries.now → HoldersWait logs waiting.new entries.now) }
+        → HoldsEach records.now own.now → HoldersWait logs waiting.new own.now) }
 {
-    for entry in entries {
-        wake_one(records, waiting, block_in(*entry))?;
+    for found in own {
+        wake_one(records, waiting, found.block)?;
     }
     Ok(())
 }
 
-/// The zones that show the blocks of a zone are to be looked at.
-fn wake_holders(
-    records: &BlockRecords,
+/// Takes the records of a zone out of the table. The zones that show their blocks now are to be looked at.
+fn forget_records(
+    records: &mut BlockRecords,
     waiting: &mut BTreeSet<u32>,
-    survey: &Survey,
     zone: u32,
 ) -> Result<(), AllocError>
+    ensures loses { LosesZone records.old records.new zone }
     ensures more { OnOk result (IsSubset nat_cmp waiting.old waiting.new) }
-    ensures holders { OnOk result ((logs : List (List Batch)) (found : ScannedZone)
-        → slice_get survey.now.scanned.items zone ≡ Some found → HoldsRecords logs records.now
-        → HoldsBlocks records.now found.heads.entries → HoldersWait logs waiting.new found.heads.entries) }
+    ensures holders { OnOk result ((logs : List (List Batch)) → HoldsRecords logs records.new
+        → HoldsEach records.new (own_of records.old zone)
+        → HoldersWait logs waiting.new (own_of records.old zone)) }
 {
-    let Some(found) = survey.scanned.get(zone as usize) else {
+    let Some(own) = records.forget(zone) else {
         return Ok(());
     };
-    wake(records, waiting, found.heads.entries())
+    wake(records, waiting, &own)
 }
 
 /// If one zone says a size, and there were more before, it is to be looked at.
@@ -279,6 +285,8 @@ fn give_up(
     zone: u32,
 ) -> Result<(), AllocError>
     requires few { length survey.old.scanned.items < 2 ^ 32 }
+    ensures few { OnOk result (AreFew survey.old.scanned.items candidates.old.records
+        → AreFew survey.new.scanned.items candidates.new.records) }
     ensures are { OnOk result ((drive : DriveState) (n : ℕ) (logs : List (List Batch))
         → AreCandidates drive n logs survey.old candidates.old → IsHalfClean drive.geometry.block n logs zone
         → AreCandidates drive n (without logs zone) survey.new candidates.new) }
@@ -292,9 +300,8 @@ fn give_up(
 {
     let before = candidates.sizes;
     let left = before.without(survey, zone);
-    candidates.records.forget(survey, zone);
     candidates.sizes = left;
-    wake_holders(&candidates.records, &mut candidates.waiting, survey, zone)?;
+    forget_records(&mut candidates.records, &mut candidates.waiting, zone)?;
     forget(alloc, &mut survey.scanned, zone);
     wake_last(before, left, &mut candidates.waiting, &survey.scanned)
 }

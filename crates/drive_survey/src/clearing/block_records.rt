@@ -1,22 +1,23 @@
-ghost use Rattle.std.specs.Prelude.{◌≡◌, ◌≤◌, ◌<◌, ◌^◌, ℕ, [], ◌∷◌, List, length, IfOk, IsSome, None, OnOk, Some};
-ghost use Rattle.std.specs.BTreeMap.{IsOrdered};
+ghost use Rattle.std.specs.Prelude.{◌≡◌, ◌≢◌, ◌≤◌, ◌<◌, ◌^◌, ℕ, [], ◌∷◌, List, length, IfOk, IsSome, None, OnOk, Some};
+ghost use Rattle.std.specs.BTreeMap.{IsOrdered, get};
 ghost use Rattle.std.specs.Option.{option_map};
 ghost use Rattle.std.specs.Ordering.{nat_cmp};
 ghost use Rattle.batch_log.specs.Log.{Batch};
 ghost use Rattle.drive_port.specs.Drive.{DriveState};
 ghost use Rattle.drive_array.specs.Records.{newest, records, without};
-ghost use Rattle.drive_survey.specs.BlockRecords.{HasNoRecord, HoldsBlocks, HoldsMore, HoldsRecords, IsLastOutside};
-ghost use Rattle.drive_survey.specs.BlockRecords.{NotesNewest};
-ghost use Rattle.drive_survey.specs.BlockRecords.{forgets, held_of, notes, slot_after, slot_of};
-ghost use Rattle.drive_survey.specs.Clearing.{AreOf, CoversMoved, CoversZone};
-ghost use Rattle.drive_survey.specs.KeptRecords.{kept_entries, kept_of_zone, kept_record};
+ghost use Rattle.drive_survey.specs.BlockRecords.{HasNoRecord, HoldsEach, HoldsMore, HoldsRecords, IsLastOutside};
+ghost use Rattle.drive_survey.specs.BlockRecords.{NotesNewest, NotesZone};
+ghost use Rattle.drive_survey.specs.BlockRecords.{forgets, held_of, own_list, notes, own_of, slot_after, slot_in};
+ghost use Rattle.drive_survey.specs.Clearing.{AreFew, AreOf, AreOwn, CoversHeads, CoversMoved, CoversZone, IsOwn};
+ghost use Rattle.drive_survey.specs.KeptRecords.{kept_record};
 ghost use Rattle.drive_survey.specs.Known.{Knows};
 ghost use Rattle.drive_survey.specs.Scan.{heads_in};
+ghost use Rattle.drive_survey.specs.Waiting.{LosesZone};
 
 use crate::clearing::moved::is_moved;
 use crate::clearing::newest::newest_records;
-use crate::heads::{Head, ZoneHeads};
-use crate::records::{KeptRecord, block_in, entry_record, is_trim};
+use crate::heads::ZoneHeads;
+use crate::records::KeptRecord;
 use crate::scan::ScannedZone;
 use crate::survey::Survey;
 use std::alloc::{AllocError, Global};
@@ -26,19 +27,46 @@ use std::collections::BTreeMap;
 #[derive(Drop)]
 pub struct BlockRecords {
     blocks: BTreeMap<u32, BTreeMap<u64, KeptRecord>>,
+    /// Those of each zone that may be looked at, by the numbers of the zones.
+    pub(crate) own: BTreeMap<u32, Vec<KeptRecord>>,
 }
 
-/// Puts the blocks of a zone's entries into a table that has no record yet.
-fn hold_blocks(alloc: Global, table: &mut BlockRecords, heads: &ZoneHeads) -> Result<(), AllocError>
+/// Puts the blocks of these records into a table that has no record yet.
+fn hold_blocks(
+    alloc: Global,
+    table: &mut BlockRecords,
+    own: &[KeptRecord],
+) -> Result<(), AllocError>
     requires none { HasNoRecord table.old }
     ensures none { OnOk result (HasNoRecord table.new) }
     ensures more { OnOk result (HoldsMore table.old table.new) }
-    ensures holds { OnOk result (HoldsBlocks table.new heads.now.entries) }
+    ensures holds { OnOk result (HoldsEach table.new own.now) }
+    ensures own { OnOk result (table.new.own ≡ table.old.own) }
 {
-    for entry in heads.entries() {
+    for found in own {
         let none = BTreeMap::new(alloc);
-        table.blocks.insert(block_in(*entry), none)?;
+        table.blocks.insert(found.block, none)?;
     }
+    Ok(())
+}
+
+/// Puts the blocks of a zone's newest records into such a table, and keeps these records.
+fn hold_zone(
+    alloc: Global,
+    table: &mut BlockRecords,
+    zone: u32,
+    heads: &ZoneHeads,
+) -> Result<(), AllocError>
+    requires none { HasNoRecord table.old }
+    ensures none { OnOk result (HasNoRecord table.new) }
+    ensures more { OnOk result (HoldsMore table.old table.new) }
+    ensures covers { OnOk result (CoversHeads table.new zone heads.now) }
+    ensures few { OnOk result (length (own_of table.new zone) ≤ length heads.now.entries) }
+    ensures others { OnOk result ((q : ℕ) → q ≢ zone → get nat_cmp table.new.own q ≡ get nat_cmp table.old.own q) }
+{
+    let own = newest_records(alloc, zone, heads)?;
+    hold_blocks(alloc, table, &own)?;
+    table.own.insert(zone, own)?;
     Ok(())
 }
 
@@ -49,7 +77,11 @@ fn hold_moved(
     scanned: &[ScannedZone],
 ) -> Result<(), AllocError>
     requires none { HasNoRecord table.old }
+    requires few { AreFew scanned.now table.old }
+    requires own { AreOwn scanned.now table.old }
     ensures none { OnOk result (HasNoRecord table.new) }
+    ensures few { OnOk result (AreFew scanned.now table.new) }
+    ensures own { OnOk result (AreOwn scanned.now table.new) }
     ensures covers { OnOk result (length scanned.now < 2 ^ 32 → (logs : List (List Batch))
         → AreOf scanned.now logs → CoversMoved logs scanned.now table.new) }
 {
@@ -60,18 +92,21 @@ fn hold_moved(
         if !is_moved(scanned, zone) {
             continue;
         }
-        hold_blocks(alloc, table, &found.heads)?;
+        hold_zone(alloc, table, zone, &found.heads)?;
     }
     Ok(())
 }
 
-/// Takes a record, if its block is in the table.
-fn note(table: &mut BlockRecords, found: KeptRecord) -> Result<(), AllocError>
+/// Takes a record, if its block is among these.
+fn note(
+    blocks: &mut BTreeMap<u32, BTreeMap<u64, KeptRecord>>,
+    found: KeptRecord,
+) -> Result<(), AllocError>
     ensures { OnOk result ((block sequence : ℕ)
-        → slot_of table.new block sequence ≡ slot_after notes block sequence (slot_of table.old block sequence)
+        → slot_in blocks.new block sequence ≡ slot_after notes block sequence (slot_in blocks.old block sequence)
         (found ∷ [])) }
 {
-    let Some(held) = table.blocks.get_mut(&found.block) else {
+    let Some(held) = blocks.get_mut(&found.block) else {
         return Ok(());
     };
     held.insert(found.sequence, found)?;
@@ -79,14 +114,37 @@ fn note(table: &mut BlockRecords, found: KeptRecord) -> Result<(), AllocError>
 }
 
 /// Takes these records.
-fn note_each(table: &mut BlockRecords, own: &[KeptRecord]) -> Result<(), AllocError>
+fn note_each(
+    blocks: &mut BTreeMap<u32, BTreeMap<u64, KeptRecord>>,
+    own: &[KeptRecord],
+) -> Result<(), AllocError>
     ensures { OnOk result ((block sequence : ℕ)
-        → slot_of table.new block sequence ≡ slot_after notes block sequence (slot_of table.old block sequence)
+        → slot_in blocks.new block sequence ≡ slot_after notes block sequence (slot_in blocks.old block sequence)
         own.now) }
 {
     for found in own {
-        note(table, *found)?;
+        note(blocks, *found)?;
     }
+    Ok(())
+}
+
+/// Takes the newest records of a zone: those that are kept of it or, where none are, those that its headers tell.
+fn note_zone(
+    alloc: Global,
+    table: &mut BlockRecords,
+    zone: u32,
+    heads: &ZoneHeads,
+) -> Result<(), AllocError>
+    requires kept { IsOwn table.old zone heads.now }
+    ensures noted { OnOk result (NotesZone zone heads.now table.old table.new) }
+    ensures own { OnOk result (table.new.own ≡ table.old.own) }
+{
+    if let Some(own) = table.own.get(&zone) {
+        note_each(&mut table.blocks, own)?;
+        return Ok(());
+    }
+    let own = newest_records(alloc, zone, heads)?;
+    note_each(&mut table.blocks, &own)?;
     Ok(())
 }
 
@@ -96,56 +154,37 @@ fn note_all(
     table: &mut BlockRecords,
     scanned: &[ScannedZone],
 ) -> Result<(), AllocError>
+    requires kept { AreOwn scanned.now table.old }
     ensures more { OnOk result (HoldsMore table.old table.new) }
+    ensures own { OnOk result (table.new.own ≡ table.old.own) }
     ensures noted { OnOk result (length scanned.now < 2 ^ 32 → NotesNewest (heads_in scanned.now) table.old table.new) }
 {
     for (number, found) in scanned.iter().enumerate() {
         let Ok(zone) = u32::try_from(number) else {
             return Ok(());
         };
-        let own = newest_records(alloc, zone, &found.heads)?;
-        note_each(table, &own)?;
+        note_zone(alloc, table, zone, &found.heads)?;
     }
     Ok(())
 }
 
-/// Takes a record out, if its block is in the table.
-fn forget_record(table: &mut BlockRecords, found: KeptRecord)
-    ensures { (block sequence : ℕ) → slot_of table.new block sequence ≡ slot_after forgets block sequence
-        (slot_of table.old block sequence) (found ∷ []) }
+/// Takes a record out, if its block is among these.
+fn forget_record(blocks: &mut BTreeMap<u32, BTreeMap<u64, KeptRecord>>, found: KeptRecord)
+    ensures { (block sequence : ℕ) → slot_in blocks.new block sequence ≡ slot_after forgets block sequence
+        (slot_in blocks.old block sequence) (found ∷ []) }
 {
-    if let Some(held) = table.blocks.get_mut(&found.block) {
+    if let Some(held) = blocks.get_mut(&found.block) {
         held.remove(&found.sequence);
     }
 }
 
-/// Takes the records of a batch out.
-fn forget_batch(table: &mut BlockRecords, zone: u32, head: &Head, entries: &[u32])
-    ensures { (block sequence : ℕ) → slot_of table.new block sequence ≡ slot_after forgets block sequence
-        (slot_of table.old block sequence) (kept_entries head.now.sequence zone head.now.offset 0 entries.now) }
+/// Takes these records out.
+fn forget_each(blocks: &mut BTreeMap<u32, BTreeMap<u64, KeptRecord>>, own: &[KeptRecord])
+    ensures { (block sequence : ℕ) → slot_in blocks.new block sequence ≡ slot_after forgets block sequence
+        (slot_in blocks.old block sequence) own.now }
 {
-    let mut before = 0;
-    for entry in entries {
-        forget_record(table, entry_record(zone, head, before, *entry));
-        if !is_trim(*entry) {
-            before += 1;
-        }
-    }
-}
-
-/// Takes the records of a zone's batches out.
-fn forget_zone(table: &mut BlockRecords, zone: u32, heads: &ZoneHeads)
-    ensures { (block sequence : ℕ) → slot_of table.new block sequence ≡ slot_after forgets block sequence
-        (slot_of table.old block sequence) (kept_of_zone zone heads.now) }
-{
-    let mut from = 0;
-    let mut rest = heads.entries();
-    for head in heads.heads() {
-        let count = head.end.saturating_sub(from) as usize;
-        let (own, others) = rest.split_at(count.min(rest.len()));
-        forget_batch(table, zone, head, own);
-        from = head.end;
-        rest = others;
+    for found in own {
+        forget_record(blocks, *found);
     }
 }
 
@@ -164,38 +203,48 @@ fn last_outside(held: &BTreeMap<u64, KeptRecord>, zone: u32) -> Option<KeptRecor
 }
 
 impl BlockRecords {
-    /// The records of the blocks that zones of Moves from an older zone name.
+    /// A table of no block.
+    fn new(alloc: Global) -> BlockRecords
+        ensures none { HasNoRecord result }
+        ensures held { (block : ℕ) → held_of result block ≡ None }
+        ensures own { (zone : ℕ) → get nat_cmp result.own zone ≡ None }
+    {
+        BlockRecords {
+            blocks: BTreeMap::new(alloc),
+            own: BTreeMap::new(alloc),
+        }
+    }
+
+    /// The records of the blocks that zones of Moves from an older zone name. Those of these zones are kept.
     pub(crate) fn of_moved(alloc: Global, survey: &Survey) -> Result<BlockRecords, AllocError>
+        ensures few { IfOk result (AreFew survey.now.scanned.items) }
         ensures covers { IfOk result (λ table. (drive : DriveState) (n : ℕ) (logs : List (List Batch))
             → Knows drive n logs survey.now → CoversMoved logs survey.now.scanned.items table) }
         ensures holds { IfOk result (λ table. (drive : DriveState) (n : ℕ) (logs : List (List Batch))
             → Knows drive n logs survey.now → HoldsRecords logs table) }
     {
-        let mut table = BlockRecords {
-            blocks: BTreeMap::new(alloc),
-        };
+        let mut table = BlockRecords::new(alloc);
         hold_moved(alloc, &mut table, &survey.scanned)?;
         note_all(alloc, &mut table, &survey.scanned)?;
         Ok(table)
     }
 
-    /// The records of the blocks that a zone names.
+    /// The records of the blocks that a zone names. Those of the zone are kept.
     pub(crate) fn of_zone(
         alloc: Global,
         survey: &Survey,
         zone: u32,
     ) -> Result<BlockRecords, AllocError>
+        ensures few { IfOk result (AreFew survey.now.scanned.items) }
         ensures covers { IfOk result (λ table. CoversZone survey.now.scanned.items table zone) }
         ensures holds { IfOk result (λ table. (drive : DriveState) (n : ℕ) (logs : List (List Batch))
             → Knows drive n logs survey.now → HoldsRecords logs table) }
     {
-        let mut table = BlockRecords {
-            blocks: BTreeMap::new(alloc),
-        };
+        let mut table = BlockRecords::new(alloc);
         let Some(found) = survey.scanned.get(zone as usize) else {
             return Ok(table);
         };
-        hold_blocks(alloc, &mut table, &found.heads)?;
+        hold_zone(alloc, &mut table, zone, &found.heads)?;
         note_all(alloc, &mut table, &survey.scanned)?;
         Ok(table)
     }
@@ -219,14 +268,13 @@ impl BlockRecords {
         last_outside(held, zone)
     }
 
-    /// Takes the records of a zone out of the table.
-    pub(crate) fn forget(&mut self, survey: &Survey, zone: u32)
-        ensures more { HoldsMore self.old self.new }
-        ensures holds { (drive : DriveState) (n : ℕ) (logs : List (List Batch)) → Knows drive n logs survey.now
-            → HoldsRecords logs self.old → HoldsRecords (without logs zone) self.new }
+    /// Takes the newest records of a zone out of the table, and gives them, if they are kept.
+    pub(crate) fn forget(&mut self, zone: u32) -> Option<Vec<KeptRecord>>
+        ensures own { own_list result ≡ own_of self.old zone }
+        ensures loses { LosesZone self.old self.new zone }
     {
-        if let Some(found) = survey.scanned.get(zone as usize) {
-            forget_zone(self, zone, &found.heads);
-        }
+        let own = self.own.remove(&zone)?;
+        forget_each(&mut self.blocks, &own);
+        Some(own)
     }
 }

@@ -1,4 +1,4 @@
-ghost use Rattle.std.specs.Prelude.{◌≡◌, ◌++◌, ◌∷◌, [], List, IfOk, OnOk};
+ghost use Rattle.std.specs.Prelude.{◌≡◌, ◌≤◌, ◌++◌, ◌∷◌, [], List, length, IfOk, OnOk};
 ghost use Rattle.drive_survey.specs.KeptRecords.{kept_entries, kept_of_zone};
 ghost use Rattle.drive_survey.specs.NewestRecords.{AreNewest, KeepsNewest};
 ghost use Rattle.drive_survey.specs.declared.records.KeptRecord.{KeptRecord};
@@ -70,7 +70,8 @@ pub(crate) fn newest_records(
     zone: u32,
     heads: &ZoneHeads,
 ) -> Result<Vec<KeptRecord>, AllocError>
-    ensures { IfOk result (λ own. AreNewest (kept_of_zone zone heads.now) own.items) }
+    ensures newest { IfOk result (λ own. AreNewest (kept_of_zone zone heads.now) own.items) }
+    ensures few { IfOk result (λ own. length own.items ≤ length heads.now.entries) }
 {
     let mut newest = BTreeMap::new(alloc);
     take_zone(&mut newest, zone, heads)?;

@@ -3,28 +3,25 @@ ghost use Rattle.std.specs.Prelude.{IfOk, IfSome, IsSome, OnOk};
 ghost use Rattle.std.specs.Option.{option_map};
 ghost use Rattle.batch_log.specs.Log.{Batch};
 ghost use Rattle.drive_array.specs.Records.{Record, shown};
-ghost use Rattle.drive_survey.specs.Clearing.{AreRivals, IfStands, LooksFor, ShowsSame, TellsRivals, entries_at};
+ghost use Rattle.drive_survey.specs.Clearing.{AreRivals, IfStands, LooksFor, ShowsSame, TellsRivals};
 ghost use Rattle.drive_survey.specs.KeptRecords.{kept_record};
 ghost use Rattle.drive_survey.specs.Reported.{KeepsZones};
-ghost use Rattle.drive_survey.specs.BlockRecords.{HoldsRecords, held_of};
+ghost use Rattle.drive_survey.specs.BlockRecords.{HoldsRecords, held_of, own_of};
 ghost use Rattle.drive_survey.specs.Scan.{AreKnown, IsInterruption, block_of, readable_at};
 
 use crate::clearing::block_records::BlockRecords;
 use crate::fault::MountFault;
-use crate::records::{KeptRecord, block_in};
+use crate::records::KeptRecord;
 use crate::reported::ReportedZone;
 use crate::scan::{ReadableZone, read_block};
-use crate::survey::Survey;
 use drive_port::Device;
 use std::alloc::{AllocError, Global};
-use std::collections::BTreeSet;
 
 /// Two blocks that are compared.
 #[derive(Drop)]
 pub(crate) struct Buffers {
     first: Vec<u8>,
     second: Vec<u8>,
-    alloc: Global,
 }
 
 impl Buffers {
@@ -33,7 +30,6 @@ impl Buffers {
         Buffers {
             first: Vec::new(alloc),
             second: Vec::new(alloc),
-            alloc,
         }
     }
 }
@@ -143,39 +139,31 @@ fn rivals_of(table: &BlockRecords, zone: u32, block: u32) -> Option<Rivals>
     Some(Rivals { newest, other })
 }
 
-/// The first block that a zone names and that shows something else without it. Only blocks whose newest record is in
-/// the zone are read, by two Reads at most. A block that the zone names again is not looked at again.
+/// The first block that a zone names and that shows something else without it, by the newest records of the zone that
+/// the table keeps. Only blocks whose newest record is in the zone are read, by two Reads at most.
 pub(crate) fn first_needed<D: Device>(
     device: &mut D,
-    survey: &Survey,
+    zones: &[ReportedZone],
     table: &BlockRecords,
     zone: u32,
     buffers: &mut Buffers,
 ) -> Result<Option<u32>, MountFault>
-    requires zones { AreKnown (D.drive device.old) survey.now.zones.items }
-    ensures ok { IfOk result (LooksFor (D.drive device.old) table.now zone (entries_at survey.now.scanned.items zone)) }
+    requires zones { AreKnown (D.drive device.old) zones.now }
+    ensures ok { IfOk result (LooksFor (D.drive device.old) table.now zone) }
     ensures err { IfErr result (IsInterruption (D.drive device.new)) }
     ensures kept { KeepsZones (D.drive device.old) (D.drive device.new) }
     ensures completed { (D.drive device.new).completed
-        ≤ (D.drive device.old).completed + 2 * length (entries_at survey.now.scanned.items zone) }
+        ≤ (D.drive device.old).completed + 2 * length (own_of table.now zone) }
 {
-    let Some(found) = survey.scanned.get(zone as usize) else {
+    let Some(own) = table.own.get(&zone) else {
         return Ok(None);
     };
-    let mut seen = BTreeSet::new(buffers.alloc);
-    for entry in found.heads.entries() {
-        let block = block_in(*entry);
-        if seen.contains(&block) {
-            continue;
-        }
-        let Ok(_) = seen.insert(block) else {
-            return Err(MountFault::OutOfMemory);
-        };
-        let Some(rivals) = rivals_of(table, zone, block) else {
+    for found in own.iter() {
+        let Some(rivals) = rivals_of(table, zone, found.block) else {
             continue;
         };
-        if !show_same(device, &survey.zones, rivals, buffers)? {
-            return Ok(Some(block));
+        if !show_same(device, zones, rivals, buffers)? {
+            return Ok(Some(found.block));
         }
     }
     Ok(None)

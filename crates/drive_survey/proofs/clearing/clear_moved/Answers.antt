@@ -1,10 +1,12 @@
 use Rattle.std.proofs.Common.{[], ◌∷◌, length, Some, None, refl, ap, ◌∙◌, arith}
 use Rattle.std.proofs.lemmas.List.{length-append}
 use Rattle.drive_array.specs.ZoneLogs.{drive_logs}
+use Rattle.drive_survey.specs.declared.clearing.block_records.BlockRecords.{BlockRecords}
 use Rattle.drive_survey.specs.declared.survey.Survey.{Survey}
 use Rattle.drive_survey.proofs.ClearLaws.{clears-all, clears-fewer, finds-given, leaves-given, next-known, searches-more, searches-none}
 use Rattle.drive_survey.proofs.CountLaws.{searches-next, searches-once}
 use Rattle.drive_survey.proofs.ReadLaws.{keeps-both, keeps-none}
+use Rattle.drive_survey.proofs.RecordHoldLaws.{few-same}
 use Rattle.drive_survey.proofs.SpareLaws.{knows-kept}
 use Rattle.drive_survey.proofs.clearing.clear_moved.Goals as goal
 
@@ -16,7 +18,7 @@ returns-in_err-candidates-clause-kept g c = keeps-none _ c.requires.known.zones.
 
 pub loop-candidates-init : goal.loop-candidates-init
 loop-candidates-init g c =
-    (rw c.new-resets.ensures.items (searches-none (g.D.Device.drive c.args.device.now) c.args.survey.now.given c.args.survey.now c.in_ok-candidates.candidates c.requires.known c.in_ok-candidates.ensures.are c.in_ok-candidates.ensures.wait), refl, rw c.new-resets.ensures.items (record { few = omega arith; completed = omega arith }))
+    (rw c.new-resets.ensures.items (searches-none (g.D.Device.drive c.args.device.now) c.args.survey.now.given c.args.survey.now c.in_ok-candidates.candidates c.requires.known c.in_ok-candidates.ensures.are c.in_ok-candidates.ensures.wait), refl, rw c.new-resets.ensures.items (record { few = omega arith; completed = omega arith }), c.in_ok-candidates.ensures.own)
 
 pub returns-in_err-zone-clause-kept : goal.returns-in_err-zone-clause-kept
 returns-in_err-zone-clause-kept g c = keeps-both _ _ _ c.loop-candidates.invariant.0.clears.kept c.next_half_clean.ensures.kept
@@ -42,6 +44,7 @@ loop-candidates-preserved g c = (
       (record { are = c.in_ok-give_up.ensures.are; wait = c.in_ok-give_up.ensures.wait }) (rw c.if-is_err.ensures.negation at c.push.ensures.items),
   ap (λ (s : Survey). s.zones) c.give_up.ensures.others ∙ c.loop-candidates.invariant.1,
   searches-next _ (length c.loop-candidates.resets.items) _ c.loop-candidates.survey.scanned.items c.give_up.new.survey.scanned.items c.in-Some.zone (g.D.Device.drive c.args.device.now) (g.D.Device.drive c.loop-candidates.device) (g.D.Device.drive c.next_half_clean.new.device) (ap length (rw c.if-is_err.ensures.negation at c.push.ensures.items) ∙ length-append c.loop-candidates.resets.items (c.in-Some.zone ∷ [])) c.in_ok-give_up.ensures.heads c.loop-candidates.invariant.2 c.next_half_clean.ensures.completed,
+  c.in_ok-give_up.ensures.few (few-same c.loop-candidates.survey.scanned.items c.loop-candidates.candidates.records c.next_half_clean.new.candidates.records (ap (λ (r : BlockRecords). r.own) c.next_half_clean.ensures.records) c.loop-candidates.invariant.3),
 )
 
 pub returns-clause-clearing : goal.returns-clause-clearing

@@ -12,6 +12,9 @@ loop-zone-init g c = (keeps-none _ c.requires.zones.lawful, refl, refl, λ logs 
 pub examine_by-requires-clause-zones : goal.examine_by-requires-clause-zones
 examine_by-requires-clause-zones g c = known-kept _ _ c.args.survey.now.zones.items c.loop-zone.invariant.0 c.requires.zones
 
+pub examine_by-requires-clause-few : goal.examine_by-requires-clause-few
+examine_by-requires-clause-few g c = rw c.loop-zone.invariant.1 c.requires.few
+
 pub returns-in_err-finding-clause-kept : goal.returns-in_err-finding-clause-kept
 returns-in_err-finding-clause-kept g c = keeps-both _ _ _ c.loop-zone.invariant.0 c.examine_by.ensures.kept
 

@@ -1,15 +1,33 @@
-use Rattle.drive_survey.specs.BlockRecords.{forgets}
-use Rattle.drive_survey.specs.KeptRecords.{kept_of_zone}
-use Rattle.drive_survey.proofs.RecordKnownLaws.{known-forgets, known-past, scanned-at}
+use Rattle.std.proofs.Common.{None, [], refl, ap}
+use Rattle.drive_survey.specs.declared.clearing.block_records.BlockRecords.{BlockRecords}
+use Rattle.drive_survey.specs.BlockRecords.{forgets, own_list}
+use Rattle.drive_survey.proofs.RecordHoldLaws.{others-own, put-others, put-own}
+use Rattle.drive_survey.proofs.RecordKnownLaws.{known-forgets}
 use Rattle.drive_survey.proofs.RecordTableLaws.{changed-more}
 use Rattle.drive_survey.proofs.clearing.block_records.BlockRecords.forget.Goals as goal
 
-pub returns-in-Some-clause-more : goal.returns-in-Some-clause-more
-returns-in-Some-clause-more c = changed-more forgets c.args.self.now c.forget_zone.new.table (kept_of_zone c.args.zone c.in-Some.found.now.heads) c.forget_zone.ensures
+pub returns-in_err-own-clause-loses : goal.returns-in_err-own-clause-loses
+returns-in_err-own-clause-loses c =
+    let new : BlockRecords = record { blocks = c.args.self.now.blocks; own = c.remove.new.self } in
+    let updates = c.in_err-own.ensures.updates.0 in
+    record {
+      gone = put-own c.args.zone None c.args.self.now new updates;
+      others = others-own c.args.self.now new c.args.zone (put-others c.args.zone None c.args.self.now new updates);
+      more = λ block some. some;
+      holds = λ drive n logs survey found. known-forgets drive n logs survey c.args.zone found [] c.args.self.now new (ap own_list c.in_err-own.ensures.value) (λ block sequence. refl);
+    }
 
-pub returns-in-Some-clause-holds : goal.returns-in-Some-clause-holds
-returns-in-Some-clause-holds c = λ drive n logs. known-forgets drive n logs c.args.survey.now c.args.zone c.in-Some.found.now c.args.self.now c.forget_zone.new.table
-    (scanned-at c.deref.result.now c.args.survey.now c.args.zone c.in-Some.found.now c.deref.ensures.value c.in-Some.ensures.lookup.3.0 c.in-Some.ensures.lookup.1) c.forget_zone.ensures
+pub returns-clause-own : goal.returns-clause-own
+returns-clause-own c = ap own_list c.in_ok-own.ensures.value
 
-pub returns-in_default-clause-holds : goal.returns-in_default-clause-holds
-returns-in_default-clause-holds c = λ drive n logs. known-past drive n logs c.args.survey.now c.args.zone c.args.self.now (rw (← c.deref.ensures.value) c.in_default.ensures.lookup.3)
+pub returns-clause-loses : goal.returns-clause-loses
+returns-clause-loses c =
+    let new : BlockRecords = record { blocks = c.forget_each.new.blocks; own = c.remove.new.self } in
+    let updates = c.in_ok-own.ensures.updates.0 in
+    let changes = rw c.deref.ensures.value at c.forget_each.ensures in
+    record {
+      gone = put-own c.args.zone None c.args.self.now new updates;
+      others = others-own c.args.self.now new c.args.zone (put-others c.args.zone None c.args.self.now new updates);
+      more = changed-more forgets c.args.self.now new c.in_ok-own.own.items changes;
+      holds = λ drive n logs survey found. known-forgets drive n logs survey c.args.zone found c.in_ok-own.own.items c.args.self.now new (ap own_list c.in_ok-own.ensures.value) changes;
+    }

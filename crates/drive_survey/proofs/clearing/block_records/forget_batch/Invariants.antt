@@ -1,9 +1,0 @@
-use Rattle.std.proofs.Common.{◌≡◌, ℕ, ◌≤◌, drop}
-use Rattle.drive_survey.specs.BlockRecords.{forgets, slot_after, slot_of}
-use Rattle.drive_survey.specs.KeptRecords.{kept_entries}
-use Rattle.drive_survey.proofs.clearing.block_records.forget_batch.Given as goal
-
-abbrev pub invariant-loop-entry : goal.invariant-loop-entry
-invariant-loop-entry l =
-    ((block sequence : ℕ) → slot_after forgets block sequence (slot_of l.table block sequence) (kept_entries l.head.sequence l.zone l.head.offset l.before (drop l.entry-index l.entries)) ≡ slot_after forgets block sequence (slot_of l.fn.table block sequence) (kept_entries l.head.sequence l.zone l.head.offset 0 l.entries))
-    × (l.before ≤ l.entry-index)

@@ -1,0 +1,7 @@
+use Rattle.std.proofs.Common.{◌≡◌, ℕ, drop}
+use Rattle.drive_survey.specs.BlockRecords.{forgets, slot_after, slot_in}
+use Rattle.drive_survey.proofs.clearing.block_records.forget_each.Given as goal
+
+abbrev pub invariant-loop-found : goal.invariant-loop-found
+invariant-loop-found l =
+    (block sequence : ℕ) → slot_after forgets block sequence (slot_in l.blocks block sequence) (drop l.found-index l.own) ≡ slot_after forgets block sequence (slot_in l.fn.blocks block sequence) l.own
