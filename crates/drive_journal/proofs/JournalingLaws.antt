@@ -234,30 +234,15 @@ module _ (inner : DriveState) (contents before : Option (List ℕ)) (entry bytes
           (λ b whole. (stored-effect inner (record inner { zones = given.zones }) entry bytes given.returned b given.value long is_changing refl effect whole).0) stored);
     }
 
--- ---- the entry and the data in a change
+-- ---- an entry and its data, kept together
 
-entry-is : (entry beside : List ℕ) → length entry ≡ 64 → changed_entry_in (change_bytes (record { entry = entry; bytes = beside })) ≡ entry
-entry-is entry beside long = take_at entry (beside ++ seal entry beside) 64 long
+pub kept-entry : (entry written : List ℕ) → length entry ≡ 64 → changed_entry_in (entry ++ written) ≡ entry
+kept-entry entry written long = take_at entry written 64 long
 
-data-is : (entry beside : List ℕ) → length entry ≡ 64 → changed_data_in (change_bytes (record { entry = entry; bytes = beside })) ≡ beside
-data-is entry beside long =
-    let all = change_bytes (record { entry = entry; bytes = beside }) in
-    let after : drop 72 all ≡ beside ++ seal entry beside = ap (λ (n : ℕ). drop n (entry ++ (beside ++ seal entry beside))) (sym long) ∙ drop-append_seam entry (beside ++ seal entry beside) in
-    let size : length beside ≡ length all - 80 = omega (arith, length-append mark (body_bytes (record { entry = entry; bytes = beside })), length-append entry (beside ++ seal entry beside), length-append beside (seal entry beside), length-seal entry beside, long) in
-    ap (λ (l : List ℕ). take (length all - 80) l) after ∙ take_at beside (seal entry beside) (length all - 80) size
-
--- of a change that is written for a command
-pub entry-written : (entry bytes change : List ℕ) → length entry ≡ 64 → changes (decode_of entry) ≡ true → change ≡ written_for entry bytes → changed_entry_in change ≡ entry
-entry-written entry bytes change long e is = rw (is, written-yes entry bytes e) (entry-is entry (beside_bytes (decode_of entry) bytes) long)
-
-pub data-written : (entry bytes change : List ℕ) → length entry ≡ 64 → changes (decode_of entry) ≡ true → change ≡ written_for entry bytes → changed_data_in change ≡ beside_bytes (decode_of entry) bytes
-data-written entry bytes change long e is = rw (is, written-yes entry bytes e) (data-is entry (beside_bytes (decode_of entry) bytes) long)
+pub kept-data : (entry written : List ℕ) → length entry ≡ 64 → changed_data_in (entry ++ written) ≡ written
+kept-data entry written long = ap (λ (n : ℕ). drop n (entry ++ written)) (sym long) ∙ drop-append_seam entry written
 
 -- ---- the same of a device by its parts
-
-pub err-so : (result : Result (List ℕ) Halt) (P Q : Type 0) → (P → Q) → OnErr result P → OnErr result Q
-err-so (Ok completion) P Q f p = tt
-err-so (Err halt) P Q f p = f p
 
 both : (a b : Bool) → true ≡ (a && b) → (a ≡ true) × (b ≡ true)
 both true b e = (refl, sym e)
@@ -304,25 +289,32 @@ module _ (loss : Loss) (inner : DriveState) (next : List Zone) (contents : Optio
         subst (λ (l : Loss). AnswersInStep (journaled l inner next contents) entry bytes held (Err Memory) held (journaled l inner after before)) (sym ran.0)
         (answers-memory inner contents before entry bytes held given long ran.1 was-within kept-within changing good can stored)
 
-    pub shown-cut : (after : List Zone) (now : Option (List ℕ)) (change : List ℕ) → change ≡ written_for entry bytes → AppendsFront before now change → is_some now ≡ is_some before
-        → AnswersInStep (journaled loss inner next contents) entry bytes held (Err Stopped) held (journaled losses.Change inner after now)
-    shown-cut after now change is front known =
-        subst (λ (l : Loss). AnswersInStep (journaled l inner next contents) entry bytes held (Err Stopped) held (journaled losses.Change inner after now)) (sym ran.0)
-        (answers-cut inner contents before entry bytes held given long ran.1 was-within kept-within changing good can stored now (rw is at front) known)
+    -- what is written for it
+    change-is : (written : List ℕ) → written ≡ beside_bytes (decode_of entry) bytes → change_bytes (record { entry = entry; bytes = written }) ≡ written_for entry bytes
+    change-is written is = rw (is, written-yes entry bytes changing) refl
 
-    pub shown-done : (new : DriveState) (after : List Zone) (now : Option (List ℕ)) (change completion items : List ℕ) → change ≡ written_for entry bytes → Appends before now change → is_some now ≡ is_some before → IsLawful new
+    pub shown-cut : (after : List Zone) (now : Option (List ℕ)) (written : List ℕ) → written ≡ beside_bytes (decode_of entry) bytes → AppendsFront before now (change_bytes (record { entry = entry; bytes = written }))
+        → is_some now ≡ is_some before
+        → AnswersInStep (journaled loss inner next contents) entry bytes held (Err Stopped) held (journaled losses.Change inner after now)
+    shown-cut after now written is front known =
+        subst (λ (l : Loss). AnswersInStep (journaled l inner next contents) entry bytes held (Err Stopped) held (journaled losses.Change inner after now)) (sym ran.0)
+        (answers-cut inner contents before entry bytes held given long ran.1 was-within kept-within changing good can stored now (subst (AppendsFront before now) (change-is written is) front) known)
+
+    pub shown-done : (new : DriveState) (after : List Zone) (now : Option (List ℕ)) (written completion items : List ℕ) → written ≡ beside_bytes (decode_of entry) bytes → Appends before now (change_bytes (record { entry = entry; bytes = written }))
+        → is_some now ≡ is_some before → IsLawful new
         → SubmitAdds inner entry bytes held (Ok completion) items new → (code_in completion == 0) ≡ is_success given.status
         → AnswersInStep (journaled loss inner next contents) entry bytes held (Ok completion) items (journaled loss new after now)
-    shown-done new after now change completion items is appends known lawful gives code =
+    shown-done new after now written completion items is appends known lawful gives code =
         subst (λ (l : Loss). AnswersInStep (journaled l inner next contents) entry bytes held (Ok completion) items (journaled l new after now)) (sym ran.0)
-        (answers-done inner contents before entry bytes held given long ran.1 was-within kept-within changing good can stored now (rw is at appends) known new completion items lawful gives code)
+        (answers-done inner contents before entry bytes held given long ran.1 was-within kept-within changing good can stored now (subst (Appends before now) (change-is written is) appends) known new completion items lawful gives code)
 
     -- what is shown then is what was foreseen of the command
-    pub shown-behind : (after : Outcome) (now : Option (List ℕ)) (change : List ℕ) (halt : Halt) (items : List ℕ) → change ≡ written_for entry bytes → Appends before now change → is_some now ≡ is_some before
-        → SubmitAdds inner entry bytes held (Err halt) items inner → (changed_entry_in change ≡ entry → changed_data_in change ≡ beside_bytes (decode_of entry) bytes → after ≡ given)
+    pub shown-behind : (after : Outcome) (now : Option (List ℕ)) (written kept_bytes : List ℕ) (halt : Halt) (items : List ℕ) → written ≡ beside_bytes (decode_of entry) bytes → Appends before now (change_bytes (record { entry = entry; bytes = written }))
+        → is_some now ≡ is_some before → kept_bytes ≡ entry ++ written → SubmitAdds inner entry bytes held (Err halt) items inner
+        → (changed_entry_in kept_bytes ≡ entry → changed_data_in kept_bytes ≡ beside_bytes (decode_of entry) bytes → after ≡ given)
         → AnswersInStep (journaled loss inner next contents) entry bytes held (Err Stopped) items (journaled losses.Completion inner after.zones now)
-    shown-behind after now change halt items is appends known gives same =
-        let is_given = same (entry-written entry bytes change long changing is) (data-written entry bytes change long changing is) in
+    shown-behind after now written kept_bytes halt items is appends known kept_is gives same =
+        let is_given = same (rw kept_is (kept-entry entry written long)) (rw kept_is (kept-data entry written long ∙ is)) in
         subst (λ (l : Loss). AnswersInStep (journaled l inner next contents) entry bytes held (Err Stopped) items (journaled losses.Completion inner after.zones now)) (sym ran.0)
         (subst (λ (o : Outcome). AnswersInStep (going_on inner contents) entry bytes held (Err Stopped) items (journaled losses.Completion inner o.zones now)) (sym is_given)
-        (answers-behind inner contents before entry bytes held given long ran.1 was-within kept-within changing good can stored now (rw is at appends) known halt items gives))
+        (answers-behind inner contents before entry bytes held given long ran.1 was-within kept-within changing good can stored now (subst (Appends before now) (change-is written is) appends) known halt items gives))

@@ -1,6 +1,7 @@
 pub mod RestLaws
 pub mod StepLaws
 pub mod CutLaws
+pub mod PartLaws
 pub mod FillLaws
 pub mod ReadLaws
 pub mod StoredLaws

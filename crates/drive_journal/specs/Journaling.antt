@@ -1,5 +1,5 @@
 -- A device whose changes are written after an image, before its drive has them.
-use Rattle.std.specs.Prelude.{◌≡◌, ◌⊎◌, ℕ, ◌<◌, ◌-◌, ◌==◌, ◌||◌, Bool, true, false, if◌then◌else◌, List, [], length, take, drop}
+use Rattle.std.specs.Prelude.{◌≡◌, ◌⊎◌, ℕ, ◌<◌, ◌==◌, ◌||◌, Bool, true, false, if◌then◌else◌, List, [], length, take, drop}
 use Rattle.std.specs.Prelude.{Option, IfSome, Result, Ok, Err}
 use Rattle.std.specs.Io.KnownBytes.{Appends}
 use Rattle.nvme_wire.specs.Completion.{code_in}
@@ -36,12 +36,12 @@ shown_zones loss zones next = zones
 abbrev pub shown_drive : Loss → DriveState → List Zone → DriveState
 shown_drive loss inner next = record inner { zones = shown_zones loss inner.zones next; stopped = is_lost loss || inner.stopped }
 
--- the entry and the data of a change, by its bytes
+-- the entry and the data of a change, where they are kept together
 abbrev pub changed_entry_in : List ℕ → List ℕ
-changed_entry_in bytes = take 64 (drop 8 bytes)
+changed_entry_in kept = take 64 kept
 
 abbrev pub changed_data_in : List ℕ → List ℕ
-changed_data_in bytes = take (length bytes - 80) (drop 72 bytes)
+changed_data_in kept = drop 64 kept
 
 -- What is always so: the bytes of the store, where they are known, store the drive that is shown, and while nothing was lost no change in them is cut off.
 -- A device that lost something has stopped.

@@ -1,11 +1,16 @@
-ghost use Rattle.std.specs.Prelude.{◌≡◌, ◌++◌, ◌&&◌, [], IsTrue, OnOk};
+ghost use Rattle.std.specs.Prelude.{◌≡◌, ◌+◌, ◌≤◌, ◌++◌, ◌&&◌, [], IsTrue, OnErr, OnOk, is_some, length, true, vec_capacity};
+ghost use Rattle.std.specs.Io.KnownBytes.{Appends};
+ghost use Rattle.disk_files.specs.Output.{AppendsFront};
 ghost use Rattle.nvme_wire.specs.Entry.{decode_of};
 ghost use Rattle.drive_port.specs.Step.{is_success};
 ghost use Rattle.zone_drive.specs.Foreseen.{CanGive};
-ghost use Rattle.drive_journal.specs.Change.{change_bytes, changes, mark, seal, written_for};
+ghost use Rattle.drive_journal.specs.Change.{beside_bytes, change_bytes, changes, mark, seal};
 
 use crate::foreseeing::Foreseeing;
+use crate::store::Store;
 use byteorder::{ByteOrder, LittleEndian};
+use disk_files::WriteFault;
+use drive_port::Device;
 use nvme_wire::{Command, Status};
 use sqlite_wal::checksum_of;
 use std::alloc::AllocError;
@@ -25,32 +30,37 @@ pub(crate) fn seal(entry: &[u8; 64], bytes: &[u8]) -> [u8; 8]
     out
 }
 
-/// Puts the bytes of a change into `change`, which is empty.
-fn put(change: &mut Vec<u8>, entry: &[u8; 64], bytes: &[u8]) -> Result<(), AllocError>
-    requires { change.old.items ≡ [] }
-    ensures { OnOk result (change.new.items ≡ change_bytes (record { entry = entry.now; bytes = bytes.now })) }
+/// The data of an entry, where its command writes them.
+#[inline(always)]
+pub(crate) fn written_of<'a>(entry: &[u8; 64], bytes: &'a [u8]) -> &'a [u8]
+    ensures { result.now ≡ beside_bytes (decode_of entry.now) bytes.now }
 {
-    change.extend_from_slice(&MARK)?;
-    change.extend_from_slice(entry)?;
-    change.extend_from_slice(bytes)?;
-    change.extend_from_slice(&seal(entry, bytes))?;
-    Ok(())
+    match Command::decode(entry) {
+        Ok(Command::Write { .. } | Command::Append { .. }) => bytes,
+        _ => &[],
+    }
 }
 
-/// Puts into `change` what is written if this command succeeds: nothing where it changes nothing.
-pub(crate) fn prepare(
-    change: &mut Vec<u8>,
+/// Writes the change of an entry and its data to a store, in parts, so that the data are not copied before. After a
+/// fault a beginning of the change is written.
+pub(crate) fn write_change<D: Device, S: Store<D>>(
+    store: &mut S,
     entry: &[u8; 64],
-    bytes: &[u8],
-) -> Result<(), AllocError>
-    ensures { OnOk result (change.new.items ≡ written_for entry.now bytes.now) }
+    written: &[u8],
+) -> Result<(), WriteFault>
+    ensures ok { OnOk result (Appends (S.held store.old) (S.held store.new)
+        (change_bytes (record { entry = entry.now; bytes = written.now }))) }
+    ensures err { OnErr result (AppendsFront (S.held store.old) (S.held store.new)
+        (change_bytes (record { entry = entry.now; bytes = written.now }))) }
+    ensures known { is_some (S.held store.new) ≡ is_some (S.held store.old) }
+    ensures failed { OnErr result (S.failed store.new ≡ true) }
+    ensures as_before { OnOk result (S.failed store.new ≡ S.failed store.old) }
 {
-    change.clear();
-    match Command::decode(entry) {
-        Ok(Command::Write { .. } | Command::Append { .. }) => put(change, entry, bytes),
-        Ok(Command::Send { .. }) => put(change, entry, &[]),
-        _ => Ok(()),
-    }
+    let seal = seal(entry, written);
+    store.append(&MARK)?;
+    store.append(entry)?;
+    store.append(written)?;
+    store.append(&seal)
 }
 
 /// Whether the command of this entry changes what the device holds, if there is memory for it.
@@ -68,16 +78,28 @@ pub(crate) fn will_change<D: Foreseeing>(device: &D, entry: &[u8; 64], bytes: &[
     }
 }
 
-/// Puts the change of a command into `change`, and takes the memory that the device needs for it.
+/// Takes the memory that the device needs for a command, and room for its entry and its data.
 pub(crate) fn make_ready<D: Foreseeing>(
     device: &mut D,
-    change: &mut Vec<u8>,
+    room: &mut Vec<u8>,
     entry: &[u8; 64],
     bytes: &[u8],
 ) -> Result<(), AllocError>
     ensures device { device.new ≡ device.old }
-    ensures change { OnOk result (change.new.items ≡ written_for entry.now bytes.now) }
+    ensures empty { OnOk result (room.new.items ≡ []) }
+    ensures room { OnOk result (64 + length (beside_bytes (decode_of entry.now) bytes.now) ≤ vec_capacity room.new) }
 {
-    prepare(change, entry, bytes)?;
+    room.clear();
+    room.reserve(64 + written_of(entry, bytes).len())?;
     device.reserve(entry, bytes)
+}
+
+/// Puts an entry and its data where there is room for them.
+pub(crate) fn keep(room: &mut Vec<u8>, entry: &[u8; 64], written: &[u8])
+    requires empty { room.old.items ≡ [] }
+    requires room { 64 + length written.now ≤ vec_capacity room.old }
+    ensures { room.new.items ≡ entry.now ++ written.now }
+{
+    let _ = room.extend_from_slice(entry);
+    let _ = room.extend_from_slice(written);
 }

@@ -4,7 +4,7 @@ ghost use Rattle.drive_port.specs.Halting.{SubmitAdds, SubmitGives};
 ghost use Rattle.drive_journal.specs.File.{IsStoredWhole};
 ghost use Rattle.drive_journal.specs.Journaling.{AnswersInStep, IsInStep, WritesChange};
 
-use crate::change::{make_ready, will_change};
+use crate::change::{keep, make_ready, will_change, write_change, written_of};
 use crate::foreseeing::Foreseeing;
 use crate::loss::Loss;
 use crate::store::Store;
@@ -23,7 +23,7 @@ pub struct Journaling<D: Foreseeing + Drop, S: Store<D> + Drop> {
     device: D,
     store: S,
     loss: Loss,
-    // The bytes of the last change.
+    // The entry and the data of the last change, if its completion was lost. Else there is room for those of the next.
     change: Vec<u8>,
 }
 
@@ -102,7 +102,8 @@ impl<D: Foreseeing + Drop, S: Store<D> + Drop> Journaling<D, S> {
         let Ok(()) = make_ready(&mut self.device, &mut self.change, entry, bytes) else {
             return Err(Halt::Memory);
         };
-        let Ok(()) = self.store.append(&self.change) else {
+        let written = written_of(entry, bytes);
+        let Ok(()) = write_change(&mut self.store, entry, written) else {
             self.loss = Loss::Change;
             return Err(Halt::Stopped);
         };
@@ -110,6 +111,7 @@ impl<D: Foreseeing + Drop, S: Store<D> + Drop> Journaling<D, S> {
             Ok(completion) => Ok(completion),
             Err(_) => {
                 self.store.fail();
+                keep(&mut self.change, entry, written);
                 self.loss = Loss::Completion;
                 Err(Halt::Stopped)
             }

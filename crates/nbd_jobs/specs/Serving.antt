@@ -122,12 +122,11 @@ abbrev pub HoldsNoDrive : Option (List ℕ) → Streams → Result (Unit {0}) Nb
 HoldsNoDrive file bytes (Err (Image fault)) = IfSome file (λ held. IsFileFault held fault) × ServesNothing bytes
 HoldsNoDrive file bytes ended = ⊥
 
--- What is saved of a session: the drive that it left, also after a fault. Nothing is saved where the file stays as it is, nor where it failed: then
--- the file has all changes before.
-abbrev pub served_drive_to_save : Result (Unit {0}) NbdFault → Bool → Option Left → Option MemoryDrive
-served_drive_to_save ended stays None = None
-served_drive_to_save (Err (File fault)) stays (Some left) = None
-served_drive_to_save ended stays (Some left) = if (left.failed || stays) then None else Some left.drive
+-- What is saved of a session: the drive that it left, also after a fault. Nothing is saved where the file stays as it is, nor where the store failed:
+-- then the file has all changes before.
+abbrev pub served_drive_to_save : Bool → Option Left → Option MemoryDrive
+served_drive_to_save stays None = None
+served_drive_to_save stays (Some left) = if (left.failed || stays) then None else Some left.drive
 
 -- a session whose file failed is told by that fault
 abbrev pub session_told : Result (Unit {0}) NbdFault → Option FileFault → Result (Unit {0}) NbdFault

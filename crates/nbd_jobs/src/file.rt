@@ -127,12 +127,14 @@ pub fn do_nbd_job<F: Files<File = File>, R: Read + Drop, W: Write>(
     };
     let file = ChangesFile::new(&saving, image);
     let (mut left, result) = serve_file(alloc, job, (&file, bytes), input, output);
-    let session = session_told(result, file.write_out().err());
+    // A fault is told by the file.
+    let _ = file.write_out();
+    let session = session_told(result, file.fault());
     let statistics = match &mut left {
         Some(left) => left.statistics.take(),
         None => None,
     };
-    let drive = served_drive_to_save(session, file.stays(), left);
+    let drive = served_drive_to_save(file.stays(), left);
     Done {
         session,
         saved: save_if_any(&saving, drive, &file.into_image()),

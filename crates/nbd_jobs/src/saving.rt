@@ -6,24 +6,19 @@ use crate::left::Left;
 use drive_store::FileFault;
 use zone_drive::Drive;
 
-/// What is saved of a session: the drive that it left, also after a fault. Nothing is saved if the file stays as it is, since it
-/// is unchanged or takes no more changes, nor if a change could not be written to it.
-pub(crate) fn served_drive_to_save(
-    ended: Result<(), NbdFault>,
-    stays: bool,
-    left: Option<Left>,
-) -> Option<Drive>
-    ensures { result ≡ served_drive_to_save ended stays left }
+/// What is saved of a session: the drive that it left, also after a fault. Nothing is saved if the file stays as it is,
+/// since it is unchanged or takes no more changes, nor if a change could not be written to it.
+pub(crate) fn served_drive_to_save(stays: bool, left: Option<Left>) -> Option<Drive>
+    ensures { result ≡ served_drive_to_save stays left }
 {
     let left = left?;
-    match ended {
-        Err(NbdFault::File(_)) => None,
-        _ if left.failed || stays => None,
-        _ => Some(left.drive),
+    if left.failed || stays {
+        return None;
     }
+    Some(left.drive)
 }
 
-/// How a session ended: where its file failed, that is told.
+/// How a session ended: where a change could not be written to its file, or brought to the disk, that is told.
 pub(crate) fn session_told(
     ended: Result<(), NbdFault>,
     failed: Option<FileFault>,
