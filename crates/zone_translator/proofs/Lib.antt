@@ -12,3 +12,4 @@ pub mod WriteLaws
 pub mod GrowthLaws
 pub mod CallLaws
 pub mod BackLaws
+pub mod AgainLaws

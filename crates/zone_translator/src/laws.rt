@@ -1,7 +1,7 @@
-//! What holds of the flat disk, whose answers every call of `Disk` gives. Each function carries a law as
-//! its contract, and changes nothing.
+//! What holds of the flat disk, whose answers every call of `Disk` gives, and of a disk whose drive stops. Each function
+//! carries laws as its contract, and changes nothing.
 
-ghost use Rattle.zone_translator.specs.Laws.{WriteKeepsOthers, WrittenReadsBack};
+ghost use Rattle.zone_translator.specs.Laws.{CalledCan, LeftIsFound, MountedCan, RemountedCan, WriteKeepsOthers, WrittenReadsBack};
 ghost use Rattle.zone_translator.specs.View.{flat_of};
 
 use crate::disk::Disk;
@@ -17,4 +17,13 @@ pub fn written_reads_back<D: Device + Drop>(disk: &Disk<D>)
 /// A write changes no block but those that it names.
 pub fn write_keeps_others()
     ensures { WriteKeepsOthers }
+{}
+
+/// What was answered is found again. Whatever is called of a disk, and whatever ends it, its drive can be mounted again
+/// once it is restarted. The disk that is mounted then has the array that was left: `answers` of each call says which.
+pub fn answered_is_found()
+    ensures mounted { MountedCan }
+    ensures called { CalledCan }
+    ensures remounted { RemountedCan }
+    ensures found { LeftIsFound }
 {}
