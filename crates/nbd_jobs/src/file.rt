@@ -48,6 +48,11 @@ struct FileMedium<'s, 'a, F: Files<File = File>> {
 }
 
 impl<F: Files<File = File>> Medium for FileMedium<'_, '_, F> {
+    ghost use Rattle.std.specs.Prelude.{⊤};
+
+    // The files of std say nothing of what a sync does.
+    ghost is_synced = { λ _ _. ⊤ };
+
     fn sync(&mut self) -> Result<(), MediumFault> {
         self.file.sync().or(Err(MediumFault))
     }

@@ -43,7 +43,7 @@ fn served<D: Device + Drop, M: Medium + Drop>(
     medium: M,
     cleans: bool,
 ) -> ServedDisk<D, M>
-    ensures { result ≡ disk }
+    ensures { result.disk ≡ disk }
 {
     if cleans {
         return ServedDisk::cleaning(disk, medium);

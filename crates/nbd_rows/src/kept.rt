@@ -6,7 +6,7 @@ use crate::show::show_replies;
 use disk_jobs::{Habit, Stop};
 use drive_images::write_image;
 use drive_journal::Held;
-use nbd_jobs::{NbdJob, ServedFile, serve_drive};
+use nbd_jobs::{Left, NbdJob, ServedFile, serve_drive};
 use nbd_session::WriteThrough;
 use std::alloc::Global;
 use zone_drive::Drive;
@@ -24,32 +24,43 @@ pub fn fresh_file(alloc: Global, setting: Setting) -> Result<Vec<u8>, RowsFault>
     Ok(file)
 }
 
-/// Serves the drive in a file, as `blocks` logical blocks if it does not say how many, and cleans between requests. Shows
-/// what the server sent and how the session ended. The file has all changes then.
-pub fn show_kept(
-    alloc: Global,
-    blocks: Option<u64>,
-    input: &[u8],
-    file: &mut Vec<u8>,
-    out: &mut String,
-) -> Result<(), RowsFault> {
-    let job = NbdJob {
+/// Serves a drive as `blocks` logical blocks if it does not say how many, and cleans between requests.
+pub fn job_of(alloc: Global, blocks: Option<u64>, statistics: bool) -> NbdJob {
+    NbdJob {
         image: String::new(alloc),
         blocks,
         stop: Stop::NEVER,
         habit: Habit::Lazy,
-        statistics: false,
+        statistics,
         idle: true,
-    };
+    }
+}
+
+/// Serves the drive in a file. Shows what the server sent, what was counted if the job asks for it, and how the session
+/// ended. The file has all changes then.
+pub fn show_kept(
+    alloc: Global,
+    job: &NbdJob,
+    input: &[u8],
+    file: &mut Vec<u8>,
+    out: &mut String,
+) -> Result<(), RowsFault> {
     let served = ServedFile {
         bytes: file.as_slice(),
         store: Held::new(alloc, Vec::from_slice(alloc, file)?, LIMIT),
         medium: WriteThrough,
     };
     let mut sent = Vec::new(alloc);
-    let (_left, store, result) = serve_drive(alloc, &job, served, &mut &*input, &mut sent);
+    let (left, store, result) = serve_drive(alloc, job, served, &mut &*input, &mut sent);
     *file = Vec::from_slice(alloc, store.bytes())?;
     show_replies(&sent, out)?;
+    if let Some(Left {
+        statistics: Some(text),
+        ..
+    }) = left
+    {
+        out.push_str(&text)?;
+    }
     match result {
         Ok(()) => write!(out, "ended\n\n")?,
         Err(fault) => write!(out, "fault: {fault}\n\n")?,

@@ -8,6 +8,7 @@
 //! - `end` runs the session. `cuts` runs it cut after each of its bytes, and with an output that fails after each byte.
 //! - `kept N` runs the session over the drive of a file, with N logical blocks, and cleans between requests; the file
 //!   keeps what it wrote. `again` runs it over the same file, and says no number. The first file has a fresh drive.
+//!   `counted N` runs it over a new file, and shows what was written, moved and cleaned.
 //! - An empty line, and one that begins with `#`, says nothing.
 //!
 //! Shown are the lines `session`, a line for each reply, and how the session ended.
@@ -20,7 +21,7 @@ mod show;
 mod words;
 
 use crate::fault::RowsFault;
-use crate::kept::{fresh_file, show_kept};
+use crate::kept::{fresh_file, job_of, show_kept};
 use crate::run::{Setting, show_cuts, show_session};
 use crate::words::{number_of, put_bytes, setting_of};
 use std::alloc::Global;
@@ -45,13 +46,26 @@ impl Recorded {
         match line {
             "end" => show_session(alloc, self.setting, &self.input, out),
             "cuts" => show_cuts(alloc, self.setting, &self.input, out),
-            "again" => show_kept(alloc, None, &self.input, &mut self.file, out),
-            _ if line.starts_with("kept ") => {
-                let blocks = Some(number_of(line)?);
-                show_kept(alloc, blocks, &self.input, &mut self.file, out)
+            "again" => self.serve(alloc, None, false, out),
+            _ if line.starts_with("kept ") => self.serve(alloc, Some(number_of(line)?), false, out),
+            _ if line.starts_with("counted ") => {
+                self.file = fresh_file(alloc, self.setting)?;
+                self.serve(alloc, Some(number_of(line)?), true, out)
             }
             _ => self.take_words(alloc, line, out),
         }
+    }
+
+    /// Serves the drive in the file.
+    fn serve(
+        &mut self,
+        alloc: Global,
+        blocks: Option<u64>,
+        counted: bool,
+        out: &mut String,
+    ) -> Result<(), RowsFault> {
+        let job = job_of(alloc, blocks, counted);
+        show_kept(alloc, &job, &self.input, &mut self.file, out)
     }
 
     /// Reads a line that begins a session, or the bytes of one.

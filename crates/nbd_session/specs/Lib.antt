@@ -4,3 +4,4 @@ pub mod Requests
 pub mod Session
 pub mod Turns
 pub mod Laws
+pub mod Served

@@ -1,4 +1,4 @@
-ghost use Rattle.std.specs.Prelude.{◌≡◌};
+ghost use Rattle.std.specs.Prelude.{◌≡◌, OnOk};
 
 use crate::fault::{MediumFault, StoreFault};
 use crate::store::Store;
@@ -9,8 +9,12 @@ use zone_translator::{Disk, DiskFault, DiskStatus};
 /// What keeps a drive when the power fails, as the file that its changes are written to. No contract can say what it
 /// keeps: a `sync` that answers `Ok` has made all that was written before durable.
 pub trait Medium {
+    /// That a sync which was done leads from one medium to the other. Only a call of `sync` can give it.
+    ghost is_synced: { Self → Self → Type 0 };
+
     /// Makes durable what was written. After a fault it never answers `Ok` again, since what it lost is unknown.
-    fn sync(&mut self) -> Result<(), MediumFault>;
+    fn sync(&mut self) -> Result<(), MediumFault>
+        ensures { OnOk result (is_synced self.old self.new) };
 }
 
 /// The medium of a drive that keeps each completed command by itself.
@@ -18,6 +22,10 @@ pub trait Medium {
 pub struct WriteThrough;
 
 impl Medium for WriteThrough {
+    ghost use Rattle.std.specs.Prelude.{⊤};
+
+    ghost is_synced = { λ _ _. ⊤ };
+
     fn sync(&mut self) -> Result<(), MediumFault> {
         Ok(())
     }
@@ -33,17 +41,18 @@ pub struct ServedDisk<D: Device + Drop, M: Medium + Drop> {
 }
 
 impl<D: Device + Drop, M: Medium + Drop> Model for ServedDisk<D, M> {
-    ghost use Rattle.zone_translator.specs.View.{DiskView};
+    ghost use Rattle.nbd_session.specs.Served.{Served};
 
-    ghost Value = { DiskView };
+    ghost Value = { Served M };
 
-    ghost view = { λ s. s.disk };
+    ghost view = { λ s. record { disk = s.disk; medium = s.medium } };
 }
 
 impl<D: Device + Drop, M: Medium + Drop> ServedDisk<D, M> {
     /// This disk, whose drive this medium keeps.
     pub fn new(disk: Disk<D>, medium: M) -> ServedDisk<D, M>
-        ensures { result ≡ disk }
+        ensures disk { result.disk ≡ disk }
+        ensures medium { result.medium ≡ medium }
     {
         ServedDisk {
             disk,
@@ -55,7 +64,8 @@ impl<D: Device + Drop, M: Medium + Drop> ServedDisk<D, M> {
     /// The same, and after each request that is answered a turn of cleaning is taken, if one is due. So more is moved,
     /// and fewer writes wait for a clean.
     pub fn cleaning(disk: Disk<D>, medium: M) -> ServedDisk<D, M>
-        ensures { result ≡ disk }
+        ensures disk { result.disk ≡ disk }
+        ensures medium { result.medium ≡ medium }
     {
         ServedDisk {
             disk,
@@ -66,14 +76,15 @@ impl<D: Device + Drop, M: Medium + Drop> ServedDisk<D, M> {
 
     /// The disk, to be looked at.
     pub fn disk(&self) -> &Disk<D>
-        ensures { result.now ≡ self.now }
+        ensures { result.now ≡ self.now.disk }
     {
         &self.disk
     }
 
     /// The disk and the medium, as they are.
     pub fn into_parts(self) -> (Disk<D>, M)
-        ensures { result.0 ≡ self }
+        ensures disk { result.0 ≡ self.disk }
+        ensures medium { result.1 ≡ self.medium }
     {
         (self.disk, self.medium)
     }
@@ -84,7 +95,9 @@ impl<D: Device + Drop, M: Medium + Drop> Store for ServedDisk<D, M> {
     ghost use Rattle.zone_translator.specs.View.{disk_array};
 
     // The drive itself has no other array than the one that the disk serves.
-    ghost view = { λ s. record { disk = s; since = disk_array s ∷ [] } };
+    ghost view = { λ s. record { disk = s.disk; since = disk_array s.disk ∷ [] } };
+
+    ghost is_synced = { λ old new. M.is_synced old.medium new.medium };
 
     fn block_bytes(&self) -> u32 {
         let bytes = self.disk.block_bytes();

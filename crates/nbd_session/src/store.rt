@@ -1,4 +1,4 @@
-ghost use Rattle.std.specs.Prelude.{◌≡◌, ◌*◌, ◌<◌, ◌^◌};
+ghost use Rattle.std.specs.Prelude.{◌≡◌, ◌*◌, ◌<◌, ◌^◌, OnOk};
 ghost use Rattle.zone_translator.specs.Answers.{AreBlocksOf, write_bytes};
 ghost use Rattle.zone_translator.specs.Flat.{trim, with_nothing};
 ghost use Rattle.zone_translator.specs.View.{disk_size};
@@ -11,6 +11,9 @@ use zone_translator::DiskFault;
 pub trait Store {
     /// The disk, and the arrays that a loss of power may leave.
     ghost view: { Self → StoreView };
+
+    /// That a sync which was done leads from one store to the other. Only a call of `sync` can give it.
+    ghost is_synced: { Self → Self → Type 0 };
 
     /// How many bytes a block has.
     fn block_bytes(&self) -> u32
@@ -44,7 +47,8 @@ pub trait Store {
 
     /// Makes the array durable: after a loss of power it is found again.
     fn sync(&mut self) -> Result<(), StoreFault>
-        ensures { Syncs (view self.old) result (view self.new) };
+        ensures gives { Syncs (view self.old) result (view self.new) }
+        ensures synced { OnOk result (is_synced self.old self.new) };
 
     /// What a store does once a request is answered, while its client does not wait. The array stays.
     fn rest(&mut self)
