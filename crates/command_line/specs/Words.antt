@@ -1,5 +1,6 @@
 -- The task that words ask for.
-use Rattle.std.specs.Prelude.{◌≡◌, ◌⊎◌, ◌<◌, ◌^◌, ℕ, Bool, true, false, if◌then◌else◌, List, [], Option, Some, None, IfErr, IfOk, IsSomeAnd, MatchOption, Result, codes, length, min, string_bytes}
+use Rattle.std.specs.Prelude.{◌≡◌, ◌⊎◌, ◌<◌, ◌^◌, ℕ, Bool, true, false, if◌then◌else◌, List, [], Option, Some, None, IfErr, IfOk, IsSomeAnd, MatchOption}
+use Rattle.std.specs.Prelude.{Result, codes, length, min, string_bytes}
 use Rattle.std.specs.List.{list_all}
 use Rattle.std.specs.Borrow.{Bor}
 use Rattle.std.specs.Char.{is_ascii_digit}

@@ -1,6 +1,8 @@
 ghost use Rattle.std.specs.Prelude.{◌≡◌, [], ◌∷◌, ◌++◌, false, IfOk, codes};
 ghost use Rattle.clap.specs.Words.{Shape, app_of, rule_of};
-ghost use Rattle.command_line.specs.Program.{AddsOptions, AddsSubcommand, IsCommand, below_2_63, blocks, flag, format, fresh_words, fresh_raw, habit, image, limits, nbd, number, nvme, optional, part, parts, program, report_words, run, shape, stops};
+ghost use Rattle.command_line.specs.Program.{AddsOptions, AddsSubcommand, IsCommand, below_2_63, blocks, flag, format};
+ghost use Rattle.command_line.specs.Program.{fresh_raw, fresh_words, habit, image, limits, nbd, number, nvme};
+ghost use Rattle.command_line.specs.Program.{optional, part, parts, program, report_words, run, shape, stops};
 
 use clap::builder::ValueParser;
 use clap::{Arg, ArgAction, Command, value_parser};
@@ -25,10 +27,12 @@ const NVME_EXAMPLE: &str = "Example:
   printf '0000010001000000%0112d\\n' 0 | zonedisk nvme --image my.drive";
 
 const FRESH_EXAMPLE: &str = "Example:
-  printf 'fill 0 5 aa\\nread 4 1\\n' | zonedisk fresh --block 512 --zones 4 --size 8 --capacity 6 --transfer 4 --active 2 --open 2 --blocks 9 --report";
+  printf 'fill 0 5 aa\\nread 4 1\\n' | zonedisk fresh --block 512 --zones 4 --size 8 \
+    --capacity 6 --transfer 4 --active 2 --open 2 --blocks 9 --report";
 
 const FRESH_RAW_EXAMPLE: &str = "Example:
-  printf '0000010001000000%0112d\\n' 0 | zonedisk fresh-raw --block 512 --zones 4 --size 8 --capacity 6 --transfer 4 --active 2 --open 2";
+  printf '0000010001000000%0112d\\n' 0 | zonedisk fresh-raw --block 512 --zones 4 --size 8 \
+    --capacity 6 --transfer 4 --active 2 --open 2";
 
 const SYNC_HELP: &str = "Sends a reply only once the changes before it are on the disk";
 

@@ -2,7 +2,8 @@ ghost use Rattle.std.specs.Prelude.{◌≡◌, ◌≢◌, IfOk, IsSomeAnd, codes
 ghost use Rattle.std.specs.List.{list_all};
 ghost use Rattle.std.specs.Char.{is_ascii_digit};
 ghost use Rattle.clap.specs.Words.{first_of, found_of, rows_of, subcommand_rows_of};
-ghost use Rattle.command_line.specs.Words.{AsksFor, AsksForJob, AsksForNbd, Finds, HasFlag, HasGeometry, HasHabit, HasImage, HasNumber, HasNumberIf, HasNumberOr, HasStop, IsAnswerTo};
+ghost use Rattle.command_line.specs.Words.{AsksFor, AsksForJob, AsksForNbd, Finds, HasFlag, HasGeometry, HasHabit};
+ghost use Rattle.command_line.specs.Words.{HasImage, HasNumber, HasNumberIf, HasNumberOr, HasStop, IsAnswerTo};
 ghost use Rattle.command_line.specs.declared.words.WordFault.TheVariants.{Memory};
 
 use crate::command::{HABITS, program};

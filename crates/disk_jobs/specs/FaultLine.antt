@@ -18,7 +18,8 @@ read_fault_text (files.Image fault) = image_text fault
 read_fault_text (files.Damaged at) = codes "fault file\n"
 read_fault_text files.Zones = codes "fault file\n"
 
--- a run by the line of its fault, a number of blocks that does not fit by the line of the mount, a file that holds no drive as above, and a file by one line for all its faults
+-- a run by the line of its fault, a number of blocks that does not fit by the line of the mount, a file that holds no drive as above, and a file
+-- by one line for all its faults
 abbrev pub program_text : ProgramFault → List ℕ
 program_text (program.Run fault) = run_text fault
 program_text (program.Reserve most) = run_text (runs.Mount mounts.Reserve)

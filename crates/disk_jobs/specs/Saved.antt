@@ -186,7 +186,8 @@ IsHandedBack failed drive back = failed ≡ false → (back.geometry ≡ drive.g
 -- ---- the job
 
 -- What the lines of a job leave of its drive, whatever ended them, and what its store holds then. Whether the store failed is told.
-pub record LeavesDrive (job : Job) (bytes : Exchange) (old : DriveState) (ended : Result (Unit {0}) RunFault) (left : Left) (before held : Known) (failed : Bool) : Type 0 where
+pub record LeavesDrive (job : Job) (bytes : Exchange) (old : DriveState) (ended : Result (Unit {0}) RunFault) (left : Left)
+    (before held : Known) (failed : Bool) : Type 0 where
   pub drive : DriveState
   pub answers : AnswersLines job bytes old ended drive left.drive.state
   pub failed_is : left.failed ≡ failed
@@ -194,7 +195,8 @@ pub record LeavesDrive (job : Job) (bytes : Exchange) (old : DriveState) (ended 
   pub stored : StoresDrive job before held drive
 
 -- What a job leaves of the drive that it began with.
-pub record LeftByLines (job : Job) (file : Known) (bytes : Exchange) (ended : Result (Unit {0}) RunFault) (left : Left) (before held : Known) (failed : Bool) : Type 0 where
+pub record LeftByLines (job : Job) (file : Known) (bytes : Exchange) (ended : Result (Unit {0}) RunFault) (left : Left)
+    (before held : Known) (failed : Bool) : Type 0 where
   pub first : Begun
   pub begins : BeginsOn job file first
   pub told : Known

@@ -4,7 +4,8 @@ ghost use Rattle.std.specs.Prelude.{◌≡◌, IfErr, IfOk, OnOk, true};
 ghost use Rattle.std.specs.Io.KnownBytes.{Appends};
 ghost use Rattle.zone_drive.specs.declared.habit.Habit.TheVariants.{Lazy};
 ghost use Rattle.disk_files.specs.Reply.{ok_text};
-ghost use Rattle.disk_jobs.specs.Saved.{FailsToWrite, HasDrive, HasNoDrive, IsNotFresh, IsNotRead, IsOk, IsSavedText, ThenShows, WritesText, fresh_drive};
+ghost use Rattle.disk_jobs.specs.Saved.{FailsToWrite, HasDrive, HasNoDrive, IsNotFresh, IsNotRead, IsOk, IsSavedText};
+ghost use Rattle.disk_jobs.specs.Saved.{ThenShows, WritesText, fresh_drive};
 ghost use Rattle.disk_jobs.specs.declared.fault.ProgramFault.TheVariants as program;
 
 use crate::fault::ProgramFault;

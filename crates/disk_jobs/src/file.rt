@@ -112,13 +112,12 @@ fn save_if_any<F: Files<File = File>>(
     }
 }
 
-/// Does a job whose changes are gathered for a file, and sends what it wrote. A reply is sent once the file has the
-/// changes before it.
+/// Does a job over the bytes of a file for which its changes are gathered, and sends what it wrote. A reply is sent
+/// once the file has the changes before it.
 fn run_over<F: Files<File = File>, I: Read + Drop, R: Read + Drop, W: Write>(
     saving: &Saving<'_, F>,
     job: &Job,
-    bytes: I,
-    file: &ChangesFile<'_, F>,
+    (file, bytes): (&ChangesFile<'_, F>, I),
     input: &mut LineReader<R>,
     output: &mut W,
 ) -> Ran {
@@ -155,7 +154,7 @@ fn run_with_changes<F: Files<File = File>, R: Read + Drop, W: Write>(
         Err(error) => return Done::unsaved(Err(told(FileFault::Open(SystemError::from(error))))),
     };
     let file = ChangesFile::with_gate(saving, image, input.gate);
-    let (left, ran) = run_over(saving, job, bytes, &file, &mut input.lines, output);
+    let (left, ran) = run_over(saving, job, (&file, bytes), &mut input.lines, output);
     let _ = file.write_out();
     let sent = first_told(ran, file.fault());
     let mounting = mounting(&left);

@@ -2,7 +2,8 @@
 
 ghost use Rattle.std.specs.Prelude.{◌≡◌, false, true};
 ghost use Rattle.disk_runs.specs.Run.{exchange};
-ghost use Rattle.disk_jobs.specs.Saved.{LeavesDrive, RunsLines, RunsTrace, ThenShows, has_changes, shows_zones, stopping};
+ghost use Rattle.disk_jobs.specs.Saved.{LeavesDrive, RunsLines, RunsTrace, ThenShows};
+ghost use Rattle.disk_jobs.specs.Saved.{has_changes, shows_zones, stopping};
 
 use crate::begun::show_zones;
 use crate::job::{Job, Stop};
@@ -11,10 +12,18 @@ use disk_files::LineReader;
 use disk_runs::{RunFault, answer_trace, run_raw};
 use drive_journal::{Journaling, Store};
 use drive_port::{Device, StopAfter};
+use drive_store::Begun;
 use std::alloc::Global;
 use std::io::{Read, Write};
 use zone_drive::Drive;
 use zone_translator::Disk;
+
+/// What a job begins with: a drive, and the store of its file.
+#[derive(Drop)]
+pub(crate) struct Start<S: Store<Drive> + Drop> {
+    pub(crate) begun: Begun,
+    pub(crate) store: S,
+}
 
 /// What the lines of a job left.
 #[derive(Drop)]
@@ -150,26 +159,26 @@ fn show_after<W: Write>(
 }
 
 /// Answers the lines of a job over a drive that no store keeps.
-pub(crate) fn answer_in_memory<S: Store<Drive>, R: Read + Drop, W: Write>(
+pub(crate) fn answer_in_memory<S: Store<Drive> + Drop, R: Read + Drop, W: Write>(
     alloc: Global,
     job: &Job,
-    drive: Drive,
-    store: &S,
+    start: Start<S>,
     input: &mut LineReader<R>,
     output: &mut W,
-) -> (Left, Result<(), RunFault>)
+) -> (Left, S, Result<(), RunFault>)
     requires { has_changes job.now ≡ false }
     ensures { LeavesDrive job.now (exchange input.old.left (W.contents output.old) (W.contents output.new))
-        drive.state result.1 result.0 (S.held store.now) (S.held store.now) (S.failed store.now) }
+        start.begun.drive.state result.2 result.0 (S.held start.store) (S.held result.1) (S.failed result.1) }
 {
-    let (drive, mounting, ran) = run_lines(alloc, job, drive, input, output);
+    let Start { begun, store } = start;
+    let (drive, mounting, ran) = run_lines(alloc, job, begun.drive, input, output);
     let shown = show_after(alloc, job, &drive, ran, output);
     let left = Left {
         drive,
         failed: store.has_failed(),
         mounting,
     };
-    (left, shown)
+    (left, store, shown)
 }
 
 /// Answers the lines of a job over a drive whose changes go to a store.

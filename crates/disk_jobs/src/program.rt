@@ -3,17 +3,18 @@ ghost use Rattle.drive_journal.specs.Cut.{front_of};
 ghost use Rattle.drive_journal.specs.File.{IsStoredWhole};
 ghost use Rattle.drive_store.specs.Kept.{HoldsFile};
 ghost use Rattle.disk_runs.specs.Run.{exchange};
-ghost use Rattle.disk_jobs.specs.Saved.{HasNoDrive, LeavesDrive, LeftByLines, ShowsReport, TellsRun, ended_by, has_changes};
+ghost use Rattle.disk_jobs.specs.Saved.{HasNoDrive, LeavesDrive, LeftByLines, ShowsReport, TellsRun};
+ghost use Rattle.disk_jobs.specs.Saved.{ended_by, has_changes};
 
 use crate::begun::begin;
 use crate::fault::ProgramFault;
 use crate::job::Job;
-use crate::lines::{Left, answer_in_memory, answer_kept};
+use crate::lines::{Left, Start, answer_in_memory, answer_kept};
 use disk_files::LineReader;
 use disk_runs::RunFault;
 use drive_journal::Store;
 use drive_port::Device;
-use drive_store::{Begun, DriveFile, keep};
+use drive_store::{DriveFile, keep};
 use std::alloc::Global;
 use std::io::{Read, Write};
 use zone_choice::most_blocks;
@@ -44,13 +45,6 @@ fn has_changes(job: &Job) -> bool
     }
 }
 
-/// What a job begins with: a drive, and the store of its file.
-#[derive(Drop)]
-struct Start<S: Store<Drive> + Drop> {
-    begun: Begun,
-    store: S,
-}
-
 /// Answers the lines of a job over the drive that it begins with.
 fn answer<S: Store<Drive> + Drop, R: Read + Drop, W: Write>(
     alloc: Global,
@@ -64,11 +58,10 @@ fn answer<S: Store<Drive> + Drop, R: Read + Drop, W: Write>(
     ensures { LeavesDrive job.now (exchange input.old.left (W.contents output.old) (W.contents output.new))
         start.begun.drive.state result.2 result.0 (S.held start.store) (S.held result.1) (S.failed result.1) }
 {
-    let Start { begun, store } = start;
     if !has_changes(job) {
-        let (left, result) = answer_in_memory(alloc, job, begun.drive, &store, input, output);
-        return (left, store, result);
+        return answer_in_memory(alloc, job, start, input, output);
     }
+    let Start { begun, store } = start;
     let device = keep(alloc, begun, store);
     answer_kept(alloc, job, device, input, output)
 }

@@ -85,4 +85,5 @@ whole_in n (change ∷ changes) = if nat_lt n (length (change_bytes change)) the
 -- and what there is of the next one
 abbrev pub cut_rest : ℕ → List Change → List ℕ
 cut_rest n [] = []
-cut_rest n (change ∷ changes) = if nat_lt n (length (change_bytes change)) then take n (change_bytes change) else cut_rest (n - length (change_bytes change)) changes
+cut_rest n (change ∷ changes) =
+    if nat_lt n (length (change_bytes change)) then take n (change_bytes change) else cut_rest (n - length (change_bytes change)) changes

@@ -43,7 +43,8 @@ FindsBody geometry old new change found.Other = ⊥
 abbrev pub FindsChange : Geometry → Option (List ℕ) → Option (List ℕ) → Change → Found → Type 0
 FindsChange geometry old new change found.Change = ReadsChange geometry change_bytes old new change
 FindsChange geometry old new change found.CutOff = IfSome old (IsCutOff geometry)
-FindsChange geometry old new change found.TooLong = IfSome old (λ bytes. HasNoChange geometry bytes × (begins_as_mark bytes ≡ true) × (longest_change geometry < length bytes))
+FindsChange geometry old new change found.TooLong =
+    IfSome old (λ bytes. HasNoChange geometry bytes × (begins_as_mark bytes ≡ true) × (longest_change geometry < length bytes))
 FindsChange geometry old new change found.Other = IfSome old (λ bytes. begins_as_mark bytes ≡ false)
 
 -- the bytes that are left are that many at most, or more

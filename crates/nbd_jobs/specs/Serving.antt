@@ -104,7 +104,8 @@ pub record ServesStopping (blocks : Option ℕ) (bytes : Streams) (device : Stop
 
 -- What a session leaves of its drive, whatever ended it: the store holds that drive, and so has every write that was answered. Whether the store
 -- failed is told.
-pub record LeavesStored (job : NbdJob) (bytes : Streams) (old : DriveState) (ended : Result (Unit {0}) NbdFault) (left : Left) (held : Option (List ℕ)) (failed : Bool) : Type 0 where
+pub record LeavesStored (job : NbdJob) (bytes : Streams) (old : DriveState) (ended : Result (Unit {0}) NbdFault)
+    (left : Left) (held : Option (List ℕ)) (failed : Bool) : Type 0 where
   pub drive : DriveState
   pub serves : ServesStopping job.blocks bytes (stopping job.stop old) ended drive
   pub failed_is : left.failed ≡ failed
@@ -112,7 +113,8 @@ pub record LeavesStored (job : NbdJob) (bytes : Streams) (old : DriveState) (end
   pub stored : IfSome held (λ bytes. IsStored bytes drive)
 
 -- the same of the drive that the bytes of a file hold, restarted
-pub record LeavesFile (job : NbdJob) (file : Option (List ℕ)) (bytes : Streams) (ended : Result (Unit {0}) NbdFault) (left : Left) (held : Option (List ℕ)) (failed : Bool) : Type 0 where
+pub record LeavesFile (job : NbdJob) (file : Option (List ℕ)) (bytes : Streams) (ended : Result (Unit {0}) NbdFault)
+    (left : Left) (held : Option (List ℕ)) (failed : Bool) : Type 0 where
   pub first : Begun
   pub begins : IsRestarted file job.habit first
   pub leaves : LeavesStored job bytes first.drive.state ended left held failed

@@ -12,8 +12,8 @@
 //!
 //! The lines are `read`, `fill`, `write`, `trim`, `idle`, `grow` and `remount`, as `docs/formats.md` describes them.
 //! [`task_of`] reads the words of the command line, [`run_job`] does what they ask for, and [`do_job`] does it on
-//! the drive of a file, which it locks: each change is in the file before the reply to it, and the drive is saved at the
-//! end. What the replies are is promised by the runs below,
+//! the drive of a file, which it locks: each change is in the file before the reply to it, and the drive is saved at
+//! the end. What the replies are is promised by the runs below,
 //! [`run_trace`], [`answer_trace`] and [`run_raw`]; what a task holds, and which words ask for none, by [`task_of`];
 //! which drive is saved, and what is shown of it, by [`run_job`]; and the image of a drive by `drive_images`.
 //! `zonedisk nbd` serves a drive by the Network Block Device protocol, as [`serve_drive`] promises.

@@ -15,5 +15,5 @@ returns g c =
       };
       failed_is = c.has_failed.ensures;
       back = λ kept. (refl, refl);
-      stored = stores-nothing c.args.job.now (g.S.Store.held c.args.store.now) left c.requires;
+      stored = stores-nothing c.args.job.now (g.S.Store.held c.args.start.store) left c.requires;
     }
