@@ -7,7 +7,7 @@ use Rattle.disk_files.specs.declared.line_reader.LineFault.{LineFault}
 use Rattle.disk_files.specs.declared.line_reader.LineFault.TheVariants.{Long}
 use Rattle.disk_files.specs.Line.{NoFeed, feed}
 
--- what was taken of a line, whether the line goes on after that, and the bytes that are read ahead of it
+-- what was taken of a line, whether the line continues after that, and the bytes that are read ahead of it
 pub record AheadView : Type 0 where
   pub line : List ℕ
   pub is_open : Bool

@@ -11,11 +11,11 @@ feed = 10
 abbrev pub is_feed : ℕ → Bool
 is_feed b = b == feed
 
--- the bytes before the first line feed, all of them where there is none
+-- the bytes before the first line feed, all of them if there is none
 abbrev pub first_line : List ℕ → List ℕ
 first_line bytes = before_first is_feed bytes
 
--- the bytes after the first line feed, none where there is none
+-- the bytes after the first line feed, none if there is none
 abbrev pub after_line : List ℕ → List ℕ
 after_line bytes = after_first is_feed bytes
 

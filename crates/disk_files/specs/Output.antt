@@ -1,4 +1,4 @@
--- What a writer that fails leaves, where the bytes that it holds are known.
+-- The result of a writer that fails, where the bytes that it holds are known.
 use Rattle.std.specs.Prelude.{ℕ, ◌<◌, List, length, take, Option}
 use Rattle.std.specs.Io.KnownBytes.{Appends}
 

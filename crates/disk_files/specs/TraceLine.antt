@@ -77,7 +77,7 @@ plain_of word words = do
   name ← name_of word
   line_of name words
 
--- what a line says, and the data beside it: a `write` alone has any
+-- what a line says, and its data: only a `write` has any
 abbrev pub line_of_words : List (List ℕ) → Option (TraceLine × List ℕ)
 line_of_words [] = None
 line_of_words (word ∷ words) =

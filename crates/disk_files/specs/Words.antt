@@ -14,7 +14,7 @@ o >>= f = option_and_then f o
 abbrev pub is_space : ℕ → Bool
 is_space b = b == 32
 
--- the words of a line: one space stands between each and the next
+-- the words of a line: one space is between each and the next
 abbrev pub words_of : List ℕ → List (List ℕ)
 words_of line = slice_split is_space line
 
@@ -30,7 +30,7 @@ pub record HasMore (words : List (List ℕ)) : Type 0 where
   pub rest : List (List ℕ)
   pub are : words ≡ first ∷ second ∷ rest
 
--- the number of a value's digits and those of a word
+-- the number of a value's digits and a word's
 abbrev pub digits_after : ℕ → List ℕ → Option ℕ
 digits_after value [] = Some value
 digits_after value (b ∷ bs) = if is_ascii_digit b then digits_after (10 * value + (b - 48)) bs else None

@@ -13,7 +13,7 @@ use std::marker::Model;
 /// What was taken of a line.
 #[derive(Clone, Copy)]
 pub enum Part {
-    /// Bytes of the line, which goes on.
+    /// Bytes of the line, which continues.
     Front,
     /// Bytes of the line, to its line feed.
     Line,

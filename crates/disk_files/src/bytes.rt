@@ -2,7 +2,7 @@ ghost use Rattle.std.specs.Prelude.{◌≡◌, ◌==◌, position};
 
 use memchr::memchr;
 
-/// Where a byte stands first.
+/// Where a byte is first.
 pub fn first_place(bytes: &[u8], byte: u8) -> Option<usize>
     ensures { result ≡ position (λ b. b == byte) bytes.now }
 {

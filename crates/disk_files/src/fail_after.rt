@@ -14,7 +14,7 @@ use std::io::{ErrorKind, Read, Write};
 /// ```
 ///
 /// While bytes may pass, a call does what the reader or the writer within does with them. Then each call fails, also
-/// where no byte is left to read, and what is within is not called. `flush` never counts.
+/// if no byte is left to read, and what is within is not called. `flush` never counts.
 #[derive(Drop)]
 pub struct FailAfter<S: Drop> {
     /// The reader or the writer within.

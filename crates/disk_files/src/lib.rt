@@ -22,6 +22,8 @@
 //! those say, and decode their data into a buffer that the caller keeps; replies are their texts; and
 //! [`write_out`] writes all its bytes, or after a fault a beginning of them. `laws` has what holds of all
 //! lines: those that are written are read again.
+//!
+//! Tests: the rows of `worked_runs`, and `texts.rt` of `call_tests`.
 #![tactic(auto)]
 
 mod ahead;

@@ -102,7 +102,7 @@ fn take_part<R: Read>(
     Ok(ahead.take(room))
 }
 
-/// Reads the next line. False where no byte is left.
+/// Reads the next line. False if no byte is left.
 fn read_line<R: Read>(reader: &mut R, ahead: &mut Ahead, reads: &mut u64) -> Result<bool, LineFault>
     requires { reads.old ≤ MOST_READS }
     ensures reads { reads.new ≤ MOST_READS }
@@ -154,7 +154,7 @@ impl<R: Read + Drop> LineReader<R> {
         self.ahead.has_line()
     }
 
-    /// Reads the next line; the last line may lack a line feed. False where no byte is left.
+    /// Reads the next line; the last line may lack a line feed. False if no byte is left.
     pub fn next_line(&mut self) -> Result<bool, LineFault>
         ensures reads { ReadsLine self.old.left self.new.left self.new.line result }
         ensures long { IsErrOf result LineFault.Long ↔ (LONGEST_LINE < length self.new.line) }

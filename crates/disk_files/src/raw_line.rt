@@ -13,7 +13,7 @@ fn decode_entry(digits: &[u8]) -> Option<[u8; 64]>
 }
 
 /// Reads a raw line, without its line feed. Its entry is the value, and `bytes` then holds the data beside
-/// it, nothing where there is none; after a fault `bytes` is empty. Memory is wanted only where `bytes` has
+/// it, nothing if none; after a fault `bytes` is empty. Memory is wanted only where `bytes` has
 /// too little room for the data.
 pub fn parse_raw_line(line: &[u8], bytes: &mut Vec<u8>) -> Result<[u8; 64], ParseFault>
     ensures ok { IfOk result (λ entry. raw_line line.now ≡ Some (entry, bytes.new.items)) }

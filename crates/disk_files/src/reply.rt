@@ -5,7 +5,7 @@ ghost use Rattle.disk_files.specs.Reply.{block_line, ok_text, out_of_range_text,
 use std::alloc::AllocError;
 
 /// Puts the reply `ok` after what `out` holds. Refused for memory, which is wanted only where `out` has
-/// too little room, `out` stays as it was.
+/// too little room, `out` stays unchanged.
 pub fn ok_reply(out: &mut Vec<u8>) -> Result<(), AllocError>
     ensures ok { OnOk result (out.new.items ≡ out.old.items ++ ok_text) }
     ensures err { OnErr result (out.new.items ≡ out.old.items) }
@@ -15,7 +15,7 @@ pub fn ok_reply(out: &mut Vec<u8>) -> Result<(), AllocError>
 }
 
 /// Puts the reply to a call past the end after what `out` holds. Refused for memory, which is wanted only
-/// where `out` has too little room, `out` stays as it was.
+/// where `out` has too little room, `out` stays unchanged.
 pub fn out_of_range_reply(out: &mut Vec<u8>) -> Result<(), AllocError>
     ensures ok { OnOk result (out.new.items ≡ out.old.items ++ out_of_range_text) }
     ensures err { OnErr result (out.new.items ≡ out.old.items) }
@@ -25,7 +25,7 @@ pub fn out_of_range_reply(out: &mut Vec<u8>) -> Result<(), AllocError>
 }
 
 /// Puts the reply to a growth below the disk's size after what `out` holds. Refused for memory, which is wanted
-/// only where `out` has too little room, `out` stays as it was.
+/// only where `out` has too little room, `out` stays unchanged.
 pub fn smaller_reply(out: &mut Vec<u8>) -> Result<(), AllocError>
     ensures ok { OnOk result (out.new.items ≡ out.old.items ++ smaller_text) }
     ensures err { OnErr result (out.new.items ≡ out.old.items) }
@@ -35,7 +35,7 @@ pub fn smaller_reply(out: &mut Vec<u8>) -> Result<(), AllocError>
 }
 
 /// Puts the reply to a growth above the reserve after what `out` holds. Refused for memory, which is wanted
-/// only where `out` has too little room, `out` stays as it was.
+/// only where `out` has too little room, `out` stays unchanged.
 pub fn reserve_reply(out: &mut Vec<u8>) -> Result<(), AllocError>
     ensures ok { OnOk result (out.new.items ≡ out.old.items ++ reserve_text) }
     ensures err { OnErr result (out.new.items ≡ out.old.items) }
@@ -82,7 +82,7 @@ fn put_digits(bytes: &[u8], out: &mut Vec<u8>)
 }
 
 /// Puts the line of a block after what `out` holds: its number, and its data. Refused for memory, which is wanted only
-/// where `out` has too little room, `out` stays as it was.
+/// where `out` has too little room, `out` stays unchanged.
 pub fn block_line(number: u64, block: &[u8], out: &mut Vec<u8>) -> Result<(), AllocError>
     ensures ok { OnOk result (out.new.items ≡ out.old.items ++ block_line number block.now) }
     ensures err { OnErr result (out.new.items ≡ out.old.items) }

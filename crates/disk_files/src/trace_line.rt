@@ -13,7 +13,7 @@ pub enum TraceLine {
     Read { first: u64, blocks: u64 },
     /// `fill L N BB`: writes `blocks` blocks of one byte from `first` on.
     Fill { first: u64, blocks: u64, byte: u8 },
-    /// `write L HEX`: writes the bytes that stand beside this line, at least one, from the block `first` on.
+    /// `write L HEX`: writes the bytes that come with this line, at least one, from the block `first` on.
     Write { first: u64 },
     /// `trim L N`: trims `blocks` blocks from `first` on.
     Trim { first: u64, blocks: u64 },

@@ -33,7 +33,7 @@ remade parts = replayed parts.saved.geometry parts.saved.zones parts.changes
 
 -- ---- reading a file
 
--- the zones that are read: those of the image, where there is no change; else the remade ones, none of them open
+-- the zones that are read: the image's, where there is no change; else the remade ones, none of them open
 abbrev pub zones_read : Geometry → List Zone → List Change → List Zone
 zones_read geometry zones [] = zones
 zones_read geometry zones (change ∷ changes) = at_rest (replayed geometry zones (change ∷ changes))

@@ -1,4 +1,4 @@
--- Why bytes are not those of a file of a drive: the first fault, from the first byte on.
+-- Why bytes are not a file of a drive: the first fault, from the first byte on.
 use Rattle.std.specs.Prelude.{◌≡◌, ◌⊎◌, ℕ, ◌+◌, Bool, true, List, ◌++◌, length, Some, ⊤}
 use Rattle.std.specs.List.{AllByRecursion}
 use Rattle.zone_states.specs.declared.geometry.Geometry.{Geometry}

@@ -1,4 +1,4 @@
--- Of the bytes beside an entry only those matter that its command writes.
+-- Of the bytes with an entry only those matter that its command writes.
 use Rattle.std.specs.Prelude.{◌≡◌, ℕ, true, false, List, Result, Ok, Err, refl}
 use Rattle.nvme_wire.specs.Entry.{decode_of}
 use Rattle.nvme_wire.specs.declared.command.Command.{Command}

@@ -47,14 +47,14 @@ fn are_shut(zones: &[Zone]) -> bool
     zones.iter().all(|zone| !is_open(zone.state()))
 }
 
-// Whether the whole bytes of a file are an image alone, of zones none of which is open.
+// Whether the whole bytes of a file are only an image, of zones none of which is open.
 fn is_rested_image(zones: &[Zone], from: u64, whole: u64) -> bool
     ensures { result ≡ ((whole == from) && list_all (λ zone. not (is_open zone.state)) zones.now) }
 {
     whole == from && are_shut(zones)
 }
 
-// A drive of these zones, if there is one.
+// A drive of these zones, if any.
 fn make_drive(alloc: Global, geometry: Geometry, zones: Vec<Zone>) -> Result<Drive, FileFault>
     requires in_range { IsInRange geometry }
     requires whole { HaveWholeBlocks geometry.block zones.items }

@@ -15,7 +15,7 @@ use zone_drive::Drive;
 
 /// A device that knows how a command will end before it is done, and that never stops inside one.
 pub trait Foreseeing: Device {
-    /// What the command of an entry gives with these bytes beside it, if there is memory for it.
+    /// What the command of an entry gives with these bytes as its data, if there is memory for it.
     ghost foreseen: { Self → List ℕ → List ℕ → Outcome };
 
     /// The status with which the command of this entry will end, if there is memory for it and the device has not

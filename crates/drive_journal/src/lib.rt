@@ -28,6 +28,8 @@
 //! * What a store holds is read again, up to a restart (`laws::stored_is_read`).
 //!
 //! Nothing is promised of what a file system keeps after a power failure, without a sync.
+//!
+//! Tests: `journal.rt` of `call_tests`.
 #![tactic(auto)]
 
 mod change;

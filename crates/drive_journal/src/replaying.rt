@@ -16,7 +16,7 @@ use std::io::Read;
 use zone_drive::apply_to_each;
 use zone_states::{Geometry, Zone};
 
-/// Writes bytes after those of the zone with a number, if there is one.
+/// Writes bytes after those of the zone with a number, if any.
 fn write_in(
     geometry: &Geometry,
     zones: &mut [Zone],
@@ -32,7 +32,7 @@ fn write_in(
     zones[index].extend(geometry, bytes)
 }
 
-/// Does an action on the zone with a number, if there is one.
+/// Does an action on the zone with a number, if any.
 fn send_in(zones: &mut [Zone], index: u64, action: Action)
     ensures { zones.new ≡ sent_in zones.old index action }
 {

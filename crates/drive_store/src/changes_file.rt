@@ -13,7 +13,7 @@ use std::io::ErrorKind;
 use std::rt::Files;
 use zone_drive::Drive;
 
-/// The file of a drive, open and locked, to which changes are appended. Until the first one it is as it was.
+/// The file of a drive, open and locked, to which changes are appended. Until the first one it is unchanged.
 ///
 /// Changes are gathered, and written together: by [`write_out`](ChangesFile::write_out) at the latest, and before more
 /// than 64 KiB of them are held. After a fault the file takes no more of them. It has the first ones, in order, with

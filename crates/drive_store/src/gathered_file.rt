@@ -17,7 +17,7 @@ const MOST_GATHERED: usize = 1 << 16;
 const ROOM: u64 = 1 << 20;
 
 /// The file of a drive, to which changes are appended. They are gathered, and written together. Until the first one is
-/// written, the file is as it was.
+/// written, the file is unchanged.
 ///
 /// It is written anew when it is more than 1 MiB longer than twice the image that the drive has by then. To count the
 /// blocks of a drive takes time. So that is done only when the file has reached a length that the last count gave:

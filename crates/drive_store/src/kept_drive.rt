@@ -20,7 +20,7 @@ pub struct DriveFile<I: Read + Drop, S: Store<Drive> + Drop> {
 #[derive(Drop)]
 pub struct Begun {
     pub drive: Drive,
-    /// How many bytes of its file are the image and whole changes; 0 where no file has it.
+    /// How many bytes of its file are the image and whole changes; 0 if no file has it.
     pub whole: u64,
 }
 

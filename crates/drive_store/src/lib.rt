@@ -22,6 +22,8 @@
 //! Of files nothing is promised by contract, since std says nothing of what a path names, what a file holds or who has
 //! locked it. `tools/two_programs` and `tools/kill_runs` try them: an answered change is found again after a kill, and
 //! two programs never share a file.
+//!
+//! Tests: `tools/kill_runs` and `tools/two_programs`, on files.
 #![tactic(auto)]
 
 mod changes_file;

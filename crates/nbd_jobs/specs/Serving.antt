@@ -30,12 +30,12 @@ use Rattle.nbd_jobs.specs.declared.left.Left.{Left}
 
 -- ---- the disk
 
--- the number that a mount is given: where none was asked for, the least, since a drive that says its size has that one
+-- the number that a mount is given: if none was asked for, the least, since a drive that says its size has that one
 abbrev pub given_of : Option ℕ → ℕ
 given_of (Some n) = n
 given_of None = 1
 
--- the disk that is mounted on a drive; where no number was asked for, the drive says that it has more than one block
+-- the disk that is mounted on a drive; if no number was asked for, the drive says that it has more than one block
 pub record IsServed (old : DriveState) (blocks : Option ℕ) (disk : DiskView) : Type 0 where
   pub mounted : IsMounted old (given_of blocks) disk
   pub said : blocks ≡ None → disk_size disk ≢ 1

@@ -40,7 +40,7 @@ is_disconnect_by command = false
 abbrev pub is_disconnect : Request → Bool
 is_disconnect r = is_disconnect_by (command_of r.code)
 
--- every command may have FUA, bit 0, and WRITE_ZEROES alone NO_HOLE, bit 1
+-- every command may have FUA, bit 0, and only WRITE_ZEROES NO_HOLE, bit 1
 abbrev pub most_flags : Option Command → ℕ
 most_flags (Some commands.WriteZeroes) = 3
 most_flags command = 1

@@ -99,7 +99,7 @@ StopsSession Output bytes old new = Breaks bytes old new
 StopsSession Unsent bytes old new = AnswersUnsent bytes old new
 StopsSession TooMany bytes old new = ⊥
 
--- what came of one message: a session goes on in a phase, is over, or stops
+-- what came of one message: a session continues in a phase, is over, or stops
 abbrev pub TurnGives : Streams → Session → Result (Option Phase) SessionFault → StoreView → Type 0
 TurnGives bytes old (Ok (Some phase)) new = AnswersOne bytes old (session phase new)
 TurnGives bytes old (Ok None) new = DoesNothing bytes old new × IsOver old bytes.rest

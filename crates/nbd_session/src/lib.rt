@@ -18,12 +18,14 @@
 //! - A FLUSH, and a write with FUA, is answered by success only after a sync. Then a loss of power leaves the array as
 //!   it is (`laws::forced_is_durable`). Until the next sync it leaves an array that the disk had since.
 //! - Between requests a store may clean ([`ServedDisk::cleaning`]). That changes no block.
-//! - After the drive has stopped each request that needs it is answered by `ESHUTDOWN`, and the session goes on.
+//! - After the drive has stopped each request that needs it is answered by `ESHUTDOWN`, and the session continues.
 //! - After a fault all messages before are answered. Of the next one nothing is done, unless only its reply was cut.
 //! - Replies are passed on before the next request is waited for.
 //! - Whatever comes, the drive can be mounted again, and no command was refused.
 //!
 //! The bytes are promised where reader and writer say by contract which bytes they have left and hold.
+//!
+//! Tests: the rows of `nbd_rows`; `tools/nbd_clients`, with real clients.
 #![tactic(auto)]
 
 mod asked;

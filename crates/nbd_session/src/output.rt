@@ -15,7 +15,7 @@ pub fn send_both<W: Write>(writer: &mut W, head: &[u8], bytes: &[u8]) -> Result<
     Ok(())
 }
 
-/// Writes a reply without data, and lets the writer pass it on. If that alone fails the reply is written, and the fault
+/// Writes a reply without data, and lets the writer pass it on. If only that fails, the reply is written, and the fault
 /// comes from the next write.
 pub fn send<W: Write>(writer: &mut W, bytes: &[u8]) -> Result<(), WriteFault>
     ensures ok { OnOk result (Appends (W.contents writer.old) (W.contents writer.new) bytes.now) }

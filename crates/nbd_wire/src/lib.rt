@@ -8,6 +8,8 @@
 //!
 //! A request, the head of an option and the client's flags are decoded exactly from the bytes that they are encoded
 //! to. Every reply has the bytes that the protocol says (`specs/Handshake.antt`, `specs/Transmission.antt`).
+//!
+//! Tests: the rows of `nbd_rows`.
 #![tactic(auto)]
 
 mod client_flags;

@@ -4,7 +4,7 @@ ghost use Rattle.nbd_wire.specs.Handshake.{option_of};
 /// The options that every server knows, or that tell of an export ("Option types").
 #[derive(Clone, Copy, Debug, PartialEq, Eq)]
 pub enum OptionKind {
-    /// `NBD_OPT_EXPORT_NAME`: go on to the transmission phase, by a reply that has no head.
+    /// `NBD_OPT_EXPORT_NAME`: continue to the transmission phase, by a reply that has no head.
     ExportName,
     /// `NBD_OPT_ABORT`: end the session.
     Abort,
@@ -12,7 +12,7 @@ pub enum OptionKind {
     ListExports,
     /// `NBD_OPT_INFO`: tell what there is to know of an export.
     Info,
-    /// `NBD_OPT_GO`: tell the same, and go on to the transmission phase.
+    /// `NBD_OPT_GO`: tell the same, and continue to the transmission phase.
     Go,
 }
 
