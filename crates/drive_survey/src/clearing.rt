@@ -184,8 +184,8 @@ fn next_half_clean<D: Device>(
     ensures ok { IfOk result (FindsLowestWaiting (D.drive device.old) survey.now.given survey.now candidates.old) }
     ensures others { IfOk result (λ found. IfSome found
         (LeavesWaiting (D.drive device.old) survey.now.given survey.now candidates.old candidates.new)) }
-    ensures records { candidates.new.records ≡ candidates.old.records }
-    ensures sizes { candidates.new.sizes ≡ candidates.old.sizes }
+    ensures tables { (candidates.new.records ≡ candidates.old.records)
+        × (candidates.new.sizes ≡ candidates.old.sizes) }
     ensures err { IfErr result (IsInterruption (D.drive device.new)) }
     ensures kept { KeepsZones (D.drive device.old) (D.drive device.new) }
     ensures completed { (D.drive device.new).completed

@@ -107,8 +107,8 @@ fn save_if_any<F: Files<File = File>>(
     }
 }
 
-/// Serves the drive in a file to the client that sends to `input` and gets what `output` takes, and saves the drive once
-/// the session has ended, also after a fault. The file is locked until then.
+/// Serves the drive in a file to the client that sends to `input` and gets what `output` takes, and saves the drive
+/// once the session has ended, also after a fault. The file is locked until then.
 pub fn do_nbd_job<F: Files<File = File>, R: Read + Drop, W: Write>(
     files: &F,
     alloc: Global,

@@ -7,19 +7,21 @@
 //! }
 //! ```
 //!
-//! An [`NbdJob`] says which file is served, and how. [`serve_drive`] serves it to one client, and [`do_nbd_job`] does that
-//! on the file of a path: it locks the file, and saves the drive at the end.
+//! An [`NbdJob`] says which file is served, and how. [`serve_drive`] serves it to one client, and [`do_nbd_job`] does
+//! that on the file of a path: it locks the file, and saves the drive at the end.
 //!
 //! # What is promised
 //!
-//! * [`serve_drive`], over every reader, writer and store: the drive in the file is restarted and mounted, and each message
-//!   of the client is answered by its disk, as `nbd_session` says. Whatever ends the session, the store holds the drive
-//!   that is left, which can be mounted again and has each write that was answered (`specs/Serving.antt`).
+//! * [`serve_drive`], over every reader, writer and store: the drive in the file is restarted and mounted, and each
+//!   message of the client is answered by its disk, as `nbd_session` says. Whatever ends the session, the store holds
+//!   the drive that is left, which can be mounted again and has each write that was answered (`specs/Serving.antt`).
 //! * If no number of blocks was given, the disk has the size that the drive says. A drive that says none is not served.
-//! * Where the drive is not mounted, or the file holds none, no message is read and nothing is written. The fault says why.
+//! * Where the drive is not mounted, or the file holds none, no message is read and nothing is written. The fault
+//!   says why.
 //!
-//! Nothing is promised of [`do_nbd_job`], since no contract says what a file holds. That the changes are in the file before
-//! a reply is sent, and on the disk before a FLUSH is answered, is tried by `tools/nbd_clients` and `tools/kill_runs`.
+//! Nothing is promised of [`do_nbd_job`], since no contract says what a file holds. That the changes are in the file
+//! before a reply is sent, and on the disk before a FLUSH is answered, is tried by `tools/nbd_clients` and
+//! `tools/kill_runs`.
 //!
 //! Tests: the rows of `nbd_rows`; `tools/nbd_clients`, with real clients.
 #![tactic(auto)]

@@ -40,8 +40,8 @@ fn without_size<D: Device + Drop>(disk: Disk<D>) -> (NbdFault, D)
     (NbdFault::NoSize { most }, disk.into_device())
 }
 
-/// Mounts a drive to be served, as `blocks` logical blocks if it does not say its size. With the fault the drive is given
-/// back.
+/// Mounts a drive to be served, as `blocks` logical blocks if it does not say its size. With the fault the drive is
+/// given back.
 pub(crate) fn mount_served<D: Device + Drop>(
     alloc: Global,
     device: D,

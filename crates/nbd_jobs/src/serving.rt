@@ -169,7 +169,8 @@ pub fn serve_drive<I: Read + Drop, S: Store<Drive> + Drop, M: Medium + Drop, R: 
     writer: &mut W,
 ) -> (Option<Left>, S, Result<(), NbdFault>)
     requires { HoldsFile (S.held file.store) (I.remaining file.bytes) }
-    // What the client sent is answered by the disk of the drive in the file, and the store holds the drive that is left.
+    // What the client sent is answered by the disk of the drive in the file, and the store holds the drive that is
+    // left.
     ensures left { IfSome result.0 (λ left. LeavesFile job.now (I.remaining file.bytes)
         (streams (R.remaining reader.old) (R.remaining reader.new) (W.contents writer.old) (W.contents writer.new))
         result.2 left (S.held result.1) (S.failed result.1)) }

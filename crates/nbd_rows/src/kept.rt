@@ -54,10 +54,12 @@ pub fn show_kept(
     let (left, store, result) = serve_drive(alloc, job, served, &mut &*input, &mut sent);
     *file = Vec::from_slice(alloc, store.bytes())?;
     show_replies(&sent, out)?;
-    if let Some(Left {
-        statistics: Some(text),
-        ..
-    }) = left
+    if let Some(
+        Left {
+            statistics: Some(text),
+            ..
+        },
+    ) = left
     {
         out.push_str(&text)?;
     }

@@ -39,12 +39,12 @@ pub loop-candidates-preserved : goal.loop-candidates-preserved
 loop-candidates-preserved g c = (
   searches-more (g.D.Device.drive c.args.device.now) (g.D.Device.drive c.loop-candidates.device) (g.D.Device.drive c.next_half_clean.new.device) c.args.survey.now.given c.loop-candidates.survey c.give_up.new.survey
       c.loop-candidates.candidates c.next_half_clean.new.candidates c.give_up.new.candidates c.loop-candidates.resets.items c.push.new.self.items c.in-Some.zone c.loop-candidates.invariant.0 c.next_half_clean.ensures.kept
-      c.next_half_clean.ensures.records c.next_half_clean.ensures.sizes (finds-given (g.D.Device.drive c.loop-candidates.device) c.args.survey.now.given c.loop-candidates.survey.given c.loop-candidates.survey c.loop-candidates.candidates (Some c.in-Some.zone) c.loop-candidates.invariant.0.are.known.given_is (rw c.in-Some.is at c.in_ok-zone.ensures.ok)) (leaves-given (g.D.Device.drive c.loop-candidates.device) c.args.survey.now.given c.loop-candidates.survey.given c.loop-candidates.survey c.loop-candidates.candidates c.next_half_clean.new.candidates c.in-Some.zone c.loop-candidates.invariant.0.are.known.given_is (rw c.in-Some.is at c.in_ok-zone.ensures.others))
+      c.next_half_clean.ensures.tables.0 c.next_half_clean.ensures.tables.1 (finds-given (g.D.Device.drive c.loop-candidates.device) c.args.survey.now.given c.loop-candidates.survey.given c.loop-candidates.survey c.loop-candidates.candidates (Some c.in-Some.zone) c.loop-candidates.invariant.0.are.known.given_is (rw c.in-Some.is at c.in_ok-zone.ensures.ok)) (leaves-given (g.D.Device.drive c.loop-candidates.device) c.args.survey.now.given c.loop-candidates.survey.given c.loop-candidates.survey c.loop-candidates.candidates c.next_half_clean.new.candidates c.in-Some.zone c.loop-candidates.invariant.0.are.known.given_is (rw c.in-Some.is at c.in_ok-zone.ensures.others))
       (record { heads = c.in_ok-give_up.ensures.heads; tails = c.give_up.ensures.tails; zones = ap (λ (s : Survey). s.zones) c.give_up.ensures.others; size = ap (λ (s : Survey). s.size) c.give_up.ensures.others; given = ap (λ (s : Survey). s.given) c.give_up.ensures.others })
       (record { are = c.in_ok-give_up.ensures.are; wait = c.in_ok-give_up.ensures.wait }) (rw c.if-is_err.ensures.negation at c.push.ensures.items),
   ap (λ (s : Survey). s.zones) c.give_up.ensures.others ∙ c.loop-candidates.invariant.1,
   searches-next _ (length c.loop-candidates.resets.items) _ c.loop-candidates.survey.scanned.items c.give_up.new.survey.scanned.items c.in-Some.zone (g.D.Device.drive c.args.device.now) (g.D.Device.drive c.loop-candidates.device) (g.D.Device.drive c.next_half_clean.new.device) (ap length (rw c.if-is_err.ensures.negation at c.push.ensures.items) ∙ length-append c.loop-candidates.resets.items (c.in-Some.zone ∷ [])) c.in_ok-give_up.ensures.heads c.loop-candidates.invariant.2 c.next_half_clean.ensures.completed,
-  c.in_ok-give_up.ensures.few (few-same c.loop-candidates.survey.scanned.items c.loop-candidates.candidates.records c.next_half_clean.new.candidates.records (ap (λ (r : BlockRecords). r.own) c.next_half_clean.ensures.records) c.loop-candidates.invariant.3),
+  c.in_ok-give_up.ensures.few (few-same c.loop-candidates.survey.scanned.items c.loop-candidates.candidates.records c.next_half_clean.new.candidates.records (ap (λ (r : BlockRecords). r.own) c.next_half_clean.ensures.tables.0) c.loop-candidates.invariant.3),
 )
 
 pub returns-clause-clearing : goal.returns-clause-clearing
