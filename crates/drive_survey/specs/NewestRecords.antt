@@ -1,8 +1,9 @@
 -- Of the records of a zone the newest one of each block.
-use Rattle.std.specs.Prelude.{◌≡◌, ◌≤◌, ◌++◌, ℕ, suc, List, [], ◌∷◌, Some, IsSome, Contains, length}
-use Rattle.std.specs.BTreeMap.{BTreeMap, get}
+use Rattle.std.specs.Prelude.{◌≡◌, ◌≤◌, ◌++◌, ℕ, suc, List, [], ◌∷◌, Some, Contains, length, slice_get}
+use Rattle.std.specs.BTreeMap.{get}
 use Rattle.std.specs.Ordering.{nat_cmp}
 use Rattle.drive_survey.specs.declared.records.KeptRecord.{KeptRecord}
+use Rattle.drive_survey.specs.declared.clearing.newest.Newest.{Newest}
 use Rattle.drive_survey.specs.Heads.{HeadsView}
 use Rattle.drive_survey.specs.KeptRecords.{kept_of_zone}
 
@@ -12,13 +13,13 @@ pub record AreNewest (all own : List KeptRecord) : Type 0 where
   pub latest : (r s : KeptRecord) → Contains own r → Contains all s → s.block ≡ r.block → s.sequence ≤ r.sequence
   pub covers : (s : KeptRecord) → Contains all s → (r : KeptRecord) × Contains own r × (r.block ≡ s.block)
 
--- these, by their blocks
-pub record KeepsNewest (all : List KeptRecord) (newest : BTreeMap ℕ KeptRecord) : Type 0 where
-  pub among : (block : ℕ) (r : KeptRecord) → get nat_cmp newest block ≡ Some r → Contains all r × (r.block ≡ block)
-  pub latest : (block : ℕ) (r s : KeptRecord) → get nat_cmp newest block ≡ Some r → Contains all s → s.block ≡ block
-      → s.sequence ≤ r.sequence
-  pub covers : (s : KeptRecord) → Contains all s → IsSome (get nat_cmp newest s.block)
-  pub few : length newest.entries ≤ length all
+-- these, and where each block's record is among them
+pub record KeepsNewest (all : List KeptRecord) (newest : Newest) : Type 0 where
+  pub are : AreNewest all newest.records.items
+  pub few : length newest.records.items ≤ length all
+  pub found : (block place : ℕ) → get nat_cmp newest.places block ≡ Some place
+      → (r : KeptRecord) × (slice_get newest.records.items place ≡ Some r) × (r.block ≡ block)
+  pub placed : (place : ℕ) (r : KeptRecord) → slice_get newest.records.items place ≡ Some r → get nat_cmp newest.places r.block ≡ Some place
 
 -- those of each zone, one zone after the other: `zone` is the number of the first
 abbrev pub AreNewestOfAll : ℕ → List HeadsView → List KeptRecord → Type 0
