@@ -24,8 +24,8 @@ pub fn fresh_file(alloc: Global, setting: Setting) -> Result<Vec<u8>, RowsFault>
     Ok(file)
 }
 
-/// Serves the drive in a file, as `blocks` logical blocks if it does not say how many, and cleans between requests. Shows
-/// what the server sent and how the session ended. The file has all changes then.
+/// Serves the drive in a file, as `blocks` logical blocks if it does not say how many, and cleans between requests.
+/// Shows what the server sent and how the session ended. The file has all changes then.
 pub fn show_kept(
     alloc: Global,
     blocks: Option<u64>,
