@@ -297,7 +297,7 @@ impl<D: Device + Drop> Disk<D> {
     /// Writes `blocks` blocks of one byte from `first` on.
     ///
     /// After a refusal on its way a front of them is written. After `OutOfMemory` or `Spent` the
-    /// disk goes on; after `Stopped` it needs a mount of the restarted drive, or a remount, which finds the front.
+    /// disk goes on; after `Stopped` a mount of the restarted drive finds the front.
     pub fn fill(&mut self, first: u64, blocks: u64, byte: u8) -> Result<(), DiskFault>
         ensures answers { Answers self.old
             (fill self.old.drive.geometry.block first blocks byte) result self.new }
@@ -413,7 +413,8 @@ impl<D: Device + Drop> Disk<D> {
     }
 
     /// Mounts the drive again, as a mount with the same number of logical blocks does it. A clean that runs is
-    /// forgotten. A disk that has answered `Stopped` serves again, if the drive goes on.
+    /// forgotten. A drive that has stopped is not mounted: take it by [`into_device`](Disk::into_device), restart it,
+    /// and mount it.
     ///
     /// A refusal is `Halted` or `OutOfMemory`. It leaves the array on the drive, and the disk answers `Unmounted` to
     /// every call that needs the drive, until a remount is done.

@@ -12,8 +12,8 @@ pub enum DiskFault {
     /// goes on.
     #[error("out of memory")]
     OutOfMemory,
-    /// The drive has stopped. Of a write, a fill or a trim a front is in place; of a growth only a remount
-    /// can tell whether it is done.
+    /// The drive has stopped. Of a write, a fill or a trim a front is in place; of a growth only a mount of the
+    /// restarted drive can tell whether it is done.
     #[error("the drive has stopped")]
     Stopped,
     /// The sequence numbers that are left are kept for the repair of a zone, at a mount. Of a write, a fill or a

@@ -3,7 +3,7 @@
 pub enum DiskStatus {
     /// The disk serves calls.
     Serving,
-    /// The disk has answered `Stopped`, and answers it to every call that needs the drive, until a remount.
+    /// The disk has answered `Stopped`, and answers it to every call that needs the drive.
     Stopped,
     /// A remount was refused. Until one is done the disk answers `Unmounted` to every call that needs the drive.
     Unmounted,
