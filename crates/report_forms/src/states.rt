@@ -34,7 +34,8 @@ pub fn state_name(state: ZoneState) -> &'static str
 
 /// The state with that name.
 pub fn state_named(name: &str) -> Option<ZoneState>
-    ensures { IfSome result (λ state. name.now ≡ state_text state) }
+    ensures some { IfSome result (λ state. name.now ≡ state_text state) }
+    ensures none { IfNone result ((state : ZoneState) → name.now ≢ state_text state) }
 {
     match name {
         "Empty" => Some(ZoneState::Empty),
