@@ -12,7 +12,7 @@ use Rattle.tool_jobs.specs.declared.job.ToolJob.TheVariants as tools
 use Rattle.disk_jobs.specs.declared.job.Job.TheVariants as jobs
 use Rattle.command_line.specs.declared.task.Task.{Task}
 use Rattle.command_line.specs.declared.task.Task.TheVariants.{Lines, Nbd, Tool}
-use Rattle.command_line.specs.ToolWords.{HasZonesForm, IsSize, IsSizeIn, letter_unit, unit_of}
+use Rattle.command_line.specs.ToolWords.{HasZonesForm, SaysBytes, SaysBytesIn, letter_unit, unit_of}
 use Rattle.command_line.specs.Words.{AsksFor}
 use Rattle.command_line.proofs.WordLaws.{both}
 
@@ -56,7 +56,7 @@ same-end (a ∷ front) (b ∷ other) x y is =
 
 -- a size that ends with a letter of a unit is a number in that unit
 pub lettered : (text front : Text) (x unit : ℕ) → text ≡ front ++ x ∷ [] → letter_unit x ≡ Some unit → is_ascii_digit x ≡ false
-    → ((bytes : ℕ) → IsSizeIn unit front bytes → ⊥) → (bytes : ℕ) → IsSize text bytes → ⊥
+    → ((bytes : ℕ) → SaysBytesIn unit front bytes → ⊥) → (bytes : ℕ) → SaysBytes text bytes → ⊥
 lettered text front x unit ends unit_is other none bytes size = by size.letter size.spelled size.is_unit where
   by : (letter : Text) → text ≡ size.digits ++ letter → unit_of letter ≡ Some size.unit → ⊥
   by [] spelled is =
@@ -72,7 +72,7 @@ lettered text front x unit ends unit_is other none bytes size = by size.letter s
 -- a size that ends with no letter of a unit is a number of bytes
 pub unlettered : (text : Text) → ((front : Text) → text ≢ front ++ 75 ∷ []) → ((front : Text) → text ≢ front ++ 77 ∷ [])
     → ((front : Text) → text ≢ front ++ 71 ∷ []) → ((front : Text) → text ≢ front ++ 84 ∷ [])
-    → ((bytes : ℕ) → IsSizeIn 1 text bytes → ⊥) → (bytes : ℕ) → IsSize text bytes → ⊥
+    → ((bytes : ℕ) → SaysBytesIn 1 text bytes → ⊥) → (bytes : ℕ) → SaysBytes text bytes → ⊥
 unlettered text no_k no_m no_g no_t none bytes size = by size.letter size.spelled size.is_unit where
   by-letter : (y : ℕ) (k m g t : Bool) → (y == 75) ≡ k → (y == 77) ≡ m → (y == 71) ≡ g → (y == 84) ≡ t → text ≡ size.digits ++ y ∷ [] → letter_unit y ≡ Some size.unit → ⊥
   by-letter y true m g t ik im ig it spelled is = no_k size.digits (rw (eqb-true y 75 ik) at spelled)
@@ -98,5 +98,5 @@ some-mapped (Some x) f h = f x h
 some-mapped None f h = tt
 
 -- a number of bytes has no letter
-pub of-bytes : (text : Text) (bytes : ℕ) → IsSizeIn 1 text bytes → IsSize text bytes
+pub of-bytes : (text : Text) (bytes : ℕ) → SaysBytesIn 1 text bytes → SaysBytes text bytes
 of-bytes text bytes is = record { digits = text; letter = []; unit = 1; spelled = sym (append-nil text); is_unit = refl; is_size = is }

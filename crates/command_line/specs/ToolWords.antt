@@ -1,5 +1,6 @@
 -- What words ask of a tool.
-use Rattle.std.specs.Prelude.{◌≡◌, ◌<◌, ◌^◌, ◌*◌, ◌==◌, if◌then◌else◌, ℕ, Bool, true, false, List, [], ◌∷◌, ◌++◌, Option, Some, None, IsSomeAnd, MatchOption, codes, min, string_bytes}
+use Rattle.std.specs.Prelude.{◌≡◌, ◌<◌, ◌^◌, ◌*◌, ◌==◌, if◌then◌else◌, ℕ, Bool, true, false, List, [], ◌∷◌, ◌++◌, Option, Some, None, IsSomeAnd}
+use Rattle.std.specs.Prelude.{MatchOption, codes, min, string_bytes}
 use Rattle.clap.specs.Words.{Row, Text, first_of}
 use Rattle.nvme_wire.specs.declared.zone_state.ZoneState.{ZoneState}
 use Rattle.zone_report.specs.ReportText.{state_text}
@@ -35,10 +36,10 @@ abbrev pub HasStateIf : List Row → Option ZoneState → Type 0
 HasStateIf rows state = MatchOption (first_of (codes "state") rows) (state ≡ None) (λ name. IsSomeAnd state (λ s. name ≡ state_text s))
 
 -- which options a form is asked for by
-abbrev pub state_of : Option ZonesForm → Option ZoneState
-state_of (Some (zones.Lines state)) = Some state
-state_of (Some (zones.Json state)) = state
-state_of form = None
+abbrev pub state_asked : Option ZonesForm → Option ZoneState
+state_asked (Some (zones.Lines state)) = Some state
+state_asked (Some (zones.Json state)) = state
+state_asked form = None
 
 abbrev pub is_brief : Option ZonesForm → Bool
 is_brief (Some zones.Brief) = true
@@ -54,7 +55,7 @@ is_svg form = false
 
 -- exactly these were given; none of them for all lines
 pub record HasZonesForm (rows : List Row) (form : Option ZonesForm) : Type 0 where
-  pub state : HasStateIf rows (state_of form)
+  pub state : HasStateIf rows (state_asked form)
   pub brief : is_set rows (codes "brief") ≡ is_brief form
   pub json : is_set rows (codes "json") ≡ is_json form
   pub svg : is_set rows (codes "svg") ≡ is_svg form
@@ -122,26 +123,26 @@ unit_of (letter ∷ []) = letter_unit letter
 unit_of (letter ∷ next ∷ rest) = None
 
 -- a number in digits, as bytes of this unit
-pub record IsSizeIn (unit : ℕ) (digits : Text) (bytes : ℕ) : Type 0 where
+pub record SaysBytesIn (unit : ℕ) (digits : Text) (bytes : ℕ) : Type 0 where
   pub number : ℕ
   pub is_number : IsNumber 64 digits number
   pub bytes_are : bytes ≡ number * unit
   pub fits : bytes < 2 ^ 64
 
 -- a number in digits, and a letter or none after it
-pub record IsSize (text : Text) (bytes : ℕ) : Type 0 where
+pub record SaysBytes (text : Text) (bytes : ℕ) : Type 0 where
   pub digits : Text
   pub letter : Text
   pub unit : ℕ
   pub spelled : text ≡ digits ++ letter
   pub is_unit : unit_of letter ≡ Some unit
-  pub is_size : IsSizeIn unit digits bytes
+  pub is_size : SaysBytesIn unit digits bytes
 
 -- the other options of a plan that have values
 abbrev pub plan_names : List Text
 plan_names = codes "image" ∷ codes "blocks" ∷ codes "share" ∷ codes "amplification" ∷ part_names
 
 pub record AsksForFormat (rows : List Row) (bytes : ℕ) : Type 0 where
-  pub size : IsSomeAnd (first_of (codes "bytes") rows) (λ text. IsSize text bytes)
+  pub size : IsSomeAnd (first_of (codes "bytes") rows) (λ text. SaysBytes text bytes)
   pub alone : lacks_all rows plan_names ≡ true
   pub form : HasPlanForm rows plans.Table

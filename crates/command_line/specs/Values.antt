@@ -1,5 +1,6 @@
 -- The values that options were given.
-use Rattle.std.specs.Prelude.{◌≡◌, ◌⊎◌, ◌<◌, ◌^◌, ℕ, Bool, true, false, if◌then◌else◌, List, Option, Some, None, IfErr, IfOk, IsSomeAnd, MatchOption, Result, codes, is_none, length, min}
+use Rattle.std.specs.Prelude.{◌≡◌, ◌⊎◌, ◌<◌, ◌^◌, ℕ, Bool, true, false, if◌then◌else◌, List, Option, Some, None, IfErr, IfOk, IsSomeAnd, MatchOption}
+use Rattle.std.specs.Prelude.{Result, codes, is_none, length, min}
 use Rattle.std.specs.List.{list_all}
 use Rattle.std.specs.Char.{is_ascii_digit}
 use Rattle.std.specs.Str.{bytes_eq}

@@ -1,6 +1,9 @@
 ghost use Rattle.std.specs.Prelude.{◌≡◌, [], ◌∷◌, ◌++◌, false, IfOk, codes};
 ghost use Rattle.clap.specs.Words.{Shape, app_of, rule_of};
-ghost use Rattle.command_line.specs.Program.{AddsOptions, AddsSubcommand, IsCommand, aims, below_2_63, blocks, check_words, flag, format, fresh_words, fresh_raw, habit, image, limits, nbd, number, nvme, optional, part, parts, plan_words, program, report_words, run, shape, stops, valued};
+ghost use Rattle.command_line.specs.Program.{AddsOptions, AddsSubcommand, IsCommand, aims, below_2_63};
+ghost use Rattle.command_line.specs.Program.{blocks, check_words, flag, format, fresh_words, fresh_raw};
+ghost use Rattle.command_line.specs.Program.{habit, image, limits, nbd, number, nvme, optional, part, parts};
+ghost use Rattle.command_line.specs.Program.{plan_words, program, report_words, run, shape, stops, valued};
 
 use clap::builder::ValueParser;
 use clap::{Arg, ArgAction, Command, value_parser};

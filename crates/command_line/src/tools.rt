@@ -1,10 +1,12 @@
 // The jobs of the tools.
 
-ghost use Rattle.std.specs.Prelude.{◌≡◌, ◌≢◌, ◌<◌, ◌++◌, ◌∷◌, [], ℕ, List, IfNone, IfSome, MatchOption, Some, None, codes};
+ghost use Rattle.std.specs.Prelude.{◌≡◌, ◌≢◌, ◌<◌, ◌++◌, ◌∷◌, [], ℕ, List, IfNone, IfSome, MatchOption, Some};
+ghost use Rattle.std.specs.Prelude.{None, codes};
 ghost use Rattle.clap.specs.Words.{first_of, found_of, rows_of};
 ghost use Rattle.command_line.specs.Values.{Finds, is_missing, is_set, lacks_all};
-ghost use Rattle.command_line.specs.ToolWords.{AsksForCheck, AsksForFormat, AsksForPlan, HasAim, HasPlanForm, HasPlannedDrive, HasStateIf};
-ghost use Rattle.command_line.specs.ToolWords.{HasZonesForm, IsSize, IsSizeIn, part_names, plan_names};
+ghost use Rattle.command_line.specs.ToolWords.{AsksForCheck, AsksForFormat, AsksForPlan, HasAim, HasPlanForm};
+ghost use Rattle.command_line.specs.ToolWords.{HasPlannedDrive, HasStateIf};
+ghost use Rattle.command_line.specs.ToolWords.{HasZonesForm, SaysBytes, SaysBytesIn, part_names, plan_names};
 ghost use Rattle.command_line.specs.Words.{AsksForTool};
 
 use crate::words::{WordFault, geometry, given, image, number_if_given, number_in, number_or};
@@ -166,8 +168,8 @@ fn plan_job(alloc: Global, matches: &ArgMatches<'_>) -> Result<PlanJob, WordFaul
 
 /// What a number in digits comes to, in bytes of this unit. None if it is no number, or needs more than 64 bits.
 fn in_bytes(digits: &str, unit: u64) -> Option<u64>
-    ensures some { IfSome result (IsSizeIn unit digits.now) }
-    ensures none { IfNone result ((bytes : ℕ) → IsSizeIn unit digits.now bytes → ⊥) }
+    ensures some { IfSome result (SaysBytesIn unit digits.now) }
+    ensures none { IfNone result ((bytes : ℕ) → SaysBytesIn unit digits.now bytes → ⊥) }
 {
     number_in(digits)?.checked_mul(unit)
 }
@@ -183,8 +185,8 @@ fn before_letter(text: &str, letter: char) -> Option<&str>
 
 /// The bytes that a text says: a number in digits, and K, M, G or T after it, or none of them.
 fn size_in(text: &str) -> Option<u64>
-    ensures some { IfSome result (IsSize text.now) }
-    ensures none { IfNone result ((bytes : ℕ) → IsSize text.now bytes → ⊥) }
+    ensures some { IfSome result (SaysBytes text.now) }
+    ensures none { IfNone result ((bytes : ℕ) → SaysBytes text.now bytes → ⊥) }
 {
     if let Some(digits) = before_letter(text, 'K') {
         return in_bytes(digits, 1 << 10);

@@ -1,10 +1,9 @@
 -- A drive that is asked, and what interrupts that.
-use Rattle.std.proofs.Common.{◌≡◌, ◌⊎◌, inl, inr, ℕ, subst, Bool, true, false, Option, Some, None, refl}
+use Rattle.std.proofs.Common.{◌≡◌, inl, inr, ℕ, subst, Bool, true, false, Option, Some, None, refl}
 use Rattle.std.specs.Prelude.{is_none, is_some, not}
 use Rattle.zone_drive.specs.Habits.{MemoryDrive}
 use Rattle.zone_drive.specs.declared.habit.Habit.{Habit}
 use Rattle.drive_port.specs.Drive.{DriveState}
-use Rattle.drive_port.specs.Run.{restarted}
 use Rattle.drive_survey.specs.declared.fault.MountFault.{MountFault}
 use Rattle.drive_survey.specs.Reported.{KeepsZones}
 use Rattle.drive_survey.specs.Scan.{IsInterruption}

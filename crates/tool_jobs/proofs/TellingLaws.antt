@@ -1,7 +1,7 @@
 -- What was found is told, or not.
 use Rattle.std.proofs.Common.{◌≡◌, inr, ℕ, List, Result, Ok, Err, sym, subst}
 use Rattle.std.specs.Prelude.{IfErr, IsErrAnd, OnOk}
-use Rattle.tool_jobs.specs.Telling.{Bytes, FailsToTell, IsUntold, TellsFound, TellsNothing, TellsText}
+use Rattle.tool_jobs.specs.Telling.{Bytes, IsUnwrittenText, TellsFound, TellsNothing, TellsText}
 use Rattle.tool_jobs.specs.declared.fault.ToolFault.{ToolFault}
 
 module _ {A : Type 0} (Is : A → Type 0) (Shows : A → List ℕ → Type 0) (old new : Bytes) (found : A) (is_it : Is found) where
@@ -14,10 +14,10 @@ module _ {A : Type 0} (Is : A → Type 0) (Shows : A → List ℕ → Type 0) (o
   told-ok (Err fault) tells = tt
 
   -- its text is not written
-  pub untold : (HasNone : ToolFault → Type 0) (fault : ToolFault) → IsUntold (Shows found) fault old new → TellsNothing HasNone Is Shows fault old new
+  pub untold : (HasNone : ToolFault → Type 0) (fault : ToolFault) → IsUnwrittenText (Shows found) fault old new → TellsNothing HasNone Is Shows fault old new
   untold HasNone fault why = inr (record { found = found; is_it = is_it; untold = why })
 
-  pub untold-err : (HasNone : ToolFault → Type 0) {T : Type 0} (result : Result T ToolFault) → IfErr result (λ fault. IsUntold (Shows found) fault old new)
+  pub untold-err : (HasNone : ToolFault → Type 0) {T : Type 0} (result : Result T ToolFault) → IfErr result (λ fault. IsUnwrittenText (Shows found) fault old new)
       → IfErr result (λ fault. TellsNothing HasNone Is Shows fault old new)
   untold-err HasNone (Ok done) why = tt
   untold-err HasNone (Err fault) why = untold HasNone fault why

@@ -15,10 +15,10 @@ abbrev pub TellsText : (List ℕ → Type 0) → Bytes → Bytes → Type 0
 TellsText IsText old new = (text : List ℕ) × IsText text × Appends old new text
 
 -- Why none of these texts is written: the writer failed within one, or memory ran out before it. Nothing else is written.
-abbrev pub IsUntold : (List ℕ → Type 0) → ToolFault → Bytes → Bytes → Type 0
-IsUntold IsText Output old new = (text : List ℕ) × IsText text × AppendsFront old new text
-IsUntold IsText Memory old new = new ≡ old
-IsUntold IsText fault old new = ⊥
+abbrev pub IsUnwrittenText : (List ℕ → Type 0) → ToolFault → Bytes → Bytes → Type 0
+IsUnwrittenText IsText Output old new = (text : List ℕ) × IsText text × AppendsFront old new text
+IsUnwrittenText IsText Memory old new = new ≡ old
+IsUnwrittenText IsText fault old new = ⊥
 
 -- A value that is this was found. A text that shows it is written, and nothing else.
 pub record TellsFound {A : Type 0} (Is : A → Type 0) (Shows : A → List ℕ → Type 0) (old new : Bytes) : Type 0 where
@@ -30,7 +30,7 @@ pub record TellsFound {A : Type 0} (Is : A → Type 0) (Shows : A → List ℕ �
 pub record FailsToTell {A : Type 0} (Is : A → Type 0) (Shows : A → List ℕ → Type 0) (fault : ToolFault) (old new : Bytes) : Type 0 where
   pub found : A
   pub is_it : Is found
-  pub untold : IsUntold (Shows found) fault old new
+  pub untold : IsUnwrittenText (Shows found) fault old new
 
 -- There is no such value, by this fault, and nothing is written; or no text of it is written to its end.
 abbrev pub TellsNothing : {A : Type 0} → (ToolFault → Type 0) → (A → Type 0) → (A → List ℕ → Type 0) → ToolFault → Bytes → Bytes → Type 0

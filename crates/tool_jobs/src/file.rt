@@ -55,8 +55,8 @@ fn answer_file<F: Files<File = File>, W: Write>(
     answer(alloc, job, &mut bytes, output)
 }
 
-/// Does the job of a tool, and sends what it wrote. `Ok(false)` is a check of a drive that cannot be mounted. No file is
-/// changed.
+/// Does the job of a tool, and sends what it wrote. `Ok(false)` is a check of a drive that cannot be mounted. No file
+/// is changed.
 pub fn do_tool_job<F: Files<File = File>, W: Write>(
     files: &F,
     alloc: Global,

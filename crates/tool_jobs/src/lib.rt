@@ -7,8 +7,8 @@
 //! }
 //! ```
 //!
-//! A [`ToolJob`] says what is asked (`command_line` reads it). [`do_tool_job`] opens the file, locks it as a reader, and
-//! does the job by one of these:
+//! A [`ToolJob`] says what is asked (`command_line` reads it). [`do_tool_job`] opens the file, locks it as a reader,
+//! and does the job by one of these:
 //!
 //! * [`answer_check`]: all faults of a drive, and whether a mount would be done.
 //! * [`answer_plan`]: what numbers of logical blocks cost on a drive.
@@ -17,8 +17,8 @@
 //!
 //! # What is promised
 //!
-//! * Over every reader, writer and form of text: exactly the text is written that the form gives of what was found, or a
-//!   beginning of it where the writer fails (`specs/Telling.antt`). Before another fault nothing is written.
+//! * Over every reader, writer and form of text: exactly the text is written that the form gives of what was found, or
+//!   a beginning of it where the writer fails (`specs/Telling.antt`). Before another fault nothing is written.
 //! * What was found is what `drive_check` and `write_plan` define, for the drive that the bytes of the file hold:
 //!   [`answer_check`] finds all of its faults, and says that it can be mounted exactly where nothing refuses it.
 //! * A fault of the file is the first fault in its bytes.

@@ -2,7 +2,8 @@
 
 ghost use Rattle.std.specs.Prelude.{◌≡◌, IfErr, IfOk, OnOk};
 ghost use Rattle.write_plan.specs.Drives.{IsDriveFor};
-ghost use Rattle.tool_jobs.specs.Plans.{HasNoDriveFor, HasNoPlan, HasNoShape, IsPlanFor, IsPlanOf, IsPlannedShape, IsUnplanned};
+ghost use Rattle.tool_jobs.specs.Plans.{HasNoDriveFor, HasNoPlan, HasNoShape, IsPlanFor, IsPlanOf};
+ghost use Rattle.tool_jobs.specs.Plans.{IsPlannedShape, IsUnplanned};
 ghost use Rattle.tool_jobs.specs.Telling.{TellsFound, TellsNothing};
 
 use crate::fault::ToolFault;

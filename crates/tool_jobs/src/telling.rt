@@ -1,5 +1,5 @@
 ghost use Rattle.std.specs.Prelude.{IfErr, OnOk};
-ghost use Rattle.tool_jobs.specs.Telling.{IsUntold, TellsText};
+ghost use Rattle.tool_jobs.specs.Telling.{IsUnwrittenText, TellsText};
 
 use crate::fault::ToolFault;
 use crate::form::Form;
@@ -15,7 +15,7 @@ pub(crate) fn tell<T, F: Form<T>, W: Write>(
     output: &mut W,
 ) -> Result<(), ToolFault>
     ensures ok { OnOk result (TellsText (F.shows form.now shown.now) (W.contents output.old) (W.contents output.new)) }
-    ensures err { IfErr result (λ fault. IsUntold (F.shows form.now shown.now) fault
+    ensures err { IfErr result (λ fault. IsUnwrittenText (F.shows form.now shown.now) fault
         (W.contents output.old) (W.contents output.new)) }
 {
     let text = form.text(alloc, shown)?;
