@@ -23,7 +23,7 @@ const RAW: &str =
     "zonedisk fresh-raw --block 512 --zones 4 --size 8 --capacity 6 --transfer 4 --active 2 --open 2";
 
 // What a command line asks for whose words have one space between them.
-fn task(rt: &impl Abort, alloc: Global, line: &str) -> Result<Task, clap::Error> {
+pub fn task(rt: &impl Abort, alloc: Global, line: &str) -> Result<Task, clap::Error> {
     let mut words = Vec::new(alloc);
     for word in line.split(' ') {
         let word = String::from_str(alloc, word).expect(rt, "memory");
@@ -41,7 +41,7 @@ fn job(rt: &impl Abort, alloc: Global, line: &str) -> Option<Job> {
 }
 
 // How the words of a command line are refused, if they are.
-fn refusal(rt: &impl Abort, alloc: Global, line: &str) -> Option<ErrorKind> {
+pub fn refusal(rt: &impl Abort, alloc: Global, line: &str) -> Option<ErrorKind> {
     match task(rt, alloc, line) {
         Ok(_) => None,
         Err(error) => Some(error.kind()),
@@ -77,7 +77,7 @@ fn answer<R: Files<File = File> + Abort>(
 }
 
 // Runs command lines one after the other, each on its input, and compares what they write.
-fn check_written<R: Files<File = File> + Abort>(
+pub fn check_written<R: Files<File = File> + Abort>(
     rt: &R,
     alloc: Global,
     cases: &[(&str, &[u8], &[u8])],

@@ -23,3 +23,5 @@ mod places;
 mod runs;
 #[cfg(test)]
 mod texts;
+#[cfg(test)]
+mod tools;

@@ -1,5 +1,5 @@
 -- What clap makes of the words of the program, and what refutes each job.
-use Rattle.std.proofs.Common.{◌≡◌, ◌∙◌, ◌⊎◌, ◌≢◌, inl, inr, ℕ, ◌<◌, ◌≤◌, ◌^◌, Bool, true, false, ◌&&◌, List, [], ◌∷◌, ap, refl, sym, subst, Option, Some, None, Result, Ok, Err, IsErrAnd, IsSomeAnd, arith, ne_eqb, leb-true, codes, is_some, option_map}
+use Rattle.std.proofs.Common.{◌≡◌, ◌∙◌, ◌⊎◌, ◌≢◌, inl, inr, ℕ, ◌<◌, ◌≤◌, ◌^◌, Bool, true, false, ◌&&◌, List, [], ◌∷◌, ap, refl, sym, subst, Option, Some, None, Result, Ok, Err, IsErrAnd, IsSomeAnd, arith, ne_eqb, leb-true, is_some, option_map}
 use Rattle.std.proofs.lemmas.Result.{err_from_is_err_and}
 use Rattle.std.specs.Prelude.{MatchOption}
 use Rattle.std.specs.Borrow.{Bor}
@@ -13,13 +13,12 @@ use Rattle.clap.specs.declared.error.Error.{Error}
 use Rattle.clap.specs.declared.error.kind.ErrorKind.TheVariants.{OutOfMemory}
 use Rattle.clap.specs.declared.parser.matches.ArgMatches.{ArgMatches}
 use Rattle.clap.proofs.OnLiterals.{clap_on_literals}
-use Rattle.disk_jobs.specs.declared.job.Job.{Job}
 use Rattle.command_line.specs.declared.task.Task.{Task}
-use Rattle.command_line.specs.declared.task.Task.TheVariants.{Lines, Nbd}
 use Rattle.command_line.specs.declared.words.WordFault.{WordFault}
 use Rattle.command_line.specs.declared.words.WordFault.TheVariants.{Memory}
 use Rattle.command_line.specs.Program.{habit_names, program}
-use Rattle.command_line.specs.Words.{AskFor, AsksFor, AsksForJob, Finds, HasNumber, HasNumberIf, IsAnswerTo, IsNumber}
+use Rattle.command_line.specs.Values.{Finds, HasNumber, HasNumberIf, IsNumber}
+use Rattle.command_line.specs.Words.{AskFor, AsksFor, IsAnswerTo}
 
 -- ---- the program
 
@@ -83,7 +82,7 @@ module _ (names : Bor (List (Bor Text))) (words : List Text) (error : Error) (ar
 pub at_some : {T : Type 0} (o : Option T) (x : T) (P : T → Type 0) → o ≡ Some x → IsSomeAnd o P → P x
 at_some o x P is h = subst (λ q. IsSomeAnd q P) is h
 
-both : (a b : Bool) → (a && b) ≡ true → (a ≡ true) × (b ≡ true)
+pub both : (a b : Bool) → (a && b) ≡ true → (a ≡ true) × (b ≡ true)
 both true b h = (refl, h)
 both false b h = absurd cc
 

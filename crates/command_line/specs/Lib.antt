@@ -1,2 +1,4 @@
 pub mod Program
 pub mod Words
+pub mod Values
+pub mod ToolWords

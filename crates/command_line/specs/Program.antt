@@ -1,5 +1,5 @@
 -- The words that the program takes, as clap has them.
-use Rattle.std.specs.Prelude.{◌≡◌, pos, true, false, List, [], ◌∷◌, fold, Some, codes, ◌++◌}
+use Rattle.std.specs.Prelude.{◌≡◌, pos, Bool, true, false, List, [], ◌∷◌, fold, Some, codes, ◌++◌}
 use Rattle.std.specs.Borrow.{Bor}
 use Rattle.clap.specs.Words.{App, Rule, Shape, Text, app_of, new_rule, with_rule, with_subcommand}
 use Rattle.clap.specs.Simple.{new_shape}
@@ -30,8 +30,8 @@ abbrev pub number : Text → ValueParser → Rule
 number name parser = with_parser parser (valued name)
 
 -- a number below 2^32, and one below 2^63
-abbrev pub part : Text → Rule
-part name = number name (parsers.Signed (pos 0) (pos 4294967295))
+abbrev pub part : Bool → Text → Rule
+part needed name = record (number name (parsers.Signed (pos 0) (pos 4294967295))) { required = needed }
 
 abbrev pub below_2_63 : ValueParser
 below_2_63 = parsers.Unsigned 0 9223372036854775807
@@ -42,18 +42,22 @@ image = valued (codes "image")
 abbrev pub blocks : Rule
 blocks = number (codes "blocks") below_2_63
 
--- the parts of a geometry: the shape of the drive, and its limits
-abbrev pub shape : List Rule
-shape = part (codes "block") ∷ part (codes "zones") ∷ part (codes "size") ∷ part (codes "capacity") ∷ []
+-- the parts of a geometry, needed or not: the shape of the drive, and its limits
+abbrev pub shape : Bool → List Rule
+shape needed = part needed (codes "block") ∷ part needed (codes "zones") ∷ part needed (codes "size") ∷ part needed (codes "capacity") ∷ []
 
-abbrev pub limits : List Rule
-limits = part (codes "transfer") ∷ part (codes "active") ∷ part (codes "open") ∷ []
+abbrev pub limits : Bool → List Rule
+limits needed = part needed (codes "transfer") ∷ part needed (codes "active") ∷ part needed (codes "open") ∷ []
 
-abbrev pub parts : List Rule
-parts = shape ++ limits
+abbrev pub parts : Bool → List Rule
+parts needed = shape needed ++ limits needed
 
 abbrev pub stops : List Rule
 stops = optional (number (codes "stop-after") below_2_63) ∷ optional (number (codes "tear") below_2_63) ∷ []
+
+-- what a plan is for
+abbrev pub aims : List Rule
+aims = optional blocks ∷ optional (number (codes "share") below_2_63) ∷ optional (number (codes "amplification") below_2_63) ∷ []
 
 -- the option of a habit, by the names that it takes; without it the habit is lazy
 abbrev pub habit : Bor (List (Bor Text)) → Rule
@@ -69,13 +73,21 @@ abbrev pub with_options : Text → List Rule → Shape
 with_options name rules = record (new_shape name) { rules = rules }
 
 abbrev pub format : Shape
-format = with_options (codes "format") (image ∷ flag (codes "force") ∷ parts)
+format = with_options (codes "format") (image ∷ flag (codes "force") ∷ parts true)
 
 abbrev pub run : Bor (List (Bor Text)) → Shape
 run names = with_options (codes "run") (image ∷ blocks ∷ flag (codes "zones") ∷ flag (codes "sync") ∷ habit names ∷ stops)
 
 abbrev pub report_words : Shape
-report_words = with_options (codes "report") (image ∷ [])
+report_words = with_options (codes "report")
+    (image ∷ optional (valued (codes "state")) ∷ flag (codes "brief") ∷ flag (codes "json") ∷ flag (codes "svg") ∷ [])
+
+abbrev pub check_words : Shape
+check_words = with_options (codes "check") (image ∷ optional blocks ∷ flag (codes "json") ∷ [])
+
+abbrev pub plan_words : Shape
+plan_words = with_options (codes "plan")
+    (optional image ∷ parts false ++ aims ++ optional (valued (codes "bytes")) ∷ flag (codes "json") ∷ flag (codes "svg") ∷ [])
 
 abbrev pub nvme : Bor (List (Bor Text)) → Shape
 nvme names = with_options (codes "nvme") (image ∷ flag (codes "sync") ∷ habit names ∷ [])
@@ -84,16 +96,16 @@ abbrev pub nbd : Bor (List (Bor Text)) → Shape
 nbd names = with_options (codes "nbd") (image ∷ optional blocks ∷ flag (codes "statistics") ∷ flag (codes "idle") ∷ habit names ∷ stops)
 
 abbrev pub fresh_words : Bor (List (Bor Text)) → Shape
-fresh_words names = with_options (codes "fresh") (parts ++ blocks ∷ flag (codes "report") ∷ flag (codes "statistics") ∷ habit names ∷ stops)
+fresh_words names = with_options (codes "fresh") (parts true ++ blocks ∷ flag (codes "report") ∷ flag (codes "statistics") ∷ habit names ∷ stops)
 
 abbrev pub fresh_raw : Bor (List (Bor Text)) → Shape
-fresh_raw names = with_options (codes "fresh-raw") (parts ++ habit names ∷ [])
+fresh_raw names = with_options (codes "fresh-raw") (parts true ++ habit names ∷ [])
 
 -- the program, by the names of the habits
 abbrev pub program : Bor (List (Bor Text)) → App
 program names = record {
   top = record (new_shape (codes "zonedisk")) { is_leaf = false; has_version = true; subcommand_required = true };
-  subs = format ∷ run names ∷ nbd names ∷ report_words ∷ nvme names ∷ fresh_words names ∷ fresh_raw names ∷ [];
+  subs = format ∷ run names ∷ nbd names ∷ report_words ∷ check_words ∷ plan_words ∷ nvme names ∷ fresh_words names ∷ fresh_raw names ∷ [];
 }
 
 -- these options are added to a command, none of which its subcommands inherit

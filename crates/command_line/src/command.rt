@@ -1,8 +1,9 @@
 ghost use Rattle.std.specs.Prelude.{◌≡◌, [], ◌∷◌, ◌++◌, false, IfOk, codes};
 ghost use Rattle.clap.specs.Words.{Shape, app_of, rule_of};
-ghost use Rattle.command_line.specs.Program.{AddsOptions, AddsSubcommand, IsCommand, below_2_63, blocks, flag, format};
-ghost use Rattle.command_line.specs.Program.{fresh_raw, fresh_words, habit, image, limits, nbd, number, nvme};
-ghost use Rattle.command_line.specs.Program.{optional, part, parts, program, report_words, run, shape, stops};
+ghost use Rattle.command_line.specs.Program.{AddsOptions, AddsSubcommand, IsCommand, aims, below_2_63};
+ghost use Rattle.command_line.specs.Program.{blocks, check_words, flag, format, fresh_words, fresh_raw};
+ghost use Rattle.command_line.specs.Program.{habit, image, limits, nbd, number, nvme, optional, part, parts};
+ghost use Rattle.command_line.specs.Program.{plan_words, program, report_words, run, shape, stops, valued};
 
 use clap::builder::ValueParser;
 use clap::{Arg, ArgAction, Command, value_parser};
@@ -23,16 +24,21 @@ const NBD_EXAMPLE: &str = "Example:
 const REPORT_EXAMPLE: &str = "Example:
   zonedisk report --image my.drive";
 
+const CHECK_EXAMPLE: &str = "Example:
+  zonedisk check --image my.drive && echo it can be mounted";
+
+const PLAN_EXAMPLE: &str = "Examples:
+  zonedisk plan --image my.drive
+  zonedisk plan --block 4096 --zones 64 --size 8192 --capacity 8192 --transfer 128 --active 8 --open 8 --share 80";
+
 const NVME_EXAMPLE: &str = "Example:
   printf '0000010001000000%0112d\\n' 0 | zonedisk nvme --image my.drive";
 
 const FRESH_EXAMPLE: &str = "Example:
-  printf 'fill 0 5 aa\\nread 4 1\\n' | zonedisk fresh --block 512 --zones 4 --size 8 \
-    --capacity 6 --transfer 4 --active 2 --open 2 --blocks 9 --report";
+  printf 'fill 0 5 aa\\nread 4 1\\n' | zonedisk fresh --block 512 --zones 4 --size 8 --capacity 6 --transfer 4 --active 2 --open 2 --blocks 9 --report";
 
 const FRESH_RAW_EXAMPLE: &str = "Example:
-  printf '0000010001000000%0112d\\n' 0 | zonedisk fresh-raw --block 512 --zones 4 --size 8 \
-    --capacity 6 --transfer 4 --active 2 --open 2";
+  printf '0000010001000000%0112d\\n' 0 | zonedisk fresh-raw --block 512 --zones 4 --size 8 --capacity 6 --transfer 4 --active 2 --open 2";
 
 const SYNC_HELP: &str = "Sends a reply only once the changes before it are on the disk";
 
@@ -56,45 +62,64 @@ fn number_option<'a>(
         .value_parser(parser)
 }
 
-/// A part of a geometry: a number below 2^32.
-fn part<'a>(alloc: Global, name: &'a str, letter: &'a str, help: &'a str) -> Arg<'a>
-    ensures rule { rule_of result ≡ part name.entry.now }
+/// A part of a geometry: a number below 2^32. It may be left out, unless it is required.
+fn part<'a>(alloc: Global, name: &'a str, letter: &'a str, help: &'a str, required: bool) -> Arg<'a>
+    ensures rule { rule_of result ≡ part required name.entry.now }
     ensures local { result.global ≡ false }
 {
-    number_option(alloc, name, letter, help, value_parser!(u32))
+    number_option(alloc, name, letter, help, value_parser!(u32)).required(required)
 }
 
 /// The blocks and zones of a drive.
-fn shape_options<'a>(alloc: Global, command: Command<'a>) -> Result<Command<'a>, AllocError>
-    ensures { IfOk result (λ new. AddsOptions shape command.entry new) }
+fn shape_options<'a>(
+    alloc: Global,
+    command: Command<'a>,
+    required: bool,
+) -> Result<Command<'a>, AllocError>
+    ensures { IfOk result (λ new. AddsOptions (shape required) command.entry new) }
 {
     let size = "Blocks in a zone's addresses: C to 2^20";
     let capacity = "Blocks in a zone that take writes: 4 to S";
     command
-        .arg(part(alloc, "block", "B", "Bytes in a block: 512 or 4096"))?
-        .arg(part(alloc, "zones", "Z", "Zones: 3 to 65536"))?
-        .arg(part(alloc, "size", "S", size))?
-        .arg(part(alloc, "capacity", "C", capacity))
+        .arg(part(
+            alloc,
+            "block",
+            "B",
+            "Bytes in a block: 512 or 4096",
+            required,
+        ))?
+        .arg(part(alloc, "zones", "Z", "Zones: 3 to 65536", required))?
+        .arg(part(alloc, "size", "S", size, required))?
+        .arg(part(alloc, "capacity", "C", capacity, required))
 }
 
 /// The limits of a drive.
-fn limit_options<'a>(alloc: Global, command: Command<'a>) -> Result<Command<'a>, AllocError>
-    ensures { IfOk result (λ new. AddsOptions limits command.entry new) }
+fn limit_options<'a>(
+    alloc: Global,
+    command: Command<'a>,
+    required: bool,
+) -> Result<Command<'a>, AllocError>
+    ensures { IfOk result (λ new. AddsOptions (limits required) command.entry new) }
 {
     let transfer = "Blocks in a transfer at most: 2 to 256";
     let active = "Zones active at once at most: 2 to 65536";
+    let open = "Zones open at once at most: 1 to A";
     command
-        .arg(part(alloc, "transfer", "T", transfer))?
-        .arg(part(alloc, "active", "A", active))?
-        .arg(part(alloc, "open", "O", "Zones open at once at most: 1 to A"))
+        .arg(part(alloc, "transfer", "T", transfer, required))?
+        .arg(part(alloc, "active", "A", active, required))?
+        .arg(part(alloc, "open", "O", open, required))
 }
 
-/// The parts of a geometry.
-fn geometry_options<'a>(alloc: Global, command: Command<'a>) -> Result<Command<'a>, AllocError>
-    ensures { IfOk result (λ new. AddsOptions parts command.entry new) }
+/// The parts of a geometry, which may be left out unless they are required.
+fn geometry_options<'a>(
+    alloc: Global,
+    command: Command<'a>,
+    required: bool,
+) -> Result<Command<'a>, AllocError>
+    ensures { IfOk result (λ new. AddsOptions (parts required) command.entry new) }
 {
-    let command = shape_options(alloc, command)?;
-    limit_options(alloc, command)
+    let command = shape_options(alloc, command, required)?;
+    limit_options(alloc, command, required)
 }
 
 /// An option without a value.
@@ -118,6 +143,26 @@ fn image_option<'a>(alloc: Global) -> Arg<'a>
         .value_name("P")
         .help("The file with the image of the drive")
         .required(true)
+        .action(ArgAction::Set)
+}
+
+/// The same, which may be left out.
+fn image_if_given_option<'a>(alloc: Global) -> Arg<'a>
+    ensures rule { rule_of result ≡ optional image }
+    ensures local { result.global ≡ false }
+{
+    image_option(alloc).required(false)
+}
+
+/// An option that takes a text, and may be left out.
+fn text_option<'a>(alloc: Global, name: &'a str, letter: &'a str, help: &'a str) -> Arg<'a>
+    ensures rule { rule_of result ≡ optional (valued name.entry.now) }
+    ensures local { result.global ≡ false }
+{
+    Arg::new(alloc, name)
+        .long(name)
+        .value_name(letter)
+        .help(help)
         .action(ArgAction::Set)
 }
 
@@ -146,8 +191,8 @@ fn blocks_if_fresh_option<'a>(alloc: Global) -> Arg<'a>
     number_option(alloc, "blocks", "N", help, count_parser()).required(false)
 }
 
-/// An option that takes a number below 2^63.
-fn stop_option<'a>(alloc: Global, name: &'a str, letter: &'a str, help: &'a str) -> Arg<'a>
+/// An option that takes a number below 2^63, and may be left out.
+fn count_option<'a>(alloc: Global, name: &'a str, letter: &'a str, help: &'a str) -> Arg<'a>
     ensures rule { rule_of result ≡ optional (number name.entry.now below_2_63) }
     ensures local { result.global ≡ false }
 {
@@ -160,8 +205,8 @@ fn stop_options<'a>(alloc: Global, command: Command<'a>) -> Result<Command<'a>, 
     let stop = "Stops the drive after K commands, the mount's included";
     let tear = "Writes J blocks of the Append at which the drive stops";
     command
-        .arg(stop_option(alloc, "stop-after", "K", stop))?
-        .arg(stop_option(alloc, "tear", "J", tear))
+        .arg(count_option(alloc, "stop-after", "K", stop))?
+        .arg(count_option(alloc, "tear", "J", tear))
 }
 
 /// The names of the habits of a drive.
@@ -189,7 +234,7 @@ fn format_command<'a>(alloc: Global) -> Result<Command<'a>, AllocError>
         .after_help(FORMAT_EXAMPLE)
         .arg(image_option(alloc))?
         .arg(flag(alloc, "force", force))?;
-    geometry_options(alloc, command)
+    geometry_options(alloc, command, true)
 }
 
 fn run_command<'a>(alloc: Global, habits: &'a [&'a str]) -> Result<Command<'a>, AllocError>
@@ -228,10 +273,73 @@ fn nbd_command<'a>(alloc: Global, habits: &'a [&'a str]) -> Result<Command<'a>, 
 fn report_command<'a>(alloc: Global) -> Result<Command<'a>, AllocError>
     ensures { IfOk result (λ new. IsCommand report_words new) }
 {
+    let state =
+        "Shows the zones in this state: Empty, ImplicitlyOpened, ExplicitlyOpened, Closed, ReadOnly, Full, Offline";
+    let brief = "Shows a line for each state, with its zones";
+    let json = "Shows them as JSON, with the names of nvme-cli";
+    let svg = "Draws them as SVG, a cell for each";
     Command::new(alloc, "report")
         .about("Shows the zones of the drive in a file")
         .after_help(REPORT_EXAMPLE)
-        .arg(image_option(alloc))
+        .arg(image_option(alloc))?
+        .arg(text_option(alloc, "state", "S", state))?
+        .arg(flag(alloc, "brief", brief))?
+        .arg(flag(alloc, "json", json))?
+        .arg(flag(alloc, "svg", svg))
+}
+
+/// The number of logical blocks of a drive that is checked.
+fn blocks_to_check_option<'a>(alloc: Global) -> Arg<'a>
+    ensures rule { rule_of result ≡ optional blocks }
+    ensures local { result.global ≡ false }
+{
+    let help = "Logical blocks of a drive that does not say how many it has; 1 without it";
+    count_option(alloc, "blocks", "N", help)
+}
+
+fn check_command<'a>(alloc: Global) -> Result<Command<'a>, AllocError>
+    ensures { IfOk result (λ new. IsCommand check_words new) }
+{
+    let json = "Shows the faults as JSON";
+    Command::new(alloc, "check")
+        .about(
+            "Shows each fault of the drive in a file, and ends with status 0 if it can be mounted",
+        )
+        .after_help(CHECK_EXAMPLE)
+        .arg(image_option(alloc))?
+        .arg(blocks_to_check_option(alloc))?
+        .arg(flag(alloc, "json", json))
+}
+
+/// What a plan is for.
+fn aim_options<'a>(alloc: Global, command: Command<'a>) -> Result<Command<'a>, AllocError>
+    ensures { IfOk result (λ new. AddsOptions aims command.entry new) }
+{
+    let blocks = "Logical blocks";
+    let share = "Percent of the greatest number of logical blocks";
+    let amplification = "The greatest write amplification that random writes may have";
+    command
+        .arg(count_option(alloc, "blocks", "N", blocks))?
+        .arg(count_option(alloc, "share", "PERCENT", share))?
+        .arg(count_option(alloc, "amplification", "X", amplification))
+}
+
+fn plan_command<'a>(alloc: Global) -> Result<Command<'a>, AllocError>
+    ensures { IfOk result (λ new. IsCommand plan_words new) }
+{
+    let bytes = "Shows instead the words that make a drive for so many bytes: 256M, or K, G or T";
+    let json = "Shows the plan as JSON";
+    let svg = "Draws the write amplification by the share as SVG";
+    let command = Command::new(alloc, "plan")
+        .about("Shows what numbers of logical blocks cost on a drive: of this shape, or in a file")
+        .after_help(PLAN_EXAMPLE)
+        .arg(image_if_given_option(alloc))?;
+    let command = geometry_options(alloc, command, false)?;
+    let command = aim_options(alloc, command)?;
+    command
+        .arg(text_option(alloc, "bytes", "BYTES", bytes))?
+        .arg(flag(alloc, "json", json))?
+        .arg(flag(alloc, "svg", svg))
 }
 
 fn nvme_command<'a>(alloc: Global, habits: &'a [&'a str]) -> Result<Command<'a>, AllocError>
@@ -253,7 +361,7 @@ fn fresh_command<'a>(alloc: Global, habits: &'a [&'a str]) -> Result<Command<'a>
     let command = Command::new(alloc, "fresh")
         .about("Answers the trace on standard input, over a fresh drive in memory")
         .after_help(FRESH_EXAMPLE);
-    let command = geometry_options(alloc, command)?
+    let command = geometry_options(alloc, command, true)?
         .arg(blocks_option(alloc))?
         .arg(flag(alloc, "report", report))?
         .arg(flag(alloc, "statistics", statistics))?
@@ -267,7 +375,7 @@ fn fresh_raw_command<'a>(alloc: Global, habits: &'a [&'a str]) -> Result<Command
     let command = Command::new(alloc, "fresh-raw")
         .about("Submits the raw entries on standard input to a fresh drive in memory")
         .after_help(FRESH_RAW_EXAMPLE);
-    geometry_options(alloc, command)?.arg(habit_option(alloc, habits))
+    geometry_options(alloc, command, true)?.arg(habit_option(alloc, habits))
 }
 
 /// Adds a subcommand, if it was made.
@@ -292,6 +400,8 @@ pub fn program<'a>(alloc: Global, habits: &'a [&'a str]) -> Result<Command<'a>, 
     let command = with_subcommand(command, run_command(alloc, habits))?;
     let command = with_subcommand(command, nbd_command(alloc, habits))?;
     let command = with_subcommand(command, report_command(alloc))?;
+    let command = with_subcommand(command, check_command(alloc))?;
+    let command = with_subcommand(command, plan_command(alloc))?;
     let command = with_subcommand(command, nvme_command(alloc, habits))?;
     let command = with_subcommand(command, fresh_command(alloc, habits))?;
     with_subcommand(command, fresh_raw_command(alloc, habits))

@@ -4,14 +4,15 @@
 //! match task_of(rt.alloc(), &words)? {
 //!     Task::Lines(job) => run_lines(job),
 //!     Task::Nbd(job) => serve(job),
+//!     Task::Tool(job) => use_tool(job),
 //! }
 //! ```
 //!
 //! # What is promised
 //!
 //! * A task holds what clap's matches of the words have: the subcommand and, for each of its options, the value under
-//!   its name; a number is spelled in digits alone. Clap refuses none of these words (`specs/Program.antt` has the
-//!   words that the program takes, `specs/Words.antt` the task that they ask for).
+//!   its name; a number is spelled in digits alone. Clap refuses none of these words (`specs/Program.antt` has the words
+//!   that the program takes, `specs/Words.antt` and `specs/ToolWords.antt` the task that they ask for).
 //! * Words are refused only where clap refuses them, where they ask for no task in this sense, or where memory runs
 //!   out.
 //!
@@ -20,6 +21,7 @@
 
 mod command;
 mod task;
+mod tools;
 mod words;
 
 pub use task::Task;

@@ -1,5 +1,6 @@
 use disk_jobs::Job;
 use nbd_jobs::NbdJob;
+use tool_jobs::ToolJob;
 
 /// What the words of a command line ask for.
 #[derive(Debug, PartialEq, Eq, Drop)]
@@ -8,4 +9,6 @@ pub enum Task {
     Lines(Job),
     /// A drive that is served by the Network Block Device protocol.
     Nbd(NbdJob),
+    /// A tool that looks at a drive, or plans one.
+    Tool(ToolJob),
 }

@@ -1,27 +1,34 @@
-ghost use Rattle.std.specs.Prelude.{◌≡◌, ◌≢◌, IfOk, IsSomeAnd, codes, map, option_map, string_bytes};
+ghost use Rattle.std.specs.Prelude.{◌≡◌, ◌≢◌, ℕ, IfNone, IfOk, IfSome, IsSomeAnd, codes, map, option_map, string_bytes};
 ghost use Rattle.std.specs.List.{list_all};
 ghost use Rattle.std.specs.Char.{is_ascii_digit};
 ghost use Rattle.clap.specs.Words.{first_of, found_of, rows_of, subcommand_rows_of};
-ghost use Rattle.command_line.specs.Words.{AsksFor, AsksForJob, AsksForNbd, Finds, HasFlag, HasGeometry, HasHabit};
-ghost use Rattle.command_line.specs.Words.{HasImage, HasNumber, HasNumberIf, HasNumberOr, HasStop, IsAnswerTo};
+ghost use Rattle.command_line.specs.Values.{Finds, HasFlag, HasGeometry, HasHabit, HasImage, HasNumber};
+ghost use Rattle.command_line.specs.Values.{HasNumberIf, HasNumberOr, HasStop, IsNumber};
+ghost use Rattle.command_line.specs.Words.{AsksFor, AsksForJob, AsksForNbd, IsAnswerTo};
 ghost use Rattle.command_line.specs.declared.words.WordFault.TheVariants.{Memory};
 
 use crate::command::{HABITS, program};
 use crate::task::Task;
+use crate::tools::{check_job, plan_tool, zones_form};
 use clap::error::ErrorKind;
 use clap::{ArgMatches, Command, Error};
 use disk_jobs::{Habit, Job, Stop};
 use nbd_jobs::NbdJob;
 use std::alloc::{AllocError, Global};
+use tool_jobs::{ToolJob, ZonesJob};
 use zone_states::Geometry;
 
 /// Why words that the program takes are no task.
 #[derive(Clone, Copy)]
-enum WordFault {
+pub enum WordFault {
     /// They lack a subcommand or an option. The parser refuses such words before.
     Missing,
     /// The value of the option with this name is not in decimal digits, or needs too many bits.
     Digits(&'static str),
+    /// The state of zones has no such name.
+    State,
+    /// Two options were given of which one alone is taken.
+    Both,
     /// An allocation failed.
     Memory,
 }
@@ -35,7 +42,7 @@ impl From<AllocError> for WordFault {
 }
 
 /// The value that an option was given, if it was.
-fn given<'a>(matches: &ArgMatches<'a>, name: &str) -> Option<&'a str>
+pub fn given<'a>(matches: &ArgMatches<'a>, name: &str) -> Option<&'a str>
     ensures { option_map (λ text. text.now) result ≡ first_of name.now (rows_of (found_of matches.now)) }
 {
     matches.get_str(name)
@@ -55,6 +62,20 @@ fn is_decimal(text: &str) -> bool
     text.as_bytes().iter().all(|byte| byte.is_ascii_digit())
 }
 
+/// The number that a text spells in decimal digits alone, in 64 bits at most.
+pub fn number_in(text: &str) -> Option<u64>
+    ensures some { IfSome result (IsNumber 64 text.now) }
+    ensures none { IfNone result ((n : ℕ) → IsNumber 64 text.now n → ⊥) }
+{
+    if !is_decimal(text) {
+        return None;
+    }
+    match text.parse() {
+        Ok(number) => Some(number),
+        Err(_) => None,
+    }
+}
+
 /// The number that an option was given. It is refused where it is not spelled in decimal digits alone, or needs more
 /// than 64 bits.
 fn number(matches: &ArgMatches<'_>, name: &'static str) -> Result<u64, WordFault>
@@ -63,12 +84,9 @@ fn number(matches: &ArgMatches<'_>, name: &'static str) -> Result<u64, WordFault
     let Some(digits) = given(matches, name) else {
         return Err(WordFault::Digits(name));
     };
-    if !is_decimal(digits) {
-        return Err(WordFault::Digits(name));
-    }
-    match digits.parse() {
-        Ok(number) => Ok(number),
-        Err(_) => Err(WordFault::Digits(name)),
+    match number_in(digits) {
+        Some(number) => Ok(number),
+        None => Err(WordFault::Digits(name)),
     }
 }
 
@@ -80,7 +98,11 @@ fn part_of(matches: &ArgMatches<'_>, name: &'static str) -> Result<u32, WordFaul
 }
 
 /// The number that an option was given, if it was.
-fn number_or(matches: &ArgMatches<'_>, name: &'static str, missing: u64) -> Result<u64, WordFault>
+pub fn number_or(
+    matches: &ArgMatches<'_>,
+    name: &'static str,
+    missing: u64,
+) -> Result<u64, WordFault>
     ensures { Finds (HasNumberOr missing (rows_of (found_of matches.now)) name.entry.now) result }
 {
     if given(matches, name).is_none() {
@@ -90,7 +112,10 @@ fn number_or(matches: &ArgMatches<'_>, name: &'static str, missing: u64) -> Resu
 }
 
 /// The number that an option was given, if it was given one.
-fn number_if_given(matches: &ArgMatches<'_>, name: &'static str) -> Result<Option<u64>, WordFault>
+pub fn number_if_given(
+    matches: &ArgMatches<'_>,
+    name: &'static str,
+) -> Result<Option<u64>, WordFault>
     ensures { Finds (HasNumberIf (rows_of (found_of matches.now)) name.entry.now) result }
 {
     if given(matches, name).is_none() {
@@ -122,7 +147,8 @@ fn habit_of(matches: &ArgMatches<'_>) -> Habit
     }
 }
 
-fn geometry(matches: &ArgMatches<'_>) -> Result<Geometry, WordFault>
+/// The geometry that was given.
+pub fn geometry(matches: &ArgMatches<'_>) -> Result<Geometry, WordFault>
     ensures { Finds (HasGeometry (rows_of (found_of matches.now))) result }
 {
     Ok(Geometry {
@@ -136,7 +162,8 @@ fn geometry(matches: &ArgMatches<'_>) -> Result<Geometry, WordFault>
     })
 }
 
-fn image(alloc: Global, matches: &ArgMatches<'_>) -> Result<String, WordFault>
+/// The path of the image file.
+pub fn image(alloc: Global, matches: &ArgMatches<'_>) -> Result<String, WordFault>
     ensures { Finds (λ path. HasImage (rows_of (found_of matches.now)) (string_bytes path)) result }
 {
     let Some(path) = given(matches, "image") else {
@@ -172,13 +199,16 @@ fn run_job(alloc: Global, matches: &ArgMatches<'_>) -> Result<Job, WordFault>
     })
 }
 
-/// The job of `report`.
-fn report_job(alloc: Global, matches: &ArgMatches<'_>) -> Result<Job, WordFault>
-    ensures { Finds (AsksForJob (codes "report") (rows_of (found_of matches.now))) result }
+/// What `report` asks for: all lines of it, or another form.
+fn report_task(alloc: Global, matches: &ArgMatches<'_>) -> Result<Task, WordFault>
+    ensures { Finds (AsksFor (codes "report") (rows_of (found_of matches.now))) result }
 {
-    Ok(Job::Report {
-        image: image(alloc, matches)?,
-    })
+    let form = zones_form(matches)?;
+    let image = image(alloc, matches)?;
+    match form {
+        None => Ok(Task::Lines(Job::Report { image })),
+        Some(form) => Ok(Task::Tool(ToolJob::Zones(ZonesJob { image, form }))),
+    }
 }
 
 /// The job of `nvme`.
@@ -216,14 +246,14 @@ fn fresh_raw_job(matches: &ArgMatches<'_>) -> Result<Job, WordFault>
     })
 }
 
-/// The job of a subcommand that has one.
+/// The job of a subcommand that always has one, if this is one.
 fn subcommand_job(alloc: Global, name: &str, matches: &ArgMatches<'_>) -> Result<Job, WordFault>
+    requires { name.now ≢ codes "report" }
     ensures { Finds (AsksForJob name.now (rows_of (found_of matches.now))) result }
 {
     match name {
         "format" => format_job(alloc, matches),
         "run" => run_job(alloc, matches),
-        "report" => report_job(alloc, matches),
         "nvme" => nvme_job(alloc, matches),
         "fresh" => fresh_job(matches),
         "fresh-raw" => fresh_raw_job(matches),
@@ -251,10 +281,13 @@ fn nbd_job(alloc: Global, matches: &ArgMatches<'_>) -> Result<NbdJob, WordFault>
 fn subcommand_task(alloc: Global, name: &str, matches: &ArgMatches<'_>) -> Result<Task, WordFault>
     ensures { Finds (AsksFor name.now (rows_of (found_of matches.now))) result }
 {
-    if name == "nbd" {
-        return Ok(Task::Nbd(nbd_job(alloc, matches)?));
+    match name {
+        "nbd" => Ok(Task::Nbd(nbd_job(alloc, matches)?)),
+        "check" => Ok(Task::Tool(ToolJob::Check(check_job(alloc, matches)?))),
+        "plan" => Ok(Task::Tool(plan_tool(alloc, matches)?)),
+        "report" => report_task(alloc, matches),
+        _ => Ok(Task::Lines(subcommand_job(alloc, name, matches)?)),
     }
-    Ok(Task::Lines(subcommand_job(alloc, name, matches)?))
 }
 
 /// What the subcommand asks for, if there is one.
@@ -282,6 +315,14 @@ fn refusal(alloc: Global, program: &mut Command<'_>, fault: WordFault) -> Result
             let text = format!(in alloc; "the value of '--{name}' is not in decimal digits")?;
             program.error(ErrorKind::ValueValidation, &text)
         }
+        WordFault::State => program.error(
+            ErrorKind::ValueValidation,
+            "the value of '--state' is not the name of a state",
+        ),
+        WordFault::Both => program.error(
+            ErrorKind::ArgumentConflict,
+            "two of the options are not taken together",
+        ),
         WordFault::Memory => Err(AllocError),
     }
 }

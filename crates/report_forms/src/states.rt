@@ -19,7 +19,8 @@ pub const STATES: [ZoneState; 7] = [
 
 /// The state with that name.
 pub fn state_named(name: &str) -> Option<ZoneState>
-    ensures { IfSome result (λ state. name.now ≡ state_text state) }
+    ensures some { IfSome result (λ state. name.now ≡ state_text state) }
+    ensures none { IfNone result ((state : ZoneState) → name.now ≢ state_text state) }
 {
     match name {
         "Empty" => Some(ZoneState::Empty),

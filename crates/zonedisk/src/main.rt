@@ -16,7 +16,9 @@
 //! the end. What the replies are is promised by the runs below,
 //! [`run_trace`], [`answer_trace`] and [`run_raw`]; what a task holds, and which words ask for none, by [`task_of`];
 //! which drive is saved, and what is shown of it, by [`run_job`]; and the image of a drive by `drive_images`.
-//! `zonedisk nbd` serves a drive by the Network Block Device protocol, as [`serve_drive`] promises.
+//! `zonedisk nbd` serves a drive by the Network Block Device protocol, as [`serve_drive`] promises. `zonedisk check`,
+//! `zonedisk plan` and the other forms of `zonedisk report` change nothing; [`answer_check`], [`answer_plan`] and
+//! [`answer_zones`] say what they tell.
 //! `--statistics`, the file and the exit status 0 are tested. [`explain`] says on standard error what a fault is.
 #![tactic(auto)]
 
@@ -34,6 +36,7 @@ use std::io::{BufWriter, Write};
 use std::process::ExitCode;
 use std::rt::Files;
 use std::{fs, io};
+pub use tool_jobs::{ToolJob, answer_check, answer_plan, answer_zones, do_tool_job};
 
 /// The exit status where the words were refused.
 const REFUSED: u8 = 2;
@@ -104,6 +107,25 @@ fn do_nbd<R: Eprint + Files<File = fs::File> + Input, W: Write>(
     code
 }
 
+/// Does what a tool is asked for. Why it tells nothing goes to standard error.
+fn use_tool<R: Eprint + Files<File = fs::File>, W: Write>(
+    rt: &R,
+    alloc: Global,
+    job: &ToolJob,
+    output: &mut W,
+) -> ExitCode {
+    match do_tool_job(rt, alloc, job, output) {
+        Ok(true) => ExitCode::SUCCESS,
+        Ok(false) => ExitCode::FAILURE,
+        Err(fault) => {
+            if let Ok(text) = tool_jobs::explain(alloc, job, fault) {
+                let _ = eprintln!(rt; "zonedisk: {text}");
+            }
+            ExitCode::FAILURE
+        }
+    }
+}
+
 /// Opens the root folder three times. Where a standard stream is closed, the next file that is opened takes its place:
 /// so it is this folder, which cannot be read as a file nor written, and no image.
 fn fill_streams<F: Files>(files: &F) -> [io::Result<F::File>; 3] {
@@ -143,5 +165,6 @@ fn main(rt: HostRuntime) -> io::Result<ExitCode> {
     Ok(match task {
         Task::Lines(job) => do_lines(&rt, alloc, &job, &mut output),
         Task::Nbd(job) => do_nbd(&rt, alloc, &job, &mut io::writer(&rt)),
+        Task::Tool(job) => use_tool(&rt, alloc, &job, &mut output),
     })
 }

@@ -1,7 +1,7 @@
 use Rattle.std.proofs.Common.{◌≡◌, ◌∙◌, ap, sym, true}
 use Rattle.std.specs.Prelude.{is_some, not}
 use Rattle.clap.specs.Words.{first_of, found_of, rows_of}
-use Rattle.command_line.specs.Words.{HasNumber, HasNumberIf}
+use Rattle.command_line.specs.Values.{HasNumber, HasNumberIf}
 use Rattle.command_line.proofs.WordLaws.{exits, is_some-map, number_part}
 use Rattle.command_line.proofs.words.number_if_given.Goals as goal
 

@@ -1,5 +1,5 @@
 use Rattle.clap.specs.Words.{found_of, rows_of}
-use Rattle.command_line.specs.Words.{HasNumber}
+use Rattle.command_line.specs.Values.{HasNumber}
 use Rattle.command_line.proofs.WordLaws.{exits, fits_64_bits}
 use Rattle.command_line.proofs.words.part_of.Goals as goal
 

@@ -1,0 +1,229 @@
+// The tools on the command line: which words ask for them, and what they tell of a drive in a file.
+
+use crate::jobs::{check_written, refusal, task};
+use clap::error::ErrorKind;
+use command_line::Task;
+use std::alloc::{AllocError, Global};
+use std::fs;
+use std::fs::File;
+use std::process::Abort;
+use std::rt::Files;
+use std::test::Fail;
+use tool_jobs::{ToolFault, ToolJob, do_tool_job};
+
+// Which words of tools are refused, and how.
+const WORDS: [(&str, Option<ErrorKind>); 24] = [
+    ("zonedisk check --image a", None),
+    ("zonedisk check --image a --blocks 9 --json", None),
+    ("zonedisk check", Some(ErrorKind::MissingRequiredArgument)),
+    (
+        "zonedisk check --image a --blocks x",
+        Some(ErrorKind::ValueValidation),
+    ),
+    (
+        "zonedisk check --image a --zones",
+        Some(ErrorKind::UnknownArgument),
+    ),
+    ("zonedisk plan --image a", None),
+    ("zonedisk plan --image a --share 80 --json", None),
+    ("zonedisk plan --image a --amplification 3 --svg", None),
+    ("zonedisk plan", Some(ErrorKind::ValueValidation)),
+    (
+        "zonedisk plan --block 512 --zones 4 --size 8 --capacity 6 --transfer 4 --active 2",
+        Some(ErrorKind::ValueValidation),
+    ),
+    (
+        "zonedisk plan --block 512 --zones 4 --size 8 --capacity 6 --transfer 4 --active 2 --open 2",
+        None,
+    ),
+    (
+        "zonedisk plan --image a --zones 4",
+        Some(ErrorKind::ArgumentConflict),
+    ),
+    (
+        "zonedisk plan --image a --json --svg",
+        Some(ErrorKind::ArgumentConflict),
+    ),
+    (
+        "zonedisk plan --image a --blocks 9 --share 80",
+        Some(ErrorKind::ArgumentConflict),
+    ),
+    ("zonedisk plan --bytes 256M", None),
+    ("zonedisk plan --bytes 0", None),
+    ("zonedisk plan --bytes M", Some(ErrorKind::ValueValidation)),
+    (
+        "zonedisk plan --bytes 1KM",
+        Some(ErrorKind::ValueValidation),
+    ),
+    (
+        "zonedisk plan --bytes 16777216T",
+        Some(ErrorKind::ValueValidation),
+    ),
+    (
+        "zonedisk plan --bytes 1M --json",
+        Some(ErrorKind::ArgumentConflict),
+    ),
+    ("zonedisk report --image a --state Full --json", None),
+    (
+        "zonedisk report --image a --state full",
+        Some(ErrorKind::ValueValidation),
+    ),
+    (
+        "zonedisk report --image a --brief --svg",
+        Some(ErrorKind::ArgumentConflict),
+    ),
+    (
+        "zonedisk report --image a --brief --state Full",
+        Some(ErrorKind::ArgumentConflict),
+    ),
+];
+
+#[test]
+fn reads_the_words_of_tools(rt: HostRuntime) {
+    for (line, kind) in &WORDS {
+        assert_eq!(rt; refusal(&rt, rt.alloc(), line), *kind);
+    }
+}
+
+// The job of a command line that asks for a tool.
+fn tool(rt: &impl Abort, alloc: Global, line: &str) -> Option<ToolJob> {
+    match task(rt, alloc, line) {
+        Ok(Task::Tool(job)) => Some(job),
+        _ => None,
+    }
+}
+
+// The bytes that are asked for, and what `--bytes` says.
+const BYTES: [(&str, u64); 5] = [
+    ("7", 7),
+    ("1K", 1024),
+    ("256M", 268_435_456),
+    ("3G", 3_221_225_472),
+    ("16777215T", 18_446_742_974_197_923_840),
+];
+
+#[test]
+fn reads_bytes(rt: HostRuntime) -> Result<(), Fail> {
+    for (text, bytes) in BYTES {
+        let line = format!(in rt.alloc(); "zonedisk plan --bytes {text}")?;
+        let Some(ToolJob::Format { bytes: asked }) = tool(&rt, rt.alloc(), &line) else {
+            panic!(rt; "no bytes were asked for");
+        };
+        assert_eq!(rt; asked, bytes);
+    }
+    Ok(())
+}
+
+// What a tool writes, and whether all is well.
+fn used<R: Files<File = File> + Abort>(
+    rt: &R,
+    alloc: Global,
+    line: &str,
+) -> (Vec<u8>, Result<bool, ToolFault>) {
+    let job = tool(rt, alloc, line).expect(rt, "a tool");
+    let mut written = Vec::new(alloc);
+    let done = do_tool_job(rt, alloc, &job, &mut written);
+    (written, done)
+}
+
+// Compares what tools write, each of which tells whether all is well.
+fn check_used<R: Files<File = File> + Abort>(rt: &R, alloc: Global, cases: &[(&str, bool, &[u8])]) {
+    for (line, is_well, output) in cases {
+        let (written, done) = used(rt, alloc, line);
+        assert_eq!(rt; written.as_slice(), *output);
+        assert_eq!(rt; done, Ok(*is_well));
+    }
+}
+
+// A raw line that appends a block of ones to the zone that starts at this block.
+fn append_ones(alloc: Global, start: u8) -> Result<Vec<u8>, AllocError> {
+    let text = format!(in alloc; "7d00010001000000{:064}{start:02x}{:046} ", 0, 0)?;
+    let mut line = Vec::from_slice(alloc, text.as_bytes())?;
+    for _ in 0..512 {
+        line.extend_from_slice(b"ff")?;
+    }
+    line.push(b'\n')?;
+    Ok(line)
+}
+
+const FORMAT_CHECKED: &str =
+    "zonedisk format --image checked.image --block 512 --zones 4 --size 8 --capacity 6 --transfer 4 \
+     --active 2 --open 2";
+
+const CHECK: &str = "zonedisk check --image checked.image";
+
+const CHECK_JSON: &str = "zonedisk check --image checked.image --json --blocks 9";
+
+const FRESH: &[u8] = b"the drive can be mounted\n";
+
+const FRESH_JSON: &[u8] = b"{
+  \"batches\": [],
+  \"mountable\": true,
+  \"partly_written\": 0,
+  \"past_end\": [],
+  \"refusal\": null,
+  \"repeated\": [],
+  \"torn\": [],
+  \"unusable\": []
+}
+";
+
+// Both zones are told, and the first of them is why a mount is refused.
+const FAULTY: &[u8] = b"refused: zone 0 holds no batch at block 0: the header does not begin with ZLOGBAT1
+batches of zone 0: zone 0 holds no batch at block 0: the header does not begin with ZLOGBAT1
+batches of zone 1: zone 1 holds no batch at block 0: the header does not begin with ZLOGBAT1
+";
+
+const BRIEF: &[u8] = b"zones 4
+state Empty zones 2 at 2-3
+state ImplicitlyOpened zones 2 at 0-1
+";
+
+const EMPTY: &[u8] = b"zones 2
+start 16 state Empty pointer 16 capacity 6
+start 24 state Empty pointer 24 capacity 6
+";
+
+#[test]
+fn checks_a_drive(rt: HostRuntime) -> Result<(), Fail> {
+    let alloc = rt.alloc();
+    check_written(&rt, alloc, &[(FORMAT_CHECKED, b"", b"ok\n")]);
+    check_used(
+        &rt,
+        alloc,
+        &[(CHECK, true, FRESH), (CHECK_JSON, true, FRESH_JSON)],
+    );
+    let replies: &[u8] = b"00000000000000000000000001000000\n00000000000000000800000001000000\n";
+    let mut lines = append_ones(alloc, 0)?;
+    lines.extend_from_slice(&append_ones(alloc, 8)?)?;
+    check_written(
+        &rt,
+        alloc,
+        &[("zonedisk nvme --image checked.image", &lines, replies)],
+    );
+    check_used(
+        &rt,
+        alloc,
+        &[
+            (CHECK, false, FAULTY),
+            ("zonedisk report --image checked.image --brief", true, BRIEF),
+            (
+                "zonedisk report --image checked.image --state Empty",
+                true,
+                EMPTY,
+            ),
+        ],
+    );
+    fs::remove_file(&rt, "checked.image")?;
+    Ok(())
+}
+
+#[test]
+fn tells_why_a_tool_tells_nothing(rt: HostRuntime) -> Result<(), Fail> {
+    let (written, done) = used(&rt, rt.alloc(), "zonedisk plan --bytes 4097G");
+    assert_eq!(rt; done, Err(ToolFault::Bytes));
+    assert!(rt; written.is_empty());
+    let (_, done) = used(&rt, rt.alloc(), "zonedisk check --image no.image");
+    assert!(rt; matches!(done, Err(ToolFault::File(_))));
+    Ok(())
+}

@@ -1,0 +1,47 @@
+-- A drive that is asked, and what interrupts that.
+use Rattle.std.proofs.Common.{◌≡◌, inl, inr, ℕ, subst, Bool, true, false, Option, Some, None, refl}
+use Rattle.std.specs.Prelude.{is_none, is_some, not}
+use Rattle.zone_drive.specs.Habits.{MemoryDrive}
+use Rattle.zone_drive.specs.declared.habit.Habit.{Habit}
+use Rattle.drive_port.specs.Drive.{DriveState}
+use Rattle.drive_survey.specs.declared.fault.MountFault.{MountFault}
+use Rattle.drive_survey.specs.Reported.{KeepsZones}
+use Rattle.drive_survey.specs.Scan.{IsInterruption}
+use Rattle.drive_check.specs.Findings.{AreFindings}
+use Rattle.drive_check.specs.declared.finding.Findings.{Findings}
+use Rattle.drive_store.specs.Kept.{IsReadIn, IsRestarted}
+use Rattle.drive_store.specs.declared.kept_drive.Begun.{Begun}
+use Rattle.tool_jobs.specs.Telling.{Bytes}
+use Rattle.tool_jobs.specs.Checks.{AsksNone, FindsFaults, IsInterrupted}
+use Rattle.tool_jobs.specs.declared.fault.ToolFault.{ToolFault}
+
+module _ (file : Bytes) (habit : Habit) (begun : Begun) (begins : IsRestarted file habit begun) where
+  read-in : IsReadIn file begins.opened
+  read-in = record { whole = begun.whole; is_file = begins.is_file }
+
+  -- all of its faults are found
+  pub faults-found : (blocks : ℕ) (findings : Findings) → AreFindings begun.drive.state blocks findings → FindsFaults file blocks findings
+  faults-found blocks findings are = record {
+    saved = begins.opened;
+    is_read = read-in;
+    are = subst (λ (drive : MemoryDrive). AreFindings drive.state blocks findings) begins.drive_is are;
+  }
+
+  -- it was not asked to its end
+  pub not-asked : (last : DriveState) (cause : MountFault) (fault : ToolFault) → KeepsZones begun.drive.state last → IsInterrupted cause fault → IsInterruption last cause → AsksNone file fault
+  not-asked last cause fault keeps told (inl memory) = rw (rw memory at told) tt
+  not-asked last cause fault keeps told (inr (inl halted)) = rw (rw halted.0 at told) (record {
+    saved = begins.opened;
+    is_read = read-in;
+    last = last;
+    keeps = subst (λ (drive : MemoryDrive). KeepsZones drive.state last) begins.drive_is keeps;
+    stopped = halted.1;
+  })
+  not-asked last cause fault keeps told (inr (inr none)) = absurd none
+
+-- nothing refuses it
+pub none-refuses : (refusal : Option MountFault) (mountable : Bool) → is_some refusal ≡ not mountable → mountable ≡ is_none refusal
+none-refuses None true is = refl
+none-refuses None false is = absurd (cc is)
+none-refuses (Some fault) true is = absurd (cc is)
+none-refuses (Some fault) false is = refl

@@ -1,0 +1,43 @@
+-- Checks of the drive in a file.
+use Rattle.std.specs.Prelude.{◌≡◌, ℕ, Bool, true, is_none, ⊤}
+use Rattle.drive_port.specs.Drive.{DriveState}
+use Rattle.drive_port.specs.Run.{restarted}
+use Rattle.drive_survey.specs.declared.fault.MountFault.{MountFault}
+use Rattle.drive_survey.specs.declared.fault.MountFault.TheVariants as mounts
+use Rattle.drive_survey.specs.Reported.{KeepsZones}
+use Rattle.drive_check.specs.Findings.{AreFindings}
+use Rattle.drive_check.specs.declared.finding.Findings.{Findings}
+use Rattle.drive_store.specs.Kept.{IsReadIn}
+use Rattle.tool_jobs.specs.Telling.{Bytes, HoldsNone}
+use Rattle.tool_jobs.specs.declared.fault.ToolFault.{ToolFault}
+use Rattle.tool_jobs.specs.declared.fault.ToolFault.TheVariants.{Stopped, Memory}
+
+-- what an interruption is to a tool
+abbrev pub IsInterrupted : MountFault → ToolFault → Type 0
+IsInterrupted mounts.OutOfMemory fault = fault ≡ Memory
+IsInterrupted cause fault = fault ≡ Stopped
+
+-- These are all the faults of the drive that the file holds, once it is restarted. They refuse nothing exactly where a
+-- mount of that many logical blocks would be done.
+pub record FindsFaults (file : Bytes) (blocks : ℕ) (findings : Findings) : Type 0 where
+  pub saved : DriveState
+  pub is_read : IsReadIn file saved
+  pub are : AreFindings (restarted saved) blocks findings
+
+-- these are the faults, and this is whether a mount would be done
+abbrev pub FindsMountable : Bytes → ℕ → Bool → Findings → Type 0
+FindsMountable file blocks mountable findings = FindsFaults file blocks findings × (mountable ≡ is_none findings.refusal)
+
+-- the drive in the file, restarted, has stopped once it was asked
+pub record StopsInFile (file : Bytes) : Type 0 where
+  pub saved : DriveState
+  pub is_read : IsReadIn file saved
+  pub last : DriveState
+  pub keeps : KeepsZones (restarted saved) last
+  pub stopped : last.stopped ≡ true
+
+-- why a drive is not asked to its end: the bytes hold none, by their first fault; or it has stopped, or memory ran out
+abbrev pub AsksNone : Bytes → ToolFault → Type 0
+AsksNone file Stopped = StopsInFile file
+AsksNone file Memory = ⊤
+AsksNone file fault = HoldsNone file fault

@@ -1,0 +1,4 @@
+pub mod Telling
+pub mod Checks
+pub mod Plans
+pub mod Zones

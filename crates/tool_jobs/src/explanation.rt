@@ -1,0 +1,13 @@
+use crate::fault::ToolFault;
+use crate::job::ToolJob;
+use std::alloc::{AllocError, Global};
+
+/// One line for people that says what a fault is, without a line feed.
+pub fn explain(alloc: Global, job: &ToolJob, fault: ToolFault) -> Result<String, AllocError> {
+    let path = job.image().unwrap_or("the file");
+    match fault {
+        ToolFault::Image(fault) => format!(in alloc; "{path}: {fault}"),
+        ToolFault::File(fault) => format!(in alloc; "{path} {fault}"),
+        fault => format!(in alloc; "{fault}"),
+    }
+}

@@ -1,0 +1,59 @@
+ghost use Rattle.std.specs.Prelude.{◌≡◌};
+ghost use Rattle.tool_jobs.specs.declared.fault.ToolFault.TheVariants as tool;
+
+use disk_files::WriteFault;
+use drive_journal::FileFault as ReadFault;
+use drive_store::FileFault;
+use std::alloc::AllocError;
+use thiserror::Error;
+use write_plan::PlanFault;
+
+/// Why a tool tells nothing, or only a beginning of what it has to tell.
+#[derive(Clone, Copy, Debug, PartialEq, Eq, Error)]
+pub enum ToolFault {
+    /// The file holds no drive: its image or a change after it has a fault.
+    #[error("{0}")]
+    Image(ReadFault),
+    /// There is no such plan.
+    #[error("{0}")]
+    Plan(PlanFault),
+    /// No drive is planned for so many bytes.
+    #[error("no drive is planned for more than 4398046511104 bytes")]
+    Bytes,
+    /// The drive has stopped: it completes no more commands.
+    #[error("the drive has stopped")]
+    Stopped,
+    /// The output failed.
+    #[error("standard output failed")]
+    Output,
+    /// The file is not used.
+    #[error("{0}")]
+    File(FileFault),
+    /// An allocation failed.
+    #[error("out of memory")]
+    Memory,
+}
+
+impl From<AllocError> for ToolFault {
+    ghost from_gives = { λ _ fault. fault ≡ tool.Memory };
+
+    fn from(_error: AllocError) -> ToolFault {
+        ToolFault::Memory
+    }
+}
+
+impl From<WriteFault> for ToolFault {
+    ghost from_gives = { λ _ fault. fault ≡ tool.Output };
+
+    fn from(_fault: WriteFault) -> ToolFault {
+        ToolFault::Output
+    }
+}
+
+impl From<ReadFault> for ToolFault {
+    ghost from_gives = { λ cause fault. fault ≡ tool.Image cause };
+
+    fn from(cause: ReadFault) -> ToolFault {
+        ToolFault::Image(cause)
+    }
+}
