@@ -17,7 +17,7 @@ use Rattle.batch_log.proofs.LogLaws.{one_tail}
 
 -- ---- one reading
 
--- the batches in front, and what is left where no batch begins
+-- the batches in front, and what is left if no batch begins
 pub record SameFront (log log' : List Batch) (tail tail' : List (List ℕ)) : Type 0 where
   pub log_is : log' ≡ log
   pub tail_is : tail' ≡ tail
@@ -113,7 +113,7 @@ tail_blocks : (size : ℕ) (xs ys : List (List ℕ)) → AreBlocks size (xs ++ y
 tail_blocks size [] ys all = all
 tail_blocks size (x ∷ xs) ys all = tail_blocks size xs ys all.1
 
--- zeros alone
+-- only zeros
 blocks_of_zeros : (size : ℕ) (blocks : List (List ℕ)) → AreBlocks size blocks → list_all is_zero blocks ≡ true → blocks ≡ replicate (length blocks) (zero_block size)
 blocks_of_zeros size [] all e = refl
 blocks_of_zeros size (b ∷ bs) all e =

@@ -53,7 +53,7 @@ entry_there (suc n) (suc i) bytes lt =
 abbrev pub data_from : List ℕ → ℕ → ℕ → ℕ
 data_from bytes count i = data_count (entries_in (count - i) (drop (8 * i) bytes))
 
--- the data blocks from an entry on are its own and those of later ones
+-- the data blocks from an entry on are its own and the later ones'
 pub data_more : (count i : ℕ) (bytes : List ℕ) (e : Entry) → i < count → e ≡ entry_of (number_at (8 * i) 8 bytes) → data_from bytes count i ≡ one_unless e.trim + data_from bytes count (i + 1)
 data_more count i bytes e lt is = ap data_count (entries_more count i bytes lt) ∙ rw is refl
 

@@ -25,7 +25,7 @@ skipped size full offset (suc n) (b ∷ bs) = skipped size full offset n bs
 abbrev pub at_end : ℕ → Ending → Reading
 at_end offset ending = record { batches = []; offset = offset; ending = ending }
 
--- where no batch begins, reading ends, or fails there
+-- if no batch begins, reading ends, or fails there
 pub no_batch : (size : ℕ) (full : Bool) (offset : ℕ) (bytes : List ℕ) → bytes ≢ [] → begins size bytes ≡ false → read_from size full offset 0 bytes ≡ at_end offset (ending_at size full bytes)
 no_batch size full offset [] some none = absurd (some refl)
 no_batch size full offset (b ∷ bs) some none = rw none refl
@@ -33,12 +33,12 @@ no_batch size full offset (b ∷ bs) some none = rw none refl
 begins-foreign : (size : ℕ) (bytes : List ℕ) (cause : LogFault) → header_fault (take size bytes) ≡ Some cause → begins size bytes ≡ false
 begins-foreign size bytes cause e = rw e refl
 
--- no header block stands in front
+-- no header block is in front
 pub foreign : (size : ℕ) (full : Bool) (offset : ℕ) (bytes : List ℕ) (cause : LogFault) → bytes ≢ [] → header_fault (take size bytes) ≡ Some cause
     → read_from size full offset 0 bytes ≡ at_end offset (foreign_ending full cause (is_zero (take size bytes)) (is_zero (drop size bytes)))
 foreign size full offset bytes cause some e = no_batch size full offset bytes some (begins-foreign size bytes cause e) ∙ rw e refl
 
--- a header block stands in front, and too few blocks follow
+-- a header block is in front, and too few blocks follow
 pub short : (size : ℕ) (full : Bool) (offset : ℕ) (bytes : List ℕ) → bytes ≢ [] → header_fault (take size bytes) ≡ None → begins size bytes ≡ false
     → read_from size full offset 0 bytes ≡ at_end offset (short_ending full)
 short size full offset bytes some e none = no_batch size full offset bytes some none ∙ rw e refl
@@ -47,7 +47,7 @@ one_more : (k : ℕ) (bs : List ℕ) (b : ℕ) → 1 ≤ k → drop k (b ∷ bs)
 one_more zero bs b le = absurd (omega arith)
 one_more (suc k) bs b le = ap (λ (n : ℕ). drop n bs) (omega arith)
 
--- a batch stands in front
+-- a batch is in front
 pub whole : (size : ℕ) (full : Bool) (offset : ℕ) (bytes : List ℕ) → 1 ≤ size → bytes ≢ [] → begins size bytes ≡ true
     → read_from size full offset 0 bytes ≡ with_batch (batch_at size offset bytes) (read_from size full (offset + 1 + need size bytes) 0 (drop (need size bytes * size) (drop size bytes)))
 whole size full offset [] positive some is = absurd (some refl)
@@ -56,7 +56,7 @@ whole size full offset (b ∷ bs) positive some is =
     let rest : drop (k - 1) bs ≡ drop (need size (b ∷ bs) * size) (drop size (b ∷ bs)) = sym (one_more k bs b (omega (arith, positive))) ∙ sym (drop-drop (need size (b ∷ bs) * size) size (b ∷ bs)) in
     rw is (ap (with_batch (batch_at size offset (b ∷ bs))) (skipped size full (offset + 1 + need size (b ∷ bs)) (k - 1) bs ∙ ap (read_from size full (offset + 1 + need size (b ∷ bs)) 0) rest))
 
--- what the iterator lends, and what it goes on with
+-- what the iterator lends, and what it continues with
 pub lent : (size : ℕ) (full : Bool) (offset : ℕ) (bytes block others body after : List ℕ) (heading : Heading) (count next : ℕ) → 1 ≤ size → bytes ≢ []
     → block ≡ take size bytes → others ≡ drop size bytes → header_fault block ≡ None → heading ≡ heading_in block → count ≡ data_count heading.entries
     → count * size ≤ length others → body ≡ take (count * size) others → after ≡ drop (count * size) others → next ≡ offset + 1 + count

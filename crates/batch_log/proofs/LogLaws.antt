@@ -102,7 +102,7 @@ whole_log size is_full blocks log is = record { tail = []; front = is; end = non
 pub count_tail : (size : ℕ) (blocks tail : List (List ℕ)) (log : List Batch) → BeginsWith size blocks log tail → log_of blocks ≡ log → length blocks ≡ log_size (log_of blocks) + length tail
 count_tail size blocks tail log front read = omega (arith, ap length front.spelled, length-append (flat_map (batch_blocks size) log) tail, spelled_length size log front.batches, ap log_size read)
 
--- blocks that are batches alone have no tail
+-- blocks that are only batches have no tail
 pub no_tail : NoTail
 no_tail size blocks log small is = record {
   whole = λ none.

@@ -27,7 +27,7 @@ byte_at-pow : (i x : ℕ) → byte_at i x ≡ x / 256 ^ i % 256
 byte_at-pow zero x = ap (λ (y : ℕ). y % 256) (sym (div-one x))
 byte_at-pow (suc i) x = refl
 
--- the bytes above the lowest are those of the number without it
+-- the bytes above the lowest are the bytes of the number without it
 byte_above : (i b r : ℕ) → b < 256 → byte_at (suc i) (b + 256 * r) ≡ byte_at i r
 byte_above i b r lt =
     let low : (b + 256 * r) / 256 ≡ r = omega arith in

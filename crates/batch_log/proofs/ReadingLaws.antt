@@ -49,7 +49,7 @@ zero_bytes (b ∷ bs) = list_all-append (λ (byte : ℕ). byte == 0) b (bytes_of
 
 -- ---- what is read where a block stands
 
--- the reading of bytes is that of these blocks, the first of which stands at an offset
+-- the reading of bytes is that of these blocks, the first of which is at an offset
 pub record ReadsFrom (size : ℕ) (full : Bool) (offset : ℕ) (blocks : List (List ℕ)) (r : Reading) : Type 0 where
   pub log : List Batch
   pub reads : ReadsLog size full blocks log r.ending

@@ -24,7 +24,7 @@ is_zero bytes = list_all (λ byte. byte == 0) bytes
 abbrev pub has_odd_size : ℕ → ℕ → Bool
 has_odd_size version word = version == 2 && not (is_size word)
 
--- in version 1 zeros stand in the size's place
+-- in version 1 zeros are in the size's place
 abbrev pub has_early_size : ℕ → ℕ → Bool
 has_early_size version word = version == 1 && not (word == 0)
 

@@ -12,7 +12,7 @@ pub data Ending : Type 0 where
   torn : Ending
   failed : LogFault → Ending
 
--- Where no header block stands. In a full zone a zero block ends the log, if all after it are zeros.
+-- If no header block stands. In a full zone a zero block ends the log, if all after it are zeros.
 abbrev pub foreign_ending : Bool → LogFault → Bool → Bool → Ending
 foreign_ending is_full cause zero_block zero_rest =
     if is_full && zero_block then (if zero_rest then ended else failed ForeignTail) else failed cause

@@ -47,7 +47,7 @@ torn_of offset ended = None
 torn_of offset torn = Some offset
 torn_of offset (failed fault) = None
 
--- The items, and the torn tail that is told of at the end, are those of these blocks: the batches from the first on, up to where none begins.
+-- The items, and the torn tail that is told of at the end, are those of these blocks: the batches from the first on, up to if none begins.
 pub record AreRead (block_bytes : ℕ) (is_full : Bool) (blocks : List (List ℕ)) (items : List Item) (torn_at : Option ℕ) : Type 0 where
   pub log : List Batch
   pub ending : Ending
@@ -70,7 +70,7 @@ with_batch batch reading = record { batches = batch ∷ reading.batches; offset 
 abbrev pub need : ℕ → List ℕ → ℕ
 need size bytes = data_count (heading_in (take size bytes)).entries
 
--- a header block, and its data, stand in front
+-- a header block, and its data, are in front
 abbrev pub begins : ℕ → List ℕ → Bool
 begins size bytes = is_header (take size bytes) && nat_le (need size bytes * size) (length (drop size bytes))
 

@@ -1,4 +1,4 @@
--- The batches that a list of blocks holds, and what may stand after them.
+-- The batches that a list of blocks holds, and what may be after them.
 use Rattle.std.specs.Prelude.{◌≡◌, ◌⊎◌, ℕ, zero, suc, ◌+◌, ◌<◌, ◌==◌, ◌&&◌, nat_lt, nat_le, if◌then◌else◌, Bool}
 use Rattle.std.specs.Prelude.{true, false, List, [], ◌∷◌, ◌++◌, length, replicate, take, drop, slice_index}
 use Rattle.std.specs.List.{flat_map, AllByRecursion}
@@ -51,7 +51,7 @@ abbrev pub BeginsWithNoBatch : ℕ → List (List ℕ) → Type 0
 BeginsWithNoBatch block_bytes blocks =
     (batch : Batch) (others : List (List ℕ)) → IsBatch block_bytes batch → blocks ≡ batch_blocks block_bytes batch ++ others → ⊥
 
--- A torn tail: a header block and fewer data blocks than its entries need, as an Append leaves that was stopped on its way. It is no batch, and says nothing.
+-- A torn tail: a header block and fewer data blocks than its entries need, as an Append leaves that was stopped midway. It is no batch, and says nothing.
 pub record IsTorn (block_bytes : ℕ) (tail : List (List ℕ)) : Type 0 where
   pub heading : Heading
   pub body : List (List ℕ)
@@ -59,7 +59,7 @@ pub record IsTorn (block_bytes : ℕ) (tail : List (List ℕ)) : Type 0 where
   pub few : length body < data_count heading.entries
   pub spelled : tail ≡ header_block block_bytes heading ∷ body
 
--- what may stand after the last batch: in a full zone zero blocks, elsewhere nothing, or a torn tail
+-- what may be after the last batch: in a full zone zero blocks, elsewhere nothing, or a torn tail
 abbrev pub IsTail : ℕ → Bool → List (List ℕ) → Type 0
 IsTail block_bytes false tail = (tail ≡ []) ⊎ IsTorn block_bytes tail
 IsTail block_bytes true tail = tail ≡ replicate (length tail) (zero_block block_bytes)
@@ -74,16 +74,16 @@ pub record IsLog (block_bytes : ℕ) (is_full : Bool) (blocks : List (List ℕ))
 abbrev pub HaveNoLog : ℕ → Bool → List (List ℕ) → Type 0
 HaveNoLog block_bytes is_full blocks = (log : List Batch) → IsLog block_bytes is_full blocks log → ⊥
 
--- the blocks are the batches of a log, and nothing stands after them
+-- the blocks are the batches of a log, and nothing is after them
 abbrev pub IsWholeLog : ℕ → List (List ℕ) → List Batch → Type 0
 IsWholeLog block_bytes blocks log = BeginsWith block_bytes blocks log []
 
--- what may stand after the last batch where no Append was torn: in a full zone zero blocks, elsewhere nothing
+-- what may be after the last batch if no Append was torn: in a full zone zero blocks, elsewhere nothing
 abbrev pub IsUntornTail : ℕ → Bool → List (List ℕ) → Type 0
 IsUntornTail block_bytes false tail = tail ≡ []
 IsUntornTail block_bytes true tail = tail ≡ replicate (length tail) (zero_block block_bytes)
 
--- the blocks are the batches of a log, and no torn tail stands after them
+-- the blocks are the batches of a log, and no torn tail is after them
 pub record IsUntornLog (block_bytes : ℕ) (is_full : Bool) (blocks : List (List ℕ)) (log : List Batch) : Type 0 where
   pub tail : List (List ℕ)
   pub front : BeginsWith block_bytes blocks log tail
@@ -91,7 +91,7 @@ pub record IsUntornLog (block_bytes : ℕ) (is_full : Bool) (blocks : List (List
 
 -- ---- the batches, read
 --
--- A list of blocks has at most one log, and these functions find it: where there is one, `log_of` is it. Where there is none they give some list.
+-- A list of blocks has at most one log, and these functions find it: if any, `log_of` is it. Where there is none they give some list.
 
 abbrev pub batch_in : List ℕ → List (List ℕ) → Batch
 batch_in block others = record { heading = heading_in block; body = take (data_count (heading_in block).entries) others }
@@ -110,10 +110,10 @@ log_from zero (block ∷ blocks) =
 abbrev pub log_of : List (List ℕ) → List Batch
 log_of blocks = log_from 0 blocks
 
--- what stands after the batches
+-- what is after the batches
 abbrev pub tail_of : List (List ℕ) → List (List ℕ)
 tail_of blocks = drop (log_size (log_of blocks)) blocks
 
--- whether more blocks stand there than the batches take
+-- whether more blocks are there than the batches take
 abbrev pub has_tail : List (List ℕ) → Bool
 has_tail blocks = nat_lt (log_size (log_of blocks)) (length blocks)

@@ -38,7 +38,7 @@ abbrev pub WholeLog : Type 0
 WholeLog = (block_bytes : ℕ) (is_full : Bool) (blocks : List (List ℕ)) (log : List Batch) → IsWholeLog block_bytes blocks log
     → IsLog block_bytes is_full blocks log
 
--- a log with no torn tail is a log; outside a full zone it is its batches alone
+-- a log with no torn tail is a log; outside a full zone it is only its batches
 pub record UntornExactly (block_bytes : ℕ) (is_full : Bool) (blocks : List (List ℕ)) (log : List Batch) : Type 0 where
   pub log_of_it : IsUntornLog block_bytes is_full blocks log → IsLog block_bytes is_full blocks log
   pub whole : IsUntornLog block_bytes false blocks log → IsWholeLog block_bytes blocks log

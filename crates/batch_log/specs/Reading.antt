@@ -1,4 +1,4 @@
--- The numbers and the header that stand in a block's bytes. Where the block is a header block they are what it says; else they are some numbers.
+-- The numbers and the header that are in a block's bytes. Where the block is a header block they are what it says; else they are some numbers.
 use Rattle.std.specs.Prelude.{ℕ, zero, suc, ◌+◌, ◌-◌, ◌*◌, ◌≤◌, ◌^◌, ◌==◌, nat_lt, if◌then◌else◌, true, false, List, [], ◌∷◌, length, drop, Option, Some, None}
 use Rattle.byteorder.specs.Endian.{little_from}
 use Rattle.batch_log.specs.declared.header.Kind.{Kind}

@@ -15,14 +15,14 @@ pub enum LogFault {
     Kind = 3,
     /// More entries than the block has room for.
     Count = 4,
-    /// Bytes that must be zero are not: those of the size in version 1, the source zone of a Host
+    /// Bytes that must be zero are not: the size in version 1, the source zone of a Host
     /// batch, or those after the entries.
     RestNotZero = 5,
     /// Two entries name one block.
     BlockRepeated = 6,
     /// In a full zone, fewer blocks follow a header than its entries need.
     Torn = 7,
-    /// In a full zone, a block of zeros stands in a header's place, and not all after it are zeros.
+    /// In a full zone, a block of zeros is in a header's place, and not all after it are zeros.
     ForeignTail = 8,
     /// The size of version 2 is 0 or above 2^31.
     Size = 9,

@@ -30,13 +30,13 @@ pub fn one_tail()
 {}
 
 /// Batches with nothing after them are a log, of a full zone too; and where a log takes all blocks of
-/// a zone that is not full, nothing stands after it. Else its tail is torn.
+/// a zone that is not full, nothing is after it. Else its tail is torn.
 pub fn whole_log()
     ensures log { WholeLog }
     ensures back { NoTail }
 {}
 
-/// A log with no torn tail is a log, and outside a full zone its batches alone.
+/// A log with no torn tail is a log, and outside a full zone only its batches.
 pub fn untorn_log()
     ensures { UntornLog }
 {}

@@ -13,19 +13,21 @@
 //!         let entry = batch.header.entry(i); // a trim, or its data is the next block of batch.body
 //!     }
 //! }
-//! let torn = batches.torn(); // the block where a torn tail begins, if there is one
+//! let torn = batches.torn(); // the block where a torn tail begins, if any
 //! ```
 //!
 //! A zone that is not full may end in a torn tail: a header block and fewer data blocks than it needs,
-//! as an Append leaves that was stopped on its way. It is no batch.
+//! as an Append leaves that was stopped midway. It is no batch.
 //!
 //! Promised: each header has one block that encodes it, and any other block is refused with the first
 //! cause that holds of it. A zone is read in one way: as the batches from its first block on, up to
-//! where none begins, and what stands there, which is nothing, a torn tail or a fault. Where the zone
+//! if none begins, and what is there, which is nothing, a torn tail or a fault. Where the zone
 //! has a log, it is these batches; where a fault is met it has none. `laws` says what an Append, a part
 //! of one and a Finish do to a log.
 //!
 //! `docs/formats.md` states the header's bytes, `docs/placement.md` what batches are for.
+//!
+//! Tests: the rows of `worked_runs`, which compare it with `yardsticks`.
 #![tactic(auto)]
 
 mod batches;

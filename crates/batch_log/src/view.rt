@@ -169,7 +169,7 @@ fn has_repeats(block: &[u8], count: usize) -> bool
     repeats(&block[HEAD_SIZE..], count)
 }
 
-/// Whether zeros alone stand from a place on.
+/// Whether all is zeros from a place on.
 fn is_zero_from(block: &[u8], place: usize) -> bool
     requires { place ≤ length block.now }
     ensures { result ≡ is_zero (drop place block.now) }

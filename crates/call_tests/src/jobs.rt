@@ -431,7 +431,7 @@ fn check_narrow_image<R: Files + Alloc + Abort>(rt: &R, want: &[u8]) {
 // What a run that stops before its first command writes.
 const HALTED: &[u8] = b"fault mount 10 Halted\n";
 
-// Such a run leaves the file alone.
+// Such a run does not touch the file.
 #[test]
 fn keeps_each_byte_where_a_run_stops_at_once(rt: HostRuntime) -> Result<(), Fail> {
     let empty = narrow_image(rt.alloc())?;
@@ -561,7 +561,7 @@ const RUN_SYNCED: &str = "zonedisk run --image read.image --blocks 9 --sync";
 
 const NVME_SYNCED: &str = "zonedisk nvme --image read.image --sync";
 
-// A run that changes nothing leaves the file alone. After a change a new file takes its place.
+// A run that changes nothing does not touch the file. After a change a new file takes its place.
 #[test]
 fn leaves_a_file_alone_that_is_only_read(rt: HostRuntime) -> Result<(), Fail> {
     let alloc = rt.alloc();

@@ -240,7 +240,7 @@ fn a_store_in_memory_is_written_anew(rt: HostRuntime) -> Result<(), Fail> {
 // The lines of a run, each of which makes one change.
 const LINES: &[u8] = b"fill 0 1 11\nfill 1 1 22\nfill 0 1 33\ntrim 1 1\nfill 2 1 44\n";
 
-// Where each of the changes ends: a header, and a block of data but for the trim.
+// Where each of the changes ends: a header, and a block of data except for the trim.
 const LINE_ENDS: [usize; 5] = [1104, 2208, 3312, 3904, 5008];
 
 // What the array reads after as many lines.

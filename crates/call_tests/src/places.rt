@@ -59,7 +59,7 @@ fn random_place(state: &mut u64, zone: u32) -> Place
     }
 }
 
-// The zone of 64 that a place lies in, if it lies in one.
+// The zone of 64 that a place is in, if it is in one.
 fn plain_zone(place: Place) -> Option<u32> {
     match place {
         Place::Trimmed(address) | Place::At(address) if address < 256 => Some((address / 4) as u32),
@@ -90,7 +90,7 @@ fn place_in_both(
     Ok(moved == plain)
 }
 
-// How many blocks lie in a zone, by a look at each.
+// How many blocks are in a zone, by a look at each.
 fn plain_live(places: &[Place; 300], zone: u32) -> u32 {
     let mut live = 0_u32;
     for place in places {
@@ -99,7 +99,7 @@ fn plain_live(places: &[Place; 300], zone: u32) -> u32 {
     live
 }
 
-// The first of the blocks from one on that lie in a zone, with its place, by a look at each.
+// The first of the blocks from one on that are in a zone, with its place, by a look at each.
 fn plain_first(places: &[Place; 300], zone: u32, from: u32) -> Option<(u32, Place)> {
     for block in from..300 {
         let place = places[block as usize];

@@ -85,7 +85,7 @@ fn ends_where_the_reader_of_raw_lines_fails(rt: HostRuntime) -> Result<(), Fail>
     Ok(())
 }
 
-// Replies are sent where no whole line waits: once for lines that come together, and after each that comes alone.
+// Replies are sent if no whole line waits: once for lines that come together, and after each that comes alone.
 #[test]
 fn sends_replies_where_no_line_waits(rt: HostRuntime) {
     for (step, flushes) in [(100, [15].as_slice()), (1, [3, 15].as_slice())] {

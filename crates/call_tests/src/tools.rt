@@ -169,7 +169,8 @@ const FRESH_JSON: &[u8] = b"{
 ";
 
 // Both zones are told, and the first of them is why a mount is refused.
-const FAULTY: &[u8] = b"refused: zone 0 holds no batch at block 0: the header does not begin with ZLOGBAT1
+const FAULTY: &[u8] =
+    b"refused: zone 0 holds no batch at block 0: the header does not begin with ZLOGBAT1
 batches of zone 0: zone 0 holds no batch at block 0: the header does not begin with ZLOGBAT1
 batches of zone 1: zone 1 holds no batch at block 0: the header does not begin with ZLOGBAT1
 ";

@@ -2,11 +2,13 @@
 //!
 //! ```text
 //! let findings = check_drive(alloc, &mut device, 9)?;
-//! let text = findings_text(alloc, &findings)?;   // a line for each fault, that of the refusal first
+//! let text = findings_text(alloc, &findings)?;   // a line for each fault, the refusal's first
 //! let text = findings_json(alloc, &findings)?;   // the same as JSON
 //! ```
 //!
 //! Nothing is promised beyond safety; what they show is tested.
+//!
+//! Tests: the rows of `tool_rows`.
 #![tactic(auto)]
 
 mod json;

@@ -43,7 +43,7 @@ Asks task rows = IsSomeAnd rows (λ found. AsksFor found.0 found.1 task)
 pub asks_too : (names : Bor (List (Bor Text))) (command : Command) (words : List Text) (matches : ArgMatches) (task : Task) → app_of command ≡ program names → HasMatchesOf (app_of command) words matches → Asks task (subcommand_rows_of matches) → Asks task (subcommand_of (program names) words)
 asks_too names command words matches task is has asks = subst (Asks task) (met names command words matches is has) asks
 
--- the faults of the words are those of the command
+-- the faults of the words are the command's
 pub fails : (names : Bor (List (Bor Text))) (command : Command) (words : List Text) (r : Result ArgMatches Error) → app_of command ≡ program names → (is_simple_and_free (app_of command) ≡ true → FailsBy (fault_of (app_of command) words) r) → FailsBy (fault_of (program names) words) r
 fails names command words r is kinds = subst (λ (a : App). FailsBy (fault_of a words) r) is (kinds (ap is_simple_and_free is ∙ free names))
 

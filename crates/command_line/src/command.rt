@@ -35,10 +35,12 @@ const NVME_EXAMPLE: &str = "Example:
   printf '0000010001000000%0112d\\n' 0 | zonedisk nvme --image my.drive";
 
 const FRESH_EXAMPLE: &str = "Example:
-  printf 'fill 0 5 aa\\nread 4 1\\n' | zonedisk fresh --block 512 --zones 4 --size 8 --capacity 6 --transfer 4 --active 2 --open 2 --blocks 9 --report";
+  printf 'fill 0 5 aa\\nread 4 1\\n' | zonedisk fresh --block 512 --zones 4 --size 8 \
+    --capacity 6 --transfer 4 --active 2 --open 2 --blocks 9 --report";
 
 const FRESH_RAW_EXAMPLE: &str = "Example:
-  printf '0000010001000000%0112d\\n' 0 | zonedisk fresh-raw --block 512 --zones 4 --size 8 --capacity 6 --transfer 4 --active 2 --open 2";
+  printf '0000010001000000%0112d\\n' 0 | zonedisk fresh-raw --block 512 --zones 4 --size 8 \
+    --capacity 6 --transfer 4 --active 2 --open 2";
 
 const SYNC_HELP: &str = "Sends a reply only once the changes before it are on the disk";
 

@@ -11,7 +11,7 @@
 //! # What is promised
 //!
 //! * A task holds what clap's matches of the words have: the subcommand and, for each of its options, the value under
-//!   its name; a number is spelled in digits alone. Clap refuses none of these words (`specs/Program.antt` has the words
+//!   its name; a number is spelled only in digits. Clap refuses none of these words (`specs/Program.antt` has the words
 //!   that the program takes, `specs/Words.antt` and `specs/ToolWords.antt` the task that they ask for).
 //! * Words are refused only where clap refuses them, where they ask for no task in this sense, or where memory runs
 //!   out.

@@ -174,7 +174,7 @@ fn in_bytes(digits: &str, unit: u64) -> Option<u64>
     number_in(digits)?.checked_mul(unit)
 }
 
-/// What stands before a letter at the end of a text.
+/// What is before a letter at the end of a text.
 fn before_letter(text: &str, letter: char) -> Option<&str>
     requires { letter < 128 }
     ensures { MatchOption result ((front : List ℕ) → text.now ≢ front ++ letter ∷ [])

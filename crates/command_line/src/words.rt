@@ -55,7 +55,7 @@ fn has_flag(matches: &ArgMatches<'_>, name: &str) -> bool
     matches.get_flag(name)
 }
 
-/// Whether a text has digits alone.
+/// Whether a text has only digits.
 fn is_decimal(text: &str) -> bool
     ensures { result ≡ list_all is_ascii_digit text.now }
 {
@@ -76,7 +76,7 @@ pub fn number_in(text: &str) -> Option<u64>
     }
 }
 
-/// The number that an option was given. It is refused where it is not spelled in decimal digits alone, or needs more
+/// The number that an option was given. It is refused where it is not spelled only in decimal digits, or needs more
 /// than 64 bits.
 fn number(matches: &ArgMatches<'_>, name: &'static str) -> Result<u64, WordFault>
     ensures { Finds (HasNumber 64 (rows_of (found_of matches.now)) name.entry.now) result }
@@ -290,7 +290,7 @@ fn subcommand_task(alloc: Global, name: &str, matches: &ArgMatches<'_>) -> Resul
     }
 }
 
-/// What the subcommand asks for, if there is one.
+/// What the subcommand asks for, if any.
 fn asked(alloc: Global, matches: &ArgMatches<'_>) -> Result<Task, WordFault>
     ensures { Finds (λ task. IsSomeAnd (subcommand_rows_of matches.now) (λ met. AsksFor met.0 met.1 task)) result }
 {

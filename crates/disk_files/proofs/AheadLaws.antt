@@ -15,7 +15,7 @@ slice_range-drop bytes start end k fits =
     let n : end - start ≡ k + (end - (start + k)) = omega arith in
     rw (n, drop-take, drop-drop) refl
 
--- a line feed stands at a place among the first m bytes, and none before it
+-- a line feed is at a place among the first m bytes, and none before it
 record EndsAt (ahead : List ℕ) (m place : ℕ) : Type 0 where
   within : place < length (take m ahead)
   below : place < m
@@ -43,7 +43,7 @@ module _ (bytes : List ℕ) (first last start end : ℕ) (begins : first ≤ las
   joined : last ≡ start
   joined = eqb-true last start joins
 
-  -- a line that goes on by the next k bytes
+  -- a line that continues by the next k bytes
   line_longer : (k : ℕ) → k ≤ end - start → slice_range bytes first (start + k) ≡ slice_range bytes first last ++ take k (slice_range bytes start end)
   line_longer k fits =
       let n : start + k - first ≡ (start - first) + k = omega (arith, begins, joined) in
@@ -79,7 +79,7 @@ module _ (bytes : List ℕ) (first last start end : ℕ) (begins : first ≤ las
 
 -- ---- a read after a line
 
--- what stands before the end stays
+-- what is before the end stays
 pub same_front : (old new : List ℕ) (first last end : ℕ) → take end new ≡ take end old → first ≤ last → last ≤ end → slice_range new first last ≡ slice_range old first last
 same_front old new first last end same order inside =
     let sum : first + (last - first) ≡ last = omega (arith, order) in

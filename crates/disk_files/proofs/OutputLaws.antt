@@ -69,7 +69,7 @@ raw_parts completion (b ∷ bs) some =
     let bytes = encode_lower (b ∷ bs) in
     append_assoc digits (32 ∷ bytes) (10 ∷ []) ∙ sym (append_assoc digits (32 ∷ []) (bytes ++ 10 ∷ []))
 
--- the digits of a completion, and a front of those of its data
+-- the digits of a completion, and a front of its data's
 pub reply-digits : (old middle new : Option (List ℕ)) (completion bytes : List ℕ) → (length bytes == 0) ≡ false → Appends old middle (encode_lower completion ++ 32 ∷ []) → AppendsFront middle new (encode_lower bytes)
     → AppendsFront old new (raw_reply_text completion bytes)
 reply-digits old middle new completion bytes some first front =

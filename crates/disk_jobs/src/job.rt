@@ -2,7 +2,7 @@ use zone_drive::Habit;
 use zone_states::Geometry;
 
 /// When the drive stops: after that many commands, the mount's included, and that many blocks into the Append after
-/// them, if there is one.
+/// them, if any.
 #[derive(Clone, Copy, Debug, PartialEq, Eq)]
 pub struct Stop {
     /// How many commands are completed before the drive stops.

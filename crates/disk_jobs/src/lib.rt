@@ -25,7 +25,7 @@
 //!   the zones if they are asked for.
 //! * The store of `run` and `nvme` holds that drive too: its image, and all changes since. Each was written before the
 //!   reply to its line.
-//! * There is no drive only after a report, or where none was made or read. Then no line was read, and the fault says
+//! * There is no drive only after a report, or if none was made or read. Then no line was read, and the fault says
 //!   why. Nothing is written before a fault of the file.
 //! * What is saved in a file is that drive, also after a fault; a fresh drive only if its `ok` was sent (`saving.rt`).
 //! * [`write_program_fault`] writes the line of each fault, or a beginning of it (`specs/FaultLine.antt`).
@@ -35,6 +35,8 @@
 //! it names; that the device keeps them during the lines is tested, since a run promises something of the drive in a
 //! device alone. The texts of `--statistics` are tested in `call_tests`; what the drive closes with each `--habit` is
 //! in the rows of `worked_runs`.
+//!
+//! Tests: `jobs.rt` of `call_tests`; `tools/kill_runs` and `tools/two_programs`, on files.
 #![tactic(auto)]
 
 mod begun;

@@ -144,7 +144,7 @@ impl Wanted {
     }
 }
 
-/// The first word that is not what is wanted, if there is one.
+/// The first word that is not what is wanted, if any.
 fn word_problem(line: &[u8], wanted: &[Wanted]) -> Option<LineProblem> {
     let mut place: usize = 1;
     let mut words = line.split(|byte| *byte == b' ');

@@ -78,7 +78,7 @@ no_reply first n Smaller may = absurd (cc)
 no_reply first n Reserve may = absurd (cc)
 no_reply first n Unmounted may = refl
 
--- a read of blocks is refused as that of one of them is
+-- a read of blocks is refused as a read of one of them is
 refused_block : (old new : FlatDisk) (at first n : ℕ) (bytes : List ℕ) (fault : DiskFault) → at + 1 ≤ old.size → 0 < n → first + n ≤ old.size → Reads old at 1 (Err fault) bytes new → IsRefused old (single (read first n)) fault new
 refused_block old new at first n bytes fault fits some all reads = of old.status refl
   where

@@ -22,12 +22,12 @@ use Rattle.disk_runs.specs.declared.fault.RunFault.TheVariants.{Memory}
 idle_done : (disk : FlatDisk) → disk.status ≡ Serving → FlatCall disk idle (with_nothing (Ok tt)) disk
 idle_done disk e = rw e (refl, refl)
 
--- a disk that serves does any number of them, and stays as it was
+-- a disk that serves does any number of them, and stays unchanged
 pub turns_done : (n : ℕ) (disk : FlatDisk) → (0 < n → disk.status ≡ Serving) → TurnsDone n disk disk
 turns_done zero disk serves = refl
 turns_done (suc n) disk serves = (disk, idle_done disk (serves (omega arith)), turns_done n disk (λ some. serves (omega arith)))
 
--- one that is done leaves it as it was
+-- one that is done leaves it unchanged
 pub idle_unchanged : (old new : FlatDisk) → FlatCall old idle (with_nothing (Ok tt)) new → (new ≡ old) × (old.status ≡ Serving)
 idle_unchanged old new answered = by old.status refl
   where

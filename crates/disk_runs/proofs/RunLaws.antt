@@ -1,4 +1,4 @@
--- A run goes on by one line, ends, and stops.
+-- A run continues by one line, ends, and stops.
 use Rattle.std.proofs.Common.{◌≡◌, ◌≢◌, ℕ, ◌+◌, ◌<◌, ◌≤◌, true, false, List, [], ◌∷◌, ◌++◌, length, take, Some, None, Ok, Err, inl, inr, refl, sym, ap, subst, ◌∙◌, arith, append_assoc}
 use Rattle.std.specs.Prelude.{Bool, IsErrAnd, IsErrOf, Result, ◌↔◌}
 use Rattle.std.proofs.lemmas.Bool.{cases_lt}
@@ -187,7 +187,7 @@ stops_writing language input written old number left left' contents contents' li
 
 -- ---- why a run stops
 
--- where no line was read
+-- if no line was read
 pub not_read : {S : Type 0} (language : Language S) (same : (x : S) → language.Same x x) (state : S) (left left' : Known) (line : List ℕ) (number : ℕ) (fault : LineFault) (ends : RunFault)
     → ReadsLine left left' line (Err fault) → ends ≡ line_fault number fault → StopsAt language ends left number state [] state
 not_read language same state left left' line number lines.Long ends r is = rw is (refl, is_long left left' line r, refl, refl)

@@ -25,7 +25,7 @@ pub data Request : Type 0 where
 abbrev pub is_whole : ℕ → List ℕ → Bool
 is_whole size bytes = length bytes % size == 0
 
--- what a line asks for, with the data beside it, where a block has this many bytes: data that is not whole blocks asks for nothing
+-- what a line asks for, with its data, where a block has this many bytes: data that is not whole blocks asks for nothing
 abbrev pub asked : ℕ → TraceLine → List ℕ → Option Request
 asked size (Read first n) bytes = Some (single (read first n))
 asked size (Fill first n byte) bytes = Some (single (fill size first n byte))

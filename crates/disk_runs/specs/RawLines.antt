@@ -1,4 +1,4 @@
--- What a drive replies to raw lines: each is one submission entry, and the data beside it.
+-- What a drive replies to raw lines: each is one submission entry, and its data.
 use Rattle.std.specs.Prelude.{◌≡◌, ℕ, ◌||◌, if◌then◌else◌, Bool, false, List, [], Option, Some, None, is_some}
 use Rattle.drive_port.specs.Drive.{DriveState}
 use Rattle.drive_port.specs.Entry.{decode_of}
@@ -13,7 +13,7 @@ use Rattle.disk_runs.specs.Run.{Language}
 use Rattle.disk_runs.specs.declared.fault.RunFault.{RunFault}
 use Rattle.disk_runs.specs.declared.fault.RunFault.TheVariants.{Disk}
 
--- the entry that a line asks to submit, and the data beside it; a line that is skipped asks for none
+-- the entry that a line asks to submit, and its data; a line that is skipped asks for none
 abbrev pub submitted_entry : List ℕ → Option (List ℕ × List ℕ)
 submitted_entry line = if is_skipped line then None else raw_line line
 

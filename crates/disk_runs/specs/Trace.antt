@@ -119,7 +119,7 @@ disk_on n drive size status = record {
   most = most_size drive.geometry;
 }
 
--- the disk at first: it serves the array that its drive encodes, of n blocks where no header has a size
+-- the disk at first: it serves the array that its drive encodes, of n blocks if no header has a size
 abbrev pub disk_at_first : ℕ → DriveState → FlatDisk
 disk_at_first n drive = disk_on n drive (length (spelled drive n)) statuses.Serving
 
@@ -157,7 +157,7 @@ pub record RunKeeps (n : ℕ) (bytes : Exchange) (old : DriveState) (ended : Res
   pub cause : IfErr ended (CallCause last)
   pub drive : new ≡ last.drive
 
--- What a run leaves of a drive.
+-- A drive after a run.
 abbrev pub RunLeaves : ℕ → Exchange → DriveState → Result (Unit {0}) RunFault → DriveState → Type 0
 RunLeaves n bytes old (Err (Mount fault)) new = IsNotMounted n bytes old fault new ⊎ RunKeeps n bytes old (Err (Mount fault)) new
 RunLeaves n bytes old (Err (Geometry fault)) new = ⊥

@@ -1,7 +1,7 @@
 //! Runs of lines: the lines of a reader are answered, in order, and a writer gets their replies.
 //!
 //! [`run_trace`] mounts a drive as a disk and answers the lines of a trace by the disk's calls. [`run_raw`]
-//! submits the entry of each raw line to a drive. Both give the drive back, as it stands.
+//! submits the entry of each raw line to a drive. Both give the drive back.
 //!
 //! ```text
 //! let alloc = rt.alloc();
@@ -34,6 +34,8 @@
 //!   fault of the first mount, and then nothing is written; or of a line `remount`, which is refused only where
 //!   memory ran out or the drive has stopped. Such a drive can be mounted as well.
 //! - A raw line is one step of the drive, which had not stopped.
+//!
+//! Tests: the rows of `worked_runs`, and `runs.rt` of `call_tests`.
 #![tactic(auto)]
 
 mod fault;

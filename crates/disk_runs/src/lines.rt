@@ -37,8 +37,8 @@ pub(crate) trait Answerer {
     ghost same: { (x : State) → language.Same x x };
 }
 
-/// Writes the reply that is held. Where no whole line waits to be answered, the replies are sent on their way, so that
-/// whoever waits for them before the next line gets them. If that fails, the run goes on, since the reply is written:
+/// Writes the reply that is held. If no whole line waits to be answered, the replies are sent on their way, so that
+/// whoever waits for them before the next line gets them. If that fails, the run continues, since the reply is written:
 /// the fault comes from the write that finds no room in the buffer, or from the flush at the end.
 fn send_reply<R: Read + Drop, W: Write, A: Answerer>(
     reader: &LineReader<R>,

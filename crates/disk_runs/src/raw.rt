@@ -15,7 +15,7 @@ use zone_translator::DiskFault;
 #[derive(Drop)]
 struct RawAnswerer<D: Device + Drop> {
     device: D,
-    /// The data beside an entry.
+    /// The data with an entry.
     data: Vec<u8>,
     /// The completion of the last line, if it had an entry.
     completion: Option<[u8; 16]>,
@@ -63,7 +63,7 @@ impl<D: Device + Drop> Answerer for RawAnswerer<D> {
 }
 
 /// Submits the entry of each raw line of the reader to the device, in order, and writes its completion and
-/// the data that came back, until the lines end. The device is given back, as it stands.
+/// the data that came back, until the lines end. The device is given back.
 ///
 /// After a fault the replies of all lines before stand and, where the writer failed, a beginning of the
 /// next one. A device that halts is the fault `Disk`, with `OutOfMemory` or `Stopped`.

@@ -64,7 +64,7 @@ impl<D: Device + Drop> Answerer for TraceAnswerer<D> {
 }
 
 /// Answers each line of the reader by the calls of a disk, and writes its reply, until the lines end. The disk is
-/// given back, as it stands.
+/// given back.
 ///
 /// After a fault the replies of all lines before stand and, where the writer failed, a beginning of the
 /// next one.
@@ -88,7 +88,7 @@ pub fn answer_trace<R: Read + Drop, W: Write, D: Device + Drop>(
 }
 
 /// Mounts the drive as a disk of `blocks` logical blocks, and answers each line of the reader by its calls, as
-/// [`answer_trace`] does. The drive is given back, as it stands.
+/// [`answer_trace`] does. The drive is given back.
 pub fn run_trace<R: Read + Drop, W: Write, D: Device + Drop>(
     alloc: Global,
     reader: &mut LineReader<R>,

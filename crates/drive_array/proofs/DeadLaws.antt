@@ -14,7 +14,7 @@ use Rattle.drive_array.proofs.SizeLaws.{larger-assoc, larger-comm}
 
 -- ---- what holds of all records holds of the newest
 
--- a fact of a record, if there is one
+-- a fact of a record, if any
 abbrev pub OnRecord : (Record → Type 0) → Option Record → Type 0
 OnRecord P None = Unit {0}
 OnRecord P (Some r) = P r
@@ -40,7 +40,7 @@ entries-zone : (sequence : ℕ) (body : List (List ℕ)) (zone header k : ℕ) (
 entries-zone sequence body zone header k [] = tt
 entries-zone sequence body zone header k (e ∷ es) = (refl, entries-zone sequence body zone header (k + one_unless e.trim) es)
 
--- the records of a log lie in its zone
+-- the records of a log are in its zone
 pub log-zone : (zone offset : ℕ) (log : List Batch) → AllByRecursion (λ (r : Record). r.zone ≡ zone) (log_records zone offset log)
 log-zone zone offset [] = tt
 log-zone zone offset (b ∷ bs) =
@@ -49,7 +49,7 @@ log-zone zone offset (b ∷ bs) =
 
 -- ---- records that are not the newest can go
 
--- a record, if there is one, does not lie in a zone
+-- a record, if any, is not in a zone
 abbrev pub NotIn : ℕ → Option Record → Type 0
 NotIn zone r = OnRecord (λ (one : Record). one.zone ≢ zone) r
 
@@ -98,7 +98,7 @@ newest-rest block first (suc index) zone x (log ∷ logs) e lt out =
     let split' : newer x (newest block (records first (log ∷ without logs index))) ≡ newer (newer x mine) (newest block less) = ap (newer x) (newest-append block (log_records first 0 log) less) ∙ newer-assoc x mine (newest block less) in
     split' ∙ newest-rest block (suc first) index zone (newer x mine) logs (omega (arith, e)) (omega arith) (rw split at out) ∙ sym split
 
--- a block whose newest record lies elsewhere is the same without the zone
+-- a block whose newest record is elsewhere is the same without the zone
 pub newest-without : (block zone : ℕ) (logs : List (List Batch)) → zone < length logs → NotIn zone (newest block (records 0 logs)) → newest block (records 0 (without logs zone)) ≡ newest block (records 0 logs)
 newest-without block zone logs lt out = newest-rest block 0 zone zone None logs (omega arith) lt out
 
@@ -108,7 +108,7 @@ larger-same : (x : Option ℕ) → larger x x ≡ x
 larger-same None = refl
 larger-same (Some a) = ap (λ (n : ℕ). Some n) (omega arith)
 
--- the greatest size is that of one zone or that of the others
+-- the greatest size is one zone's or the others'
 pub greatest-split : (logs : List (List Batch)) (zone : ℕ) → zone < length logs → greatest logs ≡ larger (log_greatest (log_at logs zone)) (greatest (without logs zone))
 greatest-split [] zone lt = absurd (omega arith)
 greatest-split (log ∷ logs) zero lt = refl
@@ -118,7 +118,7 @@ greatest-split (log ∷ logs) (suc zone) lt =
     let rest = greatest (without logs zone) in
     ap (larger a) (greatest-split logs zone (omega arith)) ∙ larger-assoc a b rest ∙ ap (λ (s : Option ℕ). larger s rest) (larger-comm a b) ∙ sym (larger-assoc b a rest)
 
--- a zone's sizes are among those of all
+-- a zone's sizes are among all sizes
 pub greatest-absorbs : (logs : List (List Batch)) (zone : ℕ) → zone < length logs → larger (log_greatest (log_at logs zone)) (greatest logs) ≡ greatest logs
 greatest-absorbs logs zone lt =
     let d = log_greatest (log_at logs zone) in

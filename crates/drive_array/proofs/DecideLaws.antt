@@ -52,7 +52,7 @@ before-decided None y = inr (λ h. h)
 before-decided (Some a) None = inr (λ h. h)
 before-decided (Some a) (Some b) = elim (cases_lt a b) as (λ _. Decided (a < b)) [ inl lt ↦ inl lt | inr ge ↦ inr (λ lt. absurd (omega arith)) ]
 
--- the source of the first batch is the victim, if there is one
+-- the source of the first batch is the victim, if any
 victim-is : (a : ℕ) (first : Batch) (log rest : List Batch) → log ≡ first ∷ rest → AllByRecursion (IsMoveFrom a) log → a ≡ first.heading.source
 victim-is a first log rest e all = let parts = rw e at all in sym parts.0.1
 

@@ -88,7 +88,7 @@ named-all keep zone [] = tt
 named-all keep zone (r ∷ rs) =
     ((λ same kept. named-first keep r rs kept), all-weaker (IsNamed keep zone rs) (IsNamed keep zone (r ∷ rs)) rs (λ x h same kept. named-more keep r rs x.block (h same kept)) (named-all keep zone rs))
 
--- all records of a log lie in its zone
+-- all records of a log are in its zone
 entries-zone : (sequence zone header k : ℕ) (body : List (List ℕ)) (es : List Entry) → AllByRecursion (λ r. r.zone ≡ zone) (entry_records sequence body zone header k es)
 entries-zone sequence zone header k body [] = tt
 entries-zone sequence zone header k body (e ∷ es) = (refl, entries-zone sequence zone header (k + one_unless e.trim) body es)

@@ -1,4 +1,4 @@
--- Which drives can be mounted: where no Append was torn, where one was, and after the Resets of a mount.
+-- Which drives can be mounted: if no Append was torn, where one was, and after the Resets of a mount.
 use Rattle.std.proofs.Common.{◌≡◌, ◌≢◌, ℕ, zero, suc, ◌+◌, ◌-◌, ◌≤◌, ◌<◌, ◌^◌, Bool, true, false, cond, List, [], ◌∷◌, length, set, get_or, refl, sym, ap, ◌∙◌, inl, inr, arith}
 use Rattle.std.specs.List.{count_by}
 use Rattle.std.proofs.lemmas.List.{get_or-set_same, length-map, length-set, map-set, set-get_or}
@@ -45,7 +45,7 @@ fewer-repair geometry limit size logs tails fewer h can = record {
     torn : (zone : ℕ) → IsTornAt logs fewer zone → IsTornAt logs tails zone
     torn zone is = record { batch = is.batch; tail = h zone is.tail }
 
--- where no Append was torn
+-- if no Append was torn
 pub untorn_mounts : (geometry : Geometry) (zones : List Content) (n : ℕ) → NoTails zones → HoldDisk geometry zones n → AreMountable geometry zones n
 untorn_mounts geometry zones n none disk = record {
   disk = disk;

@@ -95,7 +95,7 @@ pub AllBelow-parts : (s : ℕ) (xs ys : List Record) → AllBelow s (xs ++ ys) �
 AllBelow-parts s [] ys all = (tt, all)
 AllBelow-parts s (x ∷ xs) ys all = let rest = AllBelow-parts s xs ys all.1 in ((all.0, rest.0), rest.1)
 
--- the records of a batch at the end of a log follow those of the log
+-- the records of a batch at the end of a log follow the log's
 pub log_records-append : (zone offset next : ℕ) (log : List Batch) (b : Batch) → next ≡ offset + log_size log → log_records zone offset (log ++ b ∷ []) ≡ log_records zone offset log ++ batch_records zone next b
 log_records-append zone offset next [] b e = let same : next ≡ offset = omega arith in rw same (append-nil (batch_records zone offset b))
 log_records-append zone offset next (x ∷ log) b e =
@@ -178,7 +178,7 @@ told-entries {X} f n s body zone header k (e ∷ es) rs all =
     told-first f n r (entry_records s body zone header next es ++ rs) (entries-below s body zone header next es rs all)
     ∙ ap (λ (xs : List X). set xs r.block (f (Some r))) (told-entries f n s body zone header next es rs all)
 
--- a batch with the greatest sequence changes what is told of the blocks by its records alone
+-- a batch with the greatest sequence changes what is told of the blocks only by its records
 pub told-append_log : {X : Type 0} (f : Option Record → X) (n index : ℕ) (logs : List (List Batch)) (b : Batch) → index < length logs → AllBelow b.heading.sequence (records 0 logs)
     → told f n (records 0 (append_log logs index b)) ≡ over f (new_records logs index b) (told f n (records 0 logs))
 told-append_log f n index logs b lt all =
@@ -205,7 +205,7 @@ live-behind first r rs no_later live = record {
   greatest = (no_later, live.greatest);
 }
 
--- the first record is live where none after it is later
+-- the first record is live if none after it is later
 live-first : (r : Record) (rs : List Record) → AllByRecursion (λ other. other.block ≡ r.block → other.sequence ≤ r.sequence) rs → IsLive (r ∷ rs) r
 live-first r rs all = record { among = (0, omega arith, refl); greatest = ((λ same. omega arith), all) }
 

@@ -1,4 +1,4 @@
--- The records of a log lie below where it ends.
+-- The records of a log are below where it ends.
 use Rattle.std.proofs.Common.{ℕ, suc, ◌+◌, ◌<◌, ◌≤◌, Bool, true, false, List, [], ◌∷◌, arith}
 use Rattle.std.specs.List.{AllByRecursion}
 use Rattle.batch_log.specs.declared.header.Entry.{Entry}

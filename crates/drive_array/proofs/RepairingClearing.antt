@@ -41,7 +41,7 @@ no-later logs zone (b ∷ bs) later before = by (log_at logs zone) (zone-sequenc
 
 -- ---- no other zone gets half clean
 
--- a record that lies in another zone does not lie in this one
+-- a record that is in another zone is not in this one
 not-in : (zone torn : ℕ) (r : Option Record) → zone ≢ torn → LiesIn torn r → NotIn zone r
 not-in zone torn None apart is = tt
 not-in zone torn (Some r) apart is = λ here. apart (sym here ∙ is)
@@ -104,7 +104,7 @@ not-half block_bytes n torn into zone logs moves is lt off_into off_torn half =
 
 -- ---- the zone of the Moves is half clean
 
--- a zone without a batch is as it was, once its Moves are taken away
+-- a zone without a batch is unchanged, once its Moves are taken away
 pub put-back : (logs : List (List Batch)) (into : ℕ) (moves : List Batch) → IsVacant logs into → without (set logs into moves) into ≡ logs
 put-back logs into moves vacant = set-set logs into moves [] ∙ put-none logs into vacant
 

@@ -34,7 +34,7 @@ into-below geometry n torn into base now is = omega (arith, is.repairing.in_rang
 pub made-there : (geometry : Geometry) (n torn into : ℕ) (base now : List Content) → (is : IsOnRepair geometry n base now torn into) → content_at now into ≡ is.made
 made-there geometry n torn into base now is = rw is.zones (get_or-set_same base into is.made nothing (into-below geometry n torn into base now is))
 
--- its log is that of the Moves that were made
+-- its log has the Moves that were made
 pub logs-now : (geometry : Geometry) (n torn into : ℕ) (base now : List Content) → (is : IsOnRepair geometry n base now torn into) → zone_logs geometry now ≡ set (zone_logs geometry base) into (zone_log geometry is.made)
 logs-now geometry n torn into base now is = ap (zone_logs geometry) is.zones ∙ logs-put geometry base into is.made
 

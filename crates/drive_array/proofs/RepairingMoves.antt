@@ -44,7 +44,7 @@ copy-shown : (block_bytes torn : ℕ) (x : Option Record) (r : Record) → IsCop
 copy-shown block_bytes torn None r copy = absurd copy
 copy-shown block_bytes torn (Some y) r copy = ap (shown_content block_bytes) copy.1
 
--- wherever the batch lies
+-- wherever the batch is
 copies-there : (torn : ℕ) (rs : List Record) (s zone header zone' header' k : ℕ) (body : List (List ℕ)) (es : List Entry)
     → AllByRecursion (IsCopy torn rs) (entry_records s body zone header k es) → AllByRecursion (IsCopy torn rs) (entry_records s body zone' header' k es)
 copies-there torn rs s zone header zone' header' k body [] all = tt
@@ -67,7 +67,7 @@ copies-inside size torn s zone header k rs body (e ∷ es) inside all =
 
 -- ---- what a Move says of a block
 
--- nothing; or what the newest record says, which lies in the torn zone, with a sequence above all others
+-- nothing; or what the newest record says, which is in the torn zone, with a sequence above all others
 abbrev Says : (block torn : ℕ) (rs : List Record) (numbers : List ℕ) → Option Record → Type 0
 Says block torn rs numbers None = Unit {0}
 Says block torn rs numbers (Some r) = IsCopyFrom torn (newest block rs) r × AllByRecursion (λ n. n < r.sequence) numbers
@@ -203,7 +203,7 @@ old-below geometry n torn into base old is = rw is.zones (omega (arith, into-bel
 old-logs : (geometry : Geometry) (n torn into : ℕ) (base old : List Content) → IsOnRepair geometry n base old torn into → AllByRecursion (HasLog geometry) old
 old-logs geometry n torn into base old is = rw is.zones (all-set (HasLog geometry) base into is.made is.mountable.disk.logs is.has)
 
--- a Move of a repair keeps the array, and goes on with it
+-- a Move of a repair keeps the array, and continues with it
 pub move_repairs : MoveRepairs
 move_repairs geometry n torn into base old new batch small is is_batch move untorn appends =
     let was = content_at old into in

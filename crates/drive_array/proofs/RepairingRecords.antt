@@ -13,7 +13,7 @@ use Rattle.drive_array.proofs.DeadLaws.{OnRecord, on-newer, on-newest}
 use Rattle.drive_array.proofs.NewestLaws.{AllBelow-parts, newer-assoc, newest-append}
 use Rattle.drive_array.proofs.SequenceLaws.{records-below}
 
--- a record, if there is one, is older than a sequence
+-- a record, if any, is older than a sequence
 abbrev pub OlderThan : ℕ → Option Record → Type 0
 OlderThan s x = OnRecord (λ (r : Record). r.sequence < s) x
 

@@ -34,7 +34,7 @@ div_ceil-add a k pos = omega (arith, add-div_right a pos, add-mod_right a k)
 pub div_ceil-last : (a k : ℕ) → 0 < a → a ≤ k → div_ceil a k ≡ 1
 div_ceil-last a k some h = omega (arith, div_ceil-le a k 1 (omega arith) (omega arith), div_ceil-positive a k (omega arith) some)
 
--- that of 0 is 0
+-- of 0 it is 0
 pub div_ceil-none : (k : ℕ) → 0 < k → div_ceil 0 k ≡ 0
 div_ceil-none k pos = omega (arith, div_ceil-le 0 k 0 pos (omega arith))
 

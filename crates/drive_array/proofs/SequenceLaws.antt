@@ -73,7 +73,7 @@ records-below limit first (z ∷ zs) all =
 
 -- ---- the sequences of one zone
 
--- what holds of all sequences holds of those of a zone
+-- what holds of all sequences holds of a zone's
 pub zone-sequences : (P : ℕ → Type 0) (logs : List (List Batch)) (zone : ℕ) → AllByRecursion P (sequences logs) → AllByRecursion P (log_sequences (log_at logs zone))
 zone-sequences P [] zone all = tt
 zone-sequences P (log ∷ logs) zero all = (all-parts P (log_sequences log) (sequences logs) all).0

@@ -220,7 +220,7 @@ next_is_last limit n zone size logs batch lt next = record {
   greatest = next.greatest;
 }
 
--- what lies inside a size lies inside a greater one
+-- what is inside a size is inside a greater one
 pub inside-more : (a b : ℕ) (logs : List (List Batch)) → a ≤ b → AllByRecursion (AllByRecursion (IsInside a)) logs → AllByRecursion (AllByRecursion (IsInside b)) logs
 inside-more a b logs le all =
     all-weaker (AllByRecursion (IsInside a)) (AllByRecursion (IsInside b)) logs

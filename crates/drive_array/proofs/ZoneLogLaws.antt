@@ -36,7 +36,7 @@ readable-filled geometry blocks = at (eqb (length blocks) geometry.capacity) ref
 has_log-blocks : (geometry : Geometry) (content : Content) → is_full content.usage ≡ false → HasLog geometry content → IsLog geometry.block false content.blocks (zone_log geometry content)
 has_log-blocks geometry content e has = rw (e, append-nil content.blocks) at has
 
--- and where no torn tail stands there, it is its batches alone
+-- and if no torn tail is there, it is only its batches
 pub whole-blocks : (geometry : Geometry) (content : Content) → geometry.block < 2 ^ 32 → is_full content.usage ≡ false → HasLog geometry content → has_torn_tail content ≡ false → IsWholeLog geometry.block content.blocks (zone_log geometry content)
 unfolding has_torn_tail
 whole-blocks geometry content small e has untorn = (no_tail geometry.block content.blocks (zone_log geometry content) small (has_log-blocks geometry content e has)).whole (rw e at untorn)

@@ -20,7 +20,7 @@ use Rattle.drive_array.specs.Spare.{IsClearing, IsHalfClean, IsLowest, IsPart, I
 abbrev pub NewestIsLive : Type 0
 NewestIsLive = (block : ℕ) (rs : List Record) → IsNewest rs block (newest block rs)
 
--- `greatest` is the greatest size, where there is one
+-- `greatest` is the greatest size, if any
 abbrev pub GreatestIs : Type 0
 GreatestIs = (logs : List (List Batch)) → IsGreatest logs (greatest logs)
 
@@ -42,7 +42,7 @@ pub record IsLast (limit n : ℕ) (logs : List (List Batch)) (zone size : ℕ) (
   pub number : batch.heading.sequence < limit
   pub greatest : AllByRecursion (λ sequence. sequence < batch.heading.sequence) (sequences logs)
 
--- it grows the array to that size by zeros, and then changes it by its records alone; the map grows by places of none, and changes likewise
+-- it grows the array to that size by zeros, and then changes it only by its records; the map grows by places of none, and changes likewise
 pub record WritesRecords (block_bytes zone_size limit n : ℕ) (logs : List (List Batch)) (zone size : ℕ) (batch : Batch) : Type 0 where
   pub array_is : array_of block_bytes n (append_log logs zone batch) ≡ over (shown block_bytes) (new_records logs zone batch)
       (extended (shown block_bytes None) size (array_of block_bytes n logs))
@@ -187,7 +187,7 @@ pub record ResetMounts (geometry : Geometry) (old new : List Content) (n zone : 
   pub logs : zone_logs geometry new ≡ without (zone_logs geometry old) zone
   pub mountable : AreMountable geometry new n
 
--- so it is with the lowest half clean zone, with a vacant one, and with a spare one where no other zone is torn, as after the last Move of a repair
+-- so it is with the lowest half clean zone, with a vacant one, and with a spare one if no other zone is torn, as after the last Move of a repair
 abbrev pub LowestResets : Type 0
 LowestResets =
     (geometry : Geometry) (old new : List Content) (n zone : ℕ) → AreMountable geometry old n → IsLowest geometry.block n (zone_logs geometry old) zone

@@ -1,4 +1,4 @@
--- Which drives can be mounted, with n logical blocks where no header says how many.
+-- Which drives can be mounted, with n logical blocks if no header says how many.
 use Rattle.std.specs.Prelude.{◌≡◌, ℕ, ◌<◌, ◌≤◌, ◌^◌, ◌==◌, ◌&&◌, not, nat_eq, Bool, true, List, length, count_by}
 use Rattle.std.specs.List.{AllByRecursion, IsDistinct}
 use Rattle.zone_states.specs.declared.geometry.Geometry.{Geometry}

@@ -7,7 +7,7 @@ use Rattle.logical_map.specs.declared.place.Place.TheVariants as places
 use Rattle.batch_log.specs.declared.header.Entry.{Entry}
 use Rattle.batch_log.specs.Log.{Batch, batch_size, log_size, one_unless}
 
--- What one entry of one batch says of a block: its data, or none for a trim; and where that lies, the data block or, of
+-- What one entry of one batch says of a block: its data, or none for a trim; and where that is, the data block or, of
 -- a trim, the header block, by zone and by offset in the zone.
 pub record Record : Type 0 where
   pub block : ℕ
@@ -23,7 +23,7 @@ abbrev pub entry_content : Bool → List (List ℕ) → ℕ → Option (List ℕ
 entry_content true body k = None
 entry_content false body k = Some (slice_index_or body k [])
 
--- where it lies, with the header at an offset
+-- where it is, with the header at an offset
 abbrev pub entry_offset : Bool → ℕ → ℕ → ℕ
 entry_offset true header k = header
 entry_offset false header k = header + 1 + k
@@ -93,12 +93,12 @@ shown block_bytes None = replicate block_bytes 0
 abbrev pub array : ℕ → ℕ → List Record → List (List ℕ)
 array block_bytes n rs = told (shown block_bytes) n rs
 
--- where a record's data lies, or a trim's header: its address, in zones of `zone_size` addresses
+-- where a record's data is, or a trim's header: its address, in zones of `zone_size` addresses
 abbrev pub place : ℕ → Option Record → Place
 place zone_size None = places.None
 place zone_size (Some r) = if is_some r.content then places.At (r.zone * zone_size + r.offset) else places.Trimmed (r.zone * zone_size + r.offset)
 
--- the map of n blocks: of each block where its newest record lies
+-- the map of n blocks: of each block where its newest record is
 abbrev pub places_of : ℕ → ℕ → List Record → List Place
 places_of zone_size n rs = told (place zone_size) n rs
 
@@ -112,7 +112,7 @@ append_log logs zone batch = slice_set logs zone (slice_index_or logs zone [] ++
 abbrev pub new_records : List (List Batch) → ℕ → Batch → List Record
 new_records logs zone batch = batch_records zone (log_size (slice_index_or logs zone [])) batch
 
--- all logs but that of one zone
+-- all logs except one zone's
 abbrev pub without : List (List Batch) → ℕ → List (List Batch)
 without logs zone = slice_set logs zone []
 

@@ -1,4 +1,4 @@
--- Which zones a mount has to repair, since an Append was stopped on its way in them, and when it can.
+-- Which zones a mount has to repair, since an Append was stopped midway in them, and when it can.
 use Rattle.std.specs.Prelude.{◌≡◌, ◌≢◌, ℕ, ◌+◌, ◌<◌, ◌≤◌, ◌==◌, ◌&&◌, max, Bool, true, false, List}
 use Rattle.std.specs.Prelude.{[], length, slice_index_or, Option, Some, None, is_some, count_by}
 use Rattle.std.specs.Int.{div_ceil}

@@ -11,12 +11,12 @@ use Rattle.drive_array.specs.Sizes.{array_of, encoded_size, larger, log_greatest
 use Rattle.drive_array.specs.Spare.{IsBefore, IsHalfClean, IsMoveFrom, IsSpare, IsVacant, NoneBelow, first_sequence}
 use Rattle.drive_array.specs.ZoneLogs.{HasLog, has_torn_tail, log_at, sequences, spelled_array, zone_log, zone_logs, zone_tails}
 
--- a block's newest record lies in a zone
+-- a block's newest record is in a zone
 abbrev pub LiesIn : ℕ → Option Record → Type 0
 LiesIn zone None = ⊥
 LiesIn zone (Some r) = r.zone ≡ zone
 
--- a record says what another one says, which lies in a zone
+-- a record says what another one says, which is in a zone
 abbrev pub IsCopyFrom : ℕ → Option Record → Record → Type 0
 IsCopyFrom zone None copy = ⊥
 IsCopyFrom zone (Some r) copy = (r.zone ≡ zone) × (copy.content ≡ r.content)
@@ -40,7 +40,7 @@ pub record IsRepairing (block_bytes n : ℕ) (logs : List (List Batch)) (torn in
   pub array_is : array_of block_bytes n (slice_set logs into moves) ≡ array_of block_bytes n logs
   pub sound : AreSound (2 ^ 63) n (slice_set logs into moves)
 
--- A drive was cleared, with a torn zone that no other zone was partly written beside. Since then a vacant zone was written to alone: it holds such Moves.
+-- A drive was cleared, with a torn zone that no other zone was partly written beside. Since then only a vacant zone was written to: it holds such Moves.
 pub record IsOnRepair (geometry : Geometry) (n : ℕ) (base now : List Content) (torn into : ℕ) : Type 0 where
   pub mountable : AreMountable geometry base n
   pub alone : (zone : ℕ) → zone ≢ torn → is_partly_written (content_at base zone) ≡ false
@@ -75,7 +75,7 @@ RepairMounts =
 
 -- ---- one Move more
 
--- a Move from the torn zone after all batches, with copies of newest records that lie there
+-- a Move from the torn zone after all batches, with copies of newest records that are there
 pub record IsRepairMove (n : ℕ) (logs : List (List Batch)) (torn into : ℕ) (moves : List Batch) (batch : Batch) : Type 0 where
   pub move : IsMoveFrom torn batch
   pub number : batch.heading.sequence < 2 ^ 63
@@ -135,7 +135,7 @@ pub record NeedsItsBlock (block_bytes n : ℕ) (logs : List (List Batch)) (zone 
   pub differs : shown block_bytes (newest block (records 0 (without logs zone))) ≢ shown block_bytes (newest block (records 0 logs))
 
 -- Why the torn zone was not half clean on the cleared drive, and what of that holds after some Moves: its batches are
--- not Moves from an older zone; or a block shows something else without it, which no Move names yet; or it alone says
+-- not Moves from an older zone; or a block shows something else without it, which no Move names yet; or only it says
 -- the size, and no Move says one yet.
 abbrev pub IsStillNeeded : ℕ → ℕ → List (List Batch) → ℕ → ℕ → List Batch → Type 0
 IsStillNeeded block_bytes n logs torn into moves =

@@ -5,7 +5,7 @@ use Rattle.logical_map.specs.declared.place.Place.{Place}
 use Rattle.batch_log.specs.Log.{Batch}
 use Rattle.drive_array.specs.Records.{Record, place, records, shown, told}
 
--- the greater of two sizes, where there is one
+-- the greater of two sizes, if any
 abbrev pub larger : Option ℕ → Option ℕ → Option ℕ
 larger None y = y
 larger (Some a) None = Some a
@@ -24,7 +24,7 @@ abbrev pub size_or : ℕ → Option ℕ → ℕ
 size_or n None = n
 size_or n (Some size) = size
 
--- the size that the logs encode: the greatest in their headers, or n where no header has one
+-- the size that the logs encode: the greatest in their headers, or n if no header has one
 abbrev pub encoded_size : ℕ → List (List Batch) → ℕ
 encoded_size n logs = size_or n (greatest logs)
 

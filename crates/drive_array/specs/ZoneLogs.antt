@@ -21,7 +21,7 @@ readable geometry content = content.blocks ++ padding geometry (is_full content.
 unfoldable pub zone_log : Geometry → Content → List Batch
 zone_log geometry content = log_of (readable geometry content)
 
--- they are the batches of a log and its tail: in a full zone zeros, elsewhere nothing, or what an Append left that was stopped on its way
+-- they are the batches of a log and its tail: in a full zone zeros, elsewhere nothing, or what an Append left that was stopped midway
 abbrev pub HasLog : Geometry → Content → Type 0
 HasLog geometry content = IsLog geometry.block (is_full content.usage) (readable geometry content) (zone_log geometry content)
 
@@ -39,14 +39,14 @@ log_sequences log = map (λ (batch : Batch). batch.heading.sequence) log
 abbrev pub sequences : List (List Batch) → List ℕ
 sequences logs = flat_map log_sequences logs
 
--- a torn tail stands after the zone's batches
+-- a torn tail is after the zone's batches
 unfoldable pub has_torn_tail : Content → Bool
 has_torn_tail content = not (is_full content.usage) && has_tail content.blocks
 
 abbrev pub zone_tails : List Content → List Bool
 zone_tails zones = map has_torn_tail zones
 
--- the array that the zones encode, of n blocks where no header has a size
+-- the array that the zones encode, of n blocks if no header has a size
 unfoldable pub spelled_array : Geometry → List Content → ℕ → List (List ℕ)
 spelled_array geometry zones n = array_of geometry.block n (zone_logs geometry zones)
 
@@ -55,6 +55,6 @@ spelled_array geometry zones n = array_of geometry.block n (zone_logs geometry z
 abbrev pub drive_logs : DriveState → List (List Batch)
 drive_logs drive = zone_logs drive.geometry (contents drive.zones)
 
--- the array that a drive encodes, of n blocks where no header has a size
+-- the array that a drive encodes, of n blocks if no header has a size
 abbrev pub spelled : DriveState → ℕ → List (List ℕ)
 spelled drive n = spelled_array drive.geometry (contents drive.zones) n

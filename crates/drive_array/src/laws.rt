@@ -13,7 +13,7 @@ pub fn newest_is_live()
     ensures { NewestIsLive }
 {}
 
-/// `greatest` finds the greatest size in the headers, where there is one.
+/// `greatest` finds the greatest size in the headers, if any.
 pub fn greatest_is()
     ensures { GreatestIs }
 {}
@@ -24,7 +24,7 @@ pub fn append_first()
 {}
 
 /// A batch with the greatest sequence grows the array and the map to the size that the logs have with it,
-/// and then changes them by its records alone. Such is the next batch of a disk; a spare or half clean zone
+/// and then changes them only by its records. Such is the next batch of a disk; a spare or half clean zone
 /// that it does not go to stays so.
 pub fn append_writes()
     ensures writes { AppendWrites }
@@ -43,7 +43,7 @@ pub fn one_clearing()
     ensures keeps { ClearingKeeps }
 {}
 
-/// An Append of a batch leaves the zone's log and the batch; one that was stopped on its way keeps all logs.
+/// An Append of a batch leaves the zone's log and the batch; one that was stopped midway keeps all logs.
 pub fn append_logs()
     ensures whole { AppendLogs }
     ensures torn { TornLogs }
@@ -68,7 +68,7 @@ pub fn finish_mounts()
 {}
 
 /// A drive can be mounted after the Reset of its lowest half clean zone, of a vacant one, and of a spare
-/// one where no other zone is torn.
+/// one if no other zone is torn.
 pub fn resets_mount()
     ensures lowest { LowestResets }
     ensures vacant { VacantResets }

@@ -126,7 +126,7 @@ all-usable i (r ∷ rs) e =
 
 -- ---- the refusal
 
--- a mount is refused for its geometry alone, or that is in range
+-- a mount is refused only for its geometry, or that is in range
 pub refused-range : (drive : DriveState) (n : ℕ) (fault : MountFault) → MountFails drive n fault → fault ≢ Limits → IsInRange drive.geometry
 refused-range drive n Limits fails other = absurd (other refl)
 refused-range drive n Reserve fails other = fails.0

@@ -1,4 +1,4 @@
--- All faults of a drive, taken as n logical blocks where no header says how many.
+-- All faults of a drive, taken as n logical blocks if no header says how many.
 use Rattle.std.specs.Prelude.{◌≡◌, ℕ, List, [], ◌∷◌, Option, Some, None, IsNone, IsSome, Result, count_by}
 use Rattle.zone_states.specs.Geometry.{IsInRange}
 use Rattle.drive_port.specs.Contents.{contents}

@@ -5,7 +5,7 @@
 //! findings.refusal;                                   // by what a mount is refused; None if it is not
 //! findings.batches;                                   // each zone whose batches have a fault by themselves
 //! findings.repeated;                                  // each sequence that an earlier batch has, too
-//! check_forms::findings_text(alloc, &findings)?;      // a line for each, that of the refusal first
+//! check_forms::findings_text(alloc, &findings)?;      // a line for each, the refusal's first
 //! ```
 //!
 //! # What is promised
@@ -23,6 +23,8 @@
 //!
 //! `foresee_mount` goes as far as a mount does before it changes anything. A drive that it refuses is read anew, each
 //! zone by itself (`read_zones`), and the lists are made from the headers.
+//!
+//! Tests: the rows of `tool_rows`.
 #![tactic(auto)]
 
 mod checking;

@@ -149,7 +149,7 @@ fn greatest_read(reads: &[ZoneReading]) -> Option<u32>
     size
 }
 
-/// The size of the drive, as far as it was read: the given number where no header says one.
+/// The size of the drive, as far as it was read: the given number if no header says one.
 pub fn size_read(reads: &[ZoneReading], given: u64) -> u64
     ensures { result ≡ size_read given reads.now }
 {

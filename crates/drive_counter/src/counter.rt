@@ -44,7 +44,7 @@ impl<D: Device + Drop> Counter<D> {
         self.counts
     }
 
-    /// The device within, as it stands.
+    /// The device within.
     pub fn into_inner(self) -> D
         ensures { D.drive result ≡ self.inner }
     {

@@ -6,7 +6,7 @@ use batch_log::Kind;
 use byteorder::{ByteOrder, LittleEndian};
 use nvme_wire::{Action, Command, DecodeFault};
 
-/// Where the kind stands in the header of a batch, and where it ends.
+/// Where the kind is in the header of a batch, and where it ends.
 const KIND_PLACE: usize = 10;
 
 const KIND_END: usize = 12;

@@ -11,7 +11,9 @@
 //!
 //! What is promised: a `Counter` does what every device promises, and its counts rise with each completed
 //! command as `counts_after` in specs/Counting says. No command is sent for them. A count that would pass `u64::MAX`
-//! stays there. The text is that of specs/StatisticsText.
+//! stays there. The text is in specs/StatisticsText.
+//!
+//! Tests: the command lines with `--statistics` in `call_tests`.
 #![tactic(auto)]
 
 mod counter;

@@ -19,6 +19,8 @@
 //! * [`read_image_front`] reads an image that other bytes follow, and leaves the reader behind it.
 //! * Other bytes are refused by the first fault in them, from the first byte on (`specs/Reading.antt`). Before that
 //!   fault is met, the reader may fail or memory may run out. [`image_fault_line`] is the line that tells it.
+//!
+//! Tests: the rows of `worked_runs`, and `images.rt` of `call_tests`.
 #![tactic(auto)]
 
 mod counts;

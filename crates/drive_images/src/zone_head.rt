@@ -8,7 +8,7 @@ use crate::head::begins_with;
 use byteorder::{ByteOrder, LittleEndian};
 use zone_states::{Geometry, ZoneState};
 
-/// What stands before the written blocks of a zone.
+/// What is before the written blocks of a zone.
 #[derive(Clone, Copy)]
 pub struct ZoneHead {
     pub state: ZoneState,

@@ -51,7 +51,7 @@ are-lawful geometry zones whole lawful = record {
   open_zones = lawful.open_zones;
 }
 
--- where no drive was made of zones, none has them
+-- if no drive was made of zones, none has them
 pub no-drive : (geometry : Geometry) (zones : List StoredZone) (fault : DriveFault) → IsInRange geometry → AllByRecursion (λ (zone : StoredZone). AreWholeBlocks geometry.block zone.bytes) zones → IsFault geometry zones fault
     → IsLawful (unused geometry (zones_of geometry.block zones)) → ⊥
 no-drive geometry zones (drives.Geometry fault) in_range whole is lawful = not-in-range geometry fault in_range is
@@ -105,7 +105,7 @@ module _ (geometry : Geometry) (zones : List StoredZone) (old mid : Option (List
         e ∙ ap (λ (zs : List Zone). if nat_lt (length image) end then at_rest zs else zs) replays.zones
         ∙ settled geometry here replays.changes (length image) end replays.each replays.end_is
 
-    -- the drive that is read is that of the file
+    -- the drive that is read is the file's
     pub file-read : (last : List Zone) (drive : DriveState) → last ≡ (if nat_lt (length image) end then at_rest after else after) → drive ≡ unused geometry last
         → IfSome old (λ bytes. IsDriveFile bytes drive end)
     file-read last drive e drive_is = in-parts (λ bytes. IsDriveFile bytes drive end) (λ bytes cut has. record {
@@ -121,7 +121,7 @@ module _ (geometry : Geometry) (zones : List StoredZone) (old mid : Option (List
     image-told last drive e drive_is = in-parts (λ bytes. IsTrue ((end == length image) && list_all is_shut last) ↔ IsImage (take end bytes) (restarted drive)) (λ bytes cut has.
         tells-image bytes (parts_with cut) has drive last (drive_is ∙ ap (λ (zs : List Zone). unused geometry zs) (zones-are (zones_of geometry.block last) e)) (ap (λ (d : DriveState). d.zones) drive_is) end (length image) replays.end_is refl)
 
-    -- where no drive is made of the zones, the file makes none
+    -- if no drive is made of the zones, the file makes none
     pub no-drive-read : (last : List Zone) → last ≡ (if nat_lt (length image) end then at_rest after else after) → (IsLawful (unused geometry last) → ⊥) → IfSome old (λ bytes. IsFileFault bytes Zones)
     no-drive-read last e none = in-parts (λ bytes. IsFileFault bytes Zones) (λ bytes cut has. record {
       parts = parts_with cut;

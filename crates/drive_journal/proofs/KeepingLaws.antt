@@ -1,4 +1,4 @@
--- Bytes that store a drive go on to store it while commands are completed and their changes written.
+-- Bytes that store a drive continue to store it while commands are completed and their changes written.
 use Rattle.std.proofs.Common.{◌≡◌, ℕ, ◌==◌, Bool, true, false, List, [], ◌∷◌, ◌++◌, length, inl, inr, refl, sym, ap, ◌∙◌, append_assoc}
 use Rattle.std.specs.Prelude.{if◌then◌else◌}
 use Rattle.std.proofs.lemmas.List.{append-nil}

@@ -126,7 +126,7 @@ run first last since kept (anew from moment same held runs submits) =
     step first moment last held holds.runs submits (length held)
     (λ n most. rw (take_all n held most) (record { moment = moment; before = holds.runs; after = here; stored = (held-whole first moment last held holds.runs submits).0 }))
 
--- the first bytes of a run are those of a moment of it
+-- the first bytes of a run are a moment's
 pub cut-at-a-moment : (first last : Journaled) (bytes : List ℕ) (since n : ℕ) → IsInStep first → RunsSince first since last → last.contents ≡ Some bytes → since ≤ n → IsOfAMoment first last (take n bytes)
 cut-at-a-moment first last bytes since n kept runs ends most =
     let holds = run first last since kept runs in

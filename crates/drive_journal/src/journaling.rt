@@ -29,7 +29,8 @@ pub struct Journaling<D: Foreseeing + Drop, S: Store<D> + Drop> {
 
 impl<D: Foreseeing + Drop, S: Store<D> + Drop> Model for Journaling<D, S> {
     ghost use Rattle.std.specs.Prelude.{◌≡◌, true};
-    ghost use Rattle.drive_journal.specs.Journaling.{IsInStep, Journaled, changed_data_in, changed_entry_in, is_lost, shown_drive};
+    ghost use Rattle.drive_journal.specs.Journaling.{IsInStep, Journaled, changed_data_in, changed_entry_in};
+    ghost use Rattle.drive_journal.specs.Journaling.{is_lost, shown_drive};
 
     ghost Value = { Journaled };
 

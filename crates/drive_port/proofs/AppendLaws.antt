@@ -114,7 +114,7 @@ front-of : (old : DriveState) (new : List Zone) (start : ℕ) (bytes : List ℕ)
 front-of old new start bytes whole left =
     left-front old.geometry old.zones new start (block_count old.geometry bytes) bytes whole.some (take_all _ bytes (omega (arith, whole.whole))) left
 
--- what an Append leaves of the zones
+-- the zones after an Append
 pub append-leaves : (old new : DriveState) (start : ℕ) (bytes : List ℕ) (result : Result ℕ PortFault) → IsWholeBlocks old.geometry.block bytes
     → AppendGives old start bytes result new → AppendLeaves old start bytes result new
 append-leaves old new start bytes (Ok value) whole gives =

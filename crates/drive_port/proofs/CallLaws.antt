@@ -15,7 +15,7 @@ use Rattle.drive_port.proofs.HaltLaws.{success_or}
 
 -- ---- bytes after others
 
--- where nothing was returned the buffer is as it was
+-- where nothing was returned the buffer is unchanged
 pub adds-nothing : (held : List ℕ) (Given : List ℕ → Type 0) → Given [] → Adds held Given held
 adds-nothing held Given given = record { returned = []; joined = sym (append-nil held); given = given }
 

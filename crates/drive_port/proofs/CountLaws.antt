@@ -31,11 +31,11 @@ length-matching geometry options number (z ∷ zs) =
     (length-matching geometry options (number + 1) zs)
     ∙ sym (sum_by-cons (λ (zone : Zone). cond (is_chosen options zone.state) 1 0) z zs)
 
--- a report that has room for its head alone
+-- a report that has room only for its head
 report-head : (geometry : Geometry) (options : ReportingOptions) (zones : List Zone) → report geometry zones 0 options false 16 ≡ report_head_bytes (record { zones = chosen_count options zones })
 report-head geometry options zones = rw (zero-div geometry.size, length-matching geometry options 0 zones) refl
 
--- a report with room for its head alone is the head, which has the number of the chosen zones
+-- a report with room only for its head is the head, which has the number of the chosen zones
 pub reported-head : (old new : DriveState) (options : ReportingOptions) (bytes : List ℕ) → (r : Reported old new 0 options false 16 bytes)
     → bytes ≡ report_head_bytes (record { zones = chosen_count options r.zones })
 reported-head old new options bytes r = r.bytes_are ∙ report-head old.geometry options r.zones

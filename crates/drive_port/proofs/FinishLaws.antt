@@ -49,7 +49,7 @@ content_of-finished zone u = rw (usable-passes zone.state u) refl
 finishes : Gives actions.Finish Full
 finishes state e = usable-passes state (usable-passed state e)
 
--- ---- what a Finish leaves
+-- ---- after a Finish
 
 effect-finishes : (old : DriveState) (new : List Zone) (start : ℕ) (bytes returned : List ℕ) (value : ℕ) → IsLawful old
     → Effect old.geometry old.zones (Ok (Send start actions.Finish false)) bytes Success value returned new
@@ -93,7 +93,7 @@ finish-keeps old new start (Err Stopped) lawful geometry gives =
       | inr done ↦ inr (record { geometry = geometry; contents = effect-finishes old new.zones start [] done.returned done.value lawful done.effect })
     ]
 
--- what a Finish leaves of the zones
+-- the zones after a Finish
 pub finish-leaves : {V : Type 0} (old new : DriveState) (start : ℕ) (result : Result V PortFault) → FinishGives old start result new → FinishLeaves old start result new
 finish-leaves {V = V} old new start result gives = send-leaves {V = V} old new start actions.Finish Full result finishes gives
 

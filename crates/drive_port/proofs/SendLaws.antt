@@ -103,11 +103,11 @@ send-leaves old new start action next (Err Stopped) is gives =
       | inr done ↦ inr (sent-zones old.geometry old.zones new.zones start action next [] done.returned done.value is done.effect)
     ]
 
--- what a Close leaves of the zones
+-- the zones after a Close
 pub close-leaves : {V : Type 0} (old new : DriveState) (start : ℕ) (result : Result V PortFault) → CloseGives old start result new → CloseLeaves old start result new
 close-leaves {V = V} old new start result gives = send-leaves {V = V} old new start actions.Close Closed result closes gives
 
--- what a Reset leaves of the zones
+-- the zones after a Reset
 pub reset-leaves : {V : Type 0} (old new : DriveState) (start : ℕ) (result : Result V PortFault) → ResetGives old start result new → ResetLeaves old start result new
 reset-leaves {V = V} old new start result gives = send-leaves {V = V} old new start actions.Reset Empty result resets gives
 

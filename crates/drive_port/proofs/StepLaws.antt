@@ -36,7 +36,7 @@ checks_of geometry zones (Ok (Send slba action true)) bytes = []
 checks_of geometry zones (Ok (Send slba action false)) bytes = send_checks geometry zones (zone_at zones (slba / geometry.size)) slba action
 checks_of geometry zones (Ok (Receive slba dwords options partial)) bytes = receive_checks geometry slba
 
--- what a command gives where none of its checks fails
+-- what a command gives if none of its checks fails
 abbrev pub effect_of : Geometry → List Zone → Result Command DecodeFault → List ℕ → Outcome
 effect_of geometry zones (Err fault) bytes = done [] zones
 effect_of geometry zones (Ok Flush) bytes = done [] zones

@@ -100,7 +100,7 @@ pub record ReportAnswers {V : Type 0} (old : DriveState) (address : ℕ) (option
   pub taken : address < end_of old.geometry → IsNotRefused result
   pub obeys : Obeys old result new
 
--- A count of the chosen zones, by a report with room for its head alone.
+-- A count of the chosen zones, by a report with room only for its head.
 pub record CountAnswers (old : DriveState) (options : ReportingOptions) (result : Result ℕ PortFault)
     (items : List ℕ) (new : DriveState) : Type 0 where
   pub gives : ReportGives old 0 options false 16 result items new

@@ -114,7 +114,7 @@ ResetGives old start result new = SendGives old start Reset result new
 abbrev pub ReportGives : {V : Type 0} → DriveState → ℕ → ReportingOptions → Bool → ℕ → Result V PortFault → List ℕ → DriveState → Type 0
 ReportGives old address options partial dwords result returned new = CallGives old (Receive address dwords options partial) [] (with_zero result) returned new
 
--- These bytes were appended to the zone that starts there: they lie at an address just after what was written.
+-- These bytes were appended to the zone that starts there: they are at an address just after what was written.
 pub record Appended (old new : DriveState) (start : ℕ) (bytes : List ℕ) (address : ℕ) : Type 0 where
   pub geometry : new.geometry ≡ old.geometry
   pub counts : Counts old new 1
@@ -190,7 +190,7 @@ pub record CanAppend (drive : DriveState) (start blocks : ℕ) : Type 0 where
   pub active : active_count (remove drive.zones (start / drive.geometry.size)) < drive.geometry.active
   pub open_zones : open_count (remove drive.zones (start / drive.geometry.size)) < drive.geometry.open
 
--- It takes a Read of that many blocks there: they lie in one zone, which isn't Offline, and are no more than one transfer moves.
+-- It takes a Read of that many blocks there: they are in one zone, which isn't Offline, and are no more than one transfer moves.
 pub record CanRead (drive : DriveState) (address blocks : ℕ) : Type 0 where
   pub few : blocks ≤ drive.geometry.transfer
   pub in_range : address + blocks ≤ end_of drive.geometry
@@ -215,7 +215,7 @@ pub record CanReset (drive : DriveState) (start : ℕ) : Type 0 where
   pub in_range : start < end_of drive.geometry
   pub usable : is_usable (usage_of (zone_from drive start).state) ≡ true
 
--- ---- what a call leaves of the zones
+-- ---- the zones after a call
 
 -- A call that changes one zone. Where it succeeded, this zone starts there, and the controller may have closed zones
 -- before it and after it; where it was refused, the controller may have closed zones; where the device was out of

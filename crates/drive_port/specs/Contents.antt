@@ -61,11 +61,11 @@ is_full usage = false
 abbrev pub filled : ℕ → List (List ℕ) → Content
 filled capacity blocks = record { usage = if length blocks == capacity then full else active; blocks = blocks }
 
--- what a Finish leaves of a zone
+-- a zone after a Finish
 abbrev pub finished : Content → Content
 finished content = record { usage = full; blocks = content.blocks }
 
--- what a Reset leaves of a zone
+-- a zone after a Reset
 abbrev pub emptied : Content
 emptied = record { usage = empty; blocks = [] }
 
@@ -75,20 +75,20 @@ AreEmpty contents = AllByRecursion (λ content. content ≡ emptied) contents
 
 -- ---- what the commands change
 
--- a zone that could be written has these blocks after its own, and all others are as they were
+-- a zone that could be written has these blocks after its own, and all others are unchanged
 pub record Appends (old new : List Content) (capacity index : ℕ) (blocks : List (List ℕ)) : Type 0 where
   pub in_range : index < length old
   pub writable : is_writable (content_at old index).usage ≡ true
   pub room : length (content_at old index).blocks + length blocks ≤ capacity
   pub zones : new ≡ slice_set old index (filled capacity ((content_at old index).blocks ++ blocks))
 
--- a zone that was usable is full, with the blocks that it had, and all others are as they were
+-- a zone that was usable is full, with the blocks that it had, and all others are unchanged
 pub record Finishes (old new : List Content) (index : ℕ) : Type 0 where
   pub in_range : index < length old
   pub usable : is_usable (content_at old index).usage ≡ true
   pub zones : new ≡ slice_set old index (finished (content_at old index))
 
--- a zone that was usable is empty, and all others are as they were
+-- a zone that was usable is empty, and all others are unchanged
 pub record Resets (old new : List Content) (index : ℕ) : Type 0 where
   pub in_range : index < length old
   pub usable : is_usable (content_at old index).usage ≡ true

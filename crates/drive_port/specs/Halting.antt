@@ -37,7 +37,7 @@ abbrev pub Torn : Geometry → List Zone → Result Command DecodeFault → List
 Torn geometry old (Ok (Append start blocks)) bytes new = TornAppend geometry old start blocks bytes new
 Torn geometry old command bytes new = ⊥
 
--- a stop inside a command leaves the zones but for a closing, or as the whole command leaves them, or as a torn one does
+-- a stop inside a command leaves the zones except for a closing, or as the whole command leaves them, or as a torn one does
 abbrev pub LeftBy : Geometry → List Zone → Result Command DecodeFault → List ℕ → List Zone → Type 0
 LeftBy geometry old command bytes new = IsClosing old new ⊎ (WholeCommand geometry old command bytes new ⊎ Torn geometry old command bytes new)
 

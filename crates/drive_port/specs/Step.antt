@@ -118,7 +118,7 @@ abbrev pub bytes_from : ℕ → List (List ℕ) → ℕ → ℕ → List ℕ
 bytes_from size blocks offset zero = []
 bytes_from size blocks offset (suc count) = block_in size blocks offset ++ bytes_from size blocks (offset + 1) count
 
--- the blocks of a Write or an Append come after those of the zone
+-- the blocks of a Write or an Append come after the zone's
 abbrev pub write_effect : Geometry → List Zone → ℕ → ℕ → List ℕ → List Zone
 write_effect geometry zones index blocks bytes =
     slice_set zones index (written_zone geometry.capacity (zone_at zones index) (cut_blocks geometry.block blocks bytes))

@@ -52,7 +52,7 @@ abbrev pub torn_at : ℕ → ℕ → Result Command DecodeFault → ℕ → Opti
 torn_at block j (Ok (Append start blocks)) len = if nat_lt 0 j && (nat_le j blocks && nat_le (j * block) len) then Some start else None
 torn_at block j command len = None
 
--- out of memory is passed on, and the device goes on; it stops after every other answer
+-- out of memory is passed on, and the device continues; it stops after every other answer
 abbrev pub halt_of : Result ℕ PortFault → Halt
 halt_of (Err faults.Memory) = Memory
 halt_of result = Stopped

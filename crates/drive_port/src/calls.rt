@@ -211,7 +211,7 @@ pub fn report<D: Device>(
     Ok(())
 }
 
-/// How many zones are chosen, by a report of all zones with room for its head alone, which `into` holds
+/// How many zones are chosen, by a report of all zones with room only for its head, which `into` holds
 /// afterwards; after a fault it is empty.
 pub fn count_zones<D: Device>(
     device: &mut D,

@@ -27,7 +27,7 @@ impl From<AllocError> for Halt {
     }
 }
 
-/// A zoned namespace, known by its command interface alone: one command at a time, each completed before the
+/// A zoned namespace, known only by its command interface: one command at a time, each completed before the
 /// next is submitted.
 pub trait Device {
     /// What the drive holds and has counted.
@@ -48,7 +48,7 @@ pub trait Device {
         ensures value { result ≡ (drive self.now).stopped }
         ensures lawful { IsLawful (drive self.now) };
 
-    /// Submits one entry of 64 bytes, with the data of a Write or an Append beside it, and answers its
+    /// Submits one entry of 64 bytes, with the data of a Write or an Append, and answers its
     /// completion of 16 bytes (Base Specification 2.0, sections 3.3.3.1 and 3.3.3.2). Afterwards `into`
     /// holds what a Read or a Receive that succeeded returned, and is empty in every other case.
     fn submit(
@@ -62,8 +62,8 @@ pub trait Device {
         ensures was_lawful { IsLawful (drive self.old) }
         ensures lawful { IsLawful (drive self.new) };
 
-    /// Submits one entry as `submit` does, without data beside it, and extends what `into` holds by what a Read or
-    /// a Receive that succeeded returned. In every other case `into` stays as it was.
+    /// Submits one entry as `submit` does, without data, and extends what `into` holds by what a Read or
+    /// a Receive that succeeded returned. In every other case `into` stays unchanged.
     fn submit_extending(&mut self, entry: &[u8; 64], into: &mut Vec<u8>) -> Result<[u8; 16], Halt>
         ensures gives { SubmitAdds
             (drive self.old) entry.now [] into.old.items result into.new.items (drive self.new) }

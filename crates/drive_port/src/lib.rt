@@ -25,12 +25,14 @@
 //! * Each call is one submit of its command. It says what it leaves of the zones, up to closings
 //!   (`Leaves`), and of their contents (`AppendKeeps` and its kin), also where the device stopped; when a
 //!   drive has to take it (`CanAppend` and its kin); and what every call keeps (`Obeys`). All of these
-//!   stand in `specs/Calls.antt`; a record of each call has them together (`specs/Answering.antt`).
+//!   are in `specs/Calls.antt`; a record of each call has them together (`specs/Answering.antt`).
 //! * `submit_extending` and `read_extending` keep what a buffer holds, and put after it what the command
-//!   returned (`Adds` in `specs/Halting.antt`); after a fault the buffer is as it was.
+//!   returned (`Adds` in `specs/Halting.antt`); after a fault the buffer is unchanged.
 //! * `StopAfter` stops a device after a number of commands, or inside the Append that follows them
 //!   (`specs/Stop.antt`), and `Recorder` keeps the entries of those that were completed. Both are
 //!   devices again.
+//!
+//! Tests: the rows of `worked_runs`, by calls in words.
 #![tactic(auto)]
 
 mod calls;

@@ -8,7 +8,7 @@ use std::marker::Model;
 use zone_states::Geometry;
 
 /// Keeps the entries of the commands that a device completes. What it has counted, and whether it has
-/// stopped, are those of the device within. It answers `Memory` also where there is no memory for one
+/// stopped, are the inner device's. It answers `Memory` also where there is no memory for one
 /// more entry.
 #[derive(Drop)]
 pub struct Recorder<D: Device + Drop> {
@@ -42,7 +42,7 @@ impl<D: Device + Drop> Recorder<D> {
         &self.entries
     }
 
-    /// The device within, as it stands.
+    /// The device within.
     pub fn into_inner(self) -> D
         ensures { D.drive result ≡ self.inner }
     {

@@ -103,7 +103,7 @@ impl<D: Device + Drop> StopAfter<D> {
         }
     }
 
-    /// The device within, as it stands.
+    /// The device within.
     pub fn into_inner(self) -> D
         ensures { D.drive result ≡ self.inner }
     {
@@ -210,7 +210,7 @@ impl<D: Device + Drop> Device for StopAfter<D> {
         self.device.submit(entry, bytes, into)
     }
 
-    /// Without data beside it no Append is torn: after the last command it just stops.
+    /// Without data no Append is torn: after the last command it just stops.
     #[inline(always)]
     fn submit_extending(&mut self, entry: &[u8; 64], into: &mut Vec<u8>) -> Result<[u8; 16], Halt>
         ensures gives { SubmitAdds (drive_of self.old) entry.now [] into.old.items result

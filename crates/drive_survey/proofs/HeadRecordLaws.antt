@@ -20,7 +20,7 @@ abbrev pub entries_of : List Batch → List ℕ
 entries_of [] = []
 entries_of (batch ∷ log) = map kept_entry batch.heading.entries ++ entries_of log
 
--- the headers, where the first batch stands at an offset, and its entries after the first ones, as many as `from`
+-- the headers, where the first batch is at an offset, and its entries after the first ones, as many as `from`
 abbrev pub heads_from : ℕ → ℕ → List Batch → List Head
 heads_from offset from [] = []
 heads_from offset from (batch ∷ log) =

@@ -1,4 +1,4 @@
--- What stands at the block where the next batch of a zone may begin.
+-- What is at the block where the next batch of a zone may begin.
 use Rattle.std.proofs.Common.{◌≡◌, ℕ, ◌+◌, ◌*◌, ◌<◌, ◌≤◌, ◌^◌, ◌⊎◌, inl, inr, not, ◌&&◌, nat_lt, Bool, true, false, List, [], ◌∷◌, length, drop, map, Option, Some, None, Result, Ok, Err, refl, sym, ap, subst, ◌∙◌, arith}
 use Rattle.std.specs.Prelude.{IfErr, IfOk, OnOk}
 use Rattle.std.specs.Result.{IsErrAnd}
@@ -42,7 +42,7 @@ zone-full drive zone reported known = rw known.usage refl
 no-header : (size : ℕ) (block : List ℕ) → length block ≡ size → IsNoHeader block → (heading : Heading) → IsHeaderBlock size block heading → ⊥
 no-header size block long never heading header = never heading (rw long header)
 
--- no header block stands there
+-- no header block is there
 pub ends-foreign : (drive : DriveState) (zone offset : ℕ) (reported : ReportedZone) (block : List ℕ) (cause : LogFault) (full zero zeros : Bool) → IsKnown drive zone reported → offset < reported.blocks → block ≡ block_of drive zone offset
     → length block ≡ drive.geometry.block → IsNoHeader block → header_fault block ≡ Some cause
     → full ≡ is_full (usage_of reported.state) → zero ≡ is_zero block → zeros ≡ list_all is_zero (drop (offset + 1) (readable_at drive zone))
@@ -59,7 +59,7 @@ pub ends-bad : (drive : DriveState) (zone offset : ℕ) (cause : LogFault) → E
     → (ending : Ending) × EndsZone drive zone offset ending × (ending_fault zone offset ending ≡ Some fault)
 ends-bad drive zone offset cause ends fault is = (failed cause, ends, rw is refl)
 
--- ---- a header block stands there
+-- ---- a header block is there
 
 heading-few : (drive : DriveState) (zone : ℕ) (reported : ReportedZone) (block : List ℕ) (heading : Heading) → IsKnown drive zone reported → length block ≡ drive.geometry.block → IsHeaderBlock (length block) block heading → length heading.entries ≤ 508
 heading-few drive zone reported block heading known long header = at known.geometry.block
@@ -81,7 +81,7 @@ met-few drive zone reported block heading old new seen seen' (Ok None) known lon
 met-few drive zone reported block heading old new seen seen' (Ok (Some t)) known long header few met = rw met.3 few
 met-few drive zone reported block heading old new seen seen' (Err fault) known long header few met = tt
 
--- what is known where a header block stands at the next place
+-- what is known where a header block is at the next place
 pub record Meets (drive : DriveState) (zone : ℕ) (reported : ReportedZone) (heads : HeadsView) (block : List ℕ) (heading : Heading) : Type 0 where
   pub known : IsKnown drive zone reported
   pub in_range : heads.blocks < reported.blocks

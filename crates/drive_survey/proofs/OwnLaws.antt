@@ -1,4 +1,4 @@
--- What holds of a zone's newest records holds of all records that lie in it.
+-- What holds of a zone's newest records holds of all records that are in it.
 use Rattle.std.proofs.Common.{◌≡◌, ℕ, zero, suc, ◌^◌, List, [], ◌∷◌, sym, subst, arith}
 use Rattle.std.specs.List.{AllByRecursion, Contains}
 use Rattle.batch_log.specs.Log.{Batch}

@@ -29,7 +29,7 @@ use Rattle.drive_survey.proofs.RecordTableLaws.{Changes}
 abbrev NoneAt : {X : Type 0} → (X → KeptRecord) → ℕ → ℕ → List X → Type 0
 NoneAt of block sequence xs = AllByRecursion (λ x. (of x).block ≡ block → (of x).sequence ≡ sequence → ⊥) xs
 
--- what stands at a place comes from one of these, or was there before
+-- what is at a place comes from one of these, or was there before
 abbrev Comes : {X : Type 0} → (X → KeptRecord) → (KeptRecord → Option KeptRecord) → ℕ → ℕ → Option KeptRecord → List X → Option (Option KeptRecord) → Type 0
 Comes {X} of put block sequence found xs now =
     ((x : X) × Contains xs x × ((of x).block ≡ block) × ((of x).sequence ≡ sequence) × (now ≡ Some (put (of x)))) ⊎ (NoneAt of block sequence xs × (now ≡ Some found))
@@ -157,7 +157,7 @@ outside-among zone (x ∷ rs) r (suc k, lt, is) apart = by (is_outside zone x) (
     by true d = in-rest x r (outside zone rs) d
     by false d = d
 
--- a zone's records are among all records, and lie in it
+-- a zone's records are among all records, and are in it
 own-among : (first index zone : ℕ) (logs : List (List Batch)) (r : Record) → zone ≡ first + index → Contains (log_records zone 0 (log_at logs index)) r → Contains (records first logs) r
 own-among first index zone [] r e c = absurd (omega (arith, c.1))
 own-among first zero zone (log ∷ logs) r e c =
@@ -166,7 +166,7 @@ own-among first zero zone (log ∷ logs) r e c =
 own-among first (suc index) zone (log ∷ logs) r e c =
     Contains-append_right (log_records first 0 log) (records (suc first) logs) r (own-among (suc first) index zone logs r (omega (arith, e)) c)
 
--- what holds of a zone's records holds of all that lie in it
+-- what holds of a zone's records holds of all that are in it
 pub zone-own : (P : Record → Type 0) (first index zone : ℕ) (logs : List (List Batch)) → zone ≡ first + index → AllByRecursion P (log_records zone 0 (log_at logs index)) → AllByRecursion (λ (r : Record). r.zone ≡ zone → P r) (records first logs)
 zone-own P first index zone [] e all = tt
 zone-own P first zero zone (log ∷ logs) e all =

@@ -93,7 +93,7 @@ sorted-before (x ∷ xs) rest e sorted = (less-is x.0 e.0 (at-key (λ (y : ℕ).
 entry-among : (P : ℕ × KeptRecord → Type 0) (es : Entries) (e : ℕ × KeptRecord) → AllByRecursion P es → Contains es e → P e
 entry-among P es e all c = All-contains P es e (All-from_recursion P es all) c
 
--- the record of an entry that lies in the zone
+-- the record of an entry that is in the zone
 in-zone : (zone : ℕ) (es : Entries) (b : Record) → AllByRecursion (λ (e : ℕ × KeptRecord). e.1.zone ≡ zone) es → Contains es (b.sequence, kept_record b) → b.zone ≢ zone → ⊥
 in-zone zone es b all c apart = apart (entry-among (λ (e : ℕ × KeptRecord). e.1.zone ≡ zone) es (b.sequence, kept_record b) all c)
 

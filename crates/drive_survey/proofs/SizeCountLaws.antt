@@ -90,7 +90,7 @@ greatest-said (v ∷ vs) k e = by (greatest-said vs k) v.size refl (greatest_in 
           | inr other ↦ there (more (g ∙ ap (λ (n : ℕ). Some n) (omega (arith, top, other))))
         ]
 
--- where none is said, no zone says one
+-- if none is said, no zone says one
 none-said : (views : List HeadsView) (k : ℕ) → greatest_in views ≡ None → (count_by says_some views ≡ 0) × (count_by (says_size k) views ≡ 0)
 none-said [] k e = (refl, refl)
 none-said (v ∷ vs) k e = by (none-said vs k) v.size refl (greatest_in vs) refl e

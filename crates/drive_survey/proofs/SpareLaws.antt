@@ -89,7 +89,7 @@ knows-stand drive n logs survey known = records-stand drive 0 logs known.all_log
 
 -- ---- a block shows the same
 
--- its newest record lies in another zone
+-- its newest record is in another zone
 pub same-other : (block_bytes : ℕ) (logs : List (List Batch)) (zone block : ℕ) (r : Record) → newest block (records 0 logs) ≡ Some r → r.zone ≢ zone → ShowsSame block_bytes logs zone block
 same-other block_bytes logs zone block r is apart =
     ap (shown block_bytes) (ap (newest block) (sym (outside-is 0 zone zone logs (omega arith))) ∙ stays-outside block zone (records 0 logs) r is apart ∙ sym is)

@@ -261,7 +261,7 @@ can-scan old new n reported range reserve reports usable few = record {
   few = omega (arith, few, partly-old old new reported reports usable);
 }
 
--- ---- what stands after the scan
+-- ---- what is after the scan
 
 pub hold-logs : (old : DriveState) (scanned : List ScannedZone) → ScansAll old.geometry (contents old.zones) scanned → HoldLogs old.geometry (contents old.zones)
 hold-logs old scanned scans = record { logs = scans.logs; none = scans.none }

@@ -61,7 +61,7 @@ flat-more size (b ∷ bs) batch rest =
     ∙ ap (λ (xs : List (List ℕ)). batch_blocks size b ++ xs) (flat-more size bs batch rest)
     ∙ sym (append_assoc (batch_blocks size b) (flat_map (batch_blocks size) (bs ++ batch ∷ [])) rest)
 
--- what stands after the batches
+-- what is after the batches
 pub rest-is : (size : ℕ) (blocks rest : List (List ℕ)) (log : List Batch) → BeginsWith size blocks log rest → rest ≡ drop (log_size log) blocks
 rest-is size blocks rest log front =
     let long = spelled_length size log front.batches in
@@ -136,7 +136,7 @@ ends geometry content before seen heads t =
     let at : heads.blocks ≡ log_size t.log = ap (λ (v : HeadsView). v.blocks) t.heads_are ∙ blocks-are t.log in
     record { at = at; rest_is = rest-is geometry.block (readable geometry content) t.rest t.log t.front ∙ ap (λ (n : ℕ). drop n (readable geometry content)) (sym at) }
 
--- whether a torn tail stands there
+-- whether a torn tail is there
 torn-is : (geometry : Geometry) (content : Content) (log : List Batch) (rest : List (List ℕ)) (full told : Bool) → geometry.block < 2 ^ 32 → is_full content.usage ≡ full → BeginsWith geometry.block (readable geometry content) log rest
     → log_of (readable geometry content) ≡ log → told ≡ (not full && nat_lt 0 (length rest)) → told ≡ has_torn_tail content
 unfolding has_torn_tail
@@ -181,7 +181,7 @@ takes-bad geometry content zone before seen heads ending fault no_more is fails 
       first = inr (t.none, rw e.rest_is no_more, rw (e.rest_is, ← is, ← e.at) fails);
     }
 
--- ---- where no batch begins
+-- ---- if no batch begins
 
 pub none-begins : (size : ℕ) (block : List ℕ) (others : List (List ℕ)) → ((heading : Heading) → IsHeaderBlock size block heading → ⊥) → BeginsWithNoBatch size (block ∷ others)
 none-begins size block others never batch after is spelled =

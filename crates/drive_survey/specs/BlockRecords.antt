@@ -63,7 +63,7 @@ slot_in blocks block sequence = option_map (λ (held : BTreeMap ℕ KeptRecord).
 abbrev pub slot_of : BlockRecords → ℕ → ℕ → Option (Option KeptRecord)
 slot_of table block sequence = slot_in table.blocks block sequence
 
--- what stands there after these records were put in, or taken out, by what `put` makes of a record
+-- what is there after these records were put in, or taken out, by what `put` makes of a record
 abbrev pub slot_after : (KeptRecord → Option KeptRecord) → ℕ → ℕ → Option (Option KeptRecord) → List KeptRecord → Option (Option KeptRecord)
 slot_after put block sequence slot [] = slot
 slot_after put block sequence slot (r ∷ rs) =
@@ -91,13 +91,13 @@ forgets r = None
 
 -- ---- the last record outside a zone
 
--- The entries of a block up to some sequence, where all that follow lie in a zone.
+-- The entries of a block up to some sequence, where all that follow are in a zone.
 pub record OthersIn (held : BTreeMap ℕ KeptRecord) (zone : ℕ) (rest : List (ℕ × KeptRecord)) : Type 0 where
   pub after : List (ℕ × KeptRecord)
   pub split : held.entries ≡ rest ++ after
   pub inside : AllByRecursion (λ (e : ℕ × KeptRecord). e.1.zone ≡ zone) after
 
--- the last one outside a zone, or that all lie in it
+-- the last one outside a zone, or that all are in it
 abbrev pub IsLastOutside : BTreeMap ℕ KeptRecord → ℕ → Option KeptRecord → Type 0
 IsLastOutside held zone None = OthersIn held zone []
 IsLastOutside held zone (Some found) =

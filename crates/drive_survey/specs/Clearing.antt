@@ -31,17 +31,17 @@ AreOf scanned logs = heads_in scanned ≡ map heads_of logs
 
 -- ---- what a block shows
 
--- a record's data, if it has some, stands at its place
+-- a record's data, if it has some, is at its place
 abbrev pub StandsAt : DriveState → Record → Type 0
 StandsAt drive r = (bytes : List ℕ) → r.content ≡ Some bytes
     → (r.zone < length drive.zones) × (r.offset < length (readable_at drive r.zone)) × (block_of drive r.zone r.offset ≡ bytes)
 
--- and so does that of the record, if there is one
+-- and so does that of the record, if any
 abbrev pub IfStands : DriveState → Option Record → Type 0
 IfStands drive None = Unit {0}
 IfStands drive (Some r) = StandsAt drive r
 
--- the data of all records stands at its place
+-- the data of all records is at its place
 abbrev pub AllStand : DriveState → List (List Batch) → Type 0
 AllStand drive logs = AllByRecursion (StandsAt drive) (records 0 logs)
 
@@ -100,7 +100,7 @@ CoversHeads table zone heads = AreNewest (kept_of_zone zone heads) (own_of table
 abbrev pub CoversZone : List ScannedZone → BlockRecords → ℕ → Type 0
 CoversZone scanned table zone = (found : ScannedZone) → slice_get scanned zone ≡ Some found → CoversHeads table zone found.heads
 
--- and so of all zones with Moves from an older zone alone
+-- and so of all zones with only Moves from an older zone
 abbrev pub CoversMoved : List (List Batch) → List ScannedZone → BlockRecords → Type 0
 CoversMoved logs scanned table = (zone : ℕ) → IsMoved logs zone → CoversZone scanned table zone
 

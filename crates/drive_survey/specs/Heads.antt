@@ -75,7 +75,7 @@ heads_after view (batch ∷ log) = heads_after (with_heading view batch.heading)
 abbrev pub heads_of : List Batch → HeadsView
 heads_of log = heads_after no_heads log
 
--- the greatest sequence, 0 where there is none
+-- the greatest sequence, 0 if none
 abbrev pub greatest_sequence : List ℕ → ℕ
 greatest_sequence [] = 0
 greatest_sequence (sequence ∷ others) = max sequence (greatest_sequence others)

@@ -41,7 +41,7 @@ pub record HasVacant (logs : List (List Batch)) : Type 0 where
 -- ---- what is found of a zone
 
 -- Whether a zone is half clean, and if not, why: its batches are not Moves from an older zone; or a block shows
--- something else without it; or it alone says the size.
+-- something else without it; or only it says the size.
 abbrev pub Finds : ℕ → ℕ → List (List Batch) → ℕ → Finding → Type 0
 Finds block_bytes n logs zone HalfClean = IsHalfClean block_bytes n logs zone
 Finds block_bytes n logs zone NotMoves = IsMoved logs zone → ⊥

@@ -31,7 +31,7 @@ blocks_taken scanned = sum_by (λ (zone : ScannedZone). zone.heads.blocks) scann
 abbrev pub entries_kept : List ScannedZone → ℕ
 entries_kept scanned = sum_by (λ (zone : ScannedZone). length zone.heads.entries) scanned
 
--- A look at the block where the next batch may begin. One Read takes a batch. Where none is taken, no block is read
+-- A look at the block where the next batch may begin. One Read takes a batch. If none is taken, no block is read
 -- that was read before.
 abbrev pub ReadsNext : ReportedZone → HeadsView → Result (Option Bool) MountFault → HeadsView → DriveState → DriveState → Type 0
 ReadsNext zone old (Ok None) new before after =

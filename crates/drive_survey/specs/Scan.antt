@@ -42,7 +42,7 @@ ending_fault zone offset ended = None
 ending_fault zone offset torn = None
 ending_fault zone offset (failed cause) = Some (Log zone offset cause)
 
--- the sequences that were met, with those of these batches
+-- the sequences that were met, with the sequences of these batches
 abbrev pub seen_with : List ℕ → List Batch → List ℕ
 seen_with seen [] = seen
 seen_with seen (batch ∷ log) = seen_with (insert_key nat_cmp seen batch.heading.sequence) log
@@ -52,7 +52,7 @@ abbrev pub log_fault : List ℕ → List Batch → Option MountFault
 log_fault seen [] = None
 log_fault seen (batch ∷ log) = fault_or (heading_fault seen batch.heading) (log_fault (insert_key nat_cmp seen batch.heading.sequence) log)
 
--- the sequences that were met, with those of these logs
+-- the sequences that were met, with the sequences of these logs
 abbrev pub seen_after : List ℕ → List (List Batch) → List ℕ
 seen_after seen [] = seen
 seen_after seen (log ∷ logs) = seen_after (seen_with seen log) logs

@@ -1,4 +1,4 @@
--- Which drives a mount goes on with, once it has read all headers, and why it refuses others.
+-- Which drives a mount continues with, once it has read all headers, and why it refuses others.
 use Rattle.std.specs.Prelude.{◌≡◌, ◌⊎◌, ℕ, ◌<◌, ◌≤◌, ◌^◌, ◌==◌, ◌&&◌, not, Bool, true, false, List, [], ◌∷◌, length, count_by, slice_get, Option, Some, None}
 use Rattle.std.specs.List.{AllByRecursion}
 use Rattle.zone_states.specs.declared.geometry.Geometry.{Geometry}
@@ -34,7 +34,7 @@ pub record MayAsk (drive : DriveState) (n : ℕ) : Type 0 where
   pub geometry : IsInRange drive.geometry
   pub reserve : FitsReserve drive.geometry n
 
--- The headers of a drive are read, as n logical blocks where no header says how many: the geometry and n are in range,
+-- The headers of a drive are read, as n logical blocks if no header says how many: the geometry and n are in range,
 -- no zone is Read Only or Offline, and at most two are partly written.
 pub record CanScan (drive : DriveState) (n : ℕ) : Type 0 where
   pub geometry : IsInRange drive.geometry

@@ -22,7 +22,7 @@ use Rattle.drive_survey.specs.Known.{Finds, Knows}
 use Rattle.drive_survey.specs.Scan.{heads_in}
 use Rattle.drive_survey.specs.SizeCounts.{IsSized, size_counts}
 
--- Why a zone is not half clean: its batches are not Moves from an older zone; or a block shows something else without it; or it alone says the size.
+-- Why a zone is not half clean: its batches are not Moves from an older zone; or a block shows something else without it; or only it says the size.
 abbrev pub IsNeeded : ℕ → ℕ → List (List Batch) → ℕ → Type 0
 IsNeeded block_bytes n logs zone =
     (IsMoved logs zone → ⊥)
@@ -89,7 +89,7 @@ pub record LosesZone (old new : BlockRecords) (zone : ℕ) : Type 0 where
 
 -- ---- zones that wait again
 
--- the zone in which the newest record of a block lies waits
+-- the zone in which the newest record of a block is waits
 abbrev pub HolderWaits : List (List Batch) → BTreeSet ℕ → ℕ → Type 0
 HolderWaits logs waiting block = (r : Record) → newest block (records 0 logs) ≡ Some r → IsTrue (contains nat_cmp waiting r.zone)
 
@@ -97,6 +97,6 @@ HolderWaits logs waiting block = (r : Record) → newest block (records 0 logs) 
 abbrev pub HoldersWait : List (List Batch) → BTreeSet ℕ → List KeptRecord → Type 0
 HoldersWait logs waiting own = AllByRecursion (λ (r : KeptRecord). HolderWaits logs waiting r.block) own
 
--- a zone that says a size waits, where there is one
+-- a zone that says a size waits, if any
 abbrev pub LastWaits : List HeadsView → BTreeSet ℕ → Type 0
 LastWaits views waiting = ((zone : ℕ) → IsSized views zone → ⊥) ⊎ ((zone : ℕ) × IsSized views zone × IsTrue (contains nat_cmp waiting zone))

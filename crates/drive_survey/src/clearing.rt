@@ -121,7 +121,7 @@ pub fn examine_zone<D: Device>(
     examine_by(device, survey, &candidates, zone, &mut buffers)
 }
 
-/// Adds a zone to a set, if it has Moves from an older zone alone.
+/// Adds a zone to a set, if it has only Moves from an older zone.
 fn add_moved(
     zones: &mut BTreeSet<u32>,
     scanned: &[ScannedZone],

@@ -158,14 +158,14 @@ impl ZoneHeads {
         self.size
     }
 
-    /// The greatest block that is named, 0 where none is.
+    /// The greatest block that is named, 0 if none is.
     pub fn highest(&self) -> u64
         ensures { result ≡ self.now.highest }
     {
         self.highest
     }
 
-    /// The greatest number of entries of a batch, 0 where there is none.
+    /// The greatest number of entries of a batch, 0 if none.
     pub fn most(&self) -> u32
         ensures { result ≡ self.now.most }
     {

@@ -27,6 +27,8 @@
 //! kept, and 4 bytes of each entry (`heads_of` in specs/Heads). `survey_drive` compares what they say with the size of
 //! the disk. `clear_zones` looks at the zones of Moves, the lowest first: a zone is half clean if no block shows
 //! anything else without it (`examine_zone`). Only blocks whose newest record is in such a zone are read.
+//!
+//! Tests: the rows of `worked_runs`.
 #![tactic(auto)]
 
 mod clearing;

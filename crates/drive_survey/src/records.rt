@@ -9,7 +9,7 @@ pub struct KeptRecord {
     pub block: u32,
     pub sequence: u64,
     pub zone: u32,
-    /// The block of the zone where its data lies or, of a trim, its header, counted from 0.
+    /// The block of the zone where its data is or, of a trim, its header, counted from 0.
     pub offset: u64,
     pub trim: bool,
 }

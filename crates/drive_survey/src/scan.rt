@@ -103,7 +103,7 @@ fn is_zero_from<D: Device>(
     Ok(true)
 }
 
-/// Where no header block stands: in a Full zone zeros end the log.
+/// If no header block stands: in a Full zone zeros end the log.
 fn end_at<D: Device>(
     device: &mut D,
     zone: ReadableZone,

@@ -16,7 +16,7 @@ fn greatest_of(greatest: u64, heads: &[Head]) -> u64
     greatest
 }
 
-/// The greatest sequence of the batches whose headers are kept, 0 where there is none.
+/// The greatest sequence of the batches whose headers are kept, 0 if none.
 pub fn greatest_sequence(scanned: &[ScannedZone]) -> u64
     ensures { result ≡ greatest_sequence (sequences_in (heads_in scanned.now)) }
 {

@@ -16,7 +16,7 @@ range-at n k d h = omega (arith, get_or-range_with_len 0 n k d (omega (arith, le
 zero-at : (n k : ℕ) → k < length (range_with_len 0 n) → count_at (replicate n 0) (range_with_len 0 n) k ≡ 0
 zero-at n k h = ap (λ z. get_or (replicate n 0) z 0) (range-at n k 0 h) ∙ get_or-replicate n k 0 0 (omega (arith, length-range_with_len 0 n))
 
--- where no zone has a live record, the zones stand in order by their numbers
+-- if no zone has a live record, the zones are in order by their numbers
 pub ordered-fresh : (n : ℕ) → IsOrdered (replicate n 0) (range_with_len 0 n)
 ordered-fresh n = record {
   as_many = length-range_with_len 0 n ∙ sym (length-replicate {A = ℕ} n 0);
@@ -27,7 +27,7 @@ ordered-fresh n = record {
 leads_back-fresh : (n : ℕ) → LeadsBack (range_with_len 0 n) (range_with_len 0 n)
 leads_back-fresh n = record { below = λ k h. omega (arith, range-at n k 0 h); back = λ k h. ap (λ z. get_or (range_with_len 0 n) z 0) (range-at n k 0 h) ∙ range-at n k 0 h }
 
--- and each stands at its own number
+-- and each is at its own number
 pub inverse-fresh : (n : ℕ) → AreInverse (range_with_len 0 n) (range_with_len 0 n)
 inverse-fresh n = record { as_many = refl; from_position = leads_back-fresh n; from_zone = leads_back-fresh n }
 
@@ -194,7 +194,7 @@ module _ (counts zones positions : List ℕ) (among : List Bool) (ordered : IsOr
   none-least none zone h named = none (get_or positions zone 0) (inverse.from_zone.below zone (in_positions zone h)) (named-there zone h named)
 
   module _ (first end lowest : ℕ) (is_first : IsFirstNamed zones among first) (run : IsFirstAbove counts zones (count_at counts zones first) end) (is_lowest : IsLowestNamed zones among first end lowest) where
-    -- a named zone does not stand before the first one
+    -- a named zone is not before the first one
     from-first : (zone : ℕ) → zone < length among → IsNamed among zone → first ≤ get_or positions zone 0
     from-first zone h named = elim (cases_lt (get_or positions zone 0) first) as (λ _. first ≤ get_or positions zone 0) [
       | inl before ↦ absurd (is_first.first (get_or positions zone 0) before (named-there zone h named))
@@ -208,7 +208,7 @@ module _ (counts zones positions : List ℕ) (among : List Bool) (ordered : IsOr
     least zone h named =
         omega (arith, run.at_most lowest is_lowest.before, ordered.rises first (get_or positions zone 0) (from-first zone h named) (inverse.from_zone.below zone (in_positions zone h)), count-there zone h)
 
-    -- one with a lower number does not stand in the run
+    -- one with a lower number is not in the run
     lower : (zone : ℕ) → zone < length among → zone < get_or zones lowest 0 → IsNamed among zone → get_or counts (get_or zones lowest 0) 0 < get_or counts zone 0
     lower zone h lt named = elim (cases_lt (get_or positions zone 0) end) as (λ _. get_or counts (get_or zones lowest 0) 0 < get_or counts zone 0) [
       | inl before ↦ absurd (omega (arith, is_lowest.lowest (get_or positions zone 0) (from-first zone h named) before (named-there zone h named), inverse.from_zone.back zone (in_positions zone h)))

@@ -7,7 +7,7 @@ use Rattle.live_index.specs.Least.{IsNamed}
 abbrev pub count_at : List ℕ → List ℕ → ℕ → ℕ
 count_at counts zones position = slice_index counts (slice_index zones position)
 
--- the zones stand in order of their counts
+-- the zones are in order of their counts
 pub record IsOrdered (counts zones : List ℕ) : Type 0 where
   pub as_many : length zones ≡ length counts
   pub below : All (λ zone. zone < length counts) zones

@@ -10,6 +10,8 @@
 //! `least` finds the lowest of the named zones with the fewest (`FindsLeast` in specs/Least). The zones are
 //! kept in order of their counts: `add` and `remove` swap two of them, or none where the order stays as it is; the
 //! second is found by bisection. `least` goes through the order once at most (`IsOrdered` in specs/Ordered).
+//!
+//! Tests: `counts.rt` of `call_tests`.
 #![tactic(auto)]
 
 mod index;

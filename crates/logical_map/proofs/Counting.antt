@@ -1,4 +1,4 @@
--- How many blocks lie in each zone: one place changed, and more blocks.
+-- How many blocks are in each zone: one place changed, and more blocks.
 use Rattle.std.proofs.Common.{◌≡◌, ◌≢◌, ℕ, zero, suc, ◌+◌, ◌-◌, ◌/◌, ◌%◌, ◌^◌, ◌<◌, ◌≤◌, true, cond, eqb, List, [], ◌++◌, length, take, set, get_or, replicate, Option, Some, refl, sym, ap, ◌∙◌, inl, inr, arith}
 use Rattle.std.specs.List.{count_by}
 use Rattle.std.specs.Option.{IfSome, is_some}
@@ -42,7 +42,7 @@ live-set : (size : ℕ) (all : List Place) (zone block : ℕ) (place : Place) �
     → count_by (lies_in size zone) (set all block place) + cond (lies_in size zone (get_or all block places.None)) 1 0 ≡ count_by (lies_in size zone) all + cond (lies_in size zone place) 1 0
 live-set size all zone block place h = sum_by-set (λ p. cond (lies_in size zone p) 1 0) all block place places.None h
 
--- each count is how many places lie in its zone
+-- each count is how many places are in its zone
 abbrev pub AreCounts : ℕ → List Place → List ℕ → Type 0
 AreCounts size all counts = (zone : ℕ) → zone < length counts → get_or counts zone 0 ≡ count_by (lies_in size zone) all
 
@@ -78,11 +78,11 @@ can_raise size all counts block place are h few = if_some (zone_of size place) (
 
 -- ---- what the map keeps
 
--- blocks that have no place lie in no zone
+-- blocks that have no place are in no zone
 pub live-none : (size n zone : ℕ) → count_by (lies_in size zone) (replicate n places.None) ≡ 0
 live-none size n zone = omega (arith, sum_by-replicate (λ p. cond (lies_in size zone p) 1 0) n places.None)
 
--- blocks that have no place lie in no zone, also after others
+-- blocks that have no place are in no zone, also after others
 pub live-grow : (size n zone : ℕ) (all : List Place) → count_by (lies_in size zone) (all ++ replicate n places.None) ≡ count_by (lies_in size zone) all
 live-grow size n zone all = omega (arith, sum_by-append (λ p. cond (lies_in size zone p) 1 0) all (replicate n places.None), live-none size n zone)
 

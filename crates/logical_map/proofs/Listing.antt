@@ -1,4 +1,4 @@
--- The blocks that lie in a zone: what its list has, and the first of them.
+-- The blocks that are in a zone: what its list has, and the first of them.
 use Rattle.std.proofs.Common.{◌≡◌, ◌≢◌, ℕ, zero, suc, ◌+◌, ◌-◌, ◌/◌, ◌%◌, ◌<◌, ◌≤◌, Bool, true, false, cond, List, [], ◌∷◌, length, drop, get_or, set, replicate, Option, Some, refl, sym, ap, subst, ◌∙◌, inl, inr, arith}
 use Rattle.std.specs.Prelude.{slice_get}
 use Rattle.std.specs.List.{Contains, count_by, filter}
@@ -15,7 +15,7 @@ use Rattle.logical_map.specs.Live.{blocks_in, is_zone, lies_in, zone_of}
 use Rattle.logical_map.specs.Pages.{HasNoneFrom, place_in, paged_places}
 use Rattle.logical_map.proofs.Showing.{length-shown, place-reserve, place-set, shown-at, some-at}
 
--- ---- which blocks lie in a zone
+-- ---- which blocks are in a zone
 
 cond-zero : (b : Bool) → ◌≡◌ {A = ℕ} (cond b 1 0) 0 → b ≡ false
 cond-zero true e = absurd (omega (arith, e))
@@ -28,14 +28,14 @@ all-at page n k past = elim (cases_lt k n) as (λ _. get_or (paged_places page n
   | inr above ↦ get_or_past (paged_places page n) k places.None (omega (arith, length-shown page n)) ∙ sym (past k above)
 ]
 
--- a block that lies in a zone is not past the end
+-- a block that is in a zone is not past the end
 below-end : (page : ℕ → Option (List Place)) (n size zone block : ℕ) → HasNoneFrom page n → lies_in size zone (place_in page block) ≡ true → block < n
 below-end page n size zone block past lies = elim (cases_lt block n) as (λ _. block < n) [
   | inl below ↦ below
   | inr above ↦ absurd (false≢true (sym (ap (lies_in size zone) (past block above)) ∙ lies))
 ]
 
--- no block lies in a zone whose count is 0
+-- no block is in a zone whose count is 0
 pub none-lies : (page : ℕ → Option (List Place)) (n size zone : ℕ) → HasNoneFrom page n → 0 ≡ count_by (lies_in size zone) (paged_places page n) → (block : ℕ) → lies_in size zone (place_in page block) ≡ false
 none-lies page n size zone past none block =
     sym (ap (lies_in size zone) (all-at page n block past)) ∙ cond-zero (lies_in size zone (get_or (paged_places page n) block places.None)) (elim (cases_lt block n) as (λ _. ◌≡◌ {A = ℕ} (cond (lies_in size zone (get_or (paged_places page n) block places.None)) 1 0) 0) [
@@ -43,7 +43,7 @@ none-lies page n size zone past none block =
       | inr above ↦ ap (λ p. cond (lies_in size zone p) 1 0) (get_or_past (paged_places page n) block places.None (omega (arith, length-shown page n)))
     ])
 
--- ---- the first of the blocks that lie in a zone
+-- ---- the first of the blocks that are in a zone
 
 head-in : (size zone first m : ℕ) (xs : List Place) → m < length xs → ((k : ℕ) → k < m → lies_in size zone (get_or xs k places.None) ≡ false) → lies_in size zone (get_or xs m places.None) ≡ true → slice_get (blocks_in size zone first xs) 0 ≡ Some (first + m)
 head-in size zone first m [] h none here = absurd (omega (arith, h))
@@ -63,13 +63,13 @@ first-at page n size zone from m past first =
     head-in size zone from m (drop from (paged_places page n)) (omega (arith, below-end page n size zone (from + m) past first.lies, length-drop from (paged_places page n), length-shown page n)) (λ k below. ap (lies_in size zone) (rest-at page n from k past) ∙ first.none (from + k) (omega arith) (omega (arith, below)))
     (ap (lies_in size zone) (rest-at page n from m past) ∙ first.lies)
 
--- the first block from one on that lies in a zone is the first of the list
+-- the first block from one on that is in a zone is the first of the list
 pub first-is : (page : ℕ → Option (List Place)) (n size zone from block : ℕ) → HasNoneFrom page n → IsFirstBlock page size zone from block → slice_get (blocks_in size zone from (drop from (paged_places page n))) 0 ≡ Some block
 first-is page n size zone from block past first =
     let same : from + (block - from) ≡ block = omega (arith, first.after) in
     first-at page n size zone from (block - from) past (subst (IsFirstBlock page size zone from) (sym same) first) ∙ ap Some same
 
--- where none lies there, the list is empty
+-- if none is there, the list is empty
 pub none-is : (page : ℕ → Option (List Place)) (n size zone from : ℕ) → HasNoneFrom page n → NoBlockLies page size zone from n → slice_get (blocks_in size zone from (drop from (paged_places page n))) 0 ≡ Option.None
 none-is page n size zone from past none = rw (none-in size zone from (drop from (paged_places page n)) (λ k below. ap (lies_in size zone) (rest-at page n from k past) ∙ none (from + k) (omega arith) (omega (arith, below, length-drop from (paged_places page n), length-shown page n)))) refl
 
@@ -81,7 +81,7 @@ walked page n size zone from (Some block) past first = sym (first-is page n size
 -- ---- what a list finds
 
 module _ (page : ℕ → Option (List Place)) (size zone from : ℕ) (blocks : List ℕ) (has : (block : ℕ) → lies_in size zone (place_in page block) ≡ true → Contains blocks block) (first : ℕ) (is_first : IsFirstFrom blocks from first) where
-  -- a block that is listed neither before the first position nor among those passed over does not lie in the zone
+  -- a block that is listed neither before the first position nor among those passed over is not in the zone
   passed : (end block : ℕ) → NoneLies page size zone blocks first end → from ≤ block → ((k : ℕ) → end ≤ k → k < length blocks → get_or blocks k 0 ≡ block → ⊥) → (b : Bool) → lies_in size zone (place_in page block) ≡ b → b ≡ false
   passed end block none above past false e = refl
   passed end block none above past true e =
@@ -122,7 +122,7 @@ whole-there lists i whole = elim (cases_lt i (length lists)) as (λ _. i < lengt
   | inr past ↦ absurd (false≢true (sym (ap (λ (l : ListView). l.whole) (get_or_past lists i missing past)) ∙ whole))
 ]
 
--- the same blocks lie in the same zones
+-- the same blocks are in the same zones
 listed-same : (page page' : ℕ → Option (List Place)) (size : ℕ) (lists : List ListView) → ((k : ℕ) → place_in page' k ≡ place_in page k) → AreListed page size lists → AreListed page' size lists
 listed-same page page' size lists same are = λ zone block whole lies. are zone block whole (sym (ap (lies_in size zone) (same block)) ∙ lies)
 
@@ -170,14 +170,14 @@ listed-sort page size i lists list h whole kept are = λ zone block is_whole lie
 pub listed-made : (page : ℕ → Option (List Place)) (size : ℕ) (lists lists' : List ListView) → ((zone : ℕ) → listed lists' zone ≡ listed lists zone) → AreListed page size lists → AreListed page size lists'
 listed-made page size lists lists' same are = λ zone block whole lies. subst (λ (l : ListView). Contains l.blocks block) (sym (same zone)) (are zone block (sym (ap (λ (l : ListView). l.whole) (same zone)) ∙ whole) lies)
 
--- a zone in which no block lies begins its list anew
+-- a zone in which no block is begins its list anew
 listed-fresh : (page : ℕ → Option (List Place)) (size i : ℕ) (lists : List ListView) → i < length lists → ((block : ℕ) → lies_in size i (place_in page block) ≡ false) → AreListed page size lists → AreListed page size (set lists i fresh_list)
 listed-fresh page size i lists h none are = λ zone block is_whole lies. elim (cases_eq zone i) as (λ _. Contains (listed (set lists i fresh_list) zone).blocks block) [
   | inl e ↦ absurd (false≢true (sym (none block) ∙ sym (ap (λ z. lies_in size z (place_in page block)) e) ∙ lies))
   | inr n ↦ subst (λ (l : ListView). Contains l.blocks block) (sym (listed-other lists i zone fresh_list n)) (are zone block (sym (ap (λ (l : ListView). l.whole) (listed-other lists i zone fresh_list n)) ∙ is_whole) lies)
 ]
 
--- room is made in a list, which begins anew where no block lies in its zone
+-- room is made in a list, which begins anew if no block is in its zone
 pub listed-room : (page : ℕ → Option (List Place)) (size i : ℕ) (lists : List ListView) (empty : Bool) (list : ListView) → i < length lists → (empty ≡ true → (block : ℕ) → lies_in size i (place_in page block) ≡ false) → list ≡ cond empty fresh_list (listed lists i) → AreListed page size lists → AreListed page size (set lists i list)
 listed-room page size i lists true list h none e are = rw e (listed-fresh page size i lists h (none refl) are)
 listed-room page size i lists false list h none e are = rw e (listed-sort page size i lists (listed lists i) h refl (λ block lies had. had) are)
@@ -186,7 +186,7 @@ listed-room page size i lists false list h none e are = rw e (listed-sort page s
 pub listed-shorter : (page : ℕ → Option (List Place)) (size : ℕ) (lists lists' : List ListView) → Shortens page size lists lists' → AreListed page size lists → AreListed page size lists'
 listed-shorter page size lists lists' shorter are = λ zone block whole lies. shorter.kept zone block lies (are zone block (shorter.whole zone whole) lies)
 
--- one list was made shorter, by blocks that do not lie in its zone
+-- one list was made shorter, by blocks that are not in its zone
 pub shorter-at : (page : ℕ → Option (List Place)) (size i : ℕ) (lists : List ListView) (list : ListView) → i < length lists → list.whole ≡ (listed lists i).whole → KeepsThere page size i (listed lists i).blocks list.blocks → Shortens page size lists (set lists i list)
 shorter-at page size i lists list h whole kept = record {
   whole = λ zone w. elim (cases_eq zone i) as (λ _. (listed lists zone).whole ≡ true) [

@@ -8,7 +8,7 @@ use Rattle.logical_map.specs.Live.{lies_in}
 use Rattle.logical_map.specs.Pages.{place_of}
 use Rattle.logical_map.specs.Words.{is_word_from}
 
--- an address from the start of a zone on is one of its own, or it lies past it
+-- an address from the start of a zone on is one of its own, or it is past it
 within : (address size zone : ℕ) → 0 < size → zone * size ≤ address → ltb (address - zone * size) size ≡ (address / size == zone)
 within address size zone some after = elim (cases_lt (address - zone * size) size) as (λ _. ltb (address - zone * size) size ≡ (address / size == zone)) [
   | inl lt ↦ lt-ltb (address - zone * size) size lt ∙ sym (eq-eqb (address / size) zone (ap (λ n. n / size) (omega (arith, after)) ∙ div-mul-add zone size (address - zone * size) lt))
@@ -40,7 +40,7 @@ between word address size zone some low high = elim (cases_lt address (zone * si
   ])
 ]
 
--- whether a word is one of a zone's is whether its place lies there
+-- whether a word is one of a zone's is whether its place is there
 pub word-in : (word size zone : ℕ) → 0 < size → is_word_from (zone * (2 * size) + 1) (2 * size) word ≡ lies_in size zone (place_of word)
 word-in word size zone some = elim (cases_eq word 0) as (λ _. is_word_from (zone * (2 * size) + 1) (2 * size) word ≡ lies_in size zone (place_of word)) [
   | inl none ↦ rw none (rw (lt-ltb 0 (zone * (2 * size) + 1) (omega arith)) refl)

@@ -5,7 +5,7 @@ use Rattle.logical_map.specs.declared.place.Place.{Place}
 use Rattle.logical_map.specs.Live.{is_zone, lies_in}
 use Rattle.logical_map.specs.Pages.{place_in}
 
--- the blocks that were noted of a zone; and whether each block that lies there is among them
+-- the blocks that were noted of a zone; and whether each block that is there is among them
 pub record ListView : Type 0 where
   pub blocks : List ℕ
   pub whole : Bool
@@ -14,7 +14,7 @@ pub record ListView : Type 0 where
 abbrev pub missing : ListView
 missing = record { blocks = []; whole = false }
 
--- the list of a zone in which no block lies
+-- the list of a zone in which no block is
 abbrev pub fresh_list : ListView
 fresh_list = record { blocks = []; whole = true }
 
@@ -44,47 +44,47 @@ pub record NotesMove (old : List ListView) (was zone : Option ℕ) (block : ℕ)
 abbrev pub KeepsListed : List ℕ → List ℕ → Type 0
 KeepsListed old new = (block : ℕ) → Contains old block → Contains new block
 
--- of blocks that were noted of a zone, each that lies there is kept
+-- of blocks that were noted of a zone, each that is there is kept
 abbrev pub KeepsThere : (ℕ → Option (List Place)) → ℕ → ℕ → List ℕ → List ℕ → Type 0
 KeepsThere page zone_size zone old new = (block : ℕ) → lies_in zone_size zone (place_in page block) ≡ true → Contains old block → Contains new block
 
--- of the blocks on the list of a zone, at most such are dropped that lie elsewhere
+-- of the blocks on the list of a zone, at most such are dropped that are elsewhere
 pub record Shortens (page : ℕ → Option (List Place)) (zone_size : ℕ) (old new : List ListView) : Type 0 where
   pub whole : (zone : ℕ) → (listed new zone).whole ≡ true → (listed old zone).whole ≡ true
   pub kept : (zone : ℕ) → KeepsThere page zone_size zone (listed old zone).blocks (listed new zone).blocks
 
--- while the list of a zone is whole, it has each block that lies there
+-- while the list of a zone is whole, it has each block that is there
 abbrev pub AreListed : (ℕ → Option (List Place)) → ℕ → List ListView → Type 0
 AreListed page zone_size lists = (zone block : ℕ) → (listed lists zone).whole ≡ true
     → lies_in zone_size zone (place_in page block) ≡ true → Contains (listed lists zone).blocks block
 
--- of the blocks from one position to before another, none lies in a zone
+-- of the blocks from one position to before another, none is in a zone
 abbrev pub NoneLies : (ℕ → Option (List Place)) → ℕ → ℕ → List ℕ → ℕ → ℕ → Type 0
 NoneLies page zone_size zone blocks first end = (k : ℕ) → first ≤ k → k < end → lies_in zone_size zone (place_in page (slice_index blocks k)) ≡ false
 
--- the block at this position is the first from a position on that lies in a zone
+-- the block at this position is the first from a position on that is in a zone
 pub record IsFirstThere (page : ℕ → Option (List Place)) (zone_size zone : ℕ) (blocks : List ℕ) (first position : ℕ) : Type 0 where
   pub after : first ≤ position
   pub within : position < length blocks
   pub lies : lies_in zone_size zone (place_in page (slice_index blocks position)) ≡ true
   pub none : NoneLies page zone_size zone blocks first position
 
--- that position, or that none of them lies there
+-- that position, or that none of them is there
 abbrev pub FindsThere : (ℕ → Option (List Place)) → ℕ → ℕ → List ℕ → ℕ → Option ℕ → Type 0
 FindsThere page zone_size zone blocks first None = NoneLies page zone_size zone blocks first (length blocks)
 FindsThere page zone_size zone blocks first (Some position) = IsFirstThere page zone_size zone blocks first position
 
--- from one block to before another, none lies in a zone
+-- from one block to before another, none is in a zone
 abbrev pub NoBlockLies : (ℕ → Option (List Place)) → ℕ → ℕ → ℕ → ℕ → Type 0
 NoBlockLies page zone_size zone from end = (k : ℕ) → from ≤ k → k < end → lies_in zone_size zone (place_in page k) ≡ false
 
--- the block is the first from another on that lies in a zone
+-- the block is the first from another on that is in a zone
 pub record IsFirstBlock (page : ℕ → Option (List Place)) (zone_size zone from block : ℕ) : Type 0 where
   pub after : from ≤ block
   pub lies : lies_in zone_size zone (place_in page block) ≡ true
   pub none : NoBlockLies page zone_size zone from block
 
--- that block, or that none before an end lies there
+-- that block, or that none before an end is there
 abbrev pub FindsBlock : (ℕ → Option (List Place)) → ℕ → ℕ → ℕ → ℕ → Option ℕ → Type 0
 FindsBlock page zone_size zone from end None = NoBlockLies page zone_size zone from end
 FindsBlock page zone_size zone from end (Some block) = IsFirstBlock page zone_size zone from block

@@ -3,13 +3,13 @@ use Rattle.std.specs.Prelude.{◌≡◌, ◌≢◌, ℕ, ◌-◌, Bool, true, fa
 use Rattle.logical_map.specs.declared.place.Place.{Place}
 use Rattle.logical_map.specs.declared.place.Place.TheVariants as places
 
--- the address of a place, 0 where there is none
+-- the address of a place, 0 if none
 abbrev pub place_address : Place → ℕ
 place_address places.None = 0
 place_address (places.Trimmed address) = address
 place_address (places.At address) = address
 
--- where each block lies, and whether its place can be set without an allocation; the drive's number of zones, and how many addresses a zone has
+-- where each block is, and whether its place can be set without an allocation; the drive's number of zones, and how many addresses a zone has
 pub record MapView : Type 0 where
   pub places : List Place
   pub ready : List Bool

@@ -10,13 +10,13 @@ use std::alloc::{AllocError, Global};
 use std::marker::Model;
 
 /// The blocks of a zone, 4 bytes each: those that were placed there, in any order and perhaps more than once,
-/// while there was room for them. Some may lie elsewhere now.
+/// while there was room for them. Some may be elsewhere now.
 #[derive(Drop)]
 pub struct ZoneList {
     blocks: Vec<u32>,
     /// Whether the blocks ascend.
     sorted: bool,
-    /// Whether each block that lies in the zone is among them.
+    /// Whether each block that is in the zone is among them.
     whole: bool,
     /// The position that is tried first when one is asked for: that after the last answer.
     next: usize,
@@ -48,7 +48,7 @@ impl ZoneList {
     }
 
     /// Makes room for `count` blocks more. Where that wants memory, room is made for an eighth of the blocks at
-    /// least. The list of a zone in which no block lies begins anew.
+    /// least. The list of a zone in which no block is begins anew.
     pub fn make_room(&mut self, empty: bool, count: u32) -> Result<(), AllocError>
         ensures { self.new ≡ (if empty then fresh_list else self.old) }
     {
@@ -76,7 +76,7 @@ impl ZoneList {
         self.blocks.push_reserved(block);
     }
 
-    /// Whether each block that lies in the zone is among the blocks.
+    /// Whether each block that is in the zone is among the blocks.
     pub fn is_whole(&self) -> bool
         ensures { result ≡ self.now.whole }
     {
@@ -116,7 +116,7 @@ impl ZoneList {
         position
     }
 
-    /// Drops the blocks that lie elsewhere, those that are there twice, and the room that they took. It needs
+    /// Drops the blocks that are elsewhere, those that are there twice, and the room that they took. It needs
     /// no memory.
     pub fn tidy(&mut self, pages: &Pages, zone_size: u32, zone: u64)
         ensures whole { self.new.whole ≡ self.old.whole }
@@ -200,7 +200,7 @@ pub fn left_zone(was: Option<u64>, zone: Option<u64>) -> Option<u64> {
 }
 
 /// Tidies the list of a zone that a block left, where it is longer than the zone and has more than twice the blocks
-/// that lie there.
+/// that are there.
 pub fn shorten(
     lists: &mut Vec<ZoneList>,
     pages: &Pages,

@@ -19,7 +19,7 @@ use std::marker::Model;
 pub struct Moved {
     /// The zone that it lay in.
     pub from: Option<u32>,
-    /// The zone that it lies in.
+    /// The zone that it is in.
     pub to: Option<u32>,
 }
 
@@ -34,9 +34,9 @@ fn zone_below(zones: u32, zone: Option<u64>) -> Option<u32>
     None
 }
 
-/// Where each of a number of logical blocks lies, on a drive of `zones` zones with `zone_size` addresses
-/// each. The places stand in pages, 8 bytes each; a page is made when it is wanted, and one that is missing
-/// holds no place. How many blocks lie in each zone is kept beside them, and a list of them, 4 bytes for
+/// Where each of a number of logical blocks is, on a drive of `zones` zones with `zone_size` addresses
+/// each. The places are in pages, 8 bytes each; a page is made when it is wanted, and one that is missing
+/// holds no place. How many blocks are in each zone is kept as well, and a list of them, 4 bytes for
 /// each block that was moved there; blocks that were moved away are dropped from a long list.
 #[derive(Drop)]
 pub struct Map {
@@ -46,7 +46,7 @@ pub struct Map {
     zone_size: u32,
     alloc: Global,
     pages: Pages,
-    /// How many blocks lie in each zone; none before the first page is made.
+    /// How many blocks are in each zone; none before the first page is made.
     counts: Vec<u32>,
     /// The blocks of each zone that room was made in.
     lists: Vec<ZoneList>,
@@ -106,7 +106,7 @@ impl Map {
         self.count = count;
     }
 
-    /// Where a block lies. A block that has a place is ready to be placed again.
+    /// Where a block is. A block that has a place is ready to be placed again.
     pub fn get(&self, block: u32) -> Place
         requires { block < length self.now.places }
         ensures place { result ≡ slice_index_or self.now.places block places.None }
@@ -116,7 +116,7 @@ impl Map {
     }
 
     /// Makes room for a block's place, so that `set` allocates nothing. Where an allocation fails, the map
-    /// is as it was.
+    /// is unchanged.
     pub fn reserve_for(&mut self, block: u32) -> Result<(), AllocError>
         requires { block < length self.old.places }
         ensures ok { OnOk result (Reserves self.old block self.new) }
@@ -179,7 +179,7 @@ impl Map {
         }
     }
 
-    /// How many blocks lie in a zone of the drive.
+    /// How many blocks are in a zone of the drive.
     pub fn live(&self, zone: u32) -> u32
         ensures { zone < self.now.zones → result ≡ live self.now zone }
     {
@@ -190,7 +190,7 @@ impl Map {
         self.counts[index]
     }
 
-    /// The first of the blocks from `from` on that lie in a zone, with its place. What it costs depends on
+    /// The first of the blocks from `from` on that are in a zone, with its place. What it costs depends on
     /// the blocks that were moved into the zone since none lay there, if room was made for all of them; else
     /// it walks over the blocks of the map.
     pub fn records_of(&mut self, zone: u32, from: u32) -> Option<(u32, Place)>
@@ -202,7 +202,7 @@ impl Map {
         Some((block, place_at(&self.pages, block)))
     }
 
-    /// The first of the blocks from `from` on that lie in a zone.
+    /// The first of the blocks from `from` on that are in a zone.
     fn first_in(&mut self, zone: u32, from: u32) -> Option<u32>
         requires { zone < self.old.zones }
         ensures first { result ≡ slice_get (records_of self.old zone from) 0 }
@@ -226,7 +226,7 @@ impl Map {
 /// How many blocks of a list are looked at together.
 const RUN: usize = 32;
 
-/// Whether any of the blocks from one position to before another lies in the zone of these words. It looks at all their
+/// Whether any of the blocks from one position to before another is in the zone of these words. It looks at all their
 /// places, whatever it finds, so that the processor fetches them together.
 fn any_there(pages: &Pages, words: &ZoneWords, blocks: &[u32], first: usize, end: usize) -> bool
     requires { end ≤ length blocks.now }
@@ -240,8 +240,8 @@ fn any_there(pages: &Pages, words: &ZoneWords, blocks: &[u32], first: usize, end
     any
 }
 
-/// The position of the first of some blocks, from a position on, that lies in the zone of these words. Where a run
-/// begins, it is passed over if none of its blocks lies there.
+/// The position of the first of some blocks, from a position on, that is in the zone of these words. Where a run
+/// begins, it is passed over if none of its blocks is there.
 fn first_listed(pages: &Pages, words: &ZoneWords, blocks: &[u32], first: usize) -> Option<usize>
     ensures { FindsThere
         (page_of pages.now.items) words.now.zone_size words.now.zone blocks.now first result }
@@ -260,7 +260,7 @@ fn first_listed(pages: &Pages, words: &ZoneWords, blocks: &[u32], first: usize) 
     None
 }
 
-/// The first block from `from` to before `count` that lies in the zone of these words.
+/// The first block from `from` to before `count` that is in the zone of these words.
 fn first_placed(pages: &Pages, words: &ZoneWords, from: u32, count: u32) -> Option<u32>
     ensures { FindsBlock
         (page_of pages.now.items) words.now.zone_size words.now.zone from count result }

@@ -28,7 +28,7 @@ pub fn word_at(pages: &Pages, block: u32) -> u64
     }
 }
 
-/// Where a block lies; a block past the end has no place.
+/// Where a block is; a block past the end has no place.
 pub fn place_at(pages: &Pages, block: u32) -> Place
     ensures { result ≡ place_in (page_of pages.now.items) block }
 {
@@ -99,7 +99,7 @@ fn put(page: &mut [u64; 256], index: usize, place: Place) -> Place
     old
 }
 
-/// The zone that a place lies in.
+/// The zone that a place is in.
 pub fn zone_of(zone_size: u32, place: Place) -> Option<u64>
     ensures { result ≡ zone_of zone_size place }
 {
@@ -109,7 +109,7 @@ pub fn zone_of(zone_size: u32, place: Place) -> Option<u64>
     }
 }
 
-/// The zone that an address lies in; the first where zones have no addresses.
+/// The zone that an address is in; the first where zones have no addresses.
 pub fn zone_at(zone_size: u32, address: u64) -> u64
     ensures { result ≡ address / zone_size }
 {

@@ -2,7 +2,7 @@ ghost use Rattle.std.specs.Prelude.{◌≡◌, ◌<◌, ◌+◌, ◌^◌};
 ghost use Rattle.logical_map.specs.Pages.{place_of};
 ghost use Rattle.logical_map.specs.Places.{place_address};
 
-/// Where the newest record of a logical block lies on the drive.
+/// Where the newest record of a logical block is on the drive.
 #[derive(Clone, Copy, Debug, PartialEq, Eq)]
 pub enum Place {
     /// No batch names the block.

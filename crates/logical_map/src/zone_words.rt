@@ -5,7 +5,7 @@ ghost use Rattle.logical_map.specs.Words.{AreWordsOf};
 
 use std::marker::Model;
 
-/// The words of pages that stand for places in a zone: `count` of them, from `first` on. Whether a place lies in the
+/// The words of pages that stand for places in a zone: `count` of them, from `first` on. Whether a place is in the
 /// zone is seen from its word, without a division.
 #[derive(Drop)]
 pub struct ZoneWords {
@@ -57,7 +57,7 @@ impl ZoneWords {
         }
     }
 
-    /// Whether the place of a word lies in the zone.
+    /// Whether the place of a word is in the zone.
     pub fn hold(&self, word: u64) -> bool
         ensures { result ≡ lies_in self.now.zone_size self.now.zone (place_of word) }
     {

@@ -4,7 +4,8 @@ ghost use Rattle.std.specs.Prelude.{◌≡◌, IfNone, IfSome};
 ghost use Rattle.nbd_session.specs.Streams.{streams};
 ghost use Rattle.drive_store.specs.Kept.{HoldsFile};
 ghost use Rattle.disk_jobs.specs.Saved.{stopping};
-ghost use Rattle.nbd_jobs.specs.Serving.{HoldsNoDrive, LeavesFile, LeavesStored, ServesDrive, ServesStopping, session_end};
+ghost use Rattle.nbd_jobs.specs.Serving.{HoldsNoDrive, LeavesFile, LeavesStored, ServesDrive, ServesStopping};
+ghost use Rattle.nbd_jobs.specs.Serving.{session_end};
 
 use crate::fault::NbdFault;
 use crate::job::NbdJob;

@@ -25,7 +25,7 @@ pub struct Setting {
 }
 
 impl Setting {
-    /// Blocks of 512 bytes, a drive that goes on, and a medium that does not fail.
+    /// Blocks of 512 bytes, a drive that continues, and a medium that does not fail.
     pub fn plain() -> Setting {
         Setting {
             block: 512,

@@ -1,4 +1,4 @@
--- A session goes on by one message.
+-- A session continues by one message.
 use Rattle.std.proofs.Common.{◌≡◌, ℕ, ◌+◌, List, [], ◌∷◌, ◌++◌, length, Option, Ok, Err, refl, ap, sym, ◌∙◌, append_assoc}
 use Rattle.std.specs.Prelude.{IsErrAnd, Result}
 use Rattle.std.specs.List.{flat_map}

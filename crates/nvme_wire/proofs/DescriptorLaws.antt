@@ -18,7 +18,7 @@ state_of-code ReadOnly = refl
 state_of-code Full = refl
 state_of-code Offline = refl
 
--- a state, a capacity, a start and a pointer's word are those of a descriptor
+-- a state, a capacity, a start and a pointer's word are a descriptor's
 pub record HasParts (d : Descriptor) (state : ZoneState) (capacity start word : ℕ) : Type 0 where
   pub state_is : state ≡ d.state
   pub capacity_is : capacity ≡ d.capacity

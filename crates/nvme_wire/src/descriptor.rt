@@ -59,7 +59,7 @@ impl Descriptor {
     }
 
     /// Decodes a descriptor. The pointer of an Empty zone is its start, that of an opened or Closed zone
-    /// lies within its capacity, and a zone in any other state has none. Bytes that no such descriptor
+    /// is within its capacity, and a zone in any other state has none. Bytes that no such descriptor
     /// encodes to are the fault `Field`.
     pub fn decode(bytes: &[u8; 64]) -> Result<Descriptor, DecodeFault>
         ensures ok { IfOk result (λ d. (bytes.now ≡ descriptor_bytes d) × IsDescriptor d) }

@@ -1,7 +1,7 @@
 //! The bytes that pass between a host and a zoned NVMe drive: submission queue entries, completion
 //! queue entries, and the parts of a zone report.
 //!
-//! The formats are those of the NVM Express Base Specification 2.0, the NVM Command Set
+//! The formats come from the NVM Express Base Specification 2.0, the NVM Command Set
 //! Specification 1.0 and the Zoned Namespace Command Set Specification 1.1, cut down to the profile
 //! that `docs/zones.md` states. Nothing here allocates.
 //!
@@ -25,6 +25,8 @@
 //! * A completion, a descriptor and a report's head have one encoding each, and decoding accepts these
 //!   bytes and no others (`specs/Completion.antt`, `specs/Descriptor.antt`).
 //! * A status has the standard's code and name (`specs/Status.antt`).
+//!
+//! Tests: the rows of `worked_runs` for raw lines and commands.
 #![tactic(auto)]
 
 mod command;

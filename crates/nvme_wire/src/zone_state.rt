@@ -14,7 +14,7 @@ pub enum ZoneState {
     ExplicitlyOpened,
     /// It can be written again, and takes no open resource until then.
     Closed,
-    /// Its blocks can be read alone.
+    /// Its blocks can only be read.
     ReadOnly,
     /// It takes no Write or Append before a Reset.
     Full,

@@ -129,7 +129,7 @@ shut-knows n old new survey k known =
       tails = rw k.contents_are known.tails;
     })
 
--- the array is that of the logs
+-- the array is the logs'
 pub spelled-logs : (n : ℕ) (old new : DriveState) → new.geometry ≡ old.geometry → drive_logs new ≡ drive_logs old → spelled new n ≡ spelled old n
 unfolding spelled_array
 spelled-logs n old new geometry logs = rw (logs, geometry) refl

@@ -1,4 +1,4 @@
--- Partly written zones that a disk does not go on with are finished, one after the other.
+-- Partly written zones that a disk does not continue with are finished, one after the other.
 use Rattle.std.proofs.Common.{◌≡◌, ◌⊎◌, inl, inr, ℕ, ◌+◌, ◌<◌, ◌≤◌, ◌==◌, ◌&&◌, ◌||◌, not, ltb, Bool, true, false, List, [], ◌∷◌, ◌++◌, map, length, set, get_or, Some, refl, sym, ap, subst, ◌∙◌, arith, append-nil}
 use Rattle.std.specs.Prelude.{slice_get}
 use Rattle.std.specs.List.{AllByRecursion}
@@ -113,7 +113,7 @@ surveyed-at drive logs survey zone known heads long lt =
 
 -- ---- one zone after the other
 
--- the zones below one are such that a disk goes on with them
+-- the zones below one are such that a disk continues with them
 pub record FinishesSome (first now : DriveState) (before survey : Survey) (n zone : ℕ) : Type 0 where
   pub keeps : KeepsMountable n first now
   pub logs : drive_logs now ≡ drive_logs first
@@ -171,7 +171,7 @@ pub finish-if-keeps : (first now new : DriveState) (before survey : Survey) (n z
 finish-if-keeps first now new before survey n zone can some lt change =
     keeps-mountable-both n first now new some.keeps (finish-keeps n now new zone (λ a b. Finishes a b zone × IsTested now.geometry.capacity (batch_most now.geometry) survey zone true) (λ a b changes. (changes.0, can-finish first now before survey n zone can some lt changes.1)) change)
 
--- a disk does not go on with a zone that is to be finished
+-- a disk does not continue with a zone that is to be finished
 due-stops : (first now : DriveState) (before survey : Survey) (n zone : ℕ) → IsUntorn first n before → FinishesSome first now before survey n zone → zone < length survey.zones.items
     → IsTested now.geometry.capacity (batch_most now.geometry) survey zone true → CanBeFilled now zone → ⊥
 due-stops first now before survey n zone can some lt tested goes = by (or-one (ltb now.geometry.capacity (at.r.blocks + 2)) (ltb (batch_most now.geometry) heads.most) both.1)

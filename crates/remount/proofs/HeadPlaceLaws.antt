@@ -16,7 +16,7 @@ use Rattle.drive_survey.specs.KeptRecords.{kept_record}
 use Rattle.remount.specs.Placing.{AreAscending, heads_at, kept_place, sequence_of}
 use Rattle.drive_survey.proofs.HeadRecordLaws.{heads-are, heads_from}
 
--- ---- the headers stand in the order of their blocks
+-- ---- the headers are in the order of their blocks
 
 from-least : (offset from : ℕ) (log : List Batch) (j : ℕ) (d : Head) → j < length (heads_from offset from log) → offset ≤ (get_or (heads_from offset from log) j d).offset
 from-least offset from [] j d lt = absurd (omega arith)
@@ -38,7 +38,7 @@ pub all-ascend : (logs : List (List Batch)) → AreAscending (map heads_of logs)
 all-ascend [] = tt
 all-ascend (log ∷ logs) = (heads-ascend log, all-ascend logs)
 
--- ---- where records lie
+-- ---- where records are
 
 -- a record of a zone's log, whose first batch is at an offset
 pub record IsOfLog (zone offset : ℕ) (log : List Batch) (r : Record) : Type 0 where
@@ -110,7 +110,7 @@ sequence-found zone log = subst (λ (hs : List Head). AllByRecursion (λ (r : Re
 
 -- ---- of all zones
 
--- A record of logs, the first of which is that of a zone: its zone is one of these, it lies in the zone's log, and its sequence is found there.
+-- A record of logs, the first of which is a zone's: its zone is one of these, it is in the zone's log, and its sequence is found there.
 pub record IsOfLogs (first : ℕ) (logs : List (List Batch)) (r : Record) : Type 0 where
   pub above : first ≤ r.zone
   pub in_range : r.zone < first + length logs

@@ -1,4 +1,4 @@
--- Where the newest records of blocks lie, and what is said there.
+-- Where the newest records of blocks are, and what is said there.
 use Rattle.std.proofs.Common.{◌≡◌, inl, inr, ℕ, suc, ◌+◌, ◌-◌, ◌*◌, ◌/◌, ◌<◌, ◌≤◌, Bool, true, false, cond, eqb, ◌&&◌, List, [], ◌∷◌, map, length, get_or, Option, Some, None, is_some, refl, sym, ap, subst, ◌∙◌, arith}
 use Rattle.std.specs.List.{AllByRecursion, count_by, flat_map, range_with_len}
 use Rattle.std.proofs.lemmas.Bool.{cases_lt, eq-eqb, eqb-true, and_parts}
@@ -33,7 +33,7 @@ use Rattle.drive_survey.specs.Scan.{readable_at}
 use Rattle.drive_survey.proofs.ReadLaws.{known-few}
 use Rattle.remount.proofs.OrderedLaws.{total}
 
--- ---- records lie within their zone
+-- ---- records are within their zone
 
 abbrev none_reported : ReportedZone
 none_reported = record { state = states.Empty; blocks = 0 }
@@ -52,7 +52,7 @@ drive-few drive n logs survey zone known lt =
     let total : length (readable g content) ≡ log_size (zone_log g content) + length has.tail = ap length has.front.spelled ∙ omega (arith, length-append (flat_map (batch_blocks g.block) (zone_log g content)) has.tail, spelled_length g.block (zone_log g content) has.front.batches) in
     omega (arith, total, few, one.blocks, ap log_size same)
 
--- the records that are known lie within their zones
+-- the records that are known are within their zones
 pub known-below : (drive : DriveState) (n : ℕ) (logs : List (List Batch)) (survey : Survey) → Knows drive n logs survey → AllByRecursion (λ (r : Record). r.offset < drive.geometry.size) (records 0 logs)
 known-below drive n logs survey known =
     all-weaker (λ (r : Record). r.offset < drive.geometry.capacity) (λ (r : Record). r.offset < drive.geometry.size) (records 0 logs) (λ r lt. omega (arith, lt, known.zones.geometry.capacity)) (records-below drive.geometry.capacity 0 logs few)
@@ -68,7 +68,7 @@ known-below drive n logs survey known =
 
 -- ---- live records, by their places
 
--- a record, if there is one, lies within its zone
+-- a record, if any, is within its zone
 abbrev pub Within : ℕ → Option Record → Type 0
 Within size None = Unit {0}
 Within size (Some r) = r.offset < size
@@ -78,7 +78,7 @@ pub newest-within : (size block : ℕ) (rs : List Record) (o : Option Record) �
 newest-within size block rs None all is = tt
 newest-within size block rs (Some r) all is = all-among (λ (x : Record). x.offset < size) rs r all is.1.among
 
--- by its place it lies in the zone where it is kept
+-- by its place it is in the zone where it is kept
 pub lies-kept : (size zone : ℕ) (o : Option Record) → Within size o → lies_in size zone (place size o) ≡ kept_in is_any zone o
 lies-kept size zone None within = refl
 lies-kept size zone (Some r) within = by (is_some r.content)
@@ -121,7 +121,7 @@ data-kept size zone (Some r) within = by (is_some r.content)
 
 -- ---- how many there are
 
--- what is added up over the places that lie in a zone
+-- what is added up over the places that are in a zone
 abbrev total_in : (Place → ℕ) → ℕ → ℕ → List Place → ℕ
 total_in f size zone [] = 0
 total_in f size zone (p ∷ ps) = cond (lies_in size zone p) (f p) 0 + total_in f size zone ps
@@ -192,7 +192,7 @@ there-lies drive n logs survey zone block known is =
 
 -- ---- what is said of it there
 
--- the data of a record stands at its place
+-- the data of a record is at its place
 pub record IsSaid (drive : DriveState) (zone : ℕ) (r : Record) : Type 0 where
   pub content : r.content ≡ said_at (readable_at drive zone) (zone * drive.geometry.size) (place drive.geometry.size (Some r))
   pub block : IsBlockAt (zone * drive.geometry.size) (length (readable_at drive zone)) (place drive.geometry.size (Some r))

@@ -80,7 +80,7 @@ length-moved source (block ∷ blocks) = one (slice_index_or source.places block
 abbrev batch_with : Heading → List (List ℕ) → Batch
 batch_with heading body = record { heading = heading; body = body }
 
--- the bytes of a header and of whole blocks are those of the batch
+-- the bytes of a header and of whole blocks are the batch's
 pub built-as : (block : ℕ) (builder : BuilderView) (batch : Batch) → 512 ≤ block → IsHeading block batch.heading → builder.heading ≡ batch.heading → builder.bytes ≡ header_block block batch.heading ++ concat batch.body → AreWhole block batch.body
     → length batch.body ≡ data_count batch.heading.entries → IsBuiltAs block batch builder
 built-as block builder batch large says heading bytes whole count =

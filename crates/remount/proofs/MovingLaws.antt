@@ -61,7 +61,7 @@ pub moving-mounts : (n : ℕ) (start now : DriveState) (torn into : ℕ) (made :
 moving-mounts n start now torn into made m =
     mounts-by n start now torn into (moving-small n start now torn into made m) m.repair (λ tail half. let bad : false ≡ true = sym m.whole ∙ tail in absurd (cc)) m.geometry m.lawful m.refused
 
--- where no zone is opened, and the contents stay
+-- if no zone is opened, and the contents stay
 pub moving-kept : (n : ℕ) (start now next : DriveState) (torn into : ℕ) (made : List Batch) → KeepsShut now next → IsMoving n start now torn into made → IsMoving n start next torn into made
 moving-kept n start now next torn into made k m =
     let same = k.contents_are in

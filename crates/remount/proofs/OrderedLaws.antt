@@ -168,7 +168,7 @@ front-few most (suc k) count some has lt = elim (cases_lt (suc k * most) count) 
   | inr le ↦ absurd (let few = div_ceil-le count most (suc k) (omega (arith, some)) le in omega (arith, few, lt))
 ]
 
--- ---- the blocks that lie in a zone
+-- ---- the blocks that are in a zone
 
 pub record LiesAt (size zone first : ℕ) (all : List Place) (b : ℕ) : Type 0 where
   pub k : ℕ

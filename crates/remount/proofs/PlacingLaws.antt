@@ -117,7 +117,7 @@ batch-placed zone_size zone from i i' k views heads items head d rest own others
         by (inl lt) = let same : min n (length xs) ≡ n = omega (arith, lt) in ap (λ (k : ℕ). drop k xs) same
         by (inr le) = drop_all (min n (length xs)) xs (omega (arith, le)) ∙ sym (drop_all n xs le)
 
--- those of a zone are placed
+-- a zone's are placed
 pub zone-placed : (zone_size zone zone' : ℕ) (views : List HeadsView) (table table' all : List Place) → zone' ≡ suc zone → table' ≡ placed_all zone_size views table (kept_of_zone zone (heads_at views zone))
     → placed_all zone_size views table (kept_records zone (drop zone views)) ≡ all → placed_all zone_size views table' (kept_records zone' (drop zone' views)) ≡ all
 zone-placed zone_size zone zone' views table table' all more taken before = by (cases_lt zone (length views))

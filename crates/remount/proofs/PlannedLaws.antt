@@ -154,7 +154,7 @@ greatest-fits drive n survey greatest known is =
     let below = greatest-all (2 ^ 63) 0 (sequences (drive_logs drive)) (omega arith) (all-weaker (λ s. s < 2 ^ 63) (λ s. s + 0 < 2 ^ 63) (sequences (drive_logs drive)) (λ s lt. omega (arith, lt)) known.sound.numbers) in
     omega (arith, below, is)
 
--- a block whose newest record lies in the torn zone
+-- a block whose newest record is in the torn zone
 abbrev IsLiveIn : DriveState → ℕ → ℕ → ℕ → Type 0
 IsLiveIn drive n zone b = (b < encoded_size n (drive_logs drive)) × LiesIn zone (newest b (records 0 (drive_logs drive)))
 

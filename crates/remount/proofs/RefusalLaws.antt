@@ -143,6 +143,6 @@ not-refused drive n Halted can fails = fails
 not-refused drive n OutOfMemory can fails = fails
 not-refused drive n (TornZone zone) can fails = clears-fine drive n (TornZone zone) can fails.2
 
--- a mount of it ends early by a stop or a failed allocation alone
+-- a mount of it ends early only by a stop or a failed allocation
 pub only-halts : (drive new : DriveState) (n : ℕ) (fault : MountFault) → IsToMount drive n → FailsBy (MountFails drive n) new fault → FailsBy (λ _. ⊥) new fault
 only-halts drive new n fault can fails = fails-more (MountFails drive n) (λ _. ⊥) new fault (λ f bad. not-refused drive n f can bad) fails

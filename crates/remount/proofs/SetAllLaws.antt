@@ -26,7 +26,7 @@ pub cleared-set_all : (logs : List (List Batch)) (zones : List ℕ) → cleared 
 cleared-set_all logs [] = refl
 cleared-set_all logs (z ∷ zs) = cleared-set_all (set logs z []) zs
 
--- what stands there now: the new one; or, at a number that is not among these, what stood there
+-- what is there now: the new one; or, at a number that is not among these, what stood there
 pub get-set_all : {X : Type 0} (xs : List X) (is : List ℕ) (x y : X) (k : ℕ) → slice_get (set_all xs is x) k ≡ Some y → (y ≡ x) ⊎ ((Contains is k → ⊥) × (slice_get xs k ≡ Some y))
 get-set_all xs [] x y k e = inr ((λ c. omega (arith, c.1)), e)
 get-set_all {X} xs (i ∷ is) x y k e = by (get-set_all (set xs i x) is x y k e)
@@ -70,7 +70,7 @@ nil-set_all : (logs : List (List Batch)) (is : List ℕ) (k : ℕ) → log_at lo
 nil-set_all logs [] k e = e
 nil-set_all logs (i ∷ is) k e = nil-set_all (set logs i []) is k (nil-set logs i k e)
 
--- a zone has no log any more, or what stands at its number in another list stays
+-- a zone has no log any more, or what is at its number in another list stays
 pub set_all-parts : {X : Type 0} (logs : List (List Batch)) (xs : List X) (is : List ℕ) (x d : X) (k : ℕ) → (log_at (set_all logs is []) k ≡ []) ⊎ (get_or (set_all xs is x) k d ≡ get_or xs k d)
 set_all-parts logs xs [] x d k = inr refl
 set_all-parts {X} logs xs (i ∷ is) x d k = by (cases_eq k i) (set_all-parts (set logs i []) (set xs i x) is x d k)

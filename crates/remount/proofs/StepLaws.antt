@@ -248,7 +248,7 @@ leaves-emptied old middle new before survey after plan vacant half_clean planned
       tails = tails-emptied old middle new before survey after all plan.half_clean.items one' two';
     }
 
--- what an emptying leaves
+-- after an emptying
 pub record Empties (old new : DriveState) (n : ℕ) (resets : List ℕ) (survey : Survey) : Type 0 where
   pub known : Knows new n (drive_logs new) survey
   pub logs : drive_logs new ≡ cleared (drive_logs old) resets
@@ -535,7 +535,7 @@ no-repair : (geometry : Geometry) (n : ℕ) (logs : List (List Batch)) (tails : 
 no-repair geometry n logs tails None is none = refl
 no-repair geometry n logs tails (Some repair) is none = absurd (none repair.zone is.torn.torn)
 
--- a log that is left is as it was
+-- a log that is left is unchanged
 log-left : (logs : List (List Batch)) (resets : List ℕ) (zone : ℕ) → log_at (cleared logs resets) zone ≢ [] → log_at (cleared logs resets) zone ≡ log_at logs zone
 log-left logs resets zone some = elim (set_all-parts logs logs resets [] [] zone) as (λ _. log_at (cleared logs resets) zone ≡ log_at logs zone) [
   | inl gone ↦ absurd (some (ap (λ (ls : List (List Batch)). log_at ls zone) (cleared-set_all logs resets) ∙ gone))

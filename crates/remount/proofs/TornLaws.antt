@@ -1,4 +1,4 @@
--- Torn zones, and the blocks whose newest record lies in one.
+-- Torn zones, and the blocks whose newest record is in one.
 use Rattle.std.proofs.Common.{◌≡◌, ℕ, suc, ◌+◌, ◌<◌, ◌≤◌, Bool, true, false, cond, ◌&&◌, List, [], ◌∷◌, ◌++◌, drop, length, get_or, Option, Some, None, refl, sym, ap, ◌∙◌, arith, append-nil, append_assoc}
 use Rattle.std.specs.Prelude.{slice_get}
 use Rattle.std.specs.Option.{option_map}
@@ -10,7 +10,7 @@ use Rattle.logical_map.specs.declared.place.Place.TheVariants as places
 use Rattle.zone_choice.specs.Tables.{TablesView, size_of}
 use Rattle.remount.specs.Torn.{data_count_at, data_in, is_data_place}
 
--- ---- the first block that lies in a zone
+-- ---- the first block that is in a zone
 
 data-one : (p : Place) → ◌≡◌ {A = ℕ} (cond (is_data_place p) 1 0) (data_count_at p)
 data-one places.None = refl

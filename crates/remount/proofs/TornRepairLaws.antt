@@ -124,7 +124,7 @@ are-moves geometry n logs source plan some can =
 
 -- ---- the logs
 
--- no zone below an Empty one is vacant, where none is Empty
+-- no zone below an Empty one is vacant, if none is Empty
 abbrev pub NoneEmptyBelow : List ReportedZone → ℕ → Type 0
 NoneEmptyBelow reported limit = (other : ℕ) (r : ReportedZone) → other < limit → slice_get reported other ≡ Some r → r.state ≢ states.Empty
 

@@ -65,14 +65,14 @@ CannotRepair geometry size logs tails (TornZone zone) = IsPastRepair geometry si
 CannotRepair geometry size logs tails Spent = LacksSequences geometry size logs tails
 CannotRepair geometry size logs tails fault = ⊥
 
--- tables that say where the newest records of all blocks lie, and nothing of the zones yet
+-- tables that say where the newest records of all blocks are, and nothing of the zones yet
 pub record IsPlaced (geometry : Geometry) (n : ℕ) (logs : List (List Batch)) (tables : TablesView) : Type 0 where
   pub places : tables.map.places ≡ map_of geometry.size n logs
   pub zones : tables.map.zones ≡ geometry.zones
   pub zone_size : tables.map.zone_size ≡ geometry.size
   pub given : tables.given ≡ n
 
--- The one torn zone of a cleared drive can be repaired; all blocks whose newest record lies there are known, and the places of all blocks.
+-- The one torn zone of a cleared drive can be repaired; all blocks whose newest record is there are known, and the places of all blocks.
 pub record IsPlan (geometry : Geometry) (n : ℕ) (logs : List (List Batch)) (tails : List Bool) (repair : Repair) : Type 0 where
   pub torn : IsOnlyTorn logs tails repair.zone
   pub fits : Fits geometry (2 ^ 63) (encoded_size n logs) logs repair.zone
@@ -130,7 +130,7 @@ pub record IsToMount (drive : DriveState) (n : ℕ) : Type 0 where
   pub reserve : FitsReserve drive.geometry n
   pub mountable : IsMountable drive n
 
--- What is left where no zone is torn: the same batches. Where one is, it was repaired.
+-- What is left if no zone is torn: the same batches. Where one is, it was repaired.
 abbrev pub LeavesRepaired : Geometry → ℕ → List (List Batch) → List Bool → List (List Batch) → Type 0
 LeavesRepaired geometry n logs tails new =
     (NoneIsTorn logs tails × (new ≡ logs)) ⊎ ((torn : ℕ) × IsOnlyTorn logs tails torn × RepairsTorn geometry n logs torn new)
@@ -144,13 +144,13 @@ LeavesPlanned geometry n logs (Some repair) new = RepairsTorn geometry n logs re
 abbrev pub LeavesCleared : ℕ → DriveState → List ℕ → DriveState → Type 0
 LeavesCleared n old resets new = LeavesRepaired old.geometry n (cleared (drive_logs old) resets) (zone_tails (contents old.zones)) (drive_logs new)
 
--- What carrying it out leaves of the zones beside the torn one.
+-- What carrying it out leaves of zones other than the torn one.
 abbrev pub LeavesBeside : DriveState → Option Repair → DriveState → Type 0
 LeavesBeside old None new = new ≡ old
 LeavesBeside old (Some repair) new = RepairsBeside old new repair.zone
 
--- Where no zone of the cleared drive is torn, no zone was finished without need: each zone that has a batch there
--- holds what it held, but for partly written ones that a disk does not go on with.
+-- If no zone of the cleared drive is torn, no zone was finished without need: each zone that has a batch there
+-- holds what it held, except for partly written ones that a disk does not continue with.
 abbrev pub KeepsOthers : DriveState → List ℕ → DriveState → Type 0
 KeepsOthers old resets new =
     NoneIsTorn (cleared (drive_logs old) resets) (zone_tails (contents old.zones))
@@ -168,7 +168,7 @@ FinishesBeside old resets new =
 abbrev pub TookMoves : DriveState → List ℕ → DriveState → ℕ → Type 0
 TookMoves old resets new zone = IsVacant (cleared (drive_logs old) resets) zone × (log_at (drive_logs new) zone ≢ [])
 
--- Zones are finished and opened by need alone: of those with a batch as above; the one that took the Moves of a
+-- Zones are finished and opened only by need: of those with a batch as above; the one that took the Moves of a
 -- repair is full only if fewer than two of its blocks are free, and no other one was opened.
 pub record FinishesByNeed (old : DriveState) (resets : List ℕ) (new : DriveState) : Type 0 where
   pub others : KeepsOthers old resets new
@@ -195,7 +195,7 @@ pub record LeavesMounted (old new : DriveState) (n : ℕ) : Type 0 where
   pub left : LeavesCleared n old resets new
   pub zones : FinishesByNeed old resets new
 
--- A drive that can be mounted is mounted, with n logical blocks where no header says how many. It was cleared and
+-- A drive that can be mounted is mounted, with n logical blocks if no header says how many. It was cleared and
 -- repaired. The tables agree with the drive that is left, which has the same array; and the next sequence is one more
 -- than the greatest that any batch had.
 pub record Mounts (old new : DriveState) (n : ℕ) (tables : TablesView) : Type 0 where

@@ -25,7 +25,7 @@ is_partly_found (Some reported) = is_partly_reported reported
 abbrev pub is_partly_at : List ReportedZone → ℕ → Bool
 is_partly_at reported zone = is_partly_found (slice_get reported zone)
 
--- a partly written zone, to which batches go on
+-- a partly written zone, to which batches continue
 abbrev pub filling_in : ℕ → ReportedZone → Filling
 filling_in zone reported = record { zone = zone; written = reported.blocks; may_open = is_open reported.state }
 

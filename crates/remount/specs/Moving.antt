@@ -70,7 +70,7 @@ pub record SettlesZone (n : ℕ) (old new : DriveState) (before after : Survey) 
   pub opens : OpensNoZone old new
   pub count : length after.zones.items ≡ length before.zones.items
 
--- no zone below this one is opened or Closed, but for the torn one
+-- no zone below this one is opened or Closed, except for the torn one
 abbrev pub AreSettled : DriveState → ℕ → ℕ → Type 0
 AreSettled drive torn limit = (zone : ℕ) → zone < limit → zone ≢ torn → is_active_usage (content_at (contents drive.zones) zone).usage ≡ false
 
@@ -114,7 +114,7 @@ pub record Source : Type 0 where
 abbrev pub source_of : DriveState → TablesView → ℕ → Source
 source_of drive tables zone = record { blocks = readable_at drive zone; start = zone * drive.geometry.size; places = tables.map.places }
 
--- what is said of a block that lies at a place: its data, or none for a trim
+-- what is said of a block that is at a place: its data, or none for a trim
 abbrev pub said_at : List (List ℕ) → ℕ → Place → Option (List ℕ)
 said_at blocks start (places.At address) = Some (slice_index_or blocks (address - start) [])
 said_at blocks start place = None
@@ -187,7 +187,7 @@ abbrev pub moves_before : Source → MovePlan → ℕ → List Batch
 moves_before source plan zero = []
 moves_before source plan (suc k) = moves_before source plan k ++ move_by source plan k ∷ []
 
--- The newest record of a block lies in the torn zone, and says what is said of the block.
+-- The newest record of a block is in the torn zone, and says what is said of the block.
 pub record IsMovable (n : ℕ) (logs : List (List Batch)) (source : Source) (torn block : ℕ) : Type 0 where
   pub in_range : block < encoded_size n logs
   pub newest_is : Record
@@ -195,7 +195,7 @@ pub record IsMovable (n : ℕ) (logs : List (List Batch)) (source : Source) (tor
   pub zone : newest_is.zone ≡ torn
   pub content : newest_is.content ≡ said source block
 
--- The Moves of a cleared drive repair its torn zone: they name each block once whose newest record lies there, and
+-- The Moves of a cleared drive repair its torn zone: they name each block once whose newest record is there, and
 -- are no more than that takes; their sequences follow the greatest, and last; there is room for them in one zone;
 -- they say the size that the torn zone says, the last one at least; and while some are left, the torn zone is not
 -- half clean.
@@ -264,7 +264,7 @@ pub record EmptiesTorn (n : ℕ) (start new : DriveState) (plan : MovePlan) (mad
 
 -- ---- which Moves
 
--- these numbers but for one
+-- these numbers except for one
 abbrev pub others : ℕ → List ℕ → List ℕ
 others last [] = []
 others last (block ∷ blocks) = if block == last then others last blocks else block ∷ others last blocks

@@ -25,13 +25,13 @@ sequence_of zone_size views places.None = None
 sequence_of zone_size views (places.Trimmed address) = placed_sequence zone_size views address
 sequence_of zone_size views (places.At address) = placed_sequence zone_size views address
 
--- the headers of each zone stand in the order of their blocks
+-- the headers of each zone are in the order of their blocks
 abbrev pub AreAscending : List HeadsView → Type 0
 AreAscending views = AllByRecursion (λ (view : HeadsView). IsNonDecreasingBy (λ (head : Head). head.offset) view.heads) views
 
 -- ---- records are placed
 
--- where a record's data lies or, of a trim, its header; an address past the last that a place can have stands for that one
+-- where a record's data is or, of a trim, its header; an address past the last that a place can have stands for that one
 abbrev pub kept_address : ℕ → KeptRecord → ℕ
 kept_address zone_size r = min (r.zone * zone_size + r.offset) (2 ^ 63 - 2)
 

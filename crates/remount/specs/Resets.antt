@@ -40,7 +40,7 @@ abbrev pub set_all : {X : Type 0} → List X → List ℕ → X → List X
 set_all xs [] x = xs
 set_all xs (i ∷ is) x = set_all (slice_set xs i x) is x
 
--- These zones are Empty now, and the survey says so; no zone was opened, and all else is as it was.
+-- These zones are Empty now, and the survey says so; no zone was opened, and all else is unchanged.
 pub record ResetsAll (old new : DriveState) (before after : Survey) (zones : List ℕ) : Type 0 where
   pub geometry : new.geometry ≡ old.geometry
   pub contents_are : contents new.zones ≡ set_all (contents old.zones) zones emptied
@@ -64,11 +64,11 @@ MayReset block_bytes n logs (zone ∷ zones) =
 abbrev pub reported_full : ℕ → ReportedZone
 reported_full capacity = record { state = Full; blocks = capacity }
 
--- a partly written zone that a disk does not go on with: fewer than two of its blocks are free, or a batch has more entries than ours
+-- a partly written zone that a disk does not continue with: fewer than two of its blocks are free, or a batch has more entries than ours
 abbrev pub is_to_finish : ℕ → ℕ → ReportedZone → HeadsView → Bool
 is_to_finish capacity most reported heads = is_partly_reported reported && (nat_lt capacity (reported.blocks + 2) || nat_lt most heads.most)
 
--- The zone is Full now, and the survey says so; no zone was opened, and all else is as it was.
+-- The zone is Full now, and the survey says so; no zone was opened, and all else is unchanged.
 pub record FinishesOne (old new : DriveState) (before after : Survey) (zone : ℕ) : Type 0 where
   pub geometry : new.geometry ≡ old.geometry
   pub contents_are : Finishes (contents old.zones) (contents new.zones) zone
@@ -95,18 +95,18 @@ FinishesIf old new before after zone =
 abbrev pub KeepsWritten : DriveState → DriveState → Type 0
 KeepsWritten old new = (zone : ℕ) → log_at (drive_logs new) zone ≢ [] → content_at (contents new.zones) zone ≡ content_at (contents old.zones) zone
 
--- A disk goes on with a zone, if it is partly written: it has two free blocks, and no batch with more entries than ours.
+-- A disk continues with a zone, if it is partly written: it has two free blocks, and no batch with more entries than ours.
 abbrev pub CanBeFilled : DriveState → ℕ → Type 0
 CanBeFilled drive zone =
     is_partly_written (content_at (contents drive.zones) zone) ≡ true
     → (length (content_at (contents drive.zones) zone).blocks + 2 ≤ drive.geometry.capacity)
     × AllByRecursion (HasAtMost (batch_most drive.geometry)) (log_at (drive_logs drive) zone)
 
--- each zone that a disk goes on with, and each that is not partly written, holds what it held
+-- each zone that a disk continues with, and each that is not partly written, holds what it held
 abbrev pub KeepsGoing : DriveState → DriveState → Type 0
 KeepsGoing old new = (zone : ℕ) → CanBeFilled old zone → content_at (contents new.zones) zone ≡ content_at (contents old.zones) zone
 
--- Zones that a disk does not go on with were finished, and no other one. No zone has other blocks, and none was opened.
+-- Zones that a disk does not continue with were finished, and no other one. No zone has other blocks, and none was opened.
 pub record FinishesNeeded (old new : DriveState) : Type 0 where
   pub going : KeepsGoing old new
   pub blocks : (zone : ℕ) → (content_at (contents new.zones) zone).blocks ≡ (content_at (contents old.zones) zone).blocks

@@ -47,6 +47,6 @@ data_count_at places.None = 0
 data_count_at (places.Trimmed address) = 0
 data_count_at (places.At address) = 1
 
--- how many of these places lie in a zone, and have data
+-- how many of these places are in a zone, and have data
 abbrev pub data_in : ℕ → ℕ → List Place → ℕ
 data_in zone_size zone all = count_by (λ place. lies_in zone_size zone place && is_data_place place) all

@@ -25,7 +25,7 @@ HoldsSize n logs zone = IsMoved logs zone × (encoded_size n (without logs zone)
 abbrev pub all_blocks_named : List Batch → List ℕ
 all_blocks_named made = flat_map (λ (batch : Batch). map (λ (entry : Entry). entry.block) batch.heading.entries) made
 
--- Batches repeat what is live in a zone: each block whose newest record lies there is named, once, and no other one
+-- Batches repeat what is live in a zone: each block whose newest record is there is named, once, and no other one
 -- is; and its new record says what that one says.
 pub record RepeatLive (logs : List (List Batch)) (zone : ℕ) (made : List Batch) : Type 0 where
   pub all : (block : ℕ) → LiesIn zone (newest block (records 0 logs)) → Contains (all_blocks_named made) block
@@ -36,7 +36,7 @@ pub record RepeatLive (logs : List (List Batch)) (zone : ℕ) (made : List Batch
 -- The batches of a repair: Moves from the torn zone of what is live there, as many as that takes and at least one;
 -- numbered on from the greatest sequence that there was; and of the greatest size that the torn zone says, or of none
 -- where it says none. All of them say it, except perhaps where the disk would have another size without the torn
--- zone: then the last one alone may say it.
+-- zone: then only the last one may say it.
 pub record AreRepairMoves (geometry : Geometry) (n : ℕ) (logs : List (List Batch)) (torn : ℕ) (made : List Batch) : Type 0 where
   pub from : AllByRecursion (IsMoveFrom torn) made
   pub live : RepeatLive logs torn made
@@ -47,7 +47,7 @@ pub record AreRepairMoves (geometry : Geometry) (n : ℕ) (logs : List (List Bat
   pub said : (HoldsSize n logs torn → ⊥) → AllByRecursion (λ (batch : Batch). batch.heading.size ≡ log_greatest (log_at logs torn)) made
   pub sizes : AllByRecursion (λ (batch : Batch). (batch.heading.size ≡ log_greatest (log_at logs torn)) ⊎ (batch.heading.size ≡ None)) made
 
--- The torn zone of these logs has no batch any more, and the lowest zone that had none has the Moves. All others are as they were.
+-- The torn zone of these logs has no batch any more, and the lowest zone that had none has the Moves. All others are unchanged.
 pub record RepairsTorn (geometry : Geometry) (n : ℕ) (logs : List (List Batch)) (torn : ℕ) (new : List (List Batch)) : Type 0 where
   pub into : ℕ
   pub in_range : into < length logs
@@ -57,9 +57,9 @@ pub record RepairsTorn (geometry : Geometry) (n : ℕ) (logs : List (List Batch)
   pub are : AreRepairMoves geometry n logs torn made
   pub logs_are : new ≡ without (slice_set logs into made) torn
 
--- What the repair of a torn zone leaves of the zones beside it. Each zone that was opened or Closed is finished, and
--- each other one holds what it held, but for one that had no batch. That one has the Moves: it is full only if they
--- fill it, and it alone may have been opened.
+-- What the repair of a torn zone leaves of the other zones. Each zone that was opened or Closed is finished, and
+-- each other one holds what it held, except for one that had no batch. That one has the Moves: it is full only if they
+-- fill it, and only it may have been opened.
 pub record RepairsBeside (old new : DriveState) (torn : ℕ) : Type 0 where
   pub into : ℕ
   pub vacant : IsVacant (drive_logs old) into

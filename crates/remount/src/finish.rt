@@ -37,7 +37,7 @@ pub(crate) fn finish_zone<D: Device>(
     Ok(())
 }
 
-/// Whether a zone is partly written, but a disk does not go on with it: fewer than two blocks are free, or a batch
+/// Whether a zone is partly written, but a disk does not continue with it: fewer than two blocks are free, or a batch
 /// has more than `most` entries.
 fn is_to_finish(reported: ReportedZone, heads: &ZoneHeads, capacity: u32, most: u32) -> bool
     ensures { result ≡ is_to_finish capacity most reported heads.now }
@@ -46,7 +46,7 @@ fn is_to_finish(reported: ReportedZone, heads: &ZoneHeads, capacity: u32, most: 
         && ((capacity as u64) < reported.blocks as u64 + 2 || most < heads.most())
 }
 
-/// Finishes a zone, if it is partly written and a disk does not go on with it.
+/// Finishes a zone, if it is partly written and a disk does not continue with it.
 fn finish_if_due<D: Device>(
     alloc: Global,
     device: &mut D,

@@ -3,7 +3,7 @@
 //! ```text
 //! let tables = mount(alloc, &mut device, 9)?; // one report, one Read for each batch, and the repairs
 //! tables.blocks();                            // how many logical blocks the drive has
-//! tables.place_of(0);                         // where the newest record of block 0 lies
+//! tables.place_of(0);                         // where the newest record of block 0 is
 //! tables.host();                              // the zone to which the next batch goes
 //! ```
 //!
@@ -14,7 +14,7 @@
 //!   the size that they say, a zone is vacant or half clean, and at most one zone is torn when the half clean ones are
 //!   emptied, which can be repaired. Then the tables agree with the drive that is left, which encodes the same array
 //!   (`Mounts` in specs/Mount).
-//! * No zone is finished without need. Where no zone is torn, each zone that still has a batch holds what it held,
+//! * No zone is finished without need. If no zone is torn, each zone that still has a batch holds what it held,
 //!   unless
 //!   it is partly written with fewer than two free blocks or with a batch of more entries than ours. Beside a torn zone
 //!   all zones are finished that are opened or Closed. The zone that takes its Moves stays open if two of its blocks
@@ -23,7 +23,7 @@
 //!   open
 //!   only if it was open before, or took these Moves (`may_open` of `Mounts`).
 //! * Each fault but `Halted` and `OutOfMemory` is the first one, in the order in which a mount looks (`MountFails`),
-//!   and leaves the drive as it was, except that its controller may have closed zones (`KeepsZones` in
+//!   and leaves the drive unchanged, except that its controller may have closed zones (`KeepsZones` in
 //!   drive_survey/specs/Reported).
 //! * Whatever is answered, a drive that could be mounted still can, with the same array, and no command was refused
 //!   (`KeepsMountable` in specs/Kept): also where the drive stopped inside a command, an Append of a repair included.
@@ -34,6 +34,8 @@
 //! clean. `plan_repair` finds which zone is torn then. Only now the drive is changed: `empty_zones` resets the vacant
 //! zones and the half clean ones, `repair_zone` moves what is live in the torn zone to an empty one and resets it, and
 //! `finish_zones` finishes zones to which no more batches go. `mounted_tables` makes the tables from the headers.
+//!
+//! Tests: the rows of `worked_runs`, with a stop at every place.
 #![tactic(auto)]
 
 mod empty;

@@ -20,7 +20,7 @@ use drive_survey::{MountFault, Survey, greatest_sequence, survey_drive};
 use std::alloc::Global;
 use zone_choice::Tables;
 
-/// Repairs the torn zone, if there is one.
+/// Repairs the torn zone, if any.
 fn repair_torn<D: Device>(
     alloc: Global,
     device: &mut D,

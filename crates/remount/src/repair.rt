@@ -25,9 +25,9 @@ use zone_choice::Tables;
 #[derive(Drop)]
 pub struct Repair {
     pub zone: u32,
-    /// The blocks whose newest record lies in the zone, in ascending order.
+    /// The blocks whose newest record is in the zone, in ascending order.
     pub blocks: Vec<u32>,
-    /// Where the newest records of all blocks lie.
+    /// Where the newest records of all blocks are.
     pub tables: Tables,
 }
 

@@ -9,6 +9,8 @@
 //!
 //! Nothing here sends a command. What is promised: `count_zones` is how many zones are in a state, and `state_named`
 //! knows exactly the names of a report's lines. What the texts show is tested.
+//!
+//! Tests: the rows of `tool_rows`.
 #![tactic(auto)]
 
 mod brief;

@@ -9,7 +9,7 @@ use std::alloc::{AllocError, Global};
 use zone_report::{ReportedZones, state_text};
 use zone_states::Geometry;
 
-/// How large the cells are, and how many stand in a row of 1,024 units.
+/// How large the cells are, and how many are in a row of 1,024 units.
 #[derive(Clone, Copy)]
 struct Grid {
     cell: u64,

@@ -8,6 +8,8 @@
 //! trial.show_halts(alloc, Halts::Stop, &mut out)?;               // a stop after each number of commands
 //! show_mount_halts(alloc, &world, Halts::Memory, 9, &mut out)?;  // no memory, once, at each of a mount
 //! ```
+//!
+//! Tests: the rows of `worked_runs`, which it answers.
 #![tactic(auto)]
 
 mod flat;

@@ -130,7 +130,7 @@ struct Trial<'a> {
 }
 
 impl<'a> Trial<'a> {
-    // Checks what the next mount leaves.
+    // Checks the drive after the next mount.
     fn check_next(&self, alloc: Global, left: &World) -> Result<(), ScriptFault> {
         let next = mount_over(alloc, &left.restarted(alloc)?, Setting::PLAIN, self.n)?;
         if next.answer.is_err() {

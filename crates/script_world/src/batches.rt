@@ -100,7 +100,7 @@ fn push_entries(entries: &[Entry], bytes: &mut Vec<u8>) -> Result<(), AllocError
 }
 
 impl Batch {
-    // What stands before the entries, put together by hand: the magic; version, kind and count; the
+    // What is before the entries, put together by hand: the magic; version, kind and count; the
     // sequence; source and size.
     fn head(&self, count: u32) -> [u64; 4] {
         let version = if self.size.is_some() { 2 } else { 1 };

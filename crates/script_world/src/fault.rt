@@ -4,11 +4,11 @@ use std::fmt;
 /// Why a script ends at a line: it has no answer, or a sweep found something wrong.
 #[derive(Clone, Copy)]
 pub enum ScriptFault {
-    /// The words are none of a script's, or stand where they mean nothing.
+    /// The words are none of a script's, or are where they mean nothing.
     Words,
     /// An allocation failed.
     Memory,
-    /// The replies are not those of a flat array.
+    /// The replies are not a flat array's.
     Replies,
     /// A run that is to stop does not.
     NotStopped,

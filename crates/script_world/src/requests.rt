@@ -1,4 +1,4 @@
-//! Commands in words, as entries with the data beside them.
+//! Commands in words, as entries with their data.
 
 use crate::fault::ScriptFault;
 use crate::show::show_digits;
@@ -7,14 +7,14 @@ use byteorder::{ByteOrder, LittleEndian};
 use nvme_wire::ZoneState;
 use std::alloc::{AllocError, Global};
 
-/// A submission entry, and the data beside it.
+/// A submission entry, and its data.
 #[derive(Drop)]
 pub struct Request {
     pub entry: [u8; 64],
     pub bytes: Vec<u8>,
 }
 
-// The fields of an entry that commands differ in, and how many blocks of data stand beside it.
+// The fields of an entry that commands differ in, and how many blocks of data come with it.
 #[derive(Clone, Copy)]
 struct Fields {
     opcode: u8,

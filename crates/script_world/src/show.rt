@@ -6,7 +6,7 @@ use nvme_wire::Command;
 use std::alloc::{AllocError, Global};
 use std::io::Write;
 
-// A byte, and how often it stands in a row.
+// A byte, and how often it is in a row.
 type Repeated = Option<(u8, usize)>;
 
 fn show_repeated(repeated: Repeated, out: &mut String) -> Result<(), AllocError> {

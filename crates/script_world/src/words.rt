@@ -65,7 +65,7 @@ pub fn habit(name: &str) -> Result<Habit, ScriptFault> {
     }
 }
 
-// The number after this name, which stands at this place.
+// The number after this name, which is at this place.
 fn named(words: &[&str], place: usize, name: &str) -> Result<u32, ScriptFault> {
     match words.get(place..) {
         Some([word, value, ..]) if *word == name => part(value),

@@ -116,7 +116,7 @@ impl World {
         Ok(())
     }
 
-    /// Puts a block after those of a zone: these bytes, and zeros up to its end.
+    /// Puts a block after a zone's: these bytes, and zeros up to its end.
     pub fn push_block(&mut self, number: u64, mut bytes: Vec<u8>) -> Result<(), ScriptFault> {
         let zone = self
             .zones

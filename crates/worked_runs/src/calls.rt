@@ -1,4 +1,4 @@
-//! Calls of the libraries: those of a disk, and the typed calls to a drive.
+//! Calls of the libraries: a disk's calls, and the typed calls to a drive.
 
 use disk_files::{ParseFault, TraceLine};
 use drive_port::{Device, PortFault, append, close, count_zones, finish, read, report, reset};
@@ -264,7 +264,7 @@ fn show_disk_over(
 }
 
 /// Mounts the drive as a disk, and makes the calls of each line, also after a refusal. The line `report`
-/// asks it for a report of all zones, `place L` where block `L` lies, `live I` how many blocks lie in zone `I`.
+/// asks it for a report of all zones, `place L` where block `L` is, `live I` how many blocks are in zone `I`.
 pub fn show_disk(
     stage: Stage,
     blocks: u64,
@@ -368,7 +368,7 @@ fn show_answer(answer: Answer, out: &mut String) -> Result<(), ScriptFault> {
     Ok(shown?)
 }
 
-// The entry that a line asks for, and whether it asks for the number of zones alone.
+// The entry that a line asks for, and whether it asks only for the number of zones.
 fn typed_request(alloc: Global, line: &str, block: u32) -> Result<(Request, bool), ScriptFault> {
     match line.strip_prefix("Count") {
         Some(rest) => {
@@ -422,7 +422,7 @@ fn show_typed_calls(
     Ok(writeln!(out, "    commands completed: {completed}")?)
 }
 
-/// Makes a typed call to the drive for each line. `Count` in place of `Report` asks for the number alone.
+/// Makes a typed call to the drive for each line. `Count` in place of `Report` asks only for the number.
 pub fn show_calls(
     alloc: Global,
     world: &World,

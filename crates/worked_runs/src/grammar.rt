@@ -72,7 +72,7 @@ fn show_raw_line(line: &[u8], data: &mut Vec<u8>, out: &mut String) -> Result<()
     Ok(())
 }
 
-/// Says what each line is among raw lines: the bytes of the entry, and those beside it.
+/// Says what each line is among raw lines: the bytes of the entry, and its data.
 pub fn show_raw_lines(alloc: Global, lines: &[&str], out: &mut String) -> Result<(), ScriptFault> {
     let mut data = Vec::new(alloc);
     for line in lines {

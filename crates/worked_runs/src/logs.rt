@@ -13,7 +13,7 @@ use yardsticks::{ZoneImage, log};
 const BLOCK: usize = 512;
 
 // How many batches a log has, how many data blocks, the greatest size that a header says, and whether
-// a torn tail stands after them.
+// a torn tail is after them.
 #[derive(Clone, Copy, PartialEq, Eq)]
 struct Counts {
     batches: usize,

@@ -96,7 +96,7 @@ struct Session<'a> {
     world: World,
     // The zone to which batches and blocks are added.
     zone: u64,
-    // For the next run alone.
+    // Only for the next run.
     setting: Setting,
     sweep: Option<Sweep>,
 }
@@ -150,7 +150,7 @@ impl<'a> Session<'a> {
         Ok(())
     }
 
-    // Puts a block of one byte after those of the zone.
+    // Puts a block of one byte after the zone's.
     fn push_block(&mut self, byte: u8) -> Result<(), ScriptFault> {
         let block = vec![in self.alloc; byte; self.world.geometry.block as usize]?;
         self.world.push_block(self.zone, block)
@@ -180,7 +180,7 @@ impl<'a> Session<'a> {
         self.push_block(byte(data.as_bytes())?)
     }
 
-    // Lines that make a drive. They show nothing, but for a drive that cannot be.
+    // Lines that make a drive. They show nothing, except for a drive that cannot be.
     fn make(
         &mut self,
         name: &str,

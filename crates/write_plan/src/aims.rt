@@ -23,7 +23,7 @@ pub enum Aim {
     /// This number.
     Blocks(u64),
     /// For random writes of 1, 8 and 64 blocks each the greatest number that keeps the write amplification, which
-    /// is in hundredths. Where no number keeps it, it has no row.
+    /// is in hundredths. If no number keeps it, it has no row.
     Amplification(u32),
 }
 
@@ -71,7 +71,7 @@ fn greatest_keeping(geometry: &Geometry, write: u32, hundredths: u32) -> Option<
     Some(low)
 }
 
-/// Adds the row of the greatest number that keeps a write amplification, if there is one.
+/// Adds the row of the greatest number that keeps a write amplification, if any.
 fn push_keeping(
     rows: &mut Vec<Row>,
     geometry: &Geometry,

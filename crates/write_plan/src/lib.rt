@@ -15,6 +15,8 @@
 //! The write amplification and the Reads of a drive that is full are estimates. They are for random writes of
 //! 1, 8 and 64 blocks, long after the drive was filled. `docs/placement.md` says where they come from;
 //! `bench/plan` compares them with runs.
+//!
+//! Tests: the rows of `tool_rows`; `bench/plan` compares the estimates with runs.
 #![tactic(auto)]
 
 mod aims;

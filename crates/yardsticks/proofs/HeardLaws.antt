@@ -64,7 +64,7 @@ pub shown_by-shown : (block_bytes : ℕ) (r : Option Record) → said_block bloc
 shown_by-shown block_bytes None = refl
 shown_by-shown block_bytes (Some r) = refl
 
--- so it says whether this lies in a zone, and is data
+-- so it says whether this is in a zone, and is data
 pub said_in-kept : (zone : ℕ) (r : Option Record) → is_said_in zone (option_map saying r) ≡ kept_in is_any zone r
 said_in-kept zone None = refl
 said_in-kept zone (Some r) = by (eqb r.zone zone)

@@ -81,7 +81,7 @@ unfolding has_torn_tail
 tail_read geometry content true blocks full-is read = rw (← full-is) refl
 tail_read geometry content false blocks full-is read = let same : blocks ≡ content.blocks = read ∙ readable-not_full geometry content (sym full-is) in rw (← full-is, same) refl
 
--- the log that was found is that of the zone
+-- the log that was found is the zone's
 pub zone_log-found : (geometry : Geometry) (content : Content) (full : Bool) (blocks : List (List ℕ)) (log : ZoneLog) → geometry.block < 2 ^ 32
     → full ≡ is_full content.usage → blocks ≡ readable geometry content → IsFound geometry.block full blocks log → IsZoneLog geometry content (held_log log.batches.items) log.is_torn
 zone_log-found geometry content full blocks log small full-is read is =
@@ -92,7 +92,7 @@ zone_log-found geometry content full blocks log small full-is read is =
       torn_is = is.torn_is ∙ tail_read geometry content full blocks full-is read;
     }
 
--- where none was found, the zone has none
+-- if none was found, the zone has none
 pub zone_log-none : (geometry : Geometry) (content : Content) (full : Bool) (blocks : List (List ℕ))
     → full ≡ is_full content.usage → blocks ≡ readable geometry content → HaveNoLog geometry.block full blocks → HasLog geometry content → ⊥
 zone_log-none geometry content full blocks full-is read none has = none (zone_log geometry content) (same_log geometry.block (is_full content.usage) full (readable geometry content) blocks (zone_log geometry content) (zone_log geometry content) full-is read refl has)

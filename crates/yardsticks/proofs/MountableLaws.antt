@@ -39,7 +39,7 @@ inside-logs size (log ∷ logs) all = (all-unmap (IsInside size) batch_of log.it
 
 -- ---- a disk, and its repair
 
--- the logs of a mountable drive are those of a disk
+-- the logs of a mountable drive are a disk's
 pub disk-logs : (geometry : Geometry) (zones : List Content) (n : ℕ) (logs : List (List Batch)) (tails : List Bool) → AreZoneLogs geometry zones logs tails → AreMountable geometry zones n → AreOfDisk geometry n logs
 disk-logs geometry zones n logs tails are mountable = rw are.logs_are (record { sound = mountable.disk.sound; reserve = mountable.disk.reserve; spare = mountable.disk.spare })
 

@@ -91,7 +91,7 @@ torn_is size blocks behind h begin none = by (cases_lt (length behind) (data_cou
         let begins : BeginsWithBatch size blocks batch = begin_with size blocks behind (take (data_count h.entries) behind) h begin enough refl in
         absurd (none batch (drop (suc (length batch.body)) blocks) begins.fits begins.spelled)
 
--- the tail of another zone is torn, if there is one
+-- the tail of another zone is torn, if any
 pub tail_torn : (size : ℕ) (blocks : List (Vec ℕ Global)) (none : Bool) → none ≡ false → none ≡ eqb (length blocks) 0 → IsTail size false (held_blocks blocks) → IsTorn size (held_blocks blocks)
 tail_torn size [] none some is tail = absurd (let bad : true ≡ false = sym is ∙ some in cc)
 tail_torn size (b ∷ bs) none some is (inl nothing) = absurd (let bad : b.items ∷ held_blocks bs ≡ [] = nothing in cc)

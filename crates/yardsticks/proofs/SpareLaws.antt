@@ -25,7 +25,7 @@ same-at (v ∷ vs) (w ∷ ws) (suc i) x y lt lt' x-is y-is same = let rest : hel
 
 -- ---- half clean zones
 
--- a log that was read is that of its zone
+-- a log that was read is its zone's
 pub log-read : (logs : List (Vec yardstick.Batch Global)) (zone : ℕ) (log : Vec yardstick.Batch Global) → zone < length logs → log ≡ get_or logs zone log → held_log log.items ≡ log_at (held_logs logs) zone
 log-read [] zone log lt is = absurd (omega arith)
 log-read (l ∷ ls) zero log lt is = ap (λ (v : Vec yardstick.Batch Global). held_log v.items) is
@@ -57,7 +57,7 @@ half_clean-is block_bytes n logs zone source log is moves apart older spare =
 
 -- ---- the clearing
 
--- where no zone is half clean, nothing is cleared
+-- if no zone is half clean, nothing is cleared
 pub nothing_clears : (block_bytes n : ℕ) (logs : List (List Batch)) → NoneBelow block_bytes n logs (length logs) → HasClearing block_bytes n logs logs
 nothing_clears block_bytes n logs none = record { zones = []; clears = none; left_is = refl }
 

@@ -12,7 +12,7 @@ held_blocks blocks = map (λ block. block.items) blocks
 abbrev pub batch_of : yardstick.Batch → Batch
 batch_of batch = record { heading = heading_of batch.header; body = held_blocks batch.body.items }
 
--- the blocks have a log, and it is this one: its batches, and whether a torn tail stands after them
+-- the blocks have a log, and it is this one: its batches, and whether a torn tail is after them
 pub record IsFound (block_bytes : ℕ) (is_full : Bool) (blocks : List (List ℕ)) (log : ZoneLog) : Type 0 where
   pub log_is : IsLog block_bytes is_full blocks (map batch_of log.batches.items)
   pub torn_is : log.is_torn ≡ (not is_full && has_tail blocks)

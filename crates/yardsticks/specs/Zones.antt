@@ -37,7 +37,7 @@ held_log log = map batch_of log
 abbrev pub held_logs : List (Vec yardstick.Batch Global) → List (List Batch)
 held_logs logs = map (λ log. held_log log.items) logs
 
--- the zone has a log, and it is this one; and whether a torn tail stands after it
+-- the zone has a log, and it is this one; and whether a torn tail is after it
 pub record IsZoneLog (geometry : Geometry) (content : Content) (log : List Batch) (is_torn : Bool) : Type 0 where
   pub has : HasLog geometry content
   pub log_is : log ≡ zone_log geometry content

@@ -187,7 +187,7 @@ pub(crate) fn array(
     Ok(blocks)
 }
 
-/// The array that the zones encode, or none if some zone has no log. It has `n` blocks where no header
+/// The array that the zones encode, or none if some zone has no log. It has `n` blocks if no header
 /// has a size, and else as many as the greatest size. The geometry is one that `check` admits, and each
 /// block has its number of bytes.
 pub fn spelled_array(

@@ -32,7 +32,7 @@ pub struct Batch {
 #[derive(Debug, Drop)]
 pub struct ZoneLog {
     pub batches: Vec<Batch>,
-    /// Whether a torn tail stands after the batches: a header block and fewer data blocks than it needs.
+    /// Whether a torn tail is after the batches: a header block and fewer data blocks than it needs.
     pub is_torn: bool,
 }
 
@@ -193,7 +193,7 @@ fn is_spelling(alloc: Global, header: &Header, block: &[u8]) -> Result<bool, All
     Ok(spelled.as_slice() == block)
 }
 
-// The header that the block encodes, if there is one.
+// The header that the block encodes, if any.
 fn read_header(alloc: Global, block: &[u8]) -> Result<Option<Header>, AllocError>
     requires { (length block.now ≡ 512) ⊎ (length block.now ≡ 4096) }
     ensures some { let size = length block.now in
@@ -294,7 +294,7 @@ fn are_torn(alloc: Global, blocks: &[Vec<u8>], block_bytes: usize) -> Result<boo
     Ok(true)
 }
 
-// Whether blocks that begin with no batch may stand after the last batch of a zone.
+// Whether blocks that begin with no batch may be after the last batch of a zone.
 fn are_tail(
     alloc: Global,
     blocks: &[Vec<u8>],

@@ -10,6 +10,8 @@
 //! let array = spelled_array(alloc, &geometry, &zones, 8)?; // 8 blocks, if no header has a size
 //! let mountable = is_mountable(alloc, &geometry, &zones, 8)?;
 //! ```
+//!
+//! Tests: the rows of `worked_runs`, which compare it with what the disk does.
 #![tactic(auto)]
 
 mod array;

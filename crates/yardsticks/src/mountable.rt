@@ -119,7 +119,7 @@ fn are_of_disk(
     has_spare(alloc, geometry.block as usize, n, logs)
 }
 
-/// Whether the zones can be mounted, as `n` blocks where no header has a size. The geometry is one that
+/// Whether the zones can be mounted, as `n` blocks if no header has a size. The geometry is one that
 /// `check` admits, and each block has its number of bytes.
 pub fn is_mountable(
     alloc: Global,

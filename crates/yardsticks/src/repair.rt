@@ -28,7 +28,7 @@ fn is_torn(logs: &[Vec<Batch>], tails: &[bool], zone: usize) -> bool
     }
 }
 
-// The first torn zone from one on, if there is one.
+// The first torn zone from one on, if any.
 fn first_torn(logs: &[Vec<Batch>], tails: &[bool], from: usize) -> Option<usize>
     ensures some { let all = held_logs logs.now in
         IfSome result (IsFirstTorn all tails.now from) }

@@ -54,7 +54,7 @@ fn greatest(logs: &[Vec<Batch>], left_out: Option<usize>) -> Option<u32>
     found
 }
 
-// The number of blocks that the logs encode, where the batches of one zone may be left out: n where no
+// The number of blocks that the logs encode, where the batches of one zone may be left out: n if no
 // header has a size.
 pub(crate) fn encoded_size(n: u32, logs: &[Vec<Batch>], left_out: Option<usize>) -> u32
     ensures { result ≡ encoded_size n (logs_but left_out (held_logs logs.now)) }

@@ -50,7 +50,7 @@ fn first_sequence(logs: &[Vec<Batch>], zone: usize) -> Option<u64>
     Some(logs.get(zone)?.first()?.header.sequence)
 }
 
-// Whether both zones have a batch, and the first batch of the one is older than that of the other.
+// Whether both zones have a batch, and the first batch of the one is older than the other's.
 fn is_older(logs: &[Vec<Batch>], zone: usize, other: usize) -> bool
     ensures { IsTrue result ↔ IsBefore (first_sequence (log_at (held_logs logs.now) zone))
         (first_sequence (log_at (held_logs logs.now) other)) }
@@ -151,7 +151,7 @@ pub(crate) fn has_spare(
     Ok(false)
 }
 
-// The lowest half clean zone, if there is one.
+// The lowest half clean zone, if any.
 fn lowest_half_clean(
     alloc: Global,
     block_bytes: usize,

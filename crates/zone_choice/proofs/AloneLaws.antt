@@ -211,13 +211,13 @@ memory-keeps a b zone batch agrees leaves = elim leaves as (λ _. KeepsArray a b
   | inr closes ↦ closes-keeps a b zone closes
 ]
 
--- where the drive stopped, the tables are the same but for the roles
+-- where the drive stopped, the tables are the same except for the roles
 pub record SameBut (old new : TablesView) : Type 0 where
   pub map : new.map ≡ old.map
   pub next : new.next ≡ old.next
   pub given : new.given ≡ old.given
 
--- after a stop the tables are the same, but for what is closed
+-- after a stop the tables are the same, except for what is closed
 pub stops-tables : (a b : MountedView) (zone : ℕ) (batch : Batch) → StopsInside a b zone batch → SameBut a.tables b.tables
 stops-tables a b zone batch stops = elim stops.tables as (λ _. SameBut a.tables b.tables) [
   | inl same ↦ rw same (record { map = refl; next = refl; given = refl })

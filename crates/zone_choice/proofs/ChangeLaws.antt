@@ -137,7 +137,7 @@ place_can old tables zone start builder is can alone start-is =
     let s = sized old.geometry builder can.agrees.geometry can.heading is in
     can_append old tables zone start (block_count old.geometry builder.bytes) can.agrees can.filling alone start-is (omega (arith, s.count_is)) (omega (arith, s.count_is, can.few)) (omega (arith, s.count_is, can.room))
 
--- where a batch lies
+-- where a batch is
 pub address-fits : (old new : DriveState) (tables : TablesView) (zone start address : ℕ) (builder : BuilderView) (bytes : List ℕ) → CanPlace (mounted old tables) zone (built old.geometry.block builder) → start ≡ zone * old.geometry.size
     → Appended old new start bytes address → address < 2 ^ 62
 address-fits old new tables zone start address builder bytes can start-is appended =
@@ -226,7 +226,7 @@ appends_batch old new tables zone builder can geometry lawful appends opens = re
   opens = opens;
 }
 
--- what a batch says of the array does not depend on where it lies
+-- what a batch says of the array does not depend on where it is
 told_anywhere : (size sequence zone header k : ℕ) (body : List (List ℕ)) (es : List Entry) (array : List (List ℕ)) → over (shown size) (entry_records sequence body zone header k es) array ≡ over (shown size) (entry_records sequence body 0 0 k es) array
 told_anywhere size sequence zone header k body [] array = refl
 told_anywhere size sequence zone header k body (e ∷ es) array =

@@ -59,7 +59,7 @@ is-beside drive tables zone other agrees e =
 
 -- ---- it is closed
 
--- where no zone is open that wasn't, and it is not
+-- if no zone is open that wasn't, and it is not
 closed-kept : (old new : DriveState) (tables : TablesView) (zone : ℕ) → Agrees (mounted old tables) → is_filling_at tables.roles zone ≡ true → SameContents old new → OpensNone old.zones new.zones → IsLawful new
     → new.refused ≡ old.refused → new.appended ≡ old.appended → ((other : Filling) → open_beside tables.roles zone ≡ Some other → IsShut new.zones other.zone) → KeepsContents (mounted old tables) (mounted new (tables_closed tables zone))
 closed-kept old new tables zone agrees here same opens lawful refused appended shut = record {
@@ -94,7 +94,7 @@ pub record CloseHalts (old new : DriveState) (tables : TablesView) (zone : ℕ) 
   pub halt : IsHalt fault
   pub leaves : CloseBesideLeaves old tables zone new (Err (fault_halt fault))
 
--- the Close of the other zone that is being filled is not refused, and what it leaves is kept
+-- the Close of the other zone that is being filled is not refused, and the result is kept
 pub close_halts : (old new : DriveState) (tables : TablesView) (zone start : ℕ) (other : Filling) (fault : PortFault) → Agrees (mounted old tables) → open_beside tables.roles zone ≡ Some other → other.written ≢ old.geometry.capacity → start ≡ other.zone * old.geometry.size
     → CloseGives {V = Unit {0}} old start (Err fault) new → SameContents old new → PortLeaves {V = Unit {0}} old start (Err fault) new → Obeys {V = Unit {0}} old (Err fault) new → (CanClose old start → IsNotRefused {V = Unit {0}} (Err fault)) → CloseHalts old new tables zone fault
 close_halts old new tables zone start other (port.Refused status) agrees is room start-is gives same leaves obeys passed =

@@ -10,7 +10,7 @@ count-none : (xs : List Bool) → ((k : ℕ) → get_or xs k false ≡ false) �
 count-none [] none = refl
 count-none (x ∷ xs) none = let here : x ≡ false = none 0 in rw here (count-none xs (λ k. none (suc k)))
 
--- where no zone is empty, none is counted
+-- if no zone is empty, none is counted
 pub count-none_below : (xs : List Bool) (end : ℕ) → length xs ≤ end → ((k : ℕ) → k < end → get_or xs k false ≡ false) → count_by (λ b. b) xs ≡ 0
 count-none_below xs end all none = count-none xs (λ k. elim (cases_lt k end) as (λ _. get_or xs k false ≡ false) [ inl lt ↦ none k lt | inr past ↦ get_or_past xs k false (omega arith) ])
 

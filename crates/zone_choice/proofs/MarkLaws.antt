@@ -107,7 +107,7 @@ differ-ended (Some f) (Some (Destination s)) h = h
 
 -- ---- a sealed zone stays so
 
--- where the zones that are being filled change, but for their numbers
+-- where the zones that are being filled change, except for their numbers
 pub sealed-with : (change : Filling → Filling) → KeepsZone change → (roles : RolesView) (zone : ℕ) → is_sealed_at roles zone ≡ true → is_sealed_at (with_fillings change roles) zone ≡ true
 sealed-with change keeps roles zone is =
     let was = sealed-parts roles zone is in

@@ -76,7 +76,7 @@ reset-opens {V} old new start result leaves = leaves-opens {V = V} old new start
 written-opens : (old new : DriveState) (start : ℕ) (zone : Zone) → IsClosing (slice_set old.zones (start / old.geometry.size) zone) new.zones → OpensOnly (start / old.geometry.size) old.zones new.zones
 written-opens old new start zone closing k other h = closing-opens _ new.zones closing k (set-opens_only old.zones (start / old.geometry.size) zone k other h)
 
--- an Append opens its zone alone
+-- an Append opens only its zone
 pub append-opens : (old new : DriveState) (start : ℕ) (bytes : List ℕ) (result : Result ℕ PortFault) → AppendLeaves old start bytes result new → OpensOnly (start / old.geometry.size) old.zones new.zones
 append-opens old new start bytes (Ok address) leaves = written-opens old new start _ leaves
 append-opens old new start bytes (Err (Refused status)) leaves = λ k other h. closing-opens old.zones new.zones leaves k h
@@ -88,7 +88,7 @@ append-opens old new start bytes (Err Stopped) leaves = λ k other h. elim leave
 
 -- ---- zones that are being filled
 
--- what the tables tell of open zones holds where none was opened
+-- what the tables tell of open zones holds if none was opened
 pub tells-kept : (old new : List Zone) (fs : List Filling) → OpensNone old new → AllByRecursion (TellsOpen old) fs → AllByRecursion (TellsOpen new) fs
 tells-kept old new fs opens tells = all-weaker (TellsOpen old) (TellsOpen new) fs (λ f is no. opens f.zone (is no)) tells
 

@@ -1,4 +1,4 @@
--- What a block of the array says stands where the map places it.
+-- What a block of the array says is where the map places it.
 use Rattle.std.proofs.Common.{◌≡◌, ℕ, zero, suc, ◌+◌, ◌-◌, ◌*◌, ◌/◌, ◌%◌, ◌<◌, ◌≤◌, Bool, true, false, List, [], ◌∷◌, ◌++◌, length, get_or, replicate, Option, Some, None, refl, sym, ap, ◌∙◌, arith, append_assoc, append-nil}
 use Rattle.std.specs.List.{flat_map, AllByRecursion}
 use Rattle.std.proofs.lemmas.List.{get_or-append-add, length-append, length-replicate, length-map}
@@ -31,7 +31,7 @@ use Rattle.drive_array.proofs.NewestLaws.{all-among, newest-is}
 
 -- ---- in one zone
 
--- the data of a record of a zone stands in these blocks
+-- the data of a record of a zone is in these blocks
 pub record StandsIn (blocks : List (List ℕ)) (zero_fill : List ℕ) (zone : ℕ) (r : Record) : Type 0 where
   pub zone_is : r.zone ≡ zone
   pub stands : (bytes : List ℕ) → r.content ≡ Some bytes → (r.offset < length blocks) × (get_or blocks r.offset zero_fill ≡ bytes)
@@ -78,13 +78,13 @@ log_stands size zone offset front (b ∷ bs) tail blocks z fits e is =
         let total : length blocks ≡ length front + suc (length b.body + length rest) = ap length whole ∙ omega (arith, length-append front (header ∷ (b.body ++ rest)), length-append b.body rest) in
         (omega (arith, total), rw (spot, whole) (get_or-append-add front (header ∷ (b.body ++ rest)) (suc k) z ∙ get_or-left z b.body rest k lt))
 
--- each record of a zone's log stands in its blocks
+-- each record of a zone's log is in its blocks
 pub zone_stands : (size zone : ℕ) (is_full : Bool) (blocks : List (List ℕ)) (log : List Batch) (z : List ℕ) → IsLog size is_full blocks log → AllByRecursion (StandsIn blocks z zone) (log_records zone 0 log)
 zone_stands size zone is_full blocks log z is = log_stands size zone 0 [] log is.tail blocks z is.front.batches refl is.front.spelled
 
 -- ---- on the drive
 
--- the data of a record stands in its zone's readable blocks
+-- the data of a record is in its zone's readable blocks
 pub record StandsOn (geometry : Geometry) (zones : List Content) (first : ℕ) (r : Record) : Type 0 where
   pub in_range : r.zone < first + length zones
   pub above : first ≤ r.zone

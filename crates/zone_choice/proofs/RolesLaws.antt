@@ -79,7 +79,7 @@ differ-with change keeps (Some f) None h = tt
 differ-with change keeps (Some f) (Some (Next s)) h = λ e. h (sym (keeps f) ∙ e ∙ keeps s)
 differ-with change keeps (Some f) (Some (Destination s)) h = λ e. h (sym (keeps f) ∙ e ∙ keeps s)
 
--- what depends on their zones alone holds of all of them
+-- what depends only on their zones holds of all of them
 pub all-with : (P : ℕ → Type 0) (change : Filling → Filling) → KeepsZone change → (roles : RolesView) → AllByRecursion (λ f. P f.zone) (fillings roles) → AllByRecursion (λ f. P f.zone) (fillings (with_fillings change roles))
 all-with P change keeps roles all =
     subst (AllByRecursion (λ f. P f.zone)) (sym (fillings-with change roles))
@@ -135,7 +135,7 @@ closed_beside-twice roles zone =
     ap (λ (h : Option Filling). roles_with roles.empty h (option_map (second_with (closed_unless zone)) (option_map (second_with (closed_unless zone)) roles.second))) (option-closed_twice zone roles.host)
     ∙ ap (λ (s : Option Second). roles_with roles.empty (option_map (closed_unless zone) roles.host) s) (second-closed_twice zone roles.second)
 
--- where none of them may be open, closing them changes nothing
+-- if none of them may be open, closing them changes nothing
 closed-same : (zone : ℕ) (f : Filling) → is_open_beside zone f ≡ false → closed_unless zone f ≡ f
 closed-same zone f shut = at (eqb f.zone zone) shut
   where
@@ -161,7 +161,7 @@ roles-same zone empties (Some f) second none =
     let both = find-none (is_open_beside zone) f (second_list second) none in
     ap (λ (g : Filling). roles_with empties (Some g) (option_map (second_with (closed_unless zone)) second)) (closed-same zone f both.0) ∙ ap (λ (s : Option Second). roles_with empties (Some f) s) (second-same zone second both.1)
 
--- where no other zone is open, nothing is closed
+-- if no other zone is open, nothing is closed
 pub closed_beside-none : (roles : RolesView) (zone : ℕ) → open_beside roles zone ≡ None → closed_beside roles zone ≡ roles
 closed_beside-none roles zone none = roles-same zone roles.empty roles.host roles.second none
 
@@ -190,7 +190,7 @@ apart-seal roles apart = record { occupied = (all-parts (IsOccupied roles.empty)
 
 -- ---- an empty zone becomes the host zone
 
--- a zone is taken that was empty, and the others are as they were
+-- a zone is taken that was empty, and the others are unchanged
 pub occupied-set : (empties : List Bool) (zone : ℕ) (f : Filling) → zone < length empties → get_or empties zone false ≡ true → IsOccupied empties f → IsOccupied (set empties zone false) f
 occupied-set empties zone f lt here o =
     let other : f.zone ≢ zone = λ e. (let no = o.not_empty in let yes : get_or empties f.zone false ≡ true = rw e here in absurd (cc)) in

@@ -55,7 +55,7 @@ torn_kept old new tables zone j b agrees torn =
     let untorn = zone-untorn g zones tables.roles zone agrees.roles torn.appends.in_range in
     torn_logs g zones (contents new.zones) zone j b agrees.lawful.geometry.block torn.batch has untorn torn.few (omega (arith, torn.few, torn.room, torn.batch.body)) torn.appends
 
--- what the zones hold, but for the torn tail
+-- what the zones hold, except for the torn tail
 torn_disk : (old new : DriveState) (tables : TablesView) (zone j : ℕ) (b : Batch) → Agrees (mounted old tables) → TornBatch old new tables zone j b → HasSpare old.geometry.block tables.given (drive_logs old)
     → HoldDisk old.geometry (contents new.zones) tables.given
 torn_disk old new tables zone j b agrees torn spare =

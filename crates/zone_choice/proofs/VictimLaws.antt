@@ -29,7 +29,7 @@ sum_by-zero : {X : Type 0} (xs : List X) → sum_by (λ x. 0) xs ≡ 0
 sum_by-zero [] = refl
 sum_by-zero (x ∷ xs) = omega (arith, sum_by-cons (λ x. 0) x xs, sum_by-zero xs)
 
--- a place lies in one zone at most
+-- a place is in one zone at most
 here-range : (zone a n : ℕ) → (sum_by (λ z. cond (eqb zone z) 1 0) (range_with_len a n) ≤ 1) × (zone < a → sum_by (λ z. cond (eqb zone z) 1 0) (range_with_len a n) ≡ 0)
 here-range zone a zero = (omega arith, λ _. refl)
 here-range zone a (suc n) =

@@ -37,14 +37,14 @@ pub record IsBuilt (block_bytes : ℕ) (builder : BuilderView) : Type 0 where
   pub header : builder.bytes ≡ header_block block_bytes builder.heading ++ drop block_bytes builder.bytes
   pub data_length : length (drop block_bytes builder.bytes) ≡ data_count builder.heading.entries * block_bytes
 
--- ---- where the blocks of a batch lie
+-- ---- where the blocks of a batch are
 
--- a trim lies at the header, data at its own address
+-- a trim is at the header, data at its own address
 abbrev pub entry_place : Bool → ℕ → ℕ → Place
 entry_place true header address = places.Trimmed header
 entry_place false header address = places.At address
 
--- the places of all blocks, after a batch whose header lies at an address, where the data of these entries begins at another
+-- the places of all blocks, after a batch whose header is at an address, where the data of these entries begins at another
 abbrev pub placed : ℕ → ℕ → List Entry → List Place → List Place
 placed header address [] all = all
 placed header address (e ∷ es) all = slice_set (placed header (address + one_unless e.trim) es all) e.block (entry_place e.trim header address)

@@ -30,7 +30,7 @@ use Rattle.zone_choice.specs.Tables.{TablesView, size_of}
 
 -- The tables agree with the drive as before, and the logs, the array, the map and the next sequence are the same; no
 -- command was refused, and nothing was appended. A zone that is kept empty stays so, and so does one that is sealed; the
--- second zone that is being filled is the same, but for whether it may be open.
+-- second zone that is being filled is the same, except for whether it may be open.
 pub record KeepsArray (before after : MountedView) : Type 0 where
   pub agrees : Agrees after
   pub logs : drive_logs after.drive ≡ drive_logs before.drive
@@ -59,7 +59,7 @@ told_over block_bytes batch array =
 abbrev pub next_address : DriveState → ℕ → ℕ
 next_address drive zone = zone * drive.geometry.size + length (content_at (contents drive.zones) zone).blocks
 
--- the places of all blocks with a batch more, whose header is written next to a zone: those of its own blocks, and of
+-- the places of all blocks with a batch more, whose header is written next to a zone: its own blocks, and of
 -- the others what they were, none for blocks that are new
 abbrev pub placed_with : MountedView → ℕ → Batch → List Place
 placed_with before zone batch =
@@ -108,7 +108,7 @@ pub record ClosesBeside (before after : MountedView) (zone : ℕ) : Type 0 where
   pub tables : after.tables ≡ tables_closed before.tables zone
   pub kept : KeepsContents before after
 
--- What a Close of the zone beside this one leaves, by its answer: nothing changed where no zone beside may be open. The
+-- What a Close of the zone beside this one leaves, by its answer: nothing changed if no zone beside may be open. The
 -- tables did not change; once the zone is closed, those agree with the drive that say so.
 abbrev pub CloseBesideLeaves : DriveState → TablesView → ℕ → DriveState → Result (Unit {0}) Halt → Type 0
 CloseBesideLeaves old tables zone new (Ok done) =

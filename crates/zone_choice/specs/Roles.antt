@@ -97,7 +97,7 @@ abbrev pub next_of : Option Second → Option Filling
 next_of (Some (Next filling)) = Some filling
 next_of second = None
 
--- the next zone, if there is one, is the host zone now
+-- the next zone, if any, is the host zone now
 abbrev pub with_next : RolesView → Option Filling → RolesView
 with_next roles None = roles
 with_next roles (Some filling) = record { empty = roles.empty; host = Some filling; second = None }
@@ -153,7 +153,7 @@ pub record AreMarked (roles : RolesView) (marks : List Bool) : Type 0 where
   pub long : length marks ≡ length roles.empty
   pub each : (zone : ℕ) → slice_index_or marks zone false ≡ is_sealed_at roles zone
 
--- one zone more is marked, if there is one
+-- one zone more is marked, if any
 abbrev pub marked : List Bool → Option Filling → List Bool
 marked marks None = marks
 marked marks (Some filling) = slice_set marks filling.zone true
@@ -162,7 +162,7 @@ marked marks (Some filling) = slice_set marks filling.zone true
 abbrev pub unused_roles : ℕ → RolesView
 unused_roles zones = record { empty = replicate zones true; host = None; second = None }
 
--- one marked zone less, if there is one
+-- one marked zone less, if any
 abbrev pub unmarked : List Bool → Option Filling → List Bool
 unmarked marks None = marks
 unmarked marks (Some filling) = slice_set marks filling.zone false

@@ -7,8 +7,8 @@ use Rattle.logical_map.specs.declared.place.Place.TheVariants as places
 use Rattle.zone_choice.specs.Roles.{RolesView, is_sealed_at, unused_roles}
 use Rattle.drive_array.specs.Sizes.{extended}
 
--- where the newest record of each block lies, what the zones are for, the sequence of the next batch, and the number of
--- logical blocks that the mount was given: the drive has as many where no header has a size
+-- where the newest record of each block is, what the zones are for, the sequence of the next batch, and the number of
+-- logical blocks that the mount was given: the drive has as many if no header has a size
 pub record TablesView : Type 0 where
   pub map : MapView
   pub roles : RolesView

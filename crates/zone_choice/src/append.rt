@@ -29,7 +29,7 @@ pub fn halt_of(fault: PortFault) -> Halt
     }
 }
 
-/// Where a block of a batch lies: a trim at the header, data at its own address.
+/// Where a block of a batch is: a trim at the header, data at its own address.
 fn place_of(entry: Entry, header: u64, address: u64) -> Place
     ensures { result ≡ entry_place entry.trim header address }
 {
@@ -49,7 +49,7 @@ fn data_blocks(entry: Entry) -> u64
     1
 }
 
-/// Places the blocks of a batch whose header lies at this address, and answers how many blocks the batch
+/// Places the blocks of a batch whose header is at this address, and answers how many blocks the batch
 /// takes, its header included.
 fn place_blocks(tables: &mut Tables, entries: &[Entry], header: u64) -> u32
     requires in_range { AllByRecursion (λ e. e.block < size_of tables.old) entries.now }
@@ -144,7 +144,7 @@ fn append_alone<D: Device>(
     }
 }
 
-/// Appends a batch to a zone that is being filled, and notes where its blocks lie and which size the disk
+/// Appends a batch to a zone that is being filled, and notes where its blocks are and which size the disk
 /// has. At an open limit of 1 the zone that is being filled beside it is sent Close before, if it may be
 /// open. All that it needs was allocated before. If the drive is out of memory, nothing changed, but that
 /// the zone beside may be closed. If it stops, the batch may be there, or a torn tail, and the tables are as

@@ -8,7 +8,7 @@ use drive_port::{Device, PortFault, read_extending};
 use std::alloc::{AllocError, Global};
 use std::marker::Model;
 
-/// How many bytes stand before those of a batch. Long pieces of memory begin at the same offset of a page each, that
+/// How many bytes are before a batch's. Long pieces of memory begin at the same offset of a page each, that
 /// of a batch as that of a zone. From one to another at the same offset the GNU C library copies backward, which is
 /// slower.
 const FRONT: usize = 576;
@@ -140,7 +140,7 @@ impl BatchBuilder {
         );
     }
 
-    /// Adds data: the block at an address of the drive. After a fault the bytes are as they were.
+    /// Adds data: the block at an address of the drive. After a fault the bytes are unchanged.
     #[inline]
     pub fn read<D: Device>(&mut self, device: &mut D, address: u64) -> Result<(), PortFault>
         ensures heading { self.new.heading ≡ self.old.heading }

@@ -25,6 +25,8 @@
 //! records that it finds (`place`), and says what the zones are for (`begin`). While tables and drive
 //! agree (`Agrees` in specs/Agreement) and a zone is kept empty, the drive can be mounted (`IsMountable`
 //! of `drive_array`). `a_zone_can_be_cleaned` is what the reserve gives a cleaner.
+//!
+//! Tests: the rows of `worked_runs`.
 #![tactic(auto)]
 
 mod append;

@@ -23,7 +23,7 @@ pub struct Filling {
     pub may_open: bool,
 }
 
-/// The second zone that batches go to, beside the host zone.
+/// The second zone that batches go to, besides the host zone.
 #[derive(Clone, Copy, Debug, PartialEq, Eq)]
 pub enum Second {
     /// The zone that becomes the host zone after the one that there is.
@@ -213,7 +213,7 @@ impl Roles {
         make_next(&mut self.second);
     }
 
-    /// Makes the next zone the host zone, where there is none. Nothing changes if there is no next zone.
+    /// Makes the next zone the host zone, if there is none. Nothing changes if there is no next zone.
     pub fn promote(&mut self) -> Option<Filling>
         requires { self.old.host ≡ None }
         ensures next { result ≡ next_of self.old.second }
@@ -227,7 +227,7 @@ impl Roles {
         Some(filling)
     }
 
-    /// Seals the host zone, if there is one.
+    /// Seals the host zone, if any.
     pub fn seal(&mut self)
         ensures { self.new ≡ sealed self.old }
     {
@@ -270,7 +270,7 @@ impl Roles {
     }
 }
 
-/// Marks a zone as sealed, if there is one.
+/// Marks a zone as sealed, if any.
 fn mark(marks: &mut Vec<bool>, filling: Option<Filling>)
     requires { IfSome filling (λ filling. filling.zone < length marks.old.items) }
     ensures { marks.new.items ≡ marked marks.old.items filling }
@@ -280,7 +280,7 @@ fn mark(marks: &mut Vec<bool>, filling: Option<Filling>)
     }
 }
 
-/// Marks a zone as not sealed, if there is one.
+/// Marks a zone as not sealed, if any.
 fn unmark(marks: &mut Vec<bool>, filling: Option<Filling>)
     requires { IfSome filling (λ filling. filling.zone < length marks.old.items) }
     ensures { marks.new.items ≡ unmarked marks.old.items filling }
@@ -290,7 +290,7 @@ fn unmark(marks: &mut Vec<bool>, filling: Option<Filling>)
     }
 }
 
-/// The next zone, if there is one.
+/// The next zone, if any.
 fn next_zone(filling: Option<Filling>) -> Option<Second>
     ensures { result ≡ option_map Second.Next filling }
 {

@@ -17,7 +17,7 @@ use logical_map::{Map, Place};
 use std::alloc::{AllocError, Global};
 use std::marker::Model;
 
-/// What a mounted disk knows of its drive: where the newest record of each logical block lies, what the
+/// What a mounted disk knows of its drive: where the newest record of each logical block is, what the
 /// zones are for, the sequence of the next batch, and the number of logical blocks that the mount was given.
 #[derive(Drop)]
 pub struct Tables {
@@ -78,7 +78,7 @@ impl Tables {
         self.map.len()
     }
 
-    /// Where the newest record of a block lies.
+    /// Where the newest record of a block is.
     pub fn place_of(&self, block: u32) -> Place
         requires { block < size_of self.now }
         ensures { result ≡ slice_index_or self.now.map.places block places.None }
@@ -93,7 +93,7 @@ impl Tables {
         self.map.live(zone)
     }
 
-    /// The sealed zone with the fewest live records, the lowest of equals. None where no zone is sealed.
+    /// The sealed zone with the fewest live records, the lowest of equals. None if no zone is sealed.
     pub fn least_sealed(&self) -> Option<u32>
         ensures some { IfSome result (IsLeastSealed self.now) }
         ensures none { IfNone result ((zone : ℕ) → is_sealed_at self.now.roles zone ≡ false) }
@@ -101,7 +101,7 @@ impl Tables {
         self.index.least(self.roles.sealed())
     }
 
-    /// The first of the blocks from `from` on that lie in a zone, with its place.
+    /// The first of the blocks from `from` on that are in a zone, with its place.
     pub fn records_of(&mut self, zone: u32, from: u32) -> Option<(u32, Place)>
         requires { zone < self.old.map.zones }
         ensures first { result ≡ first_record self.old.map zone from }
@@ -110,7 +110,7 @@ impl Tables {
         self.map.records_of(zone, from)
     }
 
-    /// How many logical blocks the mount was given: there are as many where no header has a size.
+    /// How many logical blocks the mount was given: there are as many if no header has a size.
     pub fn given(&self) -> u32
         ensures { result ≡ self.now.given }
     {
@@ -160,7 +160,7 @@ impl Tables {
         Ok(())
     }
 
-    /// Makes room to note `count` blocks more in a zone. Blocks that lie somewhere already need no more to be
+    /// Makes room to note `count` blocks more in a zone. Blocks that are somewhere already need no more to be
     /// placed there.
     pub fn reserve_moves(&mut self, zone: u32, count: u32) -> Result<(), AllocError>
         ensures kept { self.new ≡ self.old }
@@ -197,7 +197,7 @@ impl Tables {
         self.roles.end_clean(victim);
     }
 
-    /// Makes the next zone the host zone, where there is none. Nothing changes if there is no next zone.
+    /// Makes the next zone the host zone, if there is none. Nothing changes if there is no next zone.
     pub fn promote(&mut self) -> Option<Filling>
         requires { self.old.roles.host ≡ None }
         ensures next { result ≡ next_of self.old.roles.second }
@@ -206,7 +206,7 @@ impl Tables {
         self.roles.promote()
     }
 
-    /// Seals the host zone, if there is one.
+    /// Seals the host zone, if any.
     pub fn seal(&mut self)
         ensures { self.new ≡ record self.old { roles = sealed self.old.roles } }
     {

@@ -114,7 +114,7 @@ pub kept_turns : (before after : MountedView) (clean : Option CleanView) (most :
 kept_turns before after None most is kept = omega arith
 kept_turns before after (Some c) most is kept = omega (arith, turns_kept before after c most is.0 kept is.1)
 
--- the blocks that the batch names are those of its entries
+-- the blocks that the batch names are its entries'
 pub host-leaves : (before after : MountedView) (clean : Option CleanView) (host : Filling) (b : Batch) → AgreesWithClean before clean → before.tables.roles.host ≡ Some host → CanPlace before host.zone b → Places before after host.zone b
     → HostLeaves before clean host.zone b (Ok tt) after (option_map (forgotten b.heading.entries) clean)
 host-leaves before after clean host b is host-is can done = (done, refl, record { cleaned = host_cleaned before after clean host b is host-is can done; turns = host_turns before after clean host b is host-is can done })

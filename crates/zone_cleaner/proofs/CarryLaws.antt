@@ -65,7 +65,7 @@ told_same disk c agrees is =
     let long : length array ≡ size_of disk.tables = length-spelled disk.drive disk.tables.given ∙ sym (size-encoded disk agrees) in
     rw (extended-same (zero_block block) (size_of disk.tables) array long) (move-same array block disk.tables.next c.gathered (gathered-say disk c agrees is))
 
--- ---- where the records lie
+-- ---- where the records are
 
 -- their entries name blocks below a bound
 pub entries-below : (rs : List LiveRecord) (low high : ℕ) → AreBetween low high rs → AllByRecursion (λ (e : Entry). e.block < high) (gathered_entries rs)
@@ -120,14 +120,14 @@ fits-move disk c agrees is due =
     let after = after-move g.capacity k is.destination.written (is.destination.written + (1 + d)) (untaken disk.tables c) (length c.gathered) d (positive-most g agrees.geometry) is.gathers.few (data-entries c.gathered) due.whole (λ some. due.some (omega (arith, moved, some))) refl room in
     record { room = omega (arith, after.room); after = after }
 
--- where the gathered blocks lie
+-- where the gathered blocks are
 pub record MovedPlaces (disk : MountedView) (c : CleanView) (destination : Filling) (new : List Place) : Type 0 where
   pub long : length new ≡ size_of disk.tables
   pub taken : records_in (mounted_array disk) disk.tables.map.zone_size c.victim 0 (take c.cursor new) ≡ []
   pub rest : drop c.cursor new ≡ drop c.cursor disk.tables.map.places
   pub live_is : live_in disk.tables.map.zone_size c.victim new ≡ untaken disk.tables c
 
--- where the blocks lie after it
+-- where the blocks are after it
 pub moved_places : (disk : MountedView) (c : CleanView) (new : List Place) → Agrees disk → (is : IsClean disk c) → MoveDue disk (batch_most disk.drive.geometry) c
     → new ≡ placed_with disk is.destination.zone (gathered_move (size_of disk.tables) disk.tables.next c.victim c.gathered) → MovedPlaces disk c is.destination new
 moved_places disk c new agrees is due new-is =

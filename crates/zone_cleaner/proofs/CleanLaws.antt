@@ -47,7 +47,7 @@ kept-destination None f e = absurd (cc)
 kept-destination (Some (Next g)) f e = absurd (cc)
 kept-destination (Some (Destination g)) f e = record { filling = g; is = refl; zone = ap destination_zone e; written = ap destination_written e }
 
--- a clean goes on over a drive that keeps its array
+-- a clean continues over a drive that keeps its array
 pub clean_kept : (before after : MountedView) (c : CleanView) → Agrees before → KeepsArray before after → IsClean before c → IsClean after c
 clean_kept before after c agrees kept is =
     let zones = same-zones before after agrees kept in
@@ -146,7 +146,7 @@ live-parts disk c is =
     let m = disk.tables.map in
     omega (arith, ap length is.gathers.gathered, length-records_in (mounted_array disk) m.zone_size c.victim 0 (take c.cursor m.places), live_in-split m.zone_size c.victim c.cursor m.places)
 
--- the next record lies past the cursor
+-- the next record is past the cursor
 pub gather-next : (disk : MountedView) (c : CleanView) (block : ℕ) (place : Place) → IsClean disk c → first_record disk.tables.map c.victim c.cursor ≡ Some (block, place)
     → (block < size_of disk.tables) × (c.cursor ≤ block) × (place ≡ get_or disk.tables.map.places block places.None)
 gather-next disk c block place is found =

@@ -1,4 +1,4 @@
--- A step that is not done closes the zone beside one at most: the clean goes on from where it was.
+-- A step that is not done closes the zone beside one at most: the clean continues from where it was.
 use Rattle.std.proofs.Common.{◌≡◌, ℕ, Bool, true, false, cond, eqb, Option, Some, None, Err, refl, ap, inl, inr}
 use Rattle.std.specs.Option.{option_map}
 use Rattle.drive_port.specs.declared.device.Halt.TheVariants as halt
@@ -14,7 +14,7 @@ use Rattle.zone_choice.proofs.AloneLaws.{SameBut}
 use Rattle.zone_cleaner.specs.Clean.{CleanView, destination_written, turns_left}
 use Rattle.zone_cleaner.specs.Turns.{MayClose}
 
--- a stop leaves the tables, but for what is closed
+-- a stop leaves the tables, except for what is closed
 pub stops-close : (before after : MountedView) (zone : ℕ) (batch : Batch) → StopsInside before after zone batch → MayClose before after.tables
 stops-close before after zone batch stops = elim stops.tables as (λ _. MayClose before after.tables) [ inl same ↦ inl same | inr closed ↦ inr (closed.0, (zone, closed.1)) ]
 

@@ -1,4 +1,4 @@
--- What an edit of the map's entries, and of the data beside them, does to the records.
+-- What an edit of the map's entries, and of their data, does to the records.
 use Rattle.zone_cleaner.specs.Moving.{HoldsMove, headed_bytes}
 use Rattle.zone_choice.specs.Builder.{BuilderView}
 use Rattle.batch_log.specs.Log.{Batch}
@@ -157,7 +157,7 @@ adds-data n block position old new bytes more all room within above at new-is al
 
 -- ---- no data yet
 
--- What making room for a header of another length does, where no record has data.
+-- What making room for a header of another length does, if no record has data.
 pub record MakesRoom (m n : ℕ) (bs : Blocks) (bytes room : List ℕ) : Type 0 where
   pub within : AreWithin m (length room) bs
   pub shows : gathered_records m room bs ≡ gathered_records n bytes bs
@@ -195,7 +195,7 @@ makes-room m n bs bytes room within whole other long =
 
 -- ---- the Move
 
--- the entries of the records are those of the blocks
+-- the entries of the records are the blocks'
 pub entries-shown : (n : ℕ) (bytes : List ℕ) (bs : Blocks) → gathered_entries (gathered_records n bytes bs) ≡ entries_for bs
 entries-shown n bytes [] = refl
 entries-shown n bytes (b ∷ bs) = by b.1 (entries-shown n bytes bs)

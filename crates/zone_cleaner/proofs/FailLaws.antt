@@ -1,4 +1,4 @@
--- A step that is not done leaves the clean as it was.
+-- A step that is not done leaves the clean unchanged.
 use Rattle.std.proofs.Common.{◌≡◌, ℕ, ◌+◌, ◌<◌, ◌≤◌, ◌^◌, true, List, [], ◌∷◌, get_or, inl, arith}
 use Rattle.std.specs.List.{AllByRecursion}
 use Rattle.logical_map.specs.declared.place.Place.{Place}

@@ -35,7 +35,7 @@ pub record FetchHalts (old new : DriveState) (tables : TablesView) (fault : Port
   pub reads : OnlyReads (mounted old tables) (mounted new tables)
   pub cause : IsGatherFault new (clean_fault (fault_halt fault))
 
--- a Read of a record is not refused, and what it leaves is kept
+-- a Read of a record is not refused, and the result is kept
 pub fetch_halts : (old new : DriveState) (tables : TablesView) (block address : ℕ) (returned : List ℕ) (fault : PortFault) → IsStoredAt (mounted old tables) block (places.At address)
     → ReadGives {V = Unit {0}} old address 1 (Err fault) returned new → SameContents old new → IsClosing old.zones new.zones → Obeys {V = Unit {0}} old (Err fault) new → (CanRead old address 1 → IsNotRefused {V = Unit {0}} (Err fault)) → FetchHalts old new tables fault
 fetch_halts old new tables block address returned (port.Refused status) stored gives same closing obeys passed = absurd (passed (holds old tables block (places.At address) stored).can)

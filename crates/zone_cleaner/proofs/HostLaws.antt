@@ -54,7 +54,7 @@ left-extended {X} x d size k xs lt = at xs k lt
     at (y ∷ ys) zero lt = refl
     at (y ∷ ys) (suc i) lt = at ys i (omega arith)
 
--- a block that lies in the victim after the batch was not named
+-- a block that is in the victim after the batch was not named
 not-named : (size victim header address end k : ℕ) (es : List Entry) (all : List Place) → AllByRecursion (λ (e : Entry). e.block < length all) es → Elsewhere size victim header end → header < address → address + data_count es ≤ end → header < end
     → lies_in size victim (get_or (placed header address es all) k places.None) ≡ true → AllByRecursion (λ (e : Entry). e.block ≢ k) es
 not-named size victim header address end k [] all inside away lt le low lies = tt
@@ -67,7 +67,7 @@ not-named size victim header address end k (e ∷ es) all inside away lt le low 
     let other : get_or (set rest e.block p) k places.None ≡ get_or rest k places.None = get_or-set_other rest e.block k p places.None (λ same. ne (sym same)) in
     (ne, not-named size victim header (address + one_unless e.trim) end k es all inside.1 away (omega (arith, lt)) (omega (arith, le)) low (rw other at lies))
 
--- ---- blocks that are new lie nowhere
+-- ---- blocks that are new are nowhere
 
 take-front : {X : Type 0} (n : ℕ) (xs ys : List X) → n ≤ length xs → take n (xs ++ ys) ≡ take n xs
 take-front zero [] ys le = refl
@@ -203,7 +203,7 @@ next-batch before zone b can = record {
   greatest = rw can.sequence can.agrees.sound.numbers;
 }
 
--- the clean goes on, and has forgotten its blocks
+-- the clean continues, and has forgotten its blocks
 pub host_gives : (before after : MountedView) (c : CleanView) (zone : ℕ) (b : Batch) → (is : IsClean before c) → CanPlace before zone b → zone ≢ is.destination.zone → Places before after zone b → HostGives before after c (forgotten b.heading.entries c)
 host_gives before after c zone b is can ne done =
     let g = before.drive.geometry in

@@ -1,4 +1,4 @@
--- A Move of gathered records: it says what the array has, and no gathered block lies in the victim after it.
+-- A Move of gathered records: it says what the array has, and no gathered block is in the victim after it.
 use Rattle.std.proofs.Common.{◌≡◌, ◌≢◌, ℕ, ◌+◌, ◌-◌, ◌*◌, ◌/◌, ◌<◌, ◌≤◌, Bool, true, false, cond, eqb, List, [], ◌∷◌, ◌++◌, length, set, get_or, take, drop, replicate, Option, Some, None, refl, sym, ap, ◌∙◌, arith, append_assoc}
 use Rattle.std.specs.Prelude.{nat_eq}
 use Rattle.std.specs.List.{AllByRecursion, IsDistinct}
@@ -49,7 +49,7 @@ over-same array bytes sequence zone header k front body (r ∷ rs) says at is =
 pub move-same : (array : List (List ℕ)) (bytes sequence : ℕ) (rs : List LiveRecord) → SayTheArray array bytes rs → over (shown bytes) (entry_records sequence (gathered_data rs) 0 0 0 (gathered_entries rs)) array ≡ array
 move-same array bytes sequence rs says = over-same array bytes sequence 0 0 0 [] (gathered_data rs) rs says refl refl
 
--- ---- no gathered block lies in the victim after it
+-- ---- no gathered block is in the victim after it
 
 entry-block : (block : ℕ) (c : Option (List ℕ)) → (gathered_entry block c).block ≡ block
 entry-block block None = refl
@@ -62,7 +62,7 @@ without-own (r ∷ rs) =
     let here : eqb (gathered_entry r.block r.content).block r.block ≡ true = eq-eqb (gathered_entry r.block r.content).block r.block (entry-block r.block r.content) in
     ap (λ (b : Bool). without_all (gathered_entries rs) (cond b rs (r ∷ without_block (gathered_entry r.block r.content).block rs))) here ∙ without-own rs
 
--- the addresses of a batch lie in another zone
+-- the addresses of a batch are in another zone
 abbrev pub Elsewhere : ℕ → ℕ → ℕ → ℕ → Type 0
 Elsewhere size zone from end = (address : ℕ) → from ≤ address → address < end → eqb (address / size) zone ≡ false
 

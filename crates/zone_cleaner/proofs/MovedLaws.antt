@@ -1,4 +1,4 @@
--- A Move is done: the clean goes on, with fewer turns left.
+-- A Move is done: the clean continues, with fewer turns left.
 use Rattle.std.proofs.Common.{◌≡◌, ℕ, ◌+◌, ◌<◌, max, true, drop, length, Some, refl, sym, ap, ◌∙◌, arith}
 use Rattle.std.specs.Int.{div_ceil}
 use Rattle.std.specs.Option.{option_map}

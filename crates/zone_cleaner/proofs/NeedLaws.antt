@@ -109,7 +109,7 @@ turns-few disk c is =
     let moved : moves_due (destination_written disk.tables.roles.second) ≡ moves_due is.1.destination.written = ap moves_due (ap destination_written is.1.second) in
     omega (arith, moved, few-turns disk.drive.geometry.capacity most is.1.destination.written (untaken disk.tables c) (live disk.tables.map c.victim) (positive-most disk.drive.geometry is.0.geometry) (omega (arith, live-parts disk c is.1)) is.1.room)
 
--- and no more where none runs
+-- and no more if none runs
 pub left-few : (disk : MountedView) (clean : Option CleanView) → AgreesWithClean disk clean → turns_left (batch_most disk.drive.geometry) disk.tables clean + 1 ≤ disk.drive.geometry.capacity
 left-few disk None is = omega (arith, is.0.geometry.capacity)
 left-few disk (Some c) is = turns-few disk c is

@@ -1,4 +1,4 @@
--- In which zone a block lies, by its place and by its newest record.
+-- In which zone a block is, by its place and by its newest record.
 use Rattle.std.proofs.Common.{◌≡◌, ℕ, suc, ◌+◌, ◌*◌, ◌/◌, ◌<◌, ◌≤◌, Bool, true, false, cond, eqb, List, [], ◌∷◌, length, get_or, Option, Some, None, is_some, refl, ap, ◌∙◌, arith}
 use Rattle.std.specs.List.{AllByRecursion, count_by, flat_map}
 use Rattle.std.proofs.lemmas.Bool.{eq-eqb}
@@ -25,7 +25,7 @@ use Rattle.zone_choice.proofs.ReadLaws.{length-readable}
 use Rattle.drive_array.proofs.DeadLaws.{NotIn, OnRecord, on-newest}
 use Rattle.drive_array.proofs.OffsetLaws.{log-below}
 
--- ---- records lie within their zone
+-- ---- records are within their zone
 
 -- a zone's batches take no more than its capacity
 log-few : (geometry : Geometry) (content : Content) → HasLog geometry content → length content.blocks ≤ geometry.capacity → log_size (zone_log geometry content) ≤ geometry.capacity

@@ -11,11 +11,11 @@ use Rattle.logical_map.specs.declared.place.Place.TheVariants as places
 use Rattle.drive_array.specs.Records.{shown_content}
 use Rattle.zone_cleaner.specs.LiveRecords.{LiveRecord, live_content, records_in, without_block}
 
--- how many of these places lie in a zone
+-- how many of these places are in a zone
 abbrev pub live_in : ℕ → ℕ → List Place → ℕ
 live_in size zone ps = count_by (lies_in size zone) ps
 
--- how many places lie in a zone, by the first
+-- how many places are in a zone, by the first
 pub live_in-cons : (size zone : ℕ) (p : Place) (ps : List Place) → live_in size zone (p ∷ ps) ≡ cond {A = ℕ} (lies_in size zone p) 1 0 + live_in size zone ps
 live_in-cons size zone p ps = sum_by-cons (λ (q : Place). cond {A = ℕ} (lies_in size zone q) 1 0) p ps
 
@@ -145,7 +145,7 @@ none-in size zone first (p ∷ ps) e = by (lies_in size zone p) refl (none-in si
     by true is more e = absurd (cc)
     by false is more e = let none : cond {A = ℕ} (lies_in size zone p) 1 0 ≡ 0 = rw is refl in omega (arith, live_in-cons size zone p ps, none, more e)
 
--- where there is none, nothing is left
+-- if there is none, nothing is left
 pub takes-none : (size zone from : ℕ) (ps : List Place) → slice_get (blocks_in size zone from (drop from ps)) 0 ≡ None → live_in size zone (drop from ps) ≡ 0
 takes-none size zone from ps e = none-in size zone from (drop from ps) e
 
@@ -254,7 +254,7 @@ take-set {X} (suc n) (suc k) (y ∷ ys) x = ap (λ (zs : List X). y ∷ zs) (tak
 pub taken-set : (array : List (List ℕ)) (size zone cursor block : ℕ) (ps : List Place) (p : Place) → lies_in size zone p ≡ false → records_in array size zone 0 (take cursor (set ps block p)) ≡ without_block block (records_in array size zone 0 (take cursor ps))
 taken-set array size zone cursor block ps p away = ap (records_in array size zone 0) (take-set cursor block ps p) ∙ records_in-set array size zone 0 block block (take cursor ps) p (omega arith) away
 
--- no more blocks lie in the zone than before
+-- no more blocks are in the zone than before
 pub live_in-set : (size zone block : ℕ) (ps : List Place) (p : Place) → lies_in size zone p ≡ false → live_in size zone (set ps block p) ≤ live_in size zone ps
 live_in-set size zone block [] p away = omega arith
 live_in-set size zone zero (q ∷ ps) p away =

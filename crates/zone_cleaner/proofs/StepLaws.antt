@@ -52,7 +52,7 @@ gather-due disk most c block place e = by (ltb (length c.gathered) most) refl (f
 
 -- ---- a Move, or the Reset
 
--- a Move is due where no more records fit, or none is left; and one in any case
+-- a Move is due if no more records fit, or none is left; and one in any case
 pub record MoveDue (disk : MountedView) (most : ℕ) (c : CleanView) : Type 0 where
   pub whole : 0 < untaken disk.tables c → length c.gathered ≡ most
   pub some : 0 < destination_written disk.tables.roles.second → 0 < length c.gathered

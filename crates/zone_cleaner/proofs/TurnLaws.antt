@@ -1,4 +1,4 @@
--- What a turn leaves: the clean goes on, with fewer turns left, and the array stays.
+-- After a turn: the clean continues, with fewer turns left, and the array stays.
 use Rattle.std.proofs.Common.{◌≡◌, ℕ, ◌+◌, ◌<◌, ◌≤◌, Bool, true, false, cond, map, length, set, get_or, Option, Some, None, Result, Ok, Err, refl, sym, ap, ◌∙◌, arith}
 use Rattle.std.specs.List.{count_by}
 use Rattle.std.specs.Option.{option_map}
@@ -52,7 +52,7 @@ cleans_mountable disk clean is = agrees_mountable disk.drive disk.tables is.0 (c
 
 -- ---- one step
 
--- the clean goes on, with fewer turns left
+-- the clean continues, with fewer turns left
 pub record GoesForward (most : ℕ) (before : MountedView) (c : CleanView) (after : MountedView) (new : Option CleanView) : Type 0 where
   pub cleaned : AgreesWithClean after new
   pub fewer : turns_left most after.tables new < turns_left most before.tables (Some c)
@@ -142,7 +142,7 @@ keeps-kept before after c is kept =
     let cleaned : AgreesWithClean after (Some c) = (kept.agrees, clean_kept before after c is.0 kept is.1) in
     (cleaned, array_keeps before after (Some c) cleaned kept)
 
--- a Move alone lacks a sequence
+-- only a Move lacks a sequence
 spent-move : (before after : MountedView) (step : Step) → StepFails step faults.Spent before after → (after ≡ before) × (sequence_end before.drive.geometry ≤ before.tables.next)
 spent-move before after (Gather block place) fails = absurd fails
 spent-move before after Move fails = fails
@@ -201,7 +201,7 @@ start-leaves drive old new (Some c) is starts =
     let gives = start_gives drive old new starts.victim starts.destination is.0 starts.due starts.lowest starts.tables in
     (rw starts.clean_is gives.cleaned, rw starts.tables refl, rw starts.tables refl, rw starts.tables refl, rw starts.tables refl)
 
--- what each turn leaves
+-- after each turn
 pub turn_gives : (before after : MountedView) (old new : Option CleanView) (result : Result (Unit {0}) CleanFault) → AgreesWithClean before old → TurnLeaves before old result after new → CleaningLeaves before result after new
 turn_gives before after (Some c) new result is leaves = step_gives before after c new result is leaves
 turn_gives before after None new (Err fault) is leaves = absurd leaves

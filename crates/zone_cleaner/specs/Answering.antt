@@ -13,7 +13,7 @@ pub record GatherAnswers (before : MountedView) (gathered : List LiveRecord) (mo
     (result : Result (Unit {0}) CleanFault)
     (after : MountedView) (now : List LiveRecord) : Type 0 where
   pub reads : OnlyReads before after
-  -- it stands after those that were gathered before
+  -- it is after those that were gathered before
   pub ok : OnOk result (now ≡ gathered ++ more ∷ [])
   -- or these are the same
   pub failed : OnErr result (now ≡ gathered)
@@ -24,7 +24,7 @@ pub record TurnAnswers (before : MountedView) (old : Option CleanView) (result :
     (after : MountedView) (new : Option CleanView) : Type 0 where
   -- it is exactly this step
   pub leaves : TurnLeaves before old result after new
-  -- the clean goes on, and the array is kept; each fault has its cause
+  -- the clean continues, and the array is kept; each fault has its cause
   pub cleaning : CleaningLeaves before result after new
   -- fewer turns are left after one that is done, and as many after one that is refused
   pub done : OnOk result (TurnDone before after old new)
@@ -43,7 +43,7 @@ pub record EndAnswers (before : MountedView) (old : Option CleanView) (result : 
 -- A whole clean, of a disk that lacks zones: the one that runs, or one that is started.
 pub record CleanAnswers (before : MountedView) (old : Option CleanView)
     (result : Result (Unit {0}) CleanFault) (after : MountedView) (new : Option CleanView) : Type 0 where
-  -- it takes turns, after the start of a clean where none runs
+  -- it takes turns, after the start of a clean if none runs
   pub leaves : CleanLeaves before old result after new
   pub cleaning : CleaningLeaves before result after new
   pub done : OnOk result (HasNextZone after new)

@@ -61,7 +61,7 @@ pub record Gathers (disk : MountedView) (clean : CleanView) : Type 0 where
   pub few : length clean.gathered ≤ batch_most disk.drive.geometry
   pub gathered : clean.gathered ≡ records_in (mounted_array disk) disk.tables.map.zone_size clean.victim 0 (take clean.cursor disk.tables.map.places)
 
--- a zone's first batch is older than that of another, whose batches say no smaller size; a zone without a batch says nothing yet
+-- a zone's first batch is older than another's, whose batches say no smaller size; a zone without a batch says nothing yet
 abbrev pub Follows : List Batch → List Batch → Type 0
 Follows old [] = Unit {0}
 Follows old (batch ∷ log) =
@@ -87,7 +87,7 @@ pub record IsClean (disk : MountedView) (clean : CleanView) : Type 0 where
   pub room : HasRoomFor disk.drive.geometry.capacity (batch_most disk.drive.geometry) destination.written (live disk.tables.map clean.victim)
   pub moves : AreMoves disk.drive.geometry.block disk.tables.given (drive_logs disk.drive) clean.victim destination.zone
 
--- there is no destination, and the next zone, if there is one, has two free blocks
+-- there is no destination, and the next zone, if any, has two free blocks
 abbrev pub HasNoDestination : ℕ → Option Second → Type 0
 HasNoDestination capacity None = Unit {0}
 HasNoDestination capacity (Some (Next filling)) = filling.written + 2 ≤ capacity

@@ -1,4 +1,4 @@
--- Gathered records, as they are kept: of which block each is, and where its data stands in the Move that takes them.
+-- Gathered records, as they are kept: of which block each is, and where its data is in the Move that takes them.
 use Rattle.std.specs.Prelude.{◌≡◌, ℕ, ◌+◌, ◌≤◌, not, List, [], drop, length, map, take, Option, None, Some, IfSome, is_some}
 use Rattle.std.specs.List.{AllByRecursion, concat}
 use Rattle.std.specs.Option.{option_map}
@@ -17,7 +17,7 @@ pub record GatheredView : Type 0 where
 abbrev pub block_from : ℕ → List ℕ → ℕ → List ℕ
 block_from block_bytes bytes position = take block_bytes (drop position bytes)
 
--- the records of these blocks: each with the block of data that stands at its position, or a trim
+-- the records of these blocks: each with the block of data that is at its position, or a trim
 abbrev pub gathered_records : ℕ → List ℕ → List (ℕ × Option ℕ) → List LiveRecord
 gathered_records block_bytes bytes blocks = map (λ b. record { block = b.0; content = option_map (block_from block_bytes bytes) b.1 }) blocks
 
@@ -49,6 +49,6 @@ abbrev pub bytes_in : Option (List ℕ) → List ℕ
 bytes_in None = []
 bytes_in (Some bytes) = bytes
 
--- the block at a position, if there is one
+-- the block at a position, if any
 abbrev pub stored_bytes : ℕ → List ℕ → Option ℕ → List ℕ
 stored_bytes block_bytes bytes position = bytes_in (option_map (block_from block_bytes bytes) position)

@@ -12,7 +12,7 @@ use Rattle.zone_cleaner.specs.Clean.{CleanView, forgotten, turns_left}
 use Rattle.zone_cleaner.specs.Start.{AgreesWithClean}
 use Rattle.zone_cleaner.specs.Turns.{MayClose}
 
--- a clean that runs goes on, and as many turns are left of it as before, or fewer
+-- a clean that runs continues, and as many turns are left of it as before, or fewer
 pub record GoesOnBeside (before : MountedView) (old : Option CleanView) (after : MountedView) (new : Option CleanView) : Type 0 where
   pub cleaned : AgreesWithClean after new
   pub turns : turns_left (batch_most before.drive.geometry) after.tables new ≤ turns_left (batch_most before.drive.geometry) before.tables old

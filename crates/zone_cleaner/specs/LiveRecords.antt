@@ -16,24 +16,24 @@ pub record LiveRecord : Type 0 where
 abbrev pub trim_record : ℕ → LiveRecord
 trim_record block = record { block = block; content = None }
 
--- what it says of a block that lies at a place: the data that the array has, or none for a trim
+-- what it says of a block that is at a place: the data that the array has, or none for a trim
 abbrev pub live_content : List (List ℕ) → ℕ → Place → Option (List ℕ)
 live_content array block (places.At address) = Some (slice_index_or array block [])
 live_content array block place = None
 
--- the records of the blocks that lie in a zone, in ascending order, where the first of these places is that of the block `first`
+-- the records of the blocks that are in a zone, in ascending order, where the first of these places is that of the block `first`
 abbrev pub records_in : List (List ℕ) → ℕ → ℕ → ℕ → List Place → List LiveRecord
 records_in array zone_size zone first [] = []
 records_in array zone_size zone first (place ∷ all) =
     if lies_in zone_size zone place then record { block = first; content = live_content array first place } ∷ records_in array zone_size zone (first + 1) all
     else records_in array zone_size zone (first + 1) all
 
--- all records but that of one block
+-- all records except one block's
 abbrev pub without_block : ℕ → List LiveRecord → List LiveRecord
 without_block block [] = []
 without_block block (r ∷ rs) = if block == r.block then rs else r ∷ without_block block rs
 
--- all but those of the blocks that these entries name
+-- all except records of the blocks that these entries name
 abbrev pub without_all : List Entry → List LiveRecord → List LiveRecord
 without_all [] rs = rs
 without_all (e ∷ es) rs = without_all es (without_block e.block rs)

@@ -43,12 +43,12 @@ pub record Starts (geometry : Geometry) (old new : TablesView) (clean : CleanVie
   pub tables : new ≡ record old { roles = with_destination old.roles destination }
   pub clean_is : clean ≡ started victim
 
--- what a turn leaves where no clean runs: the clean that is due has begun, or none is due, and nothing changed
+-- after a turn if no clean runs: the clean that is due has begun, or none is due, and nothing changed
 abbrev pub StartLeaves : Geometry → TablesView → TablesView → Option CleanView → Type 0
 StartLeaves geometry old new (Some clean) = Starts geometry old new clean
 StartLeaves geometry old new None = NoneIsDue geometry old × (new ≡ old)
 
--- what a turn leaves, by its answer: it does the next step of the clean that runs; where none runs, no command is sent
+-- after a turn, by its answer: it does the next step of the clean that runs; if none runs, no command is sent
 abbrev pub TurnLeaves : MountedView → Option CleanView → Result (Unit {0}) CleanFault → MountedView → Option CleanView → Type 0
 TurnLeaves before None (Ok done) after new = (after.drive ≡ before.drive) × StartLeaves before.drive.geometry before.tables after.tables new
 TurnLeaves before None (Err fault) after new = ⊥
@@ -69,12 +69,12 @@ pub record EndsBy (before : MountedView) (old : Option CleanView) (fault : Clean
   pub done : AreTurns turns before old middle clean
   pub refused : TurnLeaves middle clean (Err fault) after new
 
--- what is left where a clean that runs is run to its end, by the answer: turns alone were taken
+-- what is left where a clean that runs is run to its end, by the answer: only turns were taken
 abbrev pub EndLeaves : MountedView → Option CleanView → Result (Unit {0}) CleanFault → MountedView → Option CleanView → Type 0
 EndLeaves before old (Ok done) after new = (new ≡ None) × ((n : ℕ) × AreTurns n before old after new)
 EndLeaves before old (Err fault) after new = EndsBy before old fault after new
 
--- where none runs, a turn starts the one that is due
+-- if none runs, a turn starts the one that is due
 abbrev pub CleanLeaves : MountedView → Option CleanView → Result (Unit {0}) CleanFault → MountedView → Option CleanView → Type 0
 CleanLeaves before None result after new =
     (middle : MountedView) × (clean : Option CleanView) × TurnLeaves before None (Ok tt) middle clean × EndLeaves middle clean result after new

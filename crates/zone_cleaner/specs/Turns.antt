@@ -112,15 +112,15 @@ pub record StopsClean (before after : MountedView) : Type 0 where
   pub refused : after.drive.refused ≡ before.drive.refused
   pub appended : after.drive.appended ≡ before.drive.appended
 
--- What a step leaves that was not done, by its fault. Out of memory, the array is the same. A Move alone needs a
--- sequence; where none is left for it, nothing was sent.
+-- What a step leaves that was not done, by its fault. Out of memory, the array is the same. Only a Move needs a
+-- sequence; if none is left for it, nothing was sent.
 abbrev pub StepFails : Step → CleanFault → MountedView → MountedView → Type 0
 StepFails step faults.OutOfMemory before after = KeepsArray before after × MayClose before after.tables
 StepFails step faults.Stopped before after = StopsClean before after
 StepFails Move faults.Spent before after = (after ≡ before) × (sequence_end before.drive.geometry ≤ before.tables.next)
 StepFails step faults.Spent before after = ⊥
 
--- what a step leaves, by its answer: the clean goes on from here, or it has ended; where the step was not done, it is as it was
+-- after a step, by its answer: the clean continues from here, or it has ended; where the step was not done, it is unchanged
 abbrev pub StepLeaves : Step → MountedView → CleanView → Result (Unit {0}) CleanFault → MountedView → Option CleanView → Type 0
 StepLeaves step before clean (Ok done) after new = StepDone step before clean after new
 StepLeaves step before clean (Err fault) after new = StepFails step fault before after × (new ≡ Some clean)

@@ -59,7 +59,7 @@ impl Clean {
         self.gathered.forget(entries);
     }
 
-    /// Gathers the record of a block, which lies in the victim.
+    /// Gathers the record of a block, which is in the victim.
     pub(crate) fn gather<D: Device>(
         &mut self,
         disk: &mut Mounted<D>,

@@ -89,7 +89,7 @@ impl Cleaner {
     }
 
     /// Appends a batch of the host to the host zone and, after the Append, takes the blocks that it names out of the
-    /// gathered records. A clean that runs goes on, with as many turns left as before, or fewer.
+    /// gathered records. A clean that runs continues, with as many turns left as before, or fewer.
     pub fn append_batch<D: Device>(
         &mut self,
         disk: &mut Mounted<D>,
@@ -168,9 +168,9 @@ impl Cleaner {
         }
     }
 
-    /// One turn: the next step of the clean that runs; where none runs, the start of one that is due.
+    /// One turn: the next step of the clean that runs; if none runs, the start of one that is due.
     ///
-    /// After `OutOfMemory` and `Spent` the clean is as it was before the turn, and goes on at the next. At most two
+    /// After `OutOfMemory` and `Spent` the clean is as it was before the turn, and continues at the next. At most two
     /// commands are completed.
     pub fn turn<D: Device>(&mut self, disk: &mut Mounted<D>) -> Result<(), CleanFault>
         requires cleaned { AgreesWithClean disk.old self.old }
@@ -194,7 +194,7 @@ impl Cleaner {
     }
 
     /// Cleans a zone at once, for a disk that has no host zone, no next zone, and at most one empty zone: the clean
-    /// that runs is run to its end or, where none runs, one is started and run. Then there is a next zone, with two
+    /// that runs is run to its end or, if none runs, one is started and run. Then there is a next zone, with two
     /// free blocks.
     pub fn clean_zone<D: Device>(&mut self, disk: &mut Mounted<D>) -> Result<(), CleanFault>
         requires cleaned { AgreesWithClean disk.old self.old }

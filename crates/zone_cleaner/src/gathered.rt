@@ -22,7 +22,7 @@ use std::marker::Model;
 use zone_choice::{BatchBuilder, Mounted, halt_of};
 
 /// The live records that the next Move takes, in the order in which they were gathered: of each block its
-/// data, or none for a trim. The data stands where the Move has it.
+/// data, or none for a trim. The data is where the Move has it.
 #[derive(Drop)]
 pub struct Gathered {
     /// Of each block the position of its data in the Move, or none for a trim.
@@ -77,7 +77,7 @@ pub fn fault_of(halt: Halt) -> CleanFault
     }
 }
 
-/// Adds the data of a block, which lies at an address, to a batch.
+/// Adds the data of a block, which is at an address, to a batch.
 fn fetch<D: Device>(
     batch: &mut BatchBuilder,
     disk: &mut Mounted<D>,
@@ -145,7 +145,7 @@ impl Gathered {
         Ok(())
     }
 
-    /// Adds the record of a block above those that are there, with the data that lies at an address. Out of memory the
+    /// Adds the record of a block above those that are there, with the data that is at an address. Out of memory the
     /// drive may have completed a Read.
     fn read<D: Device>(
         &mut self,
@@ -170,7 +170,7 @@ impl Gathered {
         Ok(())
     }
 
-    /// Gathers the record of a block above those that are there, which lies at a place.
+    /// Gathers the record of a block above those that are there, which is at a place.
     pub fn gather<D: Device>(
         &mut self,
         disk: &mut Mounted<D>,

@@ -8,7 +8,7 @@
 //! let mut cleaner = Cleaner::new(alloc);
 //! cleaner.turn(&mut disk)?;                           // starts a clean, if one is due
 //! cleaner.turn(&mut disk)?;                           // gathers a record, or appends a Move, or resets the victim
-//! cleaner.append_batch(&mut disk, host, &batch)?;     // a batch of the host, beside the clean
+//! cleaner.append_batch(&mut disk, host, &batch)?;     // a batch of the host, during the clean
 //! cleaner.run_to_end(&mut disk)?;                     // all turns that are left
 //! ```
 //!
@@ -17,6 +17,8 @@
 //! moment (`KeepsByCleaning`); each turn that is done leaves fewer turns, so the clean ends (`TurnsFewer`), and a batch
 //! of the host never adds one (`HostLeaves` in specs/Host); and the destination keeps two free blocks (`HasRoomFor` in
 //! specs/Clean).
+//!
+//! Tests: the rows of `worked_runs`.
 #![tactic(auto)]
 
 mod clean;

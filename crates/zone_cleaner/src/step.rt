@@ -3,7 +3,7 @@ use logical_map::Place;
 /// What a clean does in its next turn.
 #[derive(Clone, Copy, Debug, PartialEq, Eq)]
 pub enum Step {
-    /// The record of this block, which lies there, is gathered.
+    /// The record of this block, which is there, is gathered.
     Gather(u32, Place),
     /// The gathered records are appended to the destination, as one Move.
     Move,

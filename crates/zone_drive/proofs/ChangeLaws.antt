@@ -89,7 +89,7 @@ closes-first habit geometry zones index (Some low) in_range are (wants, makes, l
 
 -- ---- the zone that is changed
 
--- These are zones of the drive, and in blocks those of the other list.
+-- These are zones of the drive, and in blocks the other list's.
 pub record Leaves (geometry : Geometry) (zones : List StoredZone) (shown : List Zone) : Type 0 where
   pub are : AreZones geometry zones
   pub in_blocks : zones_of geometry.block zones ≡ shown

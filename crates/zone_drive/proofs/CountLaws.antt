@@ -36,7 +36,7 @@ count-stored p block (zone ∷ zones) =
     count-cons (λ (z : StoredZone). p z.state) zone zones
     ∙ omega (arith, count-stored p block zones, count-cons (λ (z : Zone). p z.state) (zone_stored block zone) (zones_of block zones))
 
--- no more zones are counted where none is counted that was not
+-- no more zones are counted if none is counted that was not
 pub count-map : (p : ZoneState → Bool) (f : Zone → Zone) → ((zone : Zone) → one_if (p (f zone).state) ≤ one_if (p zone.state)) → (zones : List Zone) → state_count p (map f zones) ≤ state_count p zones
 count-map p f fewer [] = omega arith
 count-map p f fewer (zone ∷ zones) =

@@ -35,7 +35,7 @@ count-mono p xs (suc n) zero le = absurd (omega arith)
 count-mono p [] (suc n) (suc m) le = omega arith
 count-mono p (x ∷ xs) (suc n) (suc m) le = omega (arith, count-mono p xs n m (omega arith), count-cons p x (take n xs), count-cons p x (take m xs))
 
--- where none is counted, none passes
+-- if none is counted, none passes
 none-passes : {X : Type 0} (p : X → Bool) (xs : List X) (n k : ℕ) (d : X) → count_by p (take n xs) ≡ 0 → k < n → k < length xs → p (get_or xs k d) ≡ false
 none-passes p [] n k d e lt low = absurd (omega arith)
 none-passes p (x ∷ xs) zero k d e lt low = absurd (omega arith)
@@ -133,7 +133,7 @@ zeros-below zones counts grouped (suc group) le zeros =
     let rest = zeros-below zones counts grouped group (omega arith) (λ k lt. zeros k (omega arith)) in
     rw next (omega (arith, rest, grouped.each group (omega arith), zeros group (omega arith)))
 
--- where no zone passes, the search finds none
+-- if no zone passes, the search finds none
 finds-none : (zones : List StoredZone) → ((k : ℕ) → k < length zones → is_implicit (get_or zones k empty_stored) ≡ false) → None ≡ position is_implicit zones
 finds-none zones none =
     let is : position_or_len is_implicit zones ≡ length zones = position_or_len_is is_implicit zones (length zones) empty_stored (omega arith) none (λ lt. absurd (omega arith)) in
@@ -212,7 +212,7 @@ found-group counts group groups e =
       zeros = λ k lt. not_counted _ (found.2 k lt);
     }
 
--- where none is found, all count none
+-- if none is found, all count none
 pub no-group : (counts : List ℕ) → length counts ≡ 256 → None ≡ position (λ (count : ℕ). ltb 0 count) counts → (k : ℕ) → k < 256 → get_or counts k 0 ≡ 0
 no-group counts groups e k lt =
     let past : length counts ≤ position_or_len (λ (count : ℕ). ltb 0 count) counts = ltb-false _ _ (none_found (ltb (position_or_len (λ (count : ℕ). ltb 0 count) counts) (length counts)) _ e) in

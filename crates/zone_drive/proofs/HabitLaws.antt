@@ -28,7 +28,7 @@ pub record IsStep (zones : List StoredZone) (low : ℕ) : Type 0 where
   pub rest : map closed_stored (sent_in zones low Close) ≡ map closed_stored zones
   pub fewer : count_by is_implicit (sent_in zones low Close) + 1 ≡ count_by is_implicit zones
 
--- the lowest zone is closed, and it goes on
+-- the lowest zone is closed, and it continues
 pub closes-step : (zones : List StoredZone) (low : ℕ) → Some low ≡ position is_implicit zones → IsStep zones low
 closes-step zones low e =
     let none : StoredZone = record { state = Offline; bytes = [] } in
@@ -52,7 +52,7 @@ none_left [] none all = refl
 none_left (zone ∷ zones) none all =
     rw (all 0 (omega arith), none_left zones none (λ k lt. all (suc k) (omega arith))) refl
 
--- where no zone is Implicitly Opened, nothing is closed
+-- if no zone is Implicitly Opened, nothing is closed
 pub closes-none : (zones : List StoredZone) → None ≡ position is_implicit zones → map closed_stored zones ≡ zones
 closes-none zones e =
     let none : StoredZone = record { state = Offline; bytes = [] } in

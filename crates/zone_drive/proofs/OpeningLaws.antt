@@ -1,4 +1,4 @@
--- Commands that may open a zone: their checks, then those of its resources, then their effect, once the drive has made its choice.
+-- Commands that may open a zone: their checks, then its resources' checks, then their effect, once the drive has made its choice.
 use Rattle.std.proofs.Common.{◌≡◌, ℕ, ◌+◌, ◌≤◌, Bool, true, false, cond, leb, ◌&&◌, List, [], ◌∷◌, ◌++◌, Option, Some, None, Ok, Err, refl, ap, arith}
 use Rattle.std.proofs.lemmas.Bool.{lt-leb}
 use Rattle.nvme_wire.specs.declared.zone_state.ZoneState.{ZoneState}
@@ -18,7 +18,7 @@ use Rattle.zone_drive.specs.Choice.{IsLowestOpened, RoomGives, close_lowest, wan
 use Rattle.zone_drive.proofs.CountLaws.{active-set, open-set}
 use Rattle.zone_drive.proofs.RoomLaws.{apart, zone_at-closing}
 
--- the command on these zones: its first checks look at one zone alone
+-- the command on these zones: its first checks look only at one zone
 abbrev pub opening : Geometry → (Zone → List (Bool × Status)) → (List Zone → Outcome) → ℕ → List Zone → Outcome
 opening geometry first effect index zones =
     unless_refused (first_failing (first (zone_at zones index) ++ resource_checks geometry zones (zone_at zones index))) zones (effect zones)

@@ -64,7 +64,7 @@ read-shows size n offset count from long bytes whole e f = padded-short long _ (
 
 -- ---- the end of a zone
 
--- blocks lie in more than one zone where they end past that of the first
+-- blocks are in more than one zone where they end past that of the first
 pub passes-end : (size slba blocks : ℕ) → 1 ≤ size → 1 ≤ blocks → not (eqb (slba / size) ((slba + blocks - 1) / size)) ≡ ltb (slba / size * size + size) (slba + blocks)
 passes-end size slba blocks wide some = by_end (ltb (zone * size + size) (slba + blocks)) refl
   where

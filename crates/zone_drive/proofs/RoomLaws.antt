@@ -74,7 +74,7 @@ pub lowest-gives : (block : ℕ) (zones : List StoredZone) (found : Option ℕ) 
 lowest-gives block zones (Some low) e = lowest-Some block zones low e
 lowest-gives block zones None e = tt
 
--- where none is found, there is none to close
+-- if none is found, there is none to close
 pub lowest-lacks : (block : ℕ) (zones : List StoredZone) (found : Option ℕ) → found ≡ position is_implicit zones → IfNone found (close_lowest (zones_of block zones) ≡ zones_of block zones)
 lowest-lacks block zones (Some low) e = tt
 lowest-lacks block zones None e = lowest-None block zones e

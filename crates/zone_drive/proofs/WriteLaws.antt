@@ -69,7 +69,7 @@ abbrev pub AllPass : {F : Type 0} → List (Bool × F) → Type 0
 AllPass [] = Unit {0}
 AllPass (check ∷ checks) = (check.0 ≡ false) × AllPass checks
 
--- where no check fails, all pass
+-- if no check fails, all pass
 pub all-passed : {F : Type 0} (checks : List (Bool × F)) → None ≡ first_failing checks → AllPass checks
 all-passed [] e = tt
 all-passed ((true, f) ∷ checks) e = absurd (cc e)

@@ -16,7 +16,7 @@ use Rattle.zone_drive.specs.declared.reply.Reply.{Reply}
 use Rattle.zone_drive.specs.Habits.{MemoryDrive, closed_zone, makes_room, settled, with_zones}
 use Rattle.drive_port.specs.Step.{Outcome, outcome, resource_checks, zone_at}
 
--- the zones with the lowest implicitly opened one closed, if there is one
+-- the zones with the lowest implicitly opened one closed, if any
 abbrev pub close_lowest : List Zone → List Zone
 close_lowest [] = []
 close_lowest (zone ∷ zones) = if is_state ImplicitlyOpened zone.state then closed_zone zone ∷ zones else zone ∷ close_lowest zones

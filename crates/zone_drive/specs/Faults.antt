@@ -8,7 +8,7 @@ use Rattle.zone_drive.specs.Stored.{AreZones}
 use Rattle.zone_drive.specs.declared.drive.DriveFault.{DriveFault}
 use Rattle.zone_drive.specs.declared.drive.DriveFault.TheVariants as faults
 
--- The first part of the geometry that is out of range; or, where none is, zones that a drive of it can't have.
+-- The first part of the geometry that is out of range; or, if none is, zones that a drive of it can't have.
 abbrev pub IsFault : Geometry → List StoredZone → DriveFault → Type 0
 IsFault geometry zones (faults.Geometry fault) = first_failing (geometry_checks geometry) ≡ Some fault
 IsFault geometry zones faults.Zones = IsInRange geometry × ¬ AreZones geometry zones

@@ -12,7 +12,7 @@ use Rattle.drive_port.specs.Step.{end_of, is_refusal, zone_at}
 use Rattle.zone_drive.specs.Choice.{RoomGives, with_room}
 use Rattle.zone_drive.specs.Habits.{MemoryDrive, with_zones}
 
--- the checks of an action on one zone, those of its resources left out
+-- the checks of an action on one zone, without the resources' checks
 abbrev pub send_first : Geometry → Zone → ℕ → Action → List (Bool × Status)
 send_first geometry zone slba action =
     (not (slba % geometry.size == 0), InvalidField)

@@ -1,4 +1,4 @@
--- What an action leaves of the zones as they are stored.
+-- The zones, as they are stored, after an action.
 use Rattle.std.specs.Prelude.{ℕ, if◌then◌else◌, List, [], slice_index_or, slice_set, Option, Some, None}
 use Rattle.nvme_wire.specs.declared.command.Action.{Action}
 use Rattle.nvme_wire.specs.declared.command.Action.TheVariants.{Close}

@@ -9,7 +9,7 @@ use Rattle.drive_port.specs.Step.{end_of, write_effect, zone_at}
 use Rattle.zone_drive.specs.Choice.{RoomGives, with_room}
 use Rattle.zone_drive.specs.Habits.{MemoryDrive, with_zones}
 
--- the checks of an Append, those of its resources left out
+-- the checks of an Append, without the resources' checks
 abbrev pub append_first : Geometry → Zone → ℕ → ℕ → List ℕ → List (Bool × Status)
 append_first geometry zone zslba blocks bytes =
     data_checks geometry blocks bytes
@@ -17,14 +17,14 @@ append_first geometry zone zslba blocks bytes =
     ∷ (nat_le (end_of geometry) zslba, LbaOutOfRange)
     ∷ zone_append_checks geometry zone blocks
 
--- the checks of a Write, those of its resources left out
+-- the checks of a Write, without the resources' checks
 abbrev pub write_first : Geometry → Zone → ℕ → ℕ → List ℕ → List (Bool × Status)
 write_first geometry zone slba blocks bytes =
     data_checks geometry blocks bytes
     ++ (nat_lt (end_of geometry) (slba + blocks), LbaOutOfRange)
     ∷ zone_write_checks geometry zone (slba % geometry.size) blocks
 
--- These blocks come after those of the zone, where there are resources for it; else nothing changes.
+-- These blocks come after the zone's, where there are resources for it; else nothing changes.
 abbrev pub WritesAfter : MemoryDrive → ℕ → List ℕ → Option Status → MemoryDrive → Type 0
 WritesAfter old index bytes (Some status) new =
     RoomGives old.habit old.state.geometry old.state.zones (zone_at old.state.zones index) (Err status) × (new ≡ old)

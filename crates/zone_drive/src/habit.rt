@@ -13,7 +13,7 @@ pub enum Habit {
     /// As `Lazy`, and after each completed command, also a refused one, the drive closes all Implicitly
     /// Opened zones.
     Closing,
-    /// The drive closes no zone: where no open resource is left, a command that needs one is refused.
+    /// The drive closes no zone: if no open resource is left, a command that needs one is refused.
     Strict,
 }
 

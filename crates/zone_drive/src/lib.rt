@@ -22,6 +22,8 @@
 //!   `specs/Stored.antt`), and shows its zones at any time.
 //!
 //! Each command has a file of its own.
+//!
+//! Tests: the rows of `worked_runs`.
 #![tactic(auto)]
 
 mod device;

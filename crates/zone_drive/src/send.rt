@@ -12,7 +12,7 @@ use nvme_wire::{Action, Command, Status};
 use zone_states::next_state;
 
 impl Drive {
-    /// The status of the first check that an action on one zone fails, without those of the resources.
+    /// The status of the first check that an action on one zone fails, without the resources' checks.
     pub(crate) fn send_refusal(&self, slba: u64, action: Action) -> Option<Status>
         ensures { result ≡ first_failing (send_first self.now.state.geometry
             (zone_at self.now.state.zones (slba / self.now.state.geometry.size)) slba action) }

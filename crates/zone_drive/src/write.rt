@@ -27,7 +27,7 @@ impl Drive {
         None
     }
 
-    /// The status of the first check that an Append fails, without those of the resources.
+    /// The status of the first check that an Append fails, without the resources' checks.
     pub(crate) fn append_refusal(&self, zslba: u64, blocks: u32, bytes: &[u8]) -> Option<Status>
         ensures checks { result ≡ first_failing (append_first self.now.state.geometry
             (zone_at self.now.state.zones (zslba / self.now.state.geometry.size)) zslba blocks
@@ -47,7 +47,7 @@ impl Drive {
         zone.append_refusal(&self.geometry, u64::from(blocks))
     }
 
-    /// The status of the first check that a Write fails, without those of the resources.
+    /// The status of the first check that a Write fails, without the resources' checks.
     pub(crate) fn write_refusal(&self, slba: u64, blocks: u32, bytes: &[u8]) -> Option<Status>
         requires { 1 ≤ blocks }
         ensures checks { result ≡ first_failing (write_first self.now.state.geometry

@@ -68,7 +68,7 @@ impl Zones {
         self.resources.lowest_implicit(&self.zones)
     }
 
-    /// Takes the memory for that many more bytes of a zone, if there is one with this number.
+    /// Takes the memory for that many more bytes of a zone, if any with this number.
     pub fn reserve(&mut self, index: usize, bytes: usize) -> Result<(), AllocError>
         ensures { self.new ≡ self.old }
     {
@@ -78,7 +78,7 @@ impl Zones {
         self.zones[index].reserve(bytes)
     }
 
-    /// Writes bytes after those of a zone, as a Write or an Append does that passed its checks: nothing is
+    /// Writes bytes after a zone's, as a Write or an Append does that passed its checks: nothing is
     /// checked here.
     pub fn write(
         &mut self,

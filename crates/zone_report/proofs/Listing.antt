@@ -4,7 +4,7 @@ use Rattle.std.specs.List.{flat_map}
 use Rattle.nvme_wire.specs.declared.descriptor.Descriptor.{Descriptor}
 use Rattle.nvme_wire.specs.Descriptor.{descriptor_bytes}
 
--- after the front, the descriptors written so far and those of the rest are those of the whole
+-- after the front, the descriptors written so far and those of the rest are the whole's
 pub record Continues (front : List ℕ) (room : ℕ) (whole : List Descriptor) (named : ℕ) (bytes : List ℕ) (rest : List Descriptor) : Type 0 where
   pub count : named + length rest ≡ length whole
   pub encoded : bytes ++ flat_map descriptor_bytes (take (room - named) rest) ≡ front ++ flat_map descriptor_bytes (take room whole)
@@ -21,7 +21,7 @@ Continues-written front room whole named bytes d rest lt so_far =
       encoded = append_assoc bytes (descriptor_bytes d) (flat_map descriptor_bytes (take (room - (named + 1)) rest)) ∙ rw more at so_far.encoded;
     }
 
--- and counted where there is none
+-- and counted if there is none
 pub Continues-counted :
     (front : List ℕ) (room : ℕ) (whole : List Descriptor) (named : ℕ) (bytes : List ℕ) (d : Descriptor) (rest : List Descriptor) →
     room ≤ named → Continues front room whole named bytes (d ∷ rest) →

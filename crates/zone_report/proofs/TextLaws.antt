@@ -7,7 +7,7 @@ use Rattle.nvme_wire.specs.declared.report_head.ReportHead.{ReportHead}
 use Rattle.nvme_wire.specs.Descriptor.{IsDescriptor, descriptor_bytes}
 use Rattle.zone_report.specs.ReportText.{IsListing, IsReport, ListsText, descriptor_line}
 
--- no descriptor stands at the front
+-- no descriptor is at the front
 abbrev pub BeginsOtherwise : List ℕ → Type 0
 BeginsOtherwise bytes = (d : Descriptor) → IsDescriptor d → take 64 bytes ≡ descriptor_bytes d → ⊥
 
@@ -32,7 +32,7 @@ zeros-otherwise : (n : ℕ) (d : Descriptor) → take 64 (replicate n 0) ≡ des
 zeros-otherwise zero d e = let one = ap (λ bytes. get_or bytes 0 0) e in omega (arith, one)
 zeros-otherwise (suc n) d e = let one = ap (λ bytes. get_or bytes 0 0) e in omega (arith, one)
 
--- the first descriptor of a listing is the one that stands at its front
+-- the first descriptor of a listing is the one that is at its front
 IsListing-left :
     (bytes : List ℕ) (d : Descriptor) (ds : List Descriptor) →
     take 64 bytes ≡ descriptor_bytes d → ((e : Descriptor) → IsDescriptor e → take 64 bytes ≡ descriptor_bytes e → d ≡ e) →
@@ -46,7 +46,7 @@ IsListing-left bytes d (e ∷ ds) front only lists =
       lists = record { each = lists.each.1; rest = lists.rest; encoded = ap (drop 64) lists.encoded };
     }
 
--- where no descriptor stands at the front, a listing is zeros alone
+-- if no descriptor is at the front, a listing is only zeros
 IsListing-ends :
     (bytes : List ℕ) (ds : List Descriptor) → BeginsOtherwise bytes → IsListing bytes ds → (ds ≡ []) × (bytes ≡ replicate (length bytes) 0)
 IsListing-ends bytes [] other lists = (refl, lists.encoded ∙ ap (λ n. replicate n 0) (sym (ap length lists.encoded ∙ length-replicate {A = ℕ} lists.rest 0)))
@@ -58,7 +58,7 @@ short-otherwise bytes short d fits front =
     let len : length (take 64 bytes) ≡ 64 = ap length front in
     omega (arith, len, length-take 64 bytes)
 
--- zeros alone
+-- only zeros
 IsListing-zeros : (bytes : List ℕ) → bytes ≡ replicate (length bytes) 0 → IsListing bytes []
 IsListing-zeros bytes zeros = record { each = tt; rest = length bytes; encoded = zeros }
 

@@ -64,7 +64,7 @@ report geometry zones address options partial dwords =
 abbrev pub CanReport : Geometry → ℕ → ℕ → Type 0
 CanReport geometry address dwords = (16 ≤ dwords) × (address < geometry.zones * geometry.size)
 
--- why there is no report: the first that holds, or an allocation failed where none does
+-- why there is no report: the first that holds, or an allocation failed if none does
 abbrev pub CannotReport : Geometry → ℕ → ℕ → ReportFault → Type 0
 CannotReport geometry address dwords Field = dwords < 16
 CannotReport geometry address dwords Range = (16 ≤ dwords) × (geometry.zones * geometry.size ≤ address)

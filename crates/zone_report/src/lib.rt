@@ -18,6 +18,8 @@
 //!   what was wrong with the request.
 //! * `report_text` accepts reports and nothing else; its lines are those of the report's head and
 //!   descriptors (`specs/ReportText.antt`).
+//!
+//! Tests: the rows of `worked_runs`.
 #![tactic(auto)]
 
 mod fault;

@@ -29,7 +29,7 @@ concat-cut size zero [] long = refl
 concat-cut size zero (x ∷ bytes) long = absurd (omega arith)
 concat-cut size (suc n) bytes long = rw (concat-cut size n (drop size bytes) (omega (arith, length-drop size bytes))) (take-append-drop size bytes)
 
--- bytes one after the other are cut into the blocks of the first and those of the second
+-- bytes one after the other are cut into the blocks of the first and of the second
 pub cut-append : (size n m k : ℕ) (xs ys : List ℕ) → k ≡ n + m → length xs ≡ n * size → cut_blocks size k (xs ++ ys) ≡ cut_blocks size n xs ++ cut_blocks size m ys
 cut-append size zero m k [] ys e len = let same : k ≡ m = omega arith in rw same refl
 cut-append size zero m k (x ∷ xs) ys e len = absurd (omega arith)

@@ -28,7 +28,7 @@ stored_write geometry zone bytes =
     let all = zone.bytes ++ bytes in
     record { state = if length all / geometry.block == geometry.capacity then Full else opened_by_write zone.state; bytes = all }
 
--- In blocks: those of these bytes are after those of the zone, and its bytes are whole blocks again.
+-- In blocks: those of these bytes are after the zone's, and its bytes are whole blocks again.
 pub record WrittenAfter (geometry : Geometry) (old : StoredZone) (bytes : List ℕ) (new : StoredZone) : Type 0 where
   pub zone : zone_stored geometry.block new ≡ written_zone geometry.capacity (zone_stored geometry.block old)
       (cut_blocks geometry.block (length bytes / geometry.block) bytes)

@@ -1,4 +1,4 @@
--- The checks of a Write or an Append to one zone, in order. Those of the limits on active and open zones come after them, and are the drive's.
+-- The checks of a Write or an Append to one zone, in order. The checks of the limits on active and open zones come after them, and are the drive's.
 use Rattle.std.specs.Prelude.{ℕ, ◌+◌, ◌*◌, ◌/◌, ◌==◌, nat_lt, not, Bool, List, [], ◌∷◌, ◌++◌, length}
 use Rattle.nvme_wire.specs.declared.zone_state.ZoneState.TheVariants as states
 use Rattle.nvme_wire.specs.declared.status.Status.{Status}

@@ -60,7 +60,7 @@ impl Geometry {
         (address / u64::from(self.size)) as u32
     }
 
-    /// The first address after those of the drive.
+    /// The first address after the drive's.
     pub fn end(self) -> u64
         ensures { result ≡ self.zones * self.size }
     {

@@ -19,9 +19,11 @@
 //! * `Geometry::check` accepts the geometries that are in range, and no others (`specs/Geometry.antt`).
 //! * `next_state` is the standard's table of states and actions (`specs/Transition.antt`).
 //! * A Write or an Append is refused by the first check that fails, in a fixed order
-//!   (`specs/Writing.antt`); else its blocks are after those of the zone, which is Full where they reach
+//!   (`specs/Writing.antt`); else its blocks are after the zone's, which is Full where they reach
 //!   its capacity (`specs/Zone.antt`). A refused call changes nothing.
 //! * The limits on active and open zones concern all zones of a drive, and are not looked at here.
+//!
+//! Tests: the rows of `worked_runs`.
 #![tactic(auto)]
 
 mod geometry;

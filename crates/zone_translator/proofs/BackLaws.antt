@@ -25,7 +25,7 @@ other-replaced (x ∷ xs) (y ∷ ys) zero zero outside = elim outside as (λ _. 
 other-replaced (x ∷ xs) (y ∷ ys) zero (suc block) outside =
     other-replaced xs ys zero block (elim outside as (λ _. (block < 0) ⊎ (0 + length ys ≤ block)) [ inl below ↦ absurd (omega arith) | inr above ↦ inr (omega arith) ])
 
--- a write of some blocks that is done was in range, and its blocks stand in the array
+-- a write of some blocks that is done was in range, and its blocks are in the array
 record IsWritten (old : FlatDisk) (first : ℕ) (blocks : List (List ℕ)) (new : FlatDisk) : Type 0 where
   within : nat_lt old.size (first + length blocks) ≡ false
   array : new.array ≡ replaced old.array first blocks

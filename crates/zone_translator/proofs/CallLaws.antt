@@ -127,11 +127,11 @@ pub write-known : (old : DiskView) (first n : ℕ) (blocks : List (List ℕ)) (r
     → FlatCall (flat_of old) (write first blocks) (with_nothing result) (flat_of old)
 write-known old first n blocks result long known = rw (long, known) (refl, refl)
 
--- and where none was known, nothing is said of it
+-- and if none was known, nothing is said of it
 pub write-unknown : (old new : DiskView) (first n : ℕ) (blocks : List (List ℕ)) → length blocks ≡ n → known_range (flat_of old) first n ≡ None → is_known (flat_of old) (write first blocks) ≡ true → new ≡ old
 write-unknown old new first n blocks long none known = let e : false ≡ true = rw (long, none) at known in absurd (cc)
 
--- a write that is done is that of a flat disk
+-- a write that is done is a flat disk's
 pub write-done : (old new : DiskView) (first n done : ℕ) (blocks : List (List ℕ)) → length blocks ≡ n → known_range (flat_of old) first n ≡ None → old.status ≡ statuses.Serving → n ≤ done → disk_array new ≡ replaced (disk_array old) first (take done blocks) → disk_size new ≡ disk_size old
     → new.status ≡ statuses.Serving → new.drive.geometry ≡ old.drive.geometry → FlatCall (flat_of old) (write first blocks) (with_nothing (Ok tt)) (flat_of new)
 write-done old new first n done blocks long known was most is size serves geometry =
@@ -147,7 +147,7 @@ may-refuse disk first blocks Smaller cause = absurd cause
 may-refuse disk first blocks Reserve cause = absurd cause
 may-refuse disk first blocks Unmounted cause = absurd cause
 
--- and one that was refused on its way
+-- and one that was refused midway
 pub write-refused : (old new : DiskView) (first n : ℕ) (blocks : List (List ℕ)) (fault : DiskFault) → length blocks ≡ n → known_range (flat_of old) first n ≡ None → IsFront (disk_array old) first blocks (disk_array new) → disk_size new ≡ disk_size old → new.status ≡ status_left fault
     → new.drive.geometry ≡ old.drive.geometry → IsCause new.drive (next_sequence new) fault → FlatCall (flat_of old) (write first blocks) (with_nothing (Err fault)) (flat_of new)
 write-refused old new first n blocks fault long known front size status geometry cause =
@@ -191,11 +191,11 @@ spend left less each now new most fewer one so_far = omega (arith, mul-le (less 
 
 -- ---- the answers of a growth
 
--- one whose answer is not known goes on
+-- one whose answer is not known continues
 pub growth-unknown : (old new : DiskView) (blocks : ℕ) → known_growth (flat_of old) blocks ≡ None → is_known (flat_of old) (grow blocks) ≡ true → new ≡ old
 growth-unknown old new blocks none known = let e : false ≡ true = rw none at known in absurd (cc)
 
--- a growth that is done is that of a flat disk
+-- a growth that is done is a flat disk's
 pub growth-done : (old new : DiskView) (blocks : ℕ) → known_growth (flat_of old) blocks ≡ None → disk_array new ≡ extended (zero_block old.drive.geometry.block) blocks (disk_array old) → disk_size new ≡ blocks → new.status ≡ old.status → new.drive.geometry ≡ old.drive.geometry
     → FlatCall (flat_of old) (grow blocks) (with_nothing (Ok tt)) (flat_of new)
 growth-done old new blocks known array size status geometry =
@@ -227,7 +227,7 @@ read-refuse drive first n Smaller cause = absurd cause
 read-refuse drive first n Reserve cause = absurd cause
 read-refuse drive first n Unmounted cause = absurd cause
 
--- a read that is done is that of a flat disk
+-- a read that is done is a flat disk's
 pub read-done : (old new : DiskView) (first n : ℕ) (bytes : List ℕ) → known_range (flat_of old) first n ≡ None → old.status ≡ statuses.Serving → bytes ≡ concat (blocks_from (disk_array old) first n) → disk_array new ≡ disk_array old → disk_size new ≡ disk_size old
     → new.status ≡ statuses.Serving → new.drive.geometry ≡ old.drive.geometry → Reads (flat_of old) first n (Ok tt) bytes (flat_of new)
 read-done old new first n bytes known was shown array size serves geometry = record {
@@ -250,7 +250,7 @@ pub read-known : (old : DiskView) (first n : ℕ) (result : Result (Unit {0}) Di
     → Reads (flat_of old) first n result bytes (flat_of old)
 read-known old first n result bytes known none = record { shown = []; flat = rw known (refl, refl); bytes_are = none }
 
--- one whose answer is not known goes on
+-- one whose answer is not known continues
 pub read-unknown : (old new : DiskView) (first n : ℕ) → known_range (flat_of old) first n ≡ None → is_known (flat_of old) (read first n) ≡ true → new ≡ old
 read-unknown old new first n none known = let e : false ≡ true = rw none at known in absurd (cc)
 
@@ -308,7 +308,7 @@ idle-refused old new fault serves array size status geometry cause =
     let none : known_answer (flat_of old) idle ≡ None = ap answer_while serves in
     rw none (idle-refuse new fault cause, refl, array, flat-refused old new fault size status geometry)
 
--- one whose answer is not known goes on
+-- one whose answer is not known continues
 pub idle-unknown : (old new : DiskView) → old.status ≡ statuses.Serving → is_known (flat_of old) idle ≡ true → new ≡ old
 idle-unknown old new serves known = let e : false ≡ true = rw serves at known in absurd (cc)
 
@@ -336,6 +336,6 @@ report-refused old new fault serves array size status geometry cause =
     let none : known_answer (flat_of old) report ≡ None = ap answer_while serves in
     rw none (report-refuse new.drive fault cause, refl, array, flat-refused old new fault size status geometry)
 
--- one whose answer is not known goes on
+-- one whose answer is not known continues
 pub report-unknown : (old new : DiskView) → old.status ≡ statuses.Serving → is_known (flat_of old) report ≡ true → new ≡ old
 report-unknown old new serves known = let e : false ≡ true = rw serves at known in absurd (cc)

@@ -1,4 +1,4 @@
--- The clean that ran before a part of a call: it goes on or ends, and only newer batches are new.
+-- The clean that ran before a part of a call: it continues or ends, and only newer batches are new.
 use Rattle.std.proofs.Common.{◌≡◌, ◌⊎◌, ℕ, zero, suc, ◌≤◌, true, List, [], ◌∷◌, ◌++◌, length, Option, Some, None, is_some, Result, Ok, Err, refl, sym, ap, subst, ◌∙◌, inl, inr, arith, append-nil, append_assoc}
 use Rattle.std.specs.Option.{option_map}
 use Rattle.std.specs.Prelude.{OnOk}
@@ -93,14 +93,14 @@ turns-join a b c x y z same p q =
     let there : turns_left (batch_most a.drive.geometry) c.tables z ≤ turns_left (batch_most a.drive.geometry) b.tables y = subst (λ (g : Geometry). turns_left (batch_most g) c.tables z ≤ turns_left (batch_most g) b.tables y) same q in
     omega (arith, p, there)
 
--- where no turn is left, no clean runs
+-- if no turn is left, no clean runs
 none-left : (a b : MountedView) (y : Option CleanView) → NoMoreTurns a None b y → y ≡ None
 none-left a b None few = refl
 none-left a b (Some c) few = absurd (omega (arith, few))
 
--- ---- a clean goes on, or ends
+-- ---- a clean continues, or ends
 
--- a clean that is the same goes on
+-- a clean that is the same continues
 pub goes-same : (a b : MountedView) (x y : Option CleanView) → y ≡ x → NoMoreTurns a x b y → GoesOnOrEnds a x b y
 goes-same a b None y same turns = tt
 goes-same a b (Some c) None same turns = absurd (cc)
@@ -123,7 +123,7 @@ goes-on a b c (Some u) (Some v) (Some w) le same runs p q = (q.0 ∙ p.0, turns-
 
 -- ---- a part of a call in which no clean begins
 
--- a clean that ran goes on or ends, only newer batches are new, and no more turns are left
+-- a clean that ran continues or ends, only newer batches are new, and no more turns are left
 pub record StaysClean (a : MountedView) (x : Option CleanView) (b : MountedView) (y : Option CleanView) : Type 0 where
   pub next : a.tables.next ≤ b.tables.next
   pub geometry : b.drive.geometry ≡ a.drive.geometry
@@ -324,7 +324,7 @@ end-stays before after old new is ends =
     let kept = turns-keep ends.1.0 before after old new is ends.1.1 in
     record { next = kept.next; geometry = kept.geometry; goes = kept.goes; turns = rw ends.0 (omega arith); newer = kept.newer }
 
--- or started before, where none runs
+-- or started before, if none runs
 pub zone-fails : {V : Type 0} (before after : MountedView) (old new : Option CleanView) (cause : CleanFault) → AgreesWithClean before old → CleanLeaves before old (Err cause) after new → KeepsCleaning {V = V} before old (Err (cleaning_fault cause)) after new
 zone-fails {V} before after (Some c) new cause is leaves = end-fails {V = V} before after (Some c) new cause is leaves
 zone-fails {V} before after None new cause is leaves =

@@ -151,7 +151,7 @@ holds-stopped a b clean clean' fits serves stops = record {
   stopped = λ e. stops.stopped;
 }
 
--- one that was read, and goes on or has stopped
+-- one that was read, and continues or has stopped
 pub holds-kept : (a b : MountedView) (clean : Option CleanView) → FitsReserve a.drive.geometry a.tables.given → AgreesWithClean a clean → KeepsArray a b → Holds b clean statuses.Serving
 holds-kept a b clean fits serves kept = holds-serving b clean (reserve-kept a b kept.geometry kept.given fits) (cleaned_kept a b clean serves kept)
 
@@ -208,7 +208,7 @@ pub record RefusedWrite (a b : MountedView) (clean clean' : Option CleanView) (f
   pub refused : Refused a b clean clean' fault was
   pub front : IsFront (mounted_array a) first blocks (mounted_array b)
 
--- a write that was refused on its way
+-- a write that was refused midway
 pub refused-write : (a b : MountedView) (clean clean' : Option CleanView) (trim : Bool) (first : ℕ) (blocks : List (List ℕ)) (fault : DiskFault) (was : DiskStatus) → FitsReserve a.drive.geometry a.tables.given → AgreesWithClean a clean
     → WriteLeaves trim a b clean' first blocks (Err fault) → RefusedWrite a b clean clean' first blocks fault was
 refused-write a b clean clean' trim first blocks fault was fits serves leaves = by fault leaves
@@ -254,7 +254,7 @@ none-spare disk (Some c) none serves = absurd (cc)
 
 -- ---- the tables name the places that the drive has
 
--- the places of the tables are those of the disk
+-- the places of the tables are the disk's
 places-on : (disk : MountedView) (clean : Option CleanView) (status : DiskStatus) → AgreesWithClean disk clean → disk.tables.map.places ≡ disk_places (view_of disk clean status)
 places-on disk clean status serves = serves.0.places
 

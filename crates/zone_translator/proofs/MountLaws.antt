@@ -100,7 +100,7 @@ remounted-flat old new n tables clean is same mounts =
 remount-halts : (drive new : DriveState) (tables : TablesView) (clean : Option CleanView) (status : DiskStatus) (n : ℕ) (fault : MountFault) → n ≡ tables.given → Holds (mounted drive tables) clean status → FailsBy (MountFails drive n) new fault → FailsBy (λ _. ⊥) new fault
 remount-halts drive new tables clean status n fault is holds fails = only-halts drive new n fault (rw is (holds-mount drive tables clean status holds)) fails
 
--- one that was refused is that of a flat array, too
+-- one that was refused is a flat array's, too
 refused-flat : (old : DiskView) (new : DriveState) (n : ℕ) (clean : Option CleanView) (fault : MountFault) → n ≡ given_size old → Holds (mounted_of old) old.clean old.status → KeepsMountable n old.drive new → FailsBy (MountFails old.drive n) new fault
     → FlatRemount (flat_of old) (Err fault) (flat_of (view_of (mounted new old.tables) clean Unmounted))
 refused-flat old new n clean fault is holds kept fails =
@@ -112,7 +112,7 @@ refused-flat old new n clean fault is holds kept fails =
     stops (inr (inl halted)) = inr halted.0
     stops (inr (inr none)) = absurd none
 
--- ---- what a remount leaves
+-- ---- after a remount
 
 -- all of a remount that is done
 pub remounts : (old : DiskView) (new : MountedView) (clean : Option CleanView) → clean ≡ None → KeepsMountable (given_size old) old.drive new.drive → Mounts old.drive new.drive (given_size old) new.tables → Remounts old (Ok tt) (view_of new clean Serving)

@@ -19,7 +19,7 @@ use Rattle.zone_choice.proofs.ReadLaws.{HoldsPlace, holds_place}
 use Rattle.zone_translator.specs.Changes.{disk_fault}
 use Rattle.zone_translator.specs.Read.{IsReadFault}
 
--- what stands at the place of a block
+-- what is at the place of a block
 pub holds : (drive : DriveState) (tables : TablesView) (block : ℕ) (p : Place) → Agrees (mounted drive tables) → block < size_of tables → p ≡ get_or tables.map.places block places.None → HoldsPlace drive (spelled drive tables.given) block p
 holds drive tables block p agrees lt e = rw e (holds_place drive tables block agrees lt)
 
@@ -39,7 +39,7 @@ pub record ReadHalts (old new : DriveState) (tables : TablesView) (fault : PortF
   pub kept : KeepsArray (mounted old tables) (mounted new tables)
   pub cause : IsReadFault new (disk_fault (fault_halt fault))
 
--- the Read is not refused, and what it leaves is kept
+-- the Read is not refused, and the result is kept
 pub place_halts : (old new : DriveState) (tables : TablesView) (block address : ℕ) (returned : List ℕ) (fault : PortFault) → Agrees (mounted old tables) → block < size_of tables → places.At address ≡ get_or tables.map.places block places.None
     → ReadGives {V = Unit {0}} old address 1 (Err fault) returned new → SameContents old new → IsClosing old.zones new.zones → Obeys {V = Unit {0}} old (Err fault) new → (CanRead old address 1 → IsNotRefused {V = Unit {0}} (Err fault)) → ReadHalts old new tables fault
 place_halts old new tables block address returned (port.Refused status) agrees lt at gives same closing obeys passed = absurd (passed (holds old tables block (places.At address) agrees lt at).can)

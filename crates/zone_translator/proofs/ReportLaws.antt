@@ -52,7 +52,7 @@ reports-all old new dwords bytes range count is reported = record {
 pub report_kept : (old new : DriveState) (tables : TablesView) (dwords : ℕ) (bytes : List ℕ) → Agrees (mounted old tables) → SameContents old new → IsClosing old.zones new.zones → Obeys {V = Unit {0}} old (Ok tt) new → Reported old new 0 AnyState false dwords bytes → KeepsArray (mounted old tables) (mounted new tables)
 report_kept old new tables dwords bytes agrees same closing obeys reported = keeps-contents old new tables agrees same (closing-opens old.zones new.zones closing) obeys.lawful reported.counts
 
--- it is not refused, and what it leaves is kept
+-- it is not refused, and the result is kept
 pub report_halts : (old new : DriveState) (tables : TablesView) (dwords : ℕ) (returned : List ℕ) (fault : PortFault) → Agrees (mounted old tables) → ReportGives {V = Unit {0}} old 0 AnyState false dwords (Err fault) returned new → SameContents old new → IsClosing old.zones new.zones
     → Obeys {V = Unit {0}} old (Err fault) new → (0 < end_of old.geometry → IsNotRefused {V = Unit {0}} (Err fault)) → ReadHalts old new tables fault
 report_halts old new tables dwords returned (port.Refused status) agrees gives same closing obeys passed = absurd (passed (can-report old agrees.geometry))

@@ -89,7 +89,7 @@ retire_room V a b clean Smaller is leaves = keeps-serving a b clean is leaves
 retire_room V a b clean Reserve is leaves = keeps-serving a b clean is leaves
 retire_room V a b clean Unmounted is leaves = keeps-serving a b clean is leaves
 
--- and the clean goes on
+-- and the clean continues
 pub retire_clean : (V : Type 0) (a b : MountedView) (clean : Option CleanView) (fault : DiskFault) → AgreesWithClean a clean → RetireLeaves a b (Err fault) → KeepsCleaning {V = V} a clean (Err fault) b clean
 retire_clean V a b clean OutOfRange is leaves = stays-cleaning {V = V} a b clean clean (Err OutOfRange) (array-stays a b clean is leaves)
 retire_clean V a b clean OutOfMemory is leaves = stays-cleaning {V = V} a b clean clean (Err OutOfMemory) (array-stays a b clean is leaves)
@@ -193,7 +193,7 @@ pub record FinishHalts (old new : DriveState) (tables : TablesView) (fault : Por
   pub leaves : RetireLeaves (mounted old tables) (mounted new tables) (Err (disk_fault (fault_halt fault)))
   pub cause : IsCause new tables.next (disk_fault (fault_halt fault))
 
--- its Finish is not refused, and what it leaves is kept
+-- its Finish is not refused, and the result is kept
 pub finish_halts : (old new : DriveState) (tables : TablesView) (host : Filling) (start : ℕ) (fault : PortFault) → Agrees (mounted old tables) → tables.roles.host ≡ Some host → start ≡ host.zone * old.geometry.size → 1 ≤ host.written → host.written < old.geometry.capacity
     → FinishGives {V = Unit {0}} old start (Err fault) new → FinishKeeps {V = Unit {0}} old start (Err fault) new → FinishLeaves {V = Unit {0}} old start (Err fault) new → Obeys {V = Unit {0}} old (Err fault) new → (CanFinish old start → IsNotRefused {V = Unit {0}} (Err fault)) → FinishHalts old new tables fault
 finish_halts old new tables host start (port.Refused status) agrees is start-is some room gives kept leaves obeys passed = absurd (passed (can_finish old tables host.zone start agrees (filling-host tables.roles host is) start-is))
@@ -252,7 +252,7 @@ pub record TakeGives (before after : MountedView) (clean : Option CleanView) (ho
   pub host_is : IsHost after host
   pub stays : StaysClean before clean after clean
 
--- a next zone is known only where no clean runs
+-- a next zone is known only if no clean runs
 take-next : (drive : DriveState) (old new : TablesView) (clean : Option CleanView) (host : Filling) → AgreesWithClean (mounted drive old) clean → old.roles.host ≡ None → next_of old.roles.second ≡ Some host → new ≡ record old { roles = promoted old.roles } → TakeGives (mounted drive old) (mounted drive new) clean host
 take-next drive old new None host is none next new-is =
     let gives = promote_gives drive old new host is none next new-is in

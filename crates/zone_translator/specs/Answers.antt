@@ -50,7 +50,7 @@ write_commands trim disk n = most_batches trim disk n * batch_commands disk.driv
 
 -- ---- every call
 
--- The answer is that of a flat array, and so is the array afterwards. An answer that is known before anything is done
+-- The answer is a flat array's, and so is the array afterwards. An answer that is known before anything is done
 -- changes nothing. Whatever the answer, the drive can be mounted again, and a refusal has its cause.
 pub record Answers (old : DiskView) (call : Call) (result : Result (Unit {0}) DiskFault) (new : DiskView) : Type 0 where
   pub flat : FlatCall (flat_of old) call (with_nothing result) (flat_of new)
@@ -77,7 +77,7 @@ pub record AnswersRead (old : DiskView) (first n : ℕ) (result : Result (Unit {
 
 -- Once n blocks from a given one on are written, their newest records say that they have data or, of a trim, that they
 -- have none. The newest header has the disk's size, and the sequences kept for repairs are left. Each batch is as long
--- as it can be, also where the write was refused on its way.
+-- as it can be, also where the write was refused midway.
 pub record Stores (trim : Bool) (old : DiskView) (first n : ℕ) (result : Result (Unit {0}) DiskFault) (new : DiskView) : Type 0 where
   pub named : OnOk result (AreNamed trim (disk_places new) first n)
   pub says : OnOk result (1 ≤ n → size_on new ≡ Some (disk_size new))

@@ -136,7 +136,7 @@ pub record IsNextBatch (disk : MountedView) (host : Filling) (rest : Rest) (buil
 abbrev pub names : ℕ → List Entry → Bool
 names block entries = list_any (λ e. e.block == block) entries
 
--- a batch stands in one of these logs
+-- a batch is in one of these logs
 abbrev pub Stands : List (List Batch) → Batch → Type 0
 Stands logs batch = (zone : ℕ) × Contains (log_at logs zone) batch
 

@@ -51,18 +51,18 @@ abbrev pub status_left : DiskFault → DiskStatus
 status_left faults.Stopped = Stopped
 status_left fault = Serving
 
--- the answer that a test made beforehand stands for: that the call is done, that it goes on, or a refusal
+-- the answer that a test made beforehand stands for: that the call is done, that it continues, or a refusal
 abbrev pub answer_before : Result Bool DiskFault → Option (Result (Unit {0}) DiskFault)
 answer_before (Ok true) = Some (Ok tt)
 answer_before (Ok false) = None
 answer_before (Err fault) = Some (Err fault)
 
--- the answer that a test stands for whether a call goes on: none, or a refusal
+-- the answer that a test stands for whether a call continues: none, or a refusal
 abbrev pub refusal_before : Result (Unit {0}) DiskFault → Option (Result (Unit {0}) DiskFault)
 refusal_before (Ok done) = None
 refusal_before (Err fault) = Some (Err fault)
 
--- a read of n blocks: what stands in the buffer are the bytes of the blocks that it shows
+-- a read of n blocks: what is in the buffer are the bytes of the blocks that it shows
 pub record Reads (old : FlatDisk) (first n : ℕ) (result : Result (Unit {0}) DiskFault) (bytes : List ℕ) (new : FlatDisk) : Type 0 where
   pub shown : List (List ℕ)
   pub flat : FlatCall old (read first n) (record { result = result; shown = shown }) new
@@ -88,7 +88,7 @@ pub record ReportsAll (old : DriveState) (bytes : List ℕ) (new : DriveState) :
   pub bytes_are : bytes ≡ whole_report old.geometry zones
   pub after : IsClosing zones new.zones
 
--- A turn of a disk that serves, by its answer: the next step of the clean that runs or, where none runs, the start of one that is due.
+-- A turn of a disk that serves, by its answer: the next step of the clean that runs or, if none runs, the start of one that is due.
 abbrev pub IsTurn : DiskView → Result (Unit {0}) DiskFault → DiskView → Type 0
 IsTurn old (Ok done) new = TurnLeaves (mounted_of old) old.clean (Ok tt) (mounted_of new) new.clean
 IsTurn old (Err fault) new =

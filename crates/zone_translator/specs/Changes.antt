@@ -45,7 +45,7 @@ cleaning_fault faults.OutOfMemory = OutOfMemory
 cleaning_fault faults.Stopped = Stopped
 cleaning_fault faults.Spent = Spent
 
--- at most how many commands a batch takes: those of the turns of a clean, a Finish, a Close, and the Append
+-- at most how many commands a batch takes: the turns of a clean, a Finish, a Close, and the Append
 abbrev pub batch_commands : Geometry → ℕ
 batch_commands geometry = 2 * geometry.capacity + 1
 
@@ -120,7 +120,7 @@ abbrev pub RetireLeaves : MountedView → MountedView → Result (Unit {0}) Disk
 RetireLeaves before after (Err Stopped) = (after.tables ≡ before.tables) × ((tables : TablesView) × KeepsArray before (mounted after.drive tables))
 RetireLeaves before after result = KeepsArray before after
 
--- what a part of a call leaves that writes nothing for the host: the array is the same, and the disk goes on unless its drive stopped
+-- what a part of a call leaves that writes nothing for the host: the array is the same, and the disk continues unless its drive stopped
 abbrev pub RoomLeaves : {V : Type 0} → MountedView → MountedView → Option CleanView → Result V DiskFault → Type 0
 RoomLeaves before after clean (Err Stopped) = KeepsByCleaning before after
 RoomLeaves before after clean result = KeepsByCleaning before after × AgreesWithClean after clean

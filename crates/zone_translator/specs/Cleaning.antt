@@ -24,7 +24,7 @@ abbrev pub OnlyNewer : ℕ → List (List Batch) → List (List Batch) → Type 
 OnlyNewer sequence old new =
     (zone : ℕ) → (more : List Batch) × AreNewer sequence more × ((log_at new zone ≡ more) ⊎ (log_at new zone ≡ log_at old zone ++ more))
 
--- what became of the clean that ran: it goes on, with as many turns left or fewer; or it has ended, and its victim was
+-- what became of the clean that ran: it continues, with as many turns left or fewer; or it has ended, and its victim was
 -- emptied, in which only newer batches are
 abbrev pub GoesOnOrEnds : MountedView → Option CleanView → MountedView → Option CleanView → Type 0
 GoesOnOrEnds before None after new = Unit {0}
@@ -36,7 +36,7 @@ abbrev pub AddsNewer : {V : Type 0} → MountedView → Result V DiskFault → M
 AddsNewer before (Err Stopped) after = Unit {0}
 AddsNewer before result after = OnlyNewer before.tables.next (drive_logs before.drive) (drive_logs after.drive)
 
--- The clean that ran goes on, or ends. Once the call is done, no more turns are left than before, also where none ran;
+-- The clean that ran continues, or ends. Once the call is done, no more turns are left than before, also if none ran;
 -- a call that was refused may leave a clean that it started.
 pub record KeepsCleaning {V : Type 0} (before : MountedView) (old : Option CleanView) (result : Result V DiskFault) (after : MountedView)
     (new : Option CleanView) : Type 0 where

@@ -23,7 +23,7 @@ replaced (x ∷ xs) zero (y ∷ ys) = y ∷ replaced xs zero ys
 abbrev pub blocks_from : List (List ℕ) → ℕ → ℕ → List (List ℕ)
 blocks_from array first n = take n (drop first array)
 
--- a front of a write: its first blocks alone are written, none and all of them included
+-- a front of a write: only its first blocks are written, none and all of them included
 pub record IsFront (old : List (List ℕ)) (first : ℕ) (blocks : List (List ℕ)) (new : List (List ℕ)) : Type 0 where
   pub done : ℕ
   pub within : done ≤ length blocks
@@ -71,14 +71,14 @@ disk_after disk (write first blocks) = record disk { array = replaced disk.array
 disk_after disk (grow size) = record disk { array = extended (zero_block disk.block) size disk.array; size = size }
 disk_after disk call = disk
 
--- The array after a call that was refused on its way: a front of a write, and the same array after any other call.
+-- The array after a call that was refused midway: a front of a write, and the same array after any other call.
 -- Where the drive stopped inside a growth, the array may have grown.
 abbrev pub IsAfterFront : FlatDisk → Call → DiskFault → List (List ℕ) → Type 0
 IsAfterFront disk (write first blocks) fault new = IsFront disk.array first blocks new
 IsAfterFront disk (grow size) Stopped new = (new ≡ disk.array) ⊎ (new ≡ extended (zero_block disk.block) size disk.array)
 IsAfterFront disk call fault new = new ≡ disk.array
 
--- why a call may be refused on its way: any because an allocation failed or the drive stopped; one that may append a batch also for lack of sequences
+-- why a call may be refused midway: any because an allocation failed or the drive stopped; one that may append a batch also for lack of sequences
 abbrev pub may_refuse : Call → DiskFault → Bool
 may_refuse call OutOfMemory = true
 may_refuse call Stopped = true

@@ -13,7 +13,7 @@ use Rattle.drive_survey.specs.Scan.{FailsBy}
 use Rattle.zone_translator.specs.declared.status.DiskStatus.TheVariants.{Serving}
 use Rattle.zone_translator.specs.View.{DiskView, disk_array, disk_size, given_size, next_sequence}
 
--- A drive that can be mounted is mounted, with n logical blocks where no header says how many: the disk serves the
+-- A drive that can be mounted is mounted, with n logical blocks if no header says how many: the disk serves the
 -- array that the drive encoded, and has its size. The drive was cleared and repaired. Zones that are partly written
 -- are filled on, no clean runs, and the next sequence is one more than the greatest that any batch had.
 pub record MountsDisk (old : DriveState) (n : ℕ) (disk : DiskView) : Type 0 where
@@ -27,7 +27,7 @@ pub record MountsDisk (old : DriveState) (n : ℕ) (disk : DiskView) : Type 0 wh
   pub clean : disk.clean ≡ None
   pub status : disk.status ≡ Serving
 
--- A drive is not mounted, but given back. A drive that is refused for what it holds is as it was, and so is one that
+-- A drive is not mounted, but given back. A drive that is refused for what it holds is unchanged, and so is one that
 -- cannot be mounted: only a stop and a failed allocation may come once repairs have begun, and what they leave can be
 -- mounted as before, with the same array.
 pub record GivesBack (old : DriveState) (n : ℕ) (fault : MountFault) (back : DriveState) : Type 0 where

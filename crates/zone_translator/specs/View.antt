@@ -39,7 +39,7 @@ disk_size disk = size_of disk.tables
 abbrev pub next_sequence : DiskView → ℕ
 next_sequence disk = disk.tables.next
 
--- the number of logical blocks that the mount was given: there are as many where no header has a size
+-- the number of logical blocks that the mount was given: there are as many if no header has a size
 abbrev pub given_size : DiskView → ℕ
 given_size disk = disk.tables.given
 
@@ -47,7 +47,7 @@ given_size disk = disk.tables.given
 abbrev pub disk_array : DiskView → List (List ℕ)
 disk_array disk = spelled disk.drive (given_size disk)
 
--- where the newest record of each block lies on the drive, by its logs
+-- where the newest record of each block is on the drive, by its logs
 abbrev pub disk_places : DiskView → List Place
 disk_places disk = map_of disk.drive.geometry.size (given_size disk) (drive_logs disk.drive)
 

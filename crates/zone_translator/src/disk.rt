@@ -91,7 +91,7 @@ fn mount_again<D: Device>(disk: &mut Mounted<D>) -> Result<(), MountFault>
     }
 }
 
-/// What a refusal leaves a disk in.
+/// The disk after a refusal.
 fn status_of(fault: DiskFault) -> DiskStatus
     ensures { result ≡ status_left fault }
 {
@@ -102,7 +102,7 @@ fn status_of(fault: DiskFault) -> DiskStatus
 }
 
 impl<D: Device + Drop> Disk<D> {
-    /// The disk that a drive holds, of `blocks` logical blocks where no header on the drive says how many. The drive
+    /// The disk that a drive holds, of `blocks` logical blocks if no header on the drive says how many. The drive
     /// is checked, and what a stop left of it repaired: see `remount::mount`.
     ///
     /// With the fault the drive is given back, and can be mounted if it could before.
@@ -129,7 +129,7 @@ impl<D: Device + Drop> Disk<D> {
         &self.mounted.device
     }
 
-    /// The drive, as it stands.
+    /// The drive.
     pub fn into_device(self) -> D
         ensures { D.drive result ≡ self.drive }
     {
@@ -154,7 +154,7 @@ impl<D: Device + Drop> Disk<D> {
         self.mounted.geometry().block as usize
     }
 
-    /// Where the newest record of a block lies on the drive. A block that no record names has no place, and
+    /// Where the newest record of a block is on the drive. A block that no record names has no place, and
     /// neither has one past the end. After `Stopped` it is the place that was known before.
     pub fn place_of(&self, block: u64) -> Place
         ensures { self.now.status ≡ Serving
@@ -297,7 +297,7 @@ impl<D: Device + Drop> Disk<D> {
     /// Writes `blocks` blocks of one byte from `first` on.
     ///
     /// After a refusal on its way a front of them is written. After `OutOfMemory` or `Spent` the
-    /// disk goes on; after `Stopped` a mount of the restarted drive finds the front.
+    /// disk continues; after `Stopped` a mount of the restarted drive finds the front.
     pub fn fill(&mut self, first: u64, blocks: u64, byte: u8) -> Result<(), DiskFault>
         ensures answers { Answers self.old
             (fill self.old.drive.geometry.block first blocks byte) result self.new }
@@ -383,10 +383,10 @@ impl<D: Device + Drop> Disk<D> {
         }
     }
 
-    /// One turn of cleaning: the next step of the clean that runs or, where none runs, the start of one that is
+    /// One turn of cleaning: the next step of the clean that runs or, if none runs, the start of one that is
     /// due.
     ///
-    /// After `OutOfMemory` and `Spent` the clean is as it was, and goes on at the next turn.
+    /// After `OutOfMemory` and `Spent` the clean is unchanged, and continues at the next turn.
     pub fn idle(&mut self) -> Result<(), DiskFault>
         ensures answers { Answers self.old idle result self.new }
         ensures turn { TakesTurn self.old result self.new }

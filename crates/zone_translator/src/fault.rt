@@ -9,7 +9,7 @@ pub enum DiskFault {
     #[error("a block at or past the end of the disk was named")]
     OutOfRange,
     /// An allocation failed. Of a write, a fill or a trim a front is in place, a growth is not done, and the disk
-    /// goes on.
+    /// continues.
     #[error("out of memory")]
     OutOfMemory,
     /// The drive has stopped. Of a write, a fill or a trim a front is in place; of a growth only a mount of the
@@ -17,7 +17,7 @@ pub enum DiskFault {
     #[error("the drive has stopped")]
     Stopped,
     /// The sequence numbers that are left are kept for the repair of a zone, at a mount. Of a write, a fill or a
-    /// trim a front is in place, a growth is not done, and reads go on.
+    /// trim a front is in place, a growth is not done, and reads continue.
     #[error("no sequence number is left for a batch of the disk")]
     Spent,
     /// A remount was refused, and none was done since. Nothing was sent, and nothing changed.

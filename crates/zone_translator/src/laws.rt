@@ -1,5 +1,5 @@
-//! What holds of the flat disk, whose answers every call of `Disk` gives, and of a disk whose drive stops. Each function
-//! carries laws as its contract, and changes nothing.
+//! What holds of the flat disk, whose answers every call of `Disk` gives, and of a disk whose drive stops. Each
+//! function carries laws as its contract, and changes nothing.
 
 ghost use Rattle.zone_translator.specs.Laws.{CalledCan, LeftIsFound, MountedCan, RemountedCan};
 ghost use Rattle.zone_translator.specs.Laws.{WriteKeepsOthers, WrittenReadsBack};

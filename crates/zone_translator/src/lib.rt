@@ -1,6 +1,6 @@
 //! The disk: an array of logical blocks above one zoned drive.
 //!
-//! A zoned drive takes writes at the write pointers of its zones alone. A `Disk` owns such a drive, any
+//! A zoned drive takes writes only at the write pointers of its zones. A `Disk` owns such a drive, any
 //! `drive_port::Device`, and shows it as an array of blocks that can be read and written in any order.
 //!
 //! ```text
@@ -21,6 +21,8 @@
 //! blocks would (`FlatCall` and `FlatRemount` in specs/Flat); the drive can be mounted again, its newest records hold
 //! that array, at the exit of every call; no command that the disk sends is refused by the drive
 //! (`KeepsDisk` in specs/View). A refused write has written a front of its blocks, and nothing else.
+//!
+//! Tests: the rows of `worked_runs`, with a stop at every place.
 #![tactic(auto)]
 
 mod disk;

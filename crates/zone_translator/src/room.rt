@@ -19,7 +19,7 @@ pub(crate) fn fault_of(halt: Halt) -> DiskFault
     }
 }
 
-/// The zone that the host's batches go to, if there is one.
+/// The zone that the host's batches go to, if any.
 fn host_of<D: Device>(disk: &Mounted<D>) -> Option<Filling>
     ensures { result ≡ disk.now.tables.roles.host }
 {

@@ -128,7 +128,7 @@ fn note_each(
     Ok(())
 }
 
-/// Takes the newest records of a zone: those that are kept of it or, where none are, those that its headers tell.
+/// Takes the newest records of a zone: those that are kept of it or, if none are, those that its headers tell.
 fn note_zone(
     alloc: Global,
     table: &mut BlockRecords,
@@ -188,7 +188,7 @@ fn forget_each(blocks: &mut BTreeMap<u32, BTreeMap<u64, KeptRecord>>, own: &[Kep
     }
 }
 
-/// The last record that lies outside a zone, of those of a block.
+/// The last record that is outside a zone, of those of a block.
 fn last_outside(held: &BTreeMap<u64, KeptRecord>, zone: u32) -> Option<KeptRecord>
     ensures ordered { IsOrdered nat_cmp held.now }
     ensures last { IsLastOutside held.now zone result }

@@ -31,7 +31,7 @@ pub struct MovePlan {
     pub reported: ReportedZone,
     /// The zone that the records are moved to.
     pub into: u32,
-    /// The blocks whose newest record lies in the torn zone, in the order in which they are moved.
+    /// The blocks whose newest record is in the torn zone, in the order in which they are moved.
     pub blocks: Vec<u32>,
     /// How many records a Move takes at most.
     pub most: u32,
@@ -71,7 +71,7 @@ fn name_record(batch: &mut BatchBuilder, block: u32, place: Place) -> Result<(),
     }
 }
 
-/// Names these blocks, each as what lies at its place.
+/// Names these blocks, each as what is at its place.
 fn name_records(batch: &mut BatchBuilder, tables: &Tables, blocks: &[u32]) -> Result<(), AllocError>
     requires { AllByRecursion (λ block. (block < size_of tables.now) × (block + 1 < 2 ^ 32)) blocks.now }
     ensures { OnOk result (batch.new.heading ≡ record batch.old.heading {
@@ -256,7 +256,7 @@ fn append_move<D: Device>(
     }
 }
 
-/// Makes the Move with a number, and adds its header to those of the Moves before it.
+/// Makes the Move with a number, and adds its header to the headers of the Moves before it.
 fn make_move<D: Device>(
     alloc: Global,
     device: &mut D,

@@ -16,7 +16,7 @@ use drive_survey::{Finding, MountFault, ScannedZone, Survey, examine_zone};
 use std::alloc::{AllocError, Global};
 use zone_choice::batch_most;
 
-/// The greatest sequence of all batches, 0 where there is none.
+/// The greatest sequence of all batches, 0 if none.
 fn greatest_sequence(scanned: &[ScannedZone]) -> u64
     ensures { (logs : List (List Batch)) → heads_in scanned.now ≡ map heads_of logs
         → result ≡ greatest_sequence (sequences logs) }

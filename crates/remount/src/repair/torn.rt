@@ -20,7 +20,7 @@ use std::alloc::{AllocError, Global};
 use zone_choice::{Tables, batch_most};
 use zone_states::Geometry;
 
-/// The blocks whose newest record lies in a zone, in ascending order.
+/// The blocks whose newest record is in a zone, in ascending order.
 #[derive(Drop)]
 struct LiveBlocks {
     blocks: Vec<u32>,
@@ -59,7 +59,7 @@ fn data_blocks(place: Place) -> u32
     }
 }
 
-/// The blocks whose newest record lies in a zone.
+/// The blocks whose newest record is in a zone.
 fn live_blocks(alloc: Global, tables: &mut Tables, zone: u32) -> Result<LiveBlocks, AllocError>
     requires few { size_of tables.old ≤ 2 ^ 31 }
     requires zone { zone < tables.old.map.zones }
@@ -88,8 +88,8 @@ fn count_moves(most: u32, records: u64) -> u64
     records.div_ceil(most as u64).max(1)
 }
 
-/// How the torn zone of a cleared drive is repaired; `None` where no zone is torn. `TornZone` names the lowest torn
-/// zone, where another is torn, too, or where its live records do not fit in a zone. `Spent` comes where no sequences
+/// How the torn zone of a cleared drive is repaired; `None` if no zone is torn. `TornZone` names the lowest torn
+/// zone, where another is torn, too, or where its live records do not fit in a zone. `Spent` comes if no sequences
 /// are left for the Moves.
 pub fn plan_repair(
     alloc: Global,

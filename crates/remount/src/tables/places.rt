@@ -23,7 +23,7 @@ const MOST_BLOCKS: u32 = 1 << 31;
 /// The greatest address that a place can have.
 const LAST_ADDRESS: u64 = (1 << 63) - 2;
 
-/// Where a record's data lies or, of a trim, its header.
+/// Where a record's data is or, of a trim, its header.
 fn place_of(found: KeptRecord, zone_size: u32) -> Place
     ensures place { result ≡ kept_place zone_size found }
     ensures fits { place_address result + 1 < 2 ^ 63 }
@@ -169,7 +169,7 @@ fn place_zone(
     place_heads(tables, scanned, zone_size, zone, &found.heads)
 }
 
-/// Tables that say where the newest record of each block lies, by the headers that are kept. They say nothing of
+/// Tables that say where the newest record of each block is, by the headers that are kept. They say nothing of
 /// the zones yet.
 pub fn place_records(
     alloc: Global,
