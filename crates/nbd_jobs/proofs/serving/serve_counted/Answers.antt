@@ -13,9 +13,9 @@ returns g c =
     let session : ServesSession c.args.job.now.blocks bytes old c.serve-result.result new = record {
       first = c.in-Ok.disk;
       disk = rw c.new.ensures at c.in-Ok.ensures.disk;
-      last = at_once c.serve-result.new.store;
+      last = at_once c.serve-result.new.store.disk;
       serves = rw c.served-store.ensures at c.serve-result.ensures.serves;
       keeps = (rw c.served-store.ensures at c.serve-result.ensures.keeps).mounted c.in-Ok.ensures.disk.mounted.mountable;
-      drive = c.into_inner-2.ensures ∙ c.into_device.ensures ∙ ap (λ (d : DiskView). d.drive) c.into_parts-disk.ensures;
+      drive = c.into_inner-2.ensures ∙ c.into_device.ensures ∙ ap (λ (d : DiskView). d.drive) c.into_parts-disk.ensures.disk;
     } in
     rw c.session_end.ensures (session-served c.args.job.now.blocks bytes old c.serve-result.result new session)
