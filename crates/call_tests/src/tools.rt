@@ -194,7 +194,7 @@ fn checks_a_drive(rt: HostRuntime) -> Result<(), Fail> {
         alloc,
         &[(CHECK, true, FRESH), (CHECK_JSON, true, FRESH_JSON)],
     );
-    let replies: &[u8] = b"00000000000000000000000001000000\n00000000000000000800000001000000\n";
+    let replies: &[u8] = b"00000000000000000000000001000000\n08000000000000000000000001000000\n";
     let mut lines = append_ones(alloc, 0)?;
     lines.extend_from_slice(&append_ones(alloc, 8)?)?;
     check_written(
