@@ -36,6 +36,16 @@ pub fn job_of(alloc: Global, blocks: Option<u64>, statistics: bool) -> NbdJob {
     }
 }
 
+/// Shows what was counted, if it was asked for.
+fn show_counts(left: &Option<Left>, out: &mut String) -> Result<(), RowsFault> {
+    if let Some(left) = left
+        && let Some(text) = &left.statistics
+    {
+        out.push_str(text)?;
+    }
+    Ok(())
+}
+
 /// Serves the drive in a file. Shows what the server sent, what was counted if the job asks for it, and how the session
 /// ended. The file has all changes then.
 pub fn show_kept(
@@ -54,15 +64,7 @@ pub fn show_kept(
     let (left, store, result) = serve_drive(alloc, job, served, &mut &*input, &mut sent);
     *file = Vec::from_slice(alloc, store.bytes())?;
     show_replies(&sent, out)?;
-    if let Some(
-        Left {
-            statistics: Some(text),
-            ..
-        },
-    ) = left
-    {
-        out.push_str(&text)?;
-    }
+    show_counts(&left, out)?;
     match result {
         Ok(()) => write!(out, "ended\n\n")?,
         Err(fault) => write!(out, "fault: {fault}\n\n")?,
