@@ -1,5 +1,5 @@
 -- What is found of the zones.
-use Rattle.std.proofs.Common.{◌≡◌, ◌≢◌, ◌⊎◌, inl, inr, ℕ, zero, suc, ◌<◌, ◌≤◌, List, [], ◌∷◌, length, get_or, set, Option, Some, None, Bool, true, false, Result, Ok, Err, refl, sym, ap, subst, ◌∙◌, arith}
+use Rattle.std.proofs.Common.{◌≡◌, ◌≢◌, ◌⊎◌, inl, inr, ℕ, zero, suc, ◌^◌, ◌<◌, ◌≤◌, map, List, [], ◌∷◌, length, get_or, set, Option, Some, None, Bool, true, false, Result, Ok, Err, refl, sym, ap, subst, ◌∙◌, arith}
 use Rattle.std.specs.Prelude.{IfOk, IsTrue, slice_get}
 use Rattle.std.specs.BTreeSet.{BTreeSet, IsLowerBound, Updates, btree_set_len, contains}
 use Rattle.std.specs.Ordering.{is_gt, nat_cmp}
@@ -9,7 +9,9 @@ use Rattle.std.proofs.lemmas.List.{get_or_past, map-set, nil_from_length}
 use Rattle.std.proofs.Math.Seq.{map-set_same}
 use Rattle.drive_port.specs.Drive.{DriveState}
 use Rattle.batch_log.specs.Log.{Batch}
-use Rattle.drive_array.specs.Records.{without}
+use Rattle.std.specs.List.{AllByRecursion}
+use Rattle.drive_array.specs.Mountable.{IsInside}
+use Rattle.drive_array.specs.Records.{Record, log_records, without}
 use Rattle.drive_array.specs.Sizes.{encoded_size}
 use Rattle.drive_array.specs.Spare.{IsHalfClean}
 use Rattle.drive_array.specs.ZoneLogs.{log_at}
@@ -22,18 +24,21 @@ use Rattle.drive_survey.specs.declared.scan.ScannedZone.{ScannedZone}
 use Rattle.drive_survey.specs.declared.survey.Survey.{Survey}
 use Rattle.drive_survey.specs.declared.clearing.Finding.{Finding}
 use Rattle.drive_survey.specs.declared.clearing.Finding.TheVariants.{HalfClean, NotMoves, NeedsBlock, NeedsSize}
-use Rattle.drive_survey.specs.Clearing.{AreOf, CoversHeads, CoversZone, FindsLowest, FindsNeeded, LooksFor, ShowsSame, without_heads}
+use Rattle.drive_survey.specs.Clearing.{AreOf, CoversHeads, CoversZone, FindsLowest, FindsNeeded, IsNeededAt, LooksFor, ShowsSame, without_heads}
 use Rattle.drive_survey.specs.Heads.{HeadsView, heads_of, no_heads}
-use Rattle.drive_survey.specs.KeptRecords.{kept_of_zone}
-use Rattle.drive_survey.specs.NewestRecords.{AreNewest}
+use Rattle.drive_survey.specs.KeptRecords.{kept_of_zone, kept_record}
+use Rattle.drive_survey.specs.declared.records.KeptRecord.{KeptRecord}
+use Rattle.drive_survey.specs.NewestRecords.{AreNewest, IsNamedAfter}
 use Rattle.drive_array.specs.Repairing.{IsMoved}
-use Rattle.drive_survey.specs.Known.{Finds, Knows}
+use Rattle.drive_survey.specs.Known.{Finds, IsFirstNeeded, Knows}
 use Rattle.drive_survey.specs.Reported.{KeepsZones}
 use Rattle.drive_survey.specs.BlockRecords.{HoldsRecords, own_of}
 use Rattle.drive_survey.specs.Scan.{heads_in, tails_in}
 use Rattle.drive_survey.specs.SizeCounts.{size_counts}
 use Rattle.drive_survey.specs.Waiting.{AllWait, AreCandidates, IsNeeded, OthersWait, TellsFinding, TellsSize}
+use Rattle.drive_survey.proofs.HeadRecordLaws.{kept-is}
 use Rattle.drive_survey.proofs.MovedLaws.{found-heads, not-found, there}
+use Rattle.drive_survey.proofs.OwnLaws.{log-inside}
 use Rattle.drive_survey.proofs.SpareLaws.{all-same, knows-kept, knows-small, knows-stand, needed-inside, spare-all, spare-at}
 use Rattle.drive_survey.proofs.RecordTableLaws.{at-is}
 
@@ -55,9 +60,54 @@ forgets-past (s ∷ ss) (suc zone) le = ap (λ (hs : List HeadsView). s.heads �
 pub half-moved : (block_bytes n : ℕ) (logs : List (List Batch)) (zone : ℕ) → IsHalfClean block_bytes n logs zone → IsMoved logs zone
 half-moved block_bytes n logs zone half = record { victim = half.victim; apart = half.apart; moves = half.moves; older = half.older }
 
-pub finds-needed : (drive : DriveState) (n : ℕ) (logs : List (List Batch)) (survey : Survey) (zone block : ℕ) → Knows drive n logs survey → IsMoved logs zone → (ShowsSame drive.geometry.block logs zone block → ⊥) → Finds drive.geometry.block n logs zone (NeedsBlock block)
-finds-needed drive n logs survey zone block known moved differs =
-    (moved, record { in_range = needed-inside drive.geometry.block (encoded_size n logs) logs zone block known.sound.inside differs; differs = differs })
+-- a record at a place of a mapped list
+map-get : {X Y : Type 0} (f : X → Y) (xs : List X) (i : ℕ) (y : Y) → slice_get (map f xs) i ≡ Some y → (x : X) × (slice_get xs i ≡ Some x) × (f x ≡ y)
+map-get f [] i y is = absurd (cc)
+map-get f (x ∷ xs) zero y is = (x, refl, (cc))
+map-get f (x ∷ xs) (suc i) y is = map-get f xs i y is
+
+get-map : {X Y : Type 0} (f : X → Y) (xs : List X) (i : ℕ) (x : X) → slice_get xs i ≡ Some x → slice_get (map f xs) i ≡ Some (f x)
+get-map f [] i x is = absurd (cc)
+get-map {Y = Y} f (y ∷ ys) zero x is = (let same : y ≡ x = cc in ap (λ (z : Y). Some z) (ap f same))
+get-map f (y ∷ ys) (suc i) x is = get-map f ys i x is
+
+-- what is first of the newest records is first of the log
+first-needed : (block_bytes : ℕ) (logs : List (List Batch)) (zone block : ℕ) (own : List KeptRecord) → AllByRecursion (AllByRecursion (IsInside (2 ^ 31))) logs → AreNewest (kept_of_zone zone (heads_of (log_at logs zone))) own
+    → IsNeededAt block_bytes logs zone own block → IsFirstNeeded block_bytes logs zone block
+first-needed block_bytes logs zone block own inside newest needed = record {
+  place = named.place;
+  found = at.0;
+  there = at.1;
+  block_is = ap (λ (x : KeptRecord). x.block) at.2 ∙ named.block_is ∙ needed.block_is;
+  before = λ i r lt is. (
+      let there : slice_get kept i ≡ Some (kept_record r) = subst (λ (ks : List KeptRecord). slice_get ks i ≡ Some (kept_record r)) (sym kept_are) (get-map kept_record entries i r is) in
+      let first = named.before i (kept_record r) lt there in
+      subst (ShowsSame block_bytes logs zone) first.4 (needed.before first.0 first.1 first.2 first.3)
+      );
+}
+  where
+    entries : List Record
+    entries = log_records zone 0 (log_at logs zone)
+
+    kept : List KeptRecord
+    kept = kept_of_zone zone (heads_of (log_at logs zone))
+
+    kept_are : kept ≡ map kept_record entries
+    kept_are = kept-is zone (log_at logs zone) (log-inside (IsInside (2 ^ 31)) logs zone inside)
+
+    named : IsNamedAfter kept own needed.place needed.found.block
+    named = newest.in_order needed.place needed.found needed.there
+
+    at : (r : Record) × (slice_get entries named.place ≡ Some r) × (kept_record r ≡ named.found)
+    at = map-get kept_record entries named.place named.found (subst (λ (ks : List KeptRecord). slice_get ks named.place ≡ Some named.found) kept_are named.there)
+
+pub finds-needed : (drive : DriveState) (n : ℕ) (logs : List (List Batch)) (survey : Survey) (zone block : ℕ) (own : List KeptRecord) → Knows drive n logs survey → IsMoved logs zone → AreNewest (kept_of_zone zone (heads_of (log_at logs zone))) own
+    → IsNeededAt drive.geometry.block logs zone own block → Finds drive.geometry.block n logs zone (NeedsBlock block)
+finds-needed drive n logs survey zone block own known moved newest needed = (
+  moved,
+  record { in_range = needed-inside drive.geometry.block (encoded_size n logs) logs zone block known.sound.inside needed.differs; differs = needed.differs },
+  first-needed drive.geometry.block logs zone block own (knows-small drive n logs survey known) newest needed,
+)
 
 pub finds-half : (drive : DriveState) (n : ℕ) (logs : List (List Batch)) (survey : Survey) (zone : ℕ) (table : BlockRecords) → Knows drive n logs survey → IsMoved logs zone → AreNewest (kept_of_zone zone (heads_of (log_at logs zone))) (own_of table zone)
     → FindsNeeded drive.geometry.block logs zone (own_of table zone) None → encoded_size n (without logs zone) ≡ encoded_size n logs → Finds drive.geometry.block n logs zone HalfClean
@@ -177,7 +227,9 @@ looked drive n survey table zone block moved looks logs known holds covers =
 
 pub examine-needs : (drive : DriveState) (n : ℕ) (survey : Survey) (table : BlockRecords) (zone block : ℕ) → AllMoved survey zone → LooksFor drive table zone (Some block) → TellsFinding drive n survey table zone (NeedsBlock block)
 examine-needs drive n survey table zone block moved looks logs known holds covers =
-    finds-needed drive n logs survey zone block known (moved logs known.heads) (looked drive n survey table zone (Some block) moved looks logs known holds covers)
+    let there = moved logs known.heads in
+    finds-needed drive n logs survey zone block (own_of table zone) known there (own-covered survey logs table zone known.heads there (covers there)).0
+    (looked drive n survey table zone (Some block) moved looks logs known holds covers)
 
 pub examine-size : (drive : DriveState) (n : ℕ) (survey : Survey) (table : BlockRecords) (sizes : SizeCounts) (zone : ℕ) (told : Bool) → AllMoved survey zone → sizes ≡ size_counts survey.size (heads_in survey.scanned.items) → told ≡ false → TellsSize n survey sizes zone told
     → TellsFinding drive n survey table zone NeedsSize

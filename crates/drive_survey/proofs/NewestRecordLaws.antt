@@ -15,20 +15,27 @@ use Rattle.drive_survey.specs.declared.records.KeptRecord.{KeptRecord}
 use Rattle.drive_survey.specs.declared.clearing.newest.Newest.{Newest}
 use Rattle.drive_survey.specs.Heads.{HeadsView}
 use Rattle.drive_survey.specs.KeptRecords.{entry_record, is_kept_trim, kept_batches, kept_entries, kept_of_zone}
-use Rattle.drive_survey.specs.NewestRecords.{AreNewest, KeepsNewest}
+use Rattle.drive_survey.specs.NewestRecords.{AreNewest, IsNamedAfter, KeepsNewest}
 use Rattle.drive_survey.proofs.RecordTableLaws.{at-is, drop-min}
 
 -- ---- lists
 
-contains-get : {X : Type 0} (xs : List X) (x : X) → Contains xs x → (i : ℕ) × (slice_get xs i ≡ Some x)
+-- an element is at some place, and what is at a place is an element
+pub contains-get : {X : Type 0} (xs : List X) (x : X) → Contains xs x → (i : ℕ) × (slice_get xs i ≡ Some x)
 contains-get [] x c = absurd (omega (arith, c.1))
 contains-get (y ∷ ys) x (zero, lt, is) = (0, ap Some is)
 contains-get (y ∷ ys) x (suc n, lt, is) = let rest = contains-get ys x (n, omega (arith, lt), is) in (suc rest.0, rest.1)
 
-get-contains : {X : Type 0} (xs : List X) (i : ℕ) (x : X) → slice_get xs i ≡ Some x → Contains xs x
+pub get-contains : {X : Type 0} (xs : List X) (i : ℕ) (x : X) → slice_get xs i ≡ Some x → Contains xs x
 get-contains [] i x is = absurd (cc)
 get-contains (y ∷ ys) zero x is = (0, omega arith, (cc))
 get-contains (y ∷ ys) (suc i) x is = let rest = get-contains ys i x is in (suc rest.0, omega (arith, rest.1), rest.2)
+
+-- a place is within the list
+pub get-below : {X : Type 0} (xs : List X) (i : ℕ) (x : X) → slice_get xs i ≡ Some x → i < length xs
+get-below [] i x is = absurd (cc)
+get-below (y ∷ ys) zero x is = omega arith
+get-below (y ∷ ys) (suc i) x is = omega (arith, get-below ys i x is)
 
 get-left : {X : Type 0} (xs ys : List X) (i : ℕ) (x : X) → slice_get xs i ≡ Some x → slice_get (xs ++ ys) i ≡ Some x
 get-left [] ys i x is = absurd (cc)
@@ -90,11 +97,27 @@ put-other block q place old new apart puts =
 abbrev Own : Type 0
 Own = Vec KeptRecord Global
 
+-- where records that are kept keep their blocks, what was named first is named so still
+abbrev KeepsBlocks : List KeptRecord → List KeptRecord → Type 0
+KeepsBlocks old new = (j : ℕ) (r : KeptRecord) → slice_get old j ≡ Some r → (s : KeptRecord) × (slice_get new j ≡ Some s) × (s.block ≡ r.block)
+
+named-more : (all old new : List KeptRecord) (found : KeptRecord) (k block : ℕ) → KeepsBlocks old new → IsNamedAfter all old k block → IsNamedAfter (all ++ found ∷ []) new k block
+named-more all old new found k block keeps named = record {
+  place = named.place;
+  found = named.found;
+  there = get-left all (found ∷ []) named.place named.found named.there;
+  block_is = named.block_is;
+  before = λ i s lt is. elim (get-push all found s i is) as (λ _. (j : ℕ) × (r : KeptRecord) × (j < k) × (slice_get new j ≡ Some r) × (r.block ≡ s.block)) [
+    | inl was ↦ (let first = named.before i s lt was in let kept = keeps first.0 first.1 first.3 in (first.0, kept.0, first.2, kept.1, kept.2 ∙ first.4))
+    | inr last ↦ absurd (omega (arith, last.0, lt, get-below all named.place named.found named.there))
+  ];
+}
+
 -- the first record of a block comes last
 pub put-first : (all : List KeptRecord) (found : KeptRecord) (old : Newest) (records : Own) (places : Places) → get nat_cmp old.places found.block ≡ None → PutsAt found.block (length old.records.items) old.places places
     → records.items ≡ old.records.items ++ found ∷ [] → KeepsNewest all old → KeepsNewest (all ++ found ∷ []) (record { records = records; places = places })
 put-first all found old records places none puts pushed k = record {
-  are = subst (AreNewest (all ++ found ∷ [])) (sym pushed) (record { among = among; latest = latest; covers = covers });
+  are = subst (AreNewest (all ++ found ∷ [])) (sym pushed) (record { among = among; latest = latest; covers = covers; in_order = in-order });
   few = omega (arith, ap length pushed, length-append items (found ∷ []), length-append all (found ∷ []), k.few);
   found = λ block place is. rw pushed (located block place is);
   placed = λ place r is. seated place r (rw pushed at is);
@@ -130,6 +153,31 @@ put-first all found old records places none puts pushed k = record {
       | inr is ↦ (found, Contains-push items found, ap (λ (x : KeptRecord). x.block) is)
     ]
 
+    before-last : (i : ℕ) (s : KeptRecord) → i < length all → slice_get (all ++ found ∷ []) i ≡ Some s → (j : ℕ) × (r : KeptRecord) × (j < length items) × (slice_get (items ++ found ∷ []) j ≡ Some r) × (r.block ≡ s.block)
+    before-last i s lt is = elim (get-push all found s i is) as (λ _. (j : ℕ) × (r : KeptRecord) × (j < length items) × (slice_get (items ++ found ∷ []) j ≡ Some r) × (r.block ≡ s.block)) [
+      | inl was ↦ (
+          let held = k.are.covers s (get-contains all i s was) in
+          let at = contains-get items held.0 held.1 in
+          (at.0, held.0, get-below items at.0 held.0 at.1, get-left items (found ∷ []) at.0 held.0 at.1, held.2)
+          )
+      | inr last ↦ absurd (omega (arith, last.0, lt))
+    ]
+
+    last-named : (i : ℕ) (r : KeptRecord) → i ≡ length items → found ≡ r → IsNamedAfter (all ++ found ∷ []) (items ++ found ∷ []) i r.block
+    last-named i r at same = record {
+      place = length all;
+      found = found;
+      there = get-last all found;
+      block_is = ap (λ (x : KeptRecord). x.block) same;
+      before = λ j s lt is. rw at (before-last j s lt is);
+    }
+
+    in-order : (i : ℕ) (r : KeptRecord) → slice_get (items ++ found ∷ []) i ≡ Some r → IsNamedAfter (all ++ found ∷ []) (items ++ found ∷ []) i r.block
+    in-order i r is = elim (get-push items found r i is) as (λ _. IsNamedAfter (all ++ found ∷ []) (items ++ found ∷ []) i r.block) [
+      | inl was ↦ named-more all items (items ++ found ∷ []) found i r.block (λ j s there. (s, get-left items (found ∷ []) j s there, refl)) (k.are.in_order i r was)
+      | inr last ↦ last-named i r last.0 last.1
+    ]
+
     located : (block place : ℕ) → get nat_cmp places block ≡ Some place → (r : KeptRecord) × (slice_get (items ++ found ∷ []) place ≡ Some r) × (r.block ≡ block)
     located block place is = elim (cases_eq block found.block) as (λ _. (r : KeptRecord) × (slice_get (items ++ found ∷ []) place ≡ Some r) × (r.block ≡ block)) [
       | inl same ↦ (
@@ -150,7 +198,7 @@ put-first all found old records places none puts pushed k = record {
 put-later : (all : List KeptRecord) (found taken : KeptRecord) (old : Newest) (records : Own) (place : ℕ) → slice_get old.records.items place ≡ Some taken → taken.block ≡ found.block → taken.sequence < found.sequence
     → records.items ≡ set old.records.items place found → KeepsNewest all old → KeepsNewest (all ++ found ∷ []) (record { records = records; places = old.places })
 put-later all found taken old records place there block lt replaced k = record {
-  are = subst (AreNewest (all ++ found ∷ [])) (sym replaced) (record { among = among; latest = latest; covers = covers });
+  are = subst (AreNewest (all ++ found ∷ [])) (sym replaced) (record { among = among; latest = latest; covers = covers; in_order = in-order });
   few = omega (arith, ap length replaced, length-set items place found, length-append all (found ∷ []), k.few);
   found = λ q i is. rw replaced (located q i is);
   placed = λ i r is. seated i r (rw replaced at is);
@@ -210,6 +258,25 @@ put-later all found taken old records place there block lt replaced k = record {
       | inr is ↦ (found, get-contains (set items place found) place found (get-set_here items found taken place there), ap (λ (x : KeptRecord). x.block) is)
     ]
 
+    keeps : KeepsBlocks items (set items place found)
+    keeps j r is = elim (cases_eq j place) as (λ _. (s : KeptRecord) × (slice_get (set items place found) j ≡ Some s) × (s.block ≡ r.block)) [
+      | inl here ↦ (
+          let one : taken ≡ r = (let e = sym there ∙ ap (slice_get items) (sym here) ∙ is in cc) in
+          (found, rw here (get-set_here items found taken place there), sym block ∙ ap (λ (x : KeptRecord). x.block) one)
+          )
+      | inr other ↦ (r, get-set_other items found r place j other is, refl)
+    ]
+
+    in-order : (i : ℕ) (r : KeptRecord) → slice_get (set items place found) i ≡ Some r → IsNamedAfter (all ++ found ∷ []) (set items place found) i r.block
+    in-order i r is = elim (sides i r is) as (λ _. IsNamedAfter (all ++ found ∷ []) (set items place found) i r.block) [
+      | inl here ↦ (
+          let was = named-more all items (set items place found) found place taken.block keeps (k.are.in_order place taken there) in
+          let same : taken.block ≡ r.block = block ∙ ap (λ (x : KeptRecord). x.block) here.1 in
+          rw (here.0, ← same) was
+          )
+      | inr other ↦ named-more all items (set items place found) found i r.block keeps (k.are.in_order i r other.0)
+    ]
+
     located : (q i : ℕ) → get nat_cmp old.places q ≡ Some i → (r : KeptRecord) × (slice_get (set items place found) i ≡ Some r) × (r.block ≡ q)
     located q i is = let was = k.found q i is in elim (cases_eq i place) as (λ _. (r : KeptRecord) × (slice_get (set items place found) i ≡ Some r) × (r.block ≡ q)) [
       | inl here ↦ (
@@ -229,7 +296,7 @@ put-later all found taken old records place there block lt replaced k = record {
 leave-out : (all : List KeptRecord) (found taken : KeptRecord) (old : Newest) (records : Own) (place : ℕ) → slice_get old.records.items place ≡ Some taken → taken.block ≡ found.block → found.sequence ≤ taken.sequence → records.items ≡ old.records.items
     → KeepsNewest all old → KeepsNewest (all ++ found ∷ []) (record { records = records; places = old.places })
 leave-out all found taken old records place there block le same k = record {
-  are = subst (AreNewest (all ++ found ∷ [])) (sym same) (record { among = among; latest = latest; covers = covers });
+  are = subst (AreNewest (all ++ found ∷ [])) (sym same) (record { among = among; latest = latest; covers = covers; in_order = in-order });
   few = omega (arith, ap length same, length-append all (found ∷ []), k.few);
   found = λ q i is. rw same (k.found q i is);
   placed = λ i r is. k.placed i r (rw same at is);
@@ -256,6 +323,9 @@ leave-out all found taken old records place there block le same k = record {
       | inr is ↦ (taken, get-contains items place taken there, block ∙ ap (λ (x : KeptRecord). x.block) is)
     ]
 
+    in-order : (i : ℕ) (r : KeptRecord) → slice_get items i ≡ Some r → IsNamedAfter (all ++ found ∷ []) items i r.block
+    in-order i r is = named-more all items items found i r.block (λ j s at. (s, at, refl)) (k.are.in_order i r is)
+
 -- a block that was named before
 pub put-again : (all : List KeptRecord) (found : KeptRecord) (old : Newest) (records : Own) (place : ℕ) → Some place ≡ get nat_cmp old.places found.block
     → ((taken : KeptRecord) → slice_get old.records.items place ≡ Some taken → taken.sequence < found.sequence → records.items ≡ set old.records.items place found)
@@ -270,7 +340,7 @@ put-again all found old records place is later earlier k =
 
 pub keeps-none : (records : Own) (places : Places) → records.items ≡ [] → IsEmpty places → KeepsNewest [] (record { records = records; places = places })
 keeps-none records places none empty = record {
-  are = record { among = λ r c. absurd (let bad = rw none at c in omega (arith, bad.1)); latest = λ r s c d. absurd (omega (arith, d.1)); covers = λ s c. absurd (omega (arith, c.1)) };
+  are = record { among = λ r c. absurd (let bad = rw none at c in omega (arith, bad.1)); latest = λ r s c d. absurd (omega (arith, d.1)); covers = λ s c. absurd (omega (arith, c.1)); in_order = λ i r is. absurd (let bad = rw none at is in cc) };
   few = omega (arith, ap length none);
   found = λ block place is. absurd (let bad = rw empty at is in cc);
   placed = λ place r is. absurd (let bad = rw none at is in cc);

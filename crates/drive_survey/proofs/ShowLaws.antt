@@ -1,9 +1,9 @@
 -- What blocks show, as it is read.
-use Rattle.std.proofs.Common.{◌≡◌, ◌≢◌, ℕ, suc, ◌<◌, ◌≤◌, Bool, true, false, cond, List, [], ◌∷◌, length, drop, get_or, Option, Some, None, refl, sym, ap, subst, ◌∙◌, arith}
+use Rattle.std.proofs.Common.{◌≡◌, ◌≢◌, inl, inr, ℕ, zero, suc, ◌<◌, ◌≤◌, Bool, true, false, cond, List, [], ◌∷◌, length, get_or, Option, Some, None, refl, sym, ap, subst, ◌∙◌, arith}
+use Rattle.std.specs.Prelude.{slice_get}
+use Rattle.std.proofs.lemmas.Bool.{cases_lt}
 use Rattle.std.specs.List.{AllByRecursion}
 use Rattle.std.specs.Option.{IsSome, option_map}
-use Rattle.std.proofs.lemmas.List.{drop_all}
-use Rattle.std.proofs.Math.Seq.{drop-cons}
 use Rattle.drive_port.specs.Drive.{DriveState}
 use Rattle.drive_port.proofs.ClosingLaws.{length-closing}
 use Rattle.batch_log.specs.Log.{Batch}
@@ -14,13 +14,15 @@ use Rattle.drive_survey.specs.declared.records.KeptRecord.{KeptRecord}
 use Rattle.drive_survey.specs.declared.reported.ReportedZone.{ReportedZone}
 use Rattle.drive_survey.specs.declared.clearing.block_records.BlockRecords.{BlockRecords}
 use Rattle.drive_survey.specs.declared.clearing.shown.Rivals.{Rivals}
-use Rattle.drive_survey.specs.Clearing.{AllStand, AreRivals, IfStands, LooksFor, ShowsSame, StandsAt, Tells, TellsRivals}
+use Rattle.drive_survey.specs.Clearing.{AllStand, AreRivals, IfStands, IsNeededAt, LooksFor, ShowSameBefore, ShowsSame, StandsAt, Tells, TellsRivals}
 use Rattle.drive_survey.specs.KeptRecords.{kept_record}
 use Rattle.drive_survey.specs.Reported.{IsKnown, KeepsZones}
 use Rattle.drive_survey.specs.BlockRecords.{HoldsEach, HoldsRecords, held_of, own_of}
 use Rattle.drive_survey.specs.Scan.{block_of, readable_at}
+use Rattle.drive_survey.proofs.NewestRecordLaws.{contains-get, get-below}
 use Rattle.drive_survey.proofs.OutsideLaws.{is_outside, outside, outside-is}
 use Rattle.drive_survey.proofs.ReadLaws.{kept-blocks}
+use Rattle.drive_survey.proofs.RecordMapLaws.{all-self}
 use Rattle.drive_survey.proofs.SpareLaws.{same-none, same-other}
 
 -- ---- the drive stays as it is
@@ -95,7 +97,20 @@ AreSame block_bytes logs zone own = AllByRecursion (λ (r : KeptRecord). ShowsSa
 
 -- the blocks of the first records show the same
 abbrev pub SameSoFar : DriveState → BlockRecords → ℕ → List KeptRecord → ℕ → Type 0
-SameSoFar drive table zone own i = (logs : List (List Batch)) → HoldsRecords logs table → AllStand drive logs → HoldsEach table own → AreSame drive.geometry.block logs zone (drop i own) → AreSame drive.geometry.block logs zone own
+SameSoFar drive table zone own i = (logs : List (List Batch)) → HoldsRecords logs table → AllStand drive logs → HoldsEach table own → ShowSameBefore drive.geometry.block logs zone own i
+
+get-is : {X : Type 0} (xs : List X) (i : ℕ) (d x : X) → slice_get xs i ≡ Some x → get_or xs i d ≡ x
+get-is [] i d x is = absurd (cc)
+get-is (y ∷ ys) zero d x is = cc
+get-is (y ∷ ys) (suc i) d x is = get-is ys i d x is
+
+at-get : {X : Type 0} (xs : List X) (i : ℕ) (d : X) → i < length xs → slice_get xs i ≡ Some (get_or xs i d)
+at-get [] i d lt = absurd (omega (arith, lt))
+at-get (y ∷ ys) zero d lt = refl
+at-get (y ∷ ys) (suc i) d lt = at-get ys i d (omega (arith, lt))
+
+pub same-first : (drive : DriveState) (table : BlockRecords) (zone : ℕ) (own : List KeptRecord) → SameSoFar drive table zone own 0
+same-first drive table zone own logs holds stand held k r lt is = absurd (omega (arith, lt))
 
 abbrev pub TellsBlock : DriveState → BlockRecords → ℕ → ℕ → Bool → Type 0
 TellsBlock drive table zone block same = (logs : List (List Batch)) → HoldsRecords logs table → AllStand drive logs → IsSome (held_of table block) → Tells same (ShowsSame drive.geometry.block logs zone block)
@@ -118,19 +133,35 @@ block-held table own i d holds lt = all-at (λ (r : KeptRecord). IsSome (held_of
 
 pub same-more : (first now : DriveState) (table : BlockRecords) (zone : ℕ) (own : List KeptRecord) (i i' : ℕ) (d : KeptRecord) (same : Bool) → KeepsZones first now → i < length own → i' ≡ suc i → same ≡ true → TellsBlock now table zone (get_or own i d).block same
     → SameSoFar first table zone own i → SameSoFar first table zone own i'
-same-more first now table zone own i i' d same kept lt more yes_same tells so_far logs holds stand held rest =
-    let here = rw yes_same at (tells-first first now table zone (get_or own i d).block same kept tells) in
-    so_far logs holds stand held (rw (drop-cons own i d lt) (here logs holds stand (block-held table own i d held lt), rw more at rest))
+same-more first now table zone own i i' d same kept lt more yes_same tells so_far logs holds stand held k r below is = elim (cases_lt k i) as (λ _. ShowsSame first.geometry.block logs zone r.block) [
+  | inl earlier ↦ so_far logs holds stand held k r earlier is
+  | inr ge ↦ (
+      let told = rw yes_same at (tells-first first now table zone (get_or own i d).block same kept tells) in
+      let at : k ≡ i = omega (arith, below, more, ge) in
+      let one : get_or own i d ≡ r = get-is own i d r (rw at at is) in
+      subst (λ (x : KeptRecord). ShowsSame first.geometry.block logs zone x.block) one (told logs holds stand (block-held table own i d held lt))
+      )
+]
 
 pub needed-here : (first now : DriveState) (table : BlockRecords) (zone : ℕ) (own : List KeptRecord) (i : ℕ) (d : KeptRecord) (same : Bool) → KeepsZones first now → own ≡ own_of table zone → i < length own → same ≡ false → TellsBlock now table zone (get_or own i d).block same
-    → LooksFor first table zone (Some (get_or own i d).block)
-needed-here first now table zone own i d same kept is lt not_same tells logs holds stand held =
+    → SameSoFar first table zone own i → LooksFor first table zone (Some (get_or own i d).block)
+needed-here first now table zone own i d same kept is lt not_same tells so_far logs holds stand held =
     let here = rw not_same at (tells-first first now table zone (get_or own i d).block same kept tells) in
-    here logs holds stand (block-held table own i d (rw is held) lt)
+    let each : HoldsEach table own = rw is held in
+    subst (λ (ks : List KeptRecord). IsNeededAt first.geometry.block logs zone ks (get_or own i d).block) is (record {
+      place = i;
+      found = get_or own i d;
+      there = at-get own i d lt;
+      block_is = refl;
+      before = so_far logs holds stand each;
+      differs = here logs holds stand (block-held table own i d each lt);
+    })
 
 pub none-needed : (drive : DriveState) (table : BlockRecords) (zone : ℕ) (own : List KeptRecord) (i : ℕ) → own ≡ own_of table zone → length own ≤ i → SameSoFar drive table zone own i → LooksFor drive table zone None
 none-needed drive table zone own i is le so_far logs holds stand held =
-    subst (AreSame drive.geometry.block logs zone) is (so_far logs holds stand (rw is held) (rw (drop_all i own le) tt))
+    let before = so_far logs holds stand (rw is held) in
+    subst (AreSame drive.geometry.block logs zone) is (all-self (λ (r : KeptRecord). ShowsSame drive.geometry.block logs zone r.block) own
+    (λ r c. let at = contains-get own r c in before at.0 r (omega (arith, le, get-below own at.0 r at.1)) at.1))
 
 -- no record is kept of the zone
 pub none-kept : (drive : DriveState) (table : BlockRecords) (zone : ℕ) → own_of table zone ≡ [] → LooksFor drive table zone None

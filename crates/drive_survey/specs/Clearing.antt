@@ -54,9 +54,22 @@ pub record AreRivals (logs : List (List Batch)) (zone block : ℕ) (rivals : Riv
   pub newest_is : Some rivals.newest ≡ option_map kept_record (newest block (records 0 logs))
   pub other_is : rivals.other ≡ option_map kept_record (newest block (records 0 (without logs zone)))
 
--- of the blocks of these records one shows something else without the zone, or none does
+-- the blocks of the records before a place show the same without the zone
+abbrev pub ShowSameBefore : ℕ → List (List Batch) → ℕ → List KeptRecord → ℕ → Type 0
+ShowSameBefore block_bytes logs zone own k = (i : ℕ) (r : KeptRecord) → i < k → slice_get own i ≡ Some r → ShowsSame block_bytes logs zone r.block
+
+-- The record at this place has this block, which shows something else without the zone. Those before it show the same.
+pub record IsNeededAt (block_bytes : ℕ) (logs : List (List Batch)) (zone : ℕ) (own : List KeptRecord) (block : ℕ) : Type 0 where
+  pub place : ℕ
+  pub found : KeptRecord
+  pub there : slice_get own place ≡ Some found
+  pub block_is : found.block ≡ block
+  pub before : ShowSameBefore block_bytes logs zone own place
+  pub differs : ShowsSame block_bytes logs zone block → ⊥
+
+-- which block of these records is the first that shows something else without the zone, if any
 abbrev pub FindsNeeded : ℕ → List (List Batch) → ℕ → List KeptRecord → Option ℕ → Type 0
-FindsNeeded block_bytes logs zone own (Some block) = ShowsSame block_bytes logs zone block → ⊥
+FindsNeeded block_bytes logs zone own (Some block) = IsNeededAt block_bytes logs zone own block
 FindsNeeded block_bytes logs zone own None = AllByRecursion (λ (r : KeptRecord). ShowsSame block_bytes logs zone r.block) own
 
 -- whether the two show the same

@@ -1,6 +1,6 @@
 -- The headers of a zone's batches, as a mount keeps them.
-use Rattle.std.specs.Prelude.{ℕ, ◌+◌, ◌^◌, ◌==◌, nat_le, nat_lt, ◌&&◌, max, if◌then◌else◌, Bool, true}
-use Rattle.std.specs.Prelude.{false, List, [], ◌∷◌, ◌++◌, map, length, Option, Some, None}
+use Rattle.std.specs.Prelude.{ℕ, ◌+◌, ◌^◌, ◌==◌, nat_lt, ◌&&◌, max, if◌then◌else◌, Bool, true}
+use Rattle.std.specs.Prelude.{false, List, [], ◌∷◌, ◌++◌, map, length, Option, None}
 use Rattle.std.specs.List.{flat_map}
 use Rattle.batch_log.specs.declared.header.Entry.{Entry}
 use Rattle.batch_log.specs.declared.header.Kind.{Kind}
@@ -86,11 +86,3 @@ head_sequences heads = map (λ (head : Head). head.sequence) heads
 
 abbrev pub sequences_in : List HeadsView → List ℕ
 sequences_in views = flat_map (λ (view : HeadsView). head_sequences view.heads) views
-
--- the sequence of the last of these batches that begins at a block or before it, or else what was found before
-abbrev pub sequence_from : Option ℕ → ℕ → List Head → Option ℕ
-sequence_from found offset [] = found
-sequence_from found offset (head ∷ heads) = if nat_le head.offset offset then sequence_from (Some head.sequence) offset heads else found
-
-abbrev pub sequence_at : List Head → ℕ → Option ℕ
-sequence_at heads offset = sequence_from None offset heads

@@ -1,12 +1,12 @@
 -- What is known of a drive whose headers are read, and of its zones.
-use Rattle.std.specs.Prelude.{◌≡◌, ◌≢◌, ℕ, ◌<◌, ◌^◌, List, length, map}
+use Rattle.std.specs.Prelude.{◌≡◌, ◌≢◌, ℕ, ◌<◌, ◌^◌, List, Some, length, map, slice_get}
 use Rattle.std.specs.List.{AllByRecursion}
 use Rattle.drive_port.specs.Contents.{contents}
 use Rattle.drive_port.specs.Drive.{DriveState}
 use Rattle.batch_log.specs.Log.{Batch}
-use Rattle.drive_array.specs.ZoneLogs.{HasLog, drive_logs, zone_tails}
+use Rattle.drive_array.specs.ZoneLogs.{HasLog, drive_logs, log_at, zone_tails}
 use Rattle.drive_array.specs.Mountable.{AreSound}
-use Rattle.drive_array.specs.Records.{without}
+use Rattle.drive_array.specs.Records.{Record, log_records, without}
 use Rattle.drive_array.specs.Repairing.{IsMoved, NeedsItsBlock}
 use Rattle.drive_array.specs.Reserve.{FitsReserve}
 use Rattle.drive_array.specs.Sizes.{encoded_size}
@@ -14,6 +14,7 @@ use Rattle.drive_array.specs.Spare.{IsHalfClean, IsPart, IsVacant}
 use Rattle.drive_survey.specs.declared.survey.Survey.{Survey}
 use Rattle.drive_survey.specs.declared.clearing.Finding.{Finding}
 use Rattle.drive_survey.specs.declared.clearing.Finding.TheVariants.{HalfClean, NotMoves, NeedsBlock, NeedsSize}
+use Rattle.drive_survey.specs.Clearing.{ShowsSame}
 use Rattle.drive_survey.specs.Heads.{heads_of}
 use Rattle.drive_survey.specs.Scan.{AreKnown, heads_in, tails_in}
 
@@ -40,10 +41,20 @@ pub record HasVacant (logs : List (List Batch)) : Type 0 where
 
 -- ---- what is found of a zone
 
+-- A zone's log names this block. The blocks that it names before show the same without the zone.
+pub record IsFirstNeeded (block_bytes : ℕ) (logs : List (List Batch)) (zone block : ℕ) : Type 0 where
+  pub place : ℕ
+  pub found : Record
+  pub there : slice_get (log_records zone 0 (log_at logs zone)) place ≡ Some found
+  pub block_is : found.block ≡ block
+  pub before : (i : ℕ) (r : Record) → i < place → slice_get (log_records zone 0 (log_at logs zone)) i ≡ Some r
+      → ShowsSame block_bytes logs zone r.block
+
 -- Whether a zone is half clean, and if not, why: its batches are not Moves from an older zone; or a block shows
--- something else without it; or only it says the size.
+-- something else without it, and is the first of its entries that does; or only it says the size.
 abbrev pub Finds : ℕ → ℕ → List (List Batch) → ℕ → Finding → Type 0
 Finds block_bytes n logs zone HalfClean = IsHalfClean block_bytes n logs zone
 Finds block_bytes n logs zone NotMoves = IsMoved logs zone → ⊥
-Finds block_bytes n logs zone (NeedsBlock block) = IsMoved logs zone × NeedsItsBlock block_bytes n logs zone block
+Finds block_bytes n logs zone (NeedsBlock block) =
+    IsMoved logs zone × NeedsItsBlock block_bytes n logs zone block × IsFirstNeeded block_bytes logs zone block
 Finds block_bytes n logs zone NeedsSize = IsMoved logs zone × (encoded_size n (without logs zone) ≢ encoded_size n logs)

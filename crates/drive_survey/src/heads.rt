@@ -1,9 +1,7 @@
 ghost use Rattle.std.specs.Prelude.{◌≡◌, ◌+◌, ◌<◌, ◌^◌, ◌++◌, length, map, OnOk};
 ghost use Rattle.batch_log.specs.Log.{data_count};
 ghost use Rattle.drive_survey.specs.Heads.{highest_of, is_move, kept_bit, kept_block, kept_entry, no_heads};
-ghost use Rattle.drive_survey.specs.Heads.{sequence_at, source_with, with_heading};
-ghost use Rattle.drive_survey.specs.declared.heads.Head.{Head};
-ghost use Rattle.std.specs.List.Sorted.{IsNonDecreasingBy};
+ghost use Rattle.drive_survey.specs.Heads.{source_with, with_heading};
 ghost use Rattle.drive_array.specs.Sizes.{larger};
 
 use batch_log::{Entry, HeaderView, Kind};
@@ -229,19 +227,5 @@ impl ZoneHeads {
         self.most = self.most.max(header.count() as u32);
         self.highest = highest_of(self.highest, header);
         Ok(())
-    }
-
-    /// The sequence of the last batch that begins at this block of the zone or before it.
-    pub fn sequence_at(&self, offset: u64) -> Option<u64>
-        ensures { IsNonDecreasingBy (λ (head : Head). head.offset) self.now.heads
-            → result ≡ sequence_at self.now.heads offset }
-    {
-        let after = self
-            .heads
-            .partition_point(|head| head.offset as u64 <= offset);
-        if after == 0 {
-            return None;
-        }
-        Some(self.heads[after - 1].sequence)
     }
 }

@@ -1,5 +1,6 @@
 pub mod RefusalLaws
 pub mod HeadPlaceLaws
+pub mod ListingLaws
 pub mod PlacingLaws
 pub mod PlacedLaws
 pub mod MountingLaws

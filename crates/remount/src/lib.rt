@@ -49,3 +49,4 @@ pub use drive_survey::{MountFault, Survey, survey_drive};
 pub use mounting::mount;
 pub use plan::{Plan, plan_mount};
 pub use repair::Repair;
+pub use tables::places::place_records;

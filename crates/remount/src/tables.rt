@@ -9,6 +9,7 @@ ghost use Rattle.zone_choice.specs.Roles.{fillings};
 ghost use Rattle.remount.specs.Kept.{IsNotedOpen};
 ghost use Rattle.remount.specs.Mount.{AreMountedRoles, IsRepaired};
 
+pub(crate) mod batches;
 pub(crate) mod places;
 mod roles;
 

@@ -1,17 +1,19 @@
-ghost use Rattle.std.specs.Prelude.{◌≡◌, ℕ, ◌<◌, ◌+◌, ◌≤◌, ◌^◌, List, IfOk, OnOk};
+ghost use Rattle.std.specs.Prelude.{◌≡◌, ◌<◌, ◌+◌, ◌≤◌, ◌^◌, ◌++◌, [], ◌∷◌, List, IfOk, OnOk};
+ghost use Rattle.std.specs.List.Sorted.{IsNonDecreasingBy};
 ghost use Rattle.batch_log.specs.Log.{Batch};
 ghost use Rattle.drive_port.specs.Drive.{DriveState};
 ghost use Rattle.logical_map.specs.Places.{place_address};
 ghost use Rattle.zone_choice.specs.Tables.{size_of};
-ghost use Rattle.drive_survey.specs.Heads.{no_heads};
-ghost use Rattle.drive_survey.specs.KeptRecords.{kept_entries, kept_of_zone};
+ghost use Rattle.drive_survey.specs.declared.records.KeptRecord.{KeptRecord};
+ghost use Rattle.drive_survey.specs.KeptRecords.{kept_entries};
 ghost use Rattle.drive_survey.specs.Known.{Knows};
-ghost use Rattle.remount.specs.Mount.{IsPlaced};
-ghost use Rattle.remount.specs.Placing.{AreAscending, SameButPlaces, heads_at, is_later, kept_place, placed_all};
-ghost use Rattle.remount.specs.Placing.{placed_one, placed_sequence, sequence_of};
 ghost use Rattle.drive_survey.specs.Scan.{heads_in};
+ghost use Rattle.remount.specs.Mount.{IsPlaced};
+ghost use Rattle.remount.specs.Placing.{NoneIsOlder, PlacesNewest, SameButPlaces, kept_place, all_listed};
+ghost use Rattle.remount.specs.declared.tables.batches.ListedBatch.{ListedBatch};
 
-use drive_survey::{Head, KeptRecord, ScannedZone, Survey, ZoneHeads, entry_record, is_trim};
+use crate::tables::batches::{ListedBatch, entries_of, oldest_first};
+use drive_survey::{KeptRecord, ScannedZone, Survey, entry_record, is_trim};
 use logical_map::Place;
 use std::alloc::{AllocError, Global};
 use zone_choice::Tables;
@@ -36,85 +38,43 @@ fn place_of(found: KeptRecord, zone_size: u32) -> Place
     Place::At(address)
 }
 
-/// The sequence of the batch that has the block at an address.
-fn sequence_in(scanned: &[ScannedZone], zone_size: u32, address: u64) -> Option<u64>
-    ensures { AreAscending (heads_in scanned.now) → result ≡ placed_sequence zone_size (heads_in scanned.now) address }
-{
-    if zone_size == 0 {
-        return None;
-    }
-    let zone = scanned.get((address / zone_size as u64) as usize)?;
-    zone.heads.sequence_at(address % zone_size as u64)
-}
-
-/// The sequence of the record that a place belongs to.
-fn sequence_of(scanned: &[ScannedZone], zone_size: u32, place: Place) -> Option<u64>
-    ensures { AreAscending (heads_in scanned.now) → result ≡ sequence_of zone_size (heads_in scanned.now) place }
-{
-    match place {
-        Place::None => None,
-        Place::At(address) | Place::Trimmed(address) => sequence_in(scanned, zone_size, address),
-    }
-}
-
-/// Whether a record is later than the one that a place belongs to.
-fn is_later(scanned: &[ScannedZone], zone_size: u32, place: Place, sequence: u64) -> bool
-    ensures { AreAscending (heads_in scanned.now)
-        → result ≡ is_later (sequence_of zone_size (heads_in scanned.now) place) sequence }
-{
-    match sequence_of(scanned, zone_size, place) {
-        Some(old) => old < sequence,
-        None => true,
-    }
-}
-
-/// Places a record, unless its block has a place by one that is no older.
-fn place_record(
-    tables: &mut Tables,
-    scanned: &[ScannedZone],
-    zone_size: u32,
-    found: KeptRecord,
-) -> Result<(), AllocError>
+/// Places a record that no record placed before is older than, unless its block has a place.
+fn place_record(tables: &mut Tables, zone_size: u32, found: KeptRecord) -> Result<(), AllocError>
     requires few { size_of tables.old ≤ 2 ^ 31 }
-    ensures places { OnOk result (AreAscending (heads_in scanned.now)
-        → tables.new.map.places ≡ placed_one zone_size (heads_in scanned.now) tables.old.map.places found) }
+    ensures places { OnOk result ((all : List KeptRecord) → PlacesNewest zone_size all tables.old.map.places
+        → NoneIsOlder all found.sequence → PlacesNewest zone_size (all ++ found ∷ []) tables.new.map.places) }
     ensures kept { SameButPlaces tables.old tables.new }
 {
     let block = found.block;
     if block >= tables.blocks() {
         return Ok(());
     }
-    if !is_later(scanned, zone_size, tables.place_of(block), found.sequence) {
+    let Place::None = tables.place_of(block) else {
         return Ok(());
-    }
+    };
     tables.reserve(found.zone, block, 1)?;
     tables.place(block, place_of(found, zone_size));
     Ok(())
 }
 
-/// Places the records of a batch.
+/// Places the records of a batch that no record placed before is older than.
 fn place_batch(
     tables: &mut Tables,
-    scanned: &[ScannedZone],
     zone_size: u32,
-    zone: u32,
-    head: &Head,
+    batch: &ListedBatch,
     entries: &[u32],
 ) -> Result<(), AllocError>
     requires few { size_of tables.old ≤ 2 ^ 31 }
-    ensures places { OnOk result (AreAscending (heads_in scanned.now)
-        → tables.new.map.places ≡ placed_all zone_size (heads_in scanned.now) tables.old.map.places
-        (kept_entries head.now.sequence zone head.now.offset 0 entries.now)) }
+    ensures places { OnOk result ((all : List KeptRecord) → PlacesNewest zone_size all tables.old.map.places
+        → NoneIsOlder all batch.now.head.sequence
+        → PlacesNewest zone_size (all ++ kept_entries batch.now.head.sequence batch.now.zone
+        batch.now.head.offset 0 entries.now) tables.new.map.places) }
     ensures kept { SameButPlaces tables.old tables.new }
 {
     let mut before = 0;
     for entry in entries {
-        place_record(
-            tables,
-            scanned,
-            zone_size,
-            entry_record(zone, head, before, *entry),
-        )?;
+        let found = entry_record(batch.zone, &batch.head, before, *entry);
+        place_record(tables, zone_size, found)?;
         if !is_trim(*entry) {
             before += 1;
         }
@@ -122,51 +82,39 @@ fn place_batch(
     Ok(())
 }
 
-/// Places the records of a zone's batches.
-fn place_heads(
+/// Places the records of these batches, the newest first.
+fn place_batches(
     tables: &mut Tables,
     scanned: &[ScannedZone],
     zone_size: u32,
-    zone: u32,
-    heads: &ZoneHeads,
+    batches: Vec<ListedBatch>,
 ) -> Result<(), AllocError>
     requires few { size_of tables.old ≤ 2 ^ 31 }
-    ensures places { OnOk result (AreAscending (heads_in scanned.now)
-        → tables.new.map.places ≡ placed_all zone_size (heads_in scanned.now) tables.old.map.places
-        (kept_of_zone zone heads.now)) }
+    requires sorted { IsNonDecreasingBy (λ (batch : ListedBatch). batch.head.sequence) batches.items }
+    ensures places { OnOk result (PlacesNewest zone_size [] tables.old.map.places
+        → PlacesNewest zone_size (all_listed (heads_in scanned.now) batches.items) tables.new.map.places) }
     ensures kept { SameButPlaces tables.old tables.new }
 {
-    let mut from = 0;
-    let mut rest = heads.entries();
-    for head in heads.heads() {
-        let count = head.end.saturating_sub(from) as usize;
-        let (own, others) = rest.split_at(count.min(rest.len()));
-        place_batch(tables, scanned, zone_size, zone, head, own)?;
-        from = head.end;
-        rest = others;
+    let mut batches = batches;
+    while let Some(batch) = batches.pop() {
+        let entries = entries_of(scanned, &batch);
+        place_batch(tables, zone_size, &batch, entries)?;
     }
     Ok(())
 }
 
-/// Places the records of a zone, and makes room to note their blocks.
-fn place_zone(
-    tables: &mut Tables,
-    scanned: &[ScannedZone],
-    zone_size: u32,
-    zone: u32,
-) -> Result<(), AllocError>
-    requires few { size_of tables.old ≤ 2 ^ 31 }
-    ensures places { OnOk result (AreAscending (heads_in scanned.now)
-        → tables.new.map.places ≡ placed_all zone_size (heads_in scanned.now) tables.old.map.places
-        (kept_of_zone zone (heads_at (heads_in scanned.now) zone))) }
-    ensures kept { SameButPlaces tables.old tables.new }
+/// Makes room to note the blocks of each zone.
+fn reserve_zones(tables: &mut Tables, scanned: &[ScannedZone], zones: u32) -> Result<(), AllocError>
+    ensures { tables.new ≡ tables.old }
 {
-    let Some(found) = scanned.get(zone as usize) else {
-        return Ok(());
-    };
-    let most = found.heads.entries().len().min(tables.blocks() as usize);
-    tables.reserve_moves(zone, most as u32)?;
-    place_heads(tables, scanned, zone_size, zone, &found.heads)
+    for zone in 0..zones {
+        let Some(found) = scanned.get(zone as usize) else {
+            return Ok(());
+        };
+        let most = found.heads.entries().len().min(tables.blocks() as usize);
+        tables.reserve_moves(zone, most as u32)?;
+    }
+    Ok(())
 }
 
 /// Tables that say where the newest record of each block is, by the headers that are kept. They say nothing of
@@ -184,8 +132,8 @@ pub fn place_records(
 {
     let size = survey.size.min(MOST_BLOCKS);
     let mut tables = Tables::new(alloc, geometry.zones, geometry.size, size, survey.given)?;
-    for zone in 0..geometry.zones {
-        place_zone(&mut tables, &survey.scanned, geometry.size, zone)?;
-    }
+    reserve_zones(&mut tables, &survey.scanned, geometry.zones)?;
+    let batches = oldest_first(alloc, &survey.scanned, geometry.zones)?;
+    place_batches(&mut tables, &survey.scanned, geometry.size, batches)?;
     Ok(tables)
 }

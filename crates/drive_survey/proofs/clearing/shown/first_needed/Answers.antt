@@ -2,14 +2,14 @@ use Rattle.std.proofs.Common.{true, refl, ap, ◌∙◌, arith}
 use Rattle.drive_survey.specs.BlockRecords.{own_list}
 use Rattle.drive_survey.proofs.ReadLaws.{keeps-both, keeps-none}
 use Rattle.drive_survey.proofs.SurveyLaws.{known-kept}
-use Rattle.drive_survey.proofs.ShowLaws.{needed-here, no-rivals-told, none-needed, rivals-told, same-more}
+use Rattle.drive_survey.proofs.ShowLaws.{needed-here, no-rivals-told, none-needed, rivals-told, same-first, same-more}
 use Rattle.drive_survey.proofs.clearing.shown.first_needed.Goals as goal
 
 pub returns-in_default-clause-kept : goal.returns-in_default-clause-kept
 returns-in_default-clause-kept g c = keeps-none _ c.requires.zones.lawful
 
 pub loop-found-init : goal.loop-found-init
-loop-found-init g c = (keeps-none _ c.requires.zones.lawful, λ logs holds stand held same. same, omega arith)
+loop-found-init g c = (keeps-none _ c.requires.zones.lawful, same-first (g.D.Device.drive c.args.device.now) c.args.table.now c.args.zone c.deref-found-items.result.now, omega arith)
 
 pub loop-found-preserved-in_default-rivals_of : goal.loop-found-preserved-in_default-rivals_of
 loop-found-preserved-in_default-rivals_of g c = (
@@ -30,6 +30,7 @@ returns-then-not-branch-clause-ok g c =
     needed-here (g.D.Device.drive c.args.device.now) (g.D.Device.drive c.loop-found.device) c.args.table.now c.args.zone c.deref-found-items.result.now c.loop-found.found-index _ c.in_ok-show_same.field-0 c.loop-found.invariant.0
     (c.deref-found-items.ensures.value ∙ ap own_list c.in-Some.ensures.value) c.loop-found-test.true c.if-not-branch.true
     (rivals-told (g.D.Device.drive c.loop-found.device) c.args.table.now c.args.zone _ c.in-Some-rivals_of.rivals c.in_ok-show_same.field-0 (rw c.in-Some-rivals_of.is at c.rivals_of.ensures.some) c.in_ok-show_same.ensures.ok)
+    c.loop-found.invariant.1
 
 pub returns-then-not-branch-clause-kept : goal.returns-then-not-branch-clause-kept
 returns-then-not-branch-clause-kept g c = keeps-both _ _ _ c.loop-found.invariant.0 c.show_same.ensures.kept
