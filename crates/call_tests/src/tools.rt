@@ -12,7 +12,29 @@ use std::test::Fail;
 use tool_jobs::{ToolFault, ToolJob, do_tool_job};
 
 // Which words of tools are refused, and how.
-const WORDS: [(&str, Option<ErrorKind>); 24] = [
+const WORDS: [(&str, Option<ErrorKind>); 34] = [
+    ("zonedisk export --image a", None),
+    (
+        "zonedisk export --image a --first 3 --count 2 --progress",
+        None,
+    ),
+    (
+        "zonedisk export --image a --count x",
+        Some(ErrorKind::ValueValidation),
+    ),
+    (
+        "zonedisk export --image a --sparse",
+        Some(ErrorKind::UnknownArgument),
+    ),
+    (
+        "zonedisk import --image a --blocks 9 --first 1 --sparse --progress",
+        None,
+    ),
+    (
+        "zonedisk import --image a --count 2",
+        Some(ErrorKind::UnknownArgument),
+    ),
+    ("zonedisk import", Some(ErrorKind::MissingRequiredArgument)),
     ("zonedisk check --image a", None),
     ("zonedisk check --image a --blocks 9 --json", None),
     ("zonedisk check", Some(ErrorKind::MissingRequiredArgument)),
@@ -22,6 +44,12 @@ const WORDS: [(&str, Option<ErrorKind>); 24] = [
     ),
     (
         "zonedisk check --image a --zones",
+        Some(ErrorKind::UnknownArgument),
+    ),
+    ("zonedisk info --image a --json", None),
+    ("zonedisk info", Some(ErrorKind::MissingRequiredArgument)),
+    (
+        "zonedisk info --image a --blocks 9",
         Some(ErrorKind::UnknownArgument),
     ),
     ("zonedisk plan --image a", None),
@@ -175,6 +203,15 @@ batches of zone 0: zone 0 holds no batch at block 0: the header does not begin w
 batches of zone 1: zone 1 holds no batch at block 0: the header does not begin with ZLOGBAT1
 ";
 
+// Both zones were open before the restart.
+const INFO: &[u8] = b"block 512
+zones 4
+capacity 6
+state Empty zones 2
+state Closed zones 2
+refused: zone 0 holds no batch at block 0: the header does not begin with ZLOGBAT1
+";
+
 const BRIEF: &[u8] = b"zones 4
 state Empty zones 2 at 2-3
 state ImplicitlyOpened zones 2 at 0-1
@@ -207,6 +244,7 @@ fn checks_a_drive(rt: HostRuntime) -> Result<(), Fail> {
         alloc,
         &[
             (CHECK, false, FAULTY),
+            ("zonedisk info --image checked.image", true, INFO),
             ("zonedisk report --image checked.image --brief", true, BRIEF),
             (
                 "zonedisk report --image checked.image --state Empty",

@@ -11,7 +11,8 @@ use Rattle.tool_jobs.specs.declared.showing.ZonesForm.{ZonesForm}
 use Rattle.tool_jobs.specs.declared.job.ToolJob.TheVariants as tools
 use Rattle.disk_jobs.specs.declared.job.Job.TheVariants as jobs
 use Rattle.command_line.specs.declared.task.Task.{Task}
-use Rattle.command_line.specs.declared.task.Task.TheVariants.{Lines, Nbd, Tool}
+use Rattle.command_line.specs.declared.task.Task.TheVariants.{Lines, Nbd, Copy, Tool}
+use Rattle.copy_jobs.specs.declared.job.CopyJob.TheVariants as copies
 use Rattle.command_line.specs.ToolWords.{HasZonesForm, SaysBytes, SaysBytesIn, letter_unit, unit_of}
 use Rattle.command_line.specs.Words.{AsksFor}
 use Rattle.command_line.proofs.WordLaws.{both}
@@ -29,10 +30,14 @@ report-form rows (Lines (jobs.Nvme path habit sync)) asks = absurd (unlike (code
 report-form rows (Lines (jobs.Fresh geometry blocks report statistics stop habit)) asks = absurd (unlike (codes "report") (codes "fresh") refl refl asks.0)
 report-form rows (Lines (jobs.FreshRaw geometry habit)) asks = absurd (unlike (codes "report") (codes "fresh-raw") refl refl asks.0)
 report-form rows (Nbd job) asks = absurd (unlike (codes "report") (codes "nbd") refl refl asks.0)
+report-form rows (Copy (copies.Export job)) asks = absurd (unlike (codes "report") (codes "export") refl refl asks.0)
+report-form rows (Copy (copies.Import job)) asks = absurd (unlike (codes "report") (codes "import") refl refl asks.0)
 report-form rows (Tool (tools.Check job)) asks = absurd (unlike (codes "report") (codes "check") refl refl asks.0)
+report-form rows (Tool (tools.Info job)) asks = absurd (unlike (codes "report") (codes "info") refl refl asks.0)
 report-form rows (Tool (tools.Plan job)) asks = absurd (unlike (codes "report") (codes "plan") refl refl asks.0)
 report-form rows (Tool (tools.Format bytes)) asks = absurd (unlike (codes "report") (codes "plan") refl refl asks.0)
 report-form rows (Tool (tools.Zones job)) asks = (Some job.form, asks.2)
+report-form rows (Tool (tools.Entry words)) asks = absurd (unlike (codes "report") (codes "entry") refl refl asks.0)
 
 -- ---- a number of bytes
 

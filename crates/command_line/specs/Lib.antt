@@ -2,3 +2,4 @@ pub mod Program
 pub mod Words
 pub mod Values
 pub mod ToolWords
+pub mod EntryWords

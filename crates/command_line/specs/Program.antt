@@ -29,6 +29,10 @@ flag name = record (new_rule name) { long = Some name; action = Some SetTrue }
 abbrev pub number : Text → ValueParser → Rule
 number name parser = with_parser parser (valued name)
 
+-- a word that is no option, and has to be given
+abbrev pub given_first : Text → Rule
+given_first name = record (new_rule name) { action = Some Set; value_names = 1; required = true }
+
 -- a number below 2^32, and one below 2^63
 abbrev pub part : Bool → Text → Rule
 part needed name = record (number name (parsers.Signed (pos 0) (pos 4294967295))) { required = needed }
@@ -85,15 +89,37 @@ report_words = with_options (codes "report")
 abbrev pub check_words : Shape
 check_words = with_options (codes "check") (image ∷ optional blocks ∷ flag (codes "json") ∷ [])
 
+abbrev pub info_words : Shape
+info_words = with_options (codes "info") (image ∷ flag (codes "json") ∷ [])
+
 abbrev pub plan_words : Shape
 plan_words = with_options (codes "plan")
     (optional image ∷ parts false ++ aims ++ optional (valued (codes "bytes")) ∷ flag (codes "json") ∷ flag (codes "svg") ∷ [])
+
+-- the numbers of an entry, and all of its words
+abbrev pub entry_numbers : List Rule
+entry_numbers =
+    optional (number (codes "start") below_2_63) ∷ optional blocks ∷ optional (number (codes "dwords") below_2_63)
+    ∷ optional (number (codes "id") below_2_63) ∷ []
+
+abbrev pub entry : Shape
+entry = with_options (codes "entry")
+    (given_first (codes "command") ∷ entry_numbers ++ flag (codes "all") ∷ flag (codes "partial") ∷ optional (valued (codes "state"))
+    ∷ optional (valued (codes "data")) ∷ [])
 
 abbrev pub nvme : Bor (List (Bor Text)) → Shape
 nvme names = with_options (codes "nvme") (image ∷ flag (codes "sync") ∷ habit names ∷ [])
 
 abbrev pub nbd : Bor (List (Bor Text)) → Shape
 nbd names = with_options (codes "nbd") (image ∷ optional blocks ∷ flag (codes "statistics") ∷ flag (codes "idle") ∷ habit names ∷ stops)
+
+abbrev pub export_words : Shape
+export_words = with_options (codes "export")
+    (image ∷ optional (number (codes "first") below_2_63) ∷ optional (number (codes "count") below_2_63) ∷ flag (codes "progress") ∷ [])
+
+abbrev pub import_words : Shape
+import_words = with_options (codes "import")
+    (image ∷ optional blocks ∷ optional (number (codes "first") below_2_63) ∷ flag (codes "sparse") ∷ flag (codes "progress") ∷ [])
 
 abbrev pub fresh_words : Bor (List (Bor Text)) → Shape
 fresh_words names = with_options (codes "fresh") (parts true ++ blocks ∷ flag (codes "report") ∷ flag (codes "statistics") ∷ habit names ∷ stops)
@@ -105,7 +131,8 @@ fresh_raw names = with_options (codes "fresh-raw") (parts true ++ habit names �
 abbrev pub program : Bor (List (Bor Text)) → App
 program names = record {
   top = record (new_shape (codes "zonedisk")) { is_leaf = false; has_version = true; subcommand_required = true };
-  subs = format ∷ run names ∷ nbd names ∷ report_words ∷ check_words ∷ plan_words ∷ nvme names ∷ fresh_words names ∷ fresh_raw names ∷ [];
+  subs = format ∷ run names ∷ nbd names ∷ export_words ∷ import_words ∷ report_words ∷ check_words ∷ info_words ∷ plan_words ∷ nvme names
+      ∷ entry ∷ fresh_words names ∷ fresh_raw names ∷ [];
 }
 
 -- these options are added to a command, none of which its subcommands inherit

@@ -8,7 +8,10 @@ use Rattle.write_plan.specs.declared.aims.Aim.{Aim}
 use Rattle.write_plan.specs.declared.aims.Aim.TheVariants as aims
 use Rattle.tool_jobs.specs.declared.checking.CheckForm.{CheckForm}
 use Rattle.tool_jobs.specs.declared.checking.CheckForm.TheVariants as checks
+use Rattle.tool_jobs.specs.declared.informing.InfoForm.{InfoForm}
+use Rattle.tool_jobs.specs.declared.informing.InfoForm.TheVariants as infos
 use Rattle.tool_jobs.specs.declared.job.CheckJob.{CheckJob}
+use Rattle.tool_jobs.specs.declared.job.InfoJob.{InfoJob}
 use Rattle.tool_jobs.specs.declared.job.PlanJob.{PlanJob}
 use Rattle.tool_jobs.specs.declared.job.PlannedDrive.{PlannedDrive}
 use Rattle.tool_jobs.specs.declared.job.PlannedDrive.TheVariants as drives
@@ -28,6 +31,16 @@ pub record AsksForCheck (rows : List Row) (job : CheckJob) : Type 0 where
   pub image : HasImage rows (string_bytes job.image)
   pub blocks : HasNumberOr 1 rows (codes "blocks") job.blocks
   pub form : job.form ≡ check_form (is_set rows (codes "json"))
+
+-- ---- info
+
+abbrev pub info_form : Bool → InfoForm
+info_form true = infos.Json
+info_form false = infos.Lines
+
+pub record AsksForInfo (rows : List Row) (job : InfoJob) : Type 0 where
+  pub image : HasImage rows (string_bytes job.image)
+  pub form : job.form ≡ info_form (is_set rows (codes "json"))
 
 -- ---- report, in other forms than all of its lines
 

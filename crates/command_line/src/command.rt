@@ -1,9 +1,11 @@
 ghost use Rattle.std.specs.Prelude.{◌≡◌, [], ◌∷◌, ◌++◌, false, IfOk, codes};
 ghost use Rattle.clap.specs.Words.{Shape, app_of, rule_of};
 ghost use Rattle.command_line.specs.Program.{AddsOptions, AddsSubcommand, IsCommand, aims, below_2_63};
-ghost use Rattle.command_line.specs.Program.{blocks, check_words, flag, format, fresh_words, fresh_raw};
-ghost use Rattle.command_line.specs.Program.{habit, image, limits, nbd, number, nvme, optional, part, parts};
-ghost use Rattle.command_line.specs.Program.{plan_words, program, report_words, run, shape, stops, valued};
+ghost use Rattle.command_line.specs.Program.{blocks, check_words, entry, entry_numbers, export_words, flag};
+ghost use Rattle.command_line.specs.Program.{format, fresh_raw, fresh_words, given_first, habit, image};
+ghost use Rattle.command_line.specs.Program.{import_words, info_words, limits, nbd, number, nvme, optional};
+ghost use Rattle.command_line.specs.Program.{part, parts, plan_words, program, report_words, run, shape, stops};
+ghost use Rattle.command_line.specs.Program.{valued};
 
 use clap::builder::ValueParser;
 use clap::{Arg, ArgAction, Command, value_parser};
@@ -21,18 +23,32 @@ const RUN_EXAMPLE: &str = "Example:
 const NBD_EXAMPLE: &str = "Example:
   nbdfuse disk --command zonedisk nbd --image my.drive --blocks 9";
 
+const EXPORT_EXAMPLE: &str = "Example:
+  zonedisk export --image my.drive > my.blocks";
+
+const IMPORT_EXAMPLE: &str = "Example:
+  zonedisk import --image my.drive --sparse < my.blocks";
+
 const REPORT_EXAMPLE: &str = "Example:
   zonedisk report --image my.drive";
 
 const CHECK_EXAMPLE: &str = "Example:
   zonedisk check --image my.drive && echo it can be mounted";
 
+const INFO_EXAMPLE: &str = "Example:
+  zonedisk info --image my.drive";
+
 const PLAN_EXAMPLE: &str = "Examples:
   zonedisk plan --image my.drive
   zonedisk plan --block 4096 --zones 64 --size 8192 --capacity 8192 --transfer 128 --active 8 --open 8 --share 80";
 
-const NVME_EXAMPLE: &str = "Example:
-  printf '0000010001000000%0112d\\n' 0 | zonedisk nvme --image my.drive";
+const ENTRY_EXAMPLE: &str = "Examples:
+  zonedisk entry finish --start 8 | zonedisk nvme --image my.drive
+  zonedisk entry append --data $(printf 'aa%.0s' $(seq 512)) | zonedisk nvme --image my.drive";
+
+const NVME_EXAMPLE: &str = "Examples:
+  printf '0000010001000000%0112d\\n' 0 | zonedisk nvme --image my.drive
+  zonedisk entry report | zonedisk nvme --image my.drive";
 
 const FRESH_EXAMPLE: &str = "Example:
   printf 'fill 0 5 aa\\nread 4 1\\n' | zonedisk fresh --block 512 --zones 4 --size 8 \
@@ -43,6 +59,8 @@ const FRESH_RAW_EXAMPLE: &str = "Example:
     --capacity 6 --transfer 4 --active 2 --open 2";
 
 const SYNC_HELP: &str = "Sends a reply only once the changes before it are on the disk";
+
+const STATISTICS_HELP: &str = "Shows what was written and moved after the replies";
 
 /// An option that takes a number, and has to be given.
 fn number_option<'a>(
@@ -242,7 +260,7 @@ fn format_command<'a>(alloc: Global) -> Result<Command<'a>, AllocError>
 fn run_command<'a>(alloc: Global, habits: &'a [&'a str]) -> Result<Command<'a>, AllocError>
     ensures { IfOk result (λ new. IsCommand (run habits.entry) new) }
 {
-    let zones = "Shows the zones of the drive after the replies";
+    let zones = "Shows the zones of the drive after the replies, as --report of fresh does";
     let command = Command::new(alloc, "run")
         .about("Answers the trace on standard input, over the drive in a file")
         .after_help(RUN_EXAMPLE)
@@ -270,6 +288,37 @@ fn nbd_command<'a>(alloc: Global, habits: &'a [&'a str]) -> Result<Command<'a>, 
         .arg(flag(alloc, "idle", idle))?
         .arg(habit_option(alloc, habits))?;
     stop_options(alloc, command)
+}
+
+const PROGRESS_HELP: &str = "Shows on standard error how far it is";
+
+fn export_command<'a>(alloc: Global) -> Result<Command<'a>, AllocError>
+    ensures { IfOk result (λ new. IsCommand export_words new) }
+{
+    let first = "The first block; 0 without it";
+    let count = "How many blocks; without it all from the first one on";
+    Command::new(alloc, "export")
+        .about("Writes blocks of the drive in a file to standard output")
+        .after_help(EXPORT_EXAMPLE)
+        .arg(image_option(alloc))?
+        .arg(count_option(alloc, "first", "L", first))?
+        .arg(count_option(alloc, "count", "N", count))?
+        .arg(flag(alloc, "progress", PROGRESS_HELP))
+}
+
+fn import_command<'a>(alloc: Global) -> Result<Command<'a>, AllocError>
+    ensures { IfOk result (λ new. IsCommand import_words new) }
+{
+    let first = "The block that the first one is written to; 0 without it";
+    let sparse = "Trims blocks of zeros, so that they take no room";
+    Command::new(alloc, "import")
+        .about("Writes whole blocks from standard input to the drive in a file")
+        .after_help(IMPORT_EXAMPLE)
+        .arg(image_option(alloc))?
+        .arg(blocks_if_fresh_option(alloc))?
+        .arg(count_option(alloc, "first", "L", first))?
+        .arg(flag(alloc, "sparse", sparse))?
+        .arg(flag(alloc, "progress", PROGRESS_HELP))
 }
 
 fn report_command<'a>(alloc: Global) -> Result<Command<'a>, AllocError>
@@ -313,6 +362,17 @@ fn check_command<'a>(alloc: Global) -> Result<Command<'a>, AllocError>
         .arg(flag(alloc, "json", json))
 }
 
+fn info_command<'a>(alloc: Global) -> Result<Command<'a>, AllocError>
+    ensures { IfOk result (λ new. IsCommand info_words new) }
+{
+    let json = "Shows the numbers as JSON";
+    Command::new(alloc, "info")
+        .about("Shows what the drive in a file holds, and what a mount takes")
+        .after_help(INFO_EXAMPLE)
+        .arg(image_option(alloc))?
+        .arg(flag(alloc, "json", json))
+}
+
 /// What a plan is for.
 fn aim_options<'a>(alloc: Global, command: Command<'a>) -> Result<Command<'a>, AllocError>
     ensures { IfOk result (λ new. AddsOptions aims command.entry new) }
@@ -344,6 +404,51 @@ fn plan_command<'a>(alloc: Global) -> Result<Command<'a>, AllocError>
         .arg(flag(alloc, "svg", svg))
 }
 
+/// The name of a command, which is no option.
+fn command_argument<'a>(alloc: Global) -> Arg<'a>
+    ensures rule { rule_of result ≡ given_first (codes "command") }
+    ensures local { result.global ≡ false }
+{
+    Arg::new(alloc, "command")
+        .value_name("COMMAND")
+        .help("append, read, write, flush, close, finish, open, reset, offline or report")
+        .required(true)
+        .action(ArgAction::Set)
+}
+
+/// The numbers of an entry.
+fn entry_numbers<'a>(alloc: Global, command: Command<'a>) -> Result<Command<'a>, AllocError>
+    ensures { IfOk result (λ new. AddsOptions entry_numbers command.entry new) }
+{
+    let start = "The address: the first block, or the lowest address of a zone; 0 without it";
+    let blocks = "Blocks of an append, a read or a write; 1 without it";
+    let dwords = "Dwords of the buffer of a report; 1024 without it";
+    let id = "The command identifier; 0 without it";
+    command
+        .arg(count_option(alloc, "start", "SLBA", start))?
+        .arg(count_option(alloc, "blocks", "N", blocks))?
+        .arg(count_option(alloc, "dwords", "N", dwords))?
+        .arg(count_option(alloc, "id", "ID", id))
+}
+
+fn entry_command<'a>(alloc: Global) -> Result<Command<'a>, AllocError>
+    ensures { IfOk result (λ new. IsCommand entry new) }
+{
+    let state = "Reports the zones in this state, as in --state of report";
+    let all = "Closes, finishes, resets or takes offline all zones";
+    let partial = "Counts in the head of a report only the zones that follow";
+    let beside = "The data of an append or a write: two hexadecimal digits for each byte";
+    let command = Command::new(alloc, "entry")
+        .about("Shows the raw line of one NVMe command, for standard input of nvme")
+        .after_help(ENTRY_EXAMPLE)
+        .arg(command_argument(alloc))?;
+    entry_numbers(alloc, command)?
+        .arg(flag(alloc, "all", all))?
+        .arg(flag(alloc, "partial", partial))?
+        .arg(text_option(alloc, "state", "S", state))?
+        .arg(text_option(alloc, "data", "HEX", beside))
+}
+
 fn nvme_command<'a>(alloc: Global, habits: &'a [&'a str]) -> Result<Command<'a>, AllocError>
     ensures { IfOk result (λ new. IsCommand (nvme habits.entry) new) }
 {
@@ -358,15 +463,14 @@ fn nvme_command<'a>(alloc: Global, habits: &'a [&'a str]) -> Result<Command<'a>,
 fn fresh_command<'a>(alloc: Global, habits: &'a [&'a str]) -> Result<Command<'a>, AllocError>
     ensures { IfOk result (λ new. IsCommand (fresh_words habits.entry) new) }
 {
-    let report = "Shows the zones of the drive after the replies";
-    let statistics = "Shows what was written and moved after the replies";
+    let report = "Shows the zones of the drive after the replies, as --zones of run does";
     let command = Command::new(alloc, "fresh")
         .about("Answers the trace on standard input, over a fresh drive in memory")
         .after_help(FRESH_EXAMPLE);
     let command = geometry_options(alloc, command, true)?
         .arg(blocks_option(alloc))?
         .arg(flag(alloc, "report", report))?
-        .arg(flag(alloc, "statistics", statistics))?
+        .arg(flag(alloc, "statistics", STATISTICS_HELP))?
         .arg(habit_option(alloc, habits))?;
     stop_options(alloc, command)
 }
@@ -401,10 +505,14 @@ pub fn program<'a>(alloc: Global, habits: &'a [&'a str]) -> Result<Command<'a>, 
     let command = with_subcommand(command, format_command(alloc))?;
     let command = with_subcommand(command, run_command(alloc, habits))?;
     let command = with_subcommand(command, nbd_command(alloc, habits))?;
+    let command = with_subcommand(command, export_command(alloc))?;
+    let command = with_subcommand(command, import_command(alloc))?;
     let command = with_subcommand(command, report_command(alloc))?;
     let command = with_subcommand(command, check_command(alloc))?;
+    let command = with_subcommand(command, info_command(alloc))?;
     let command = with_subcommand(command, plan_command(alloc))?;
     let command = with_subcommand(command, nvme_command(alloc, habits))?;
+    let command = with_subcommand(command, entry_command(alloc))?;
     let command = with_subcommand(command, fresh_command(alloc, habits))?;
     with_subcommand(command, fresh_raw_command(alloc, habits))
 }

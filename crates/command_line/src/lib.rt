@@ -4,6 +4,7 @@
 //! match task_of(rt.alloc(), &words)? {
 //!     Task::Lines(job) => run_lines(job),
 //!     Task::Nbd(job) => serve(job),
+//!     Task::Copy(job) => copy(job),
 //!     Task::Tool(job) => use_tool(job),
 //! }
 //! ```
@@ -12,7 +13,8 @@
 //!
 //! * A task holds what clap's matches of the words have: the subcommand and, for each of its options, the value under
 //!   its name; a number is spelled only in digits. Clap refuses none of these words (`specs/Program.antt` has the words
-//!   that the program takes, `specs/Words.antt` and `specs/ToolWords.antt` the task that they ask for).
+//!   that the program takes, `specs/Words.antt`, `specs/ToolWords.antt` and `specs/EntryWords.antt` the task
+//!   that they ask for).
 //! * Words are refused only where clap refuses them, where they ask for no task in this sense, or where memory runs
 //!   out.
 //!
@@ -20,6 +22,7 @@
 #![tactic(auto)]
 
 mod command;
+mod entries;
 mod task;
 mod tools;
 mod words;

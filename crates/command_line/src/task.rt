@@ -1,3 +1,4 @@
+use copy_jobs::CopyJob;
 use disk_jobs::Job;
 use nbd_jobs::NbdJob;
 use tool_jobs::ToolJob;
@@ -9,6 +10,8 @@ pub enum Task {
     Lines(Job),
     /// A drive that is served by the Network Block Device protocol.
     Nbd(NbdJob),
+    /// Blocks that are copied out of a drive, or into one.
+    Copy(CopyJob),
     /// A tool that looks at a drive, or plans one.
     Tool(ToolJob),
 }

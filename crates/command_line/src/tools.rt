@@ -4,8 +4,8 @@ ghost use Rattle.std.specs.Prelude.{◌≡◌, ◌≢◌, ◌<◌, ◌++◌, ◌
 ghost use Rattle.std.specs.Prelude.{None, codes};
 ghost use Rattle.clap.specs.Words.{first_of, found_of, rows_of};
 ghost use Rattle.command_line.specs.Values.{Finds, is_missing, is_set, lacks_all};
-ghost use Rattle.command_line.specs.ToolWords.{AsksForCheck, AsksForFormat, AsksForPlan, HasAim, HasPlanForm};
-ghost use Rattle.command_line.specs.ToolWords.{HasPlannedDrive, HasStateIf};
+ghost use Rattle.command_line.specs.ToolWords.{AsksForCheck, AsksForFormat, AsksForInfo, AsksForPlan, HasAim};
+ghost use Rattle.command_line.specs.ToolWords.{HasPlanForm, HasPlannedDrive, HasStateIf};
 ghost use Rattle.command_line.specs.ToolWords.{HasZonesForm, SaysBytes, SaysBytesIn, part_names, plan_names};
 ghost use Rattle.command_line.specs.Words.{AsksForTool};
 
@@ -14,11 +14,13 @@ use clap::ArgMatches;
 use nvme_wire::ZoneState;
 use report_forms::state_named;
 use std::alloc::Global;
-use tool_jobs::{CheckForm, CheckJob, PlanForm, PlanJob, PlannedDrive, ToolJob, ZonesForm};
+use tool_jobs::{
+    CheckForm, CheckJob, InfoForm, InfoJob, PlanForm, PlanJob, PlannedDrive, ToolJob, ZonesForm,
+};
 use write_plan::Aim;
 
 /// Whether an option without a value was given.
-fn is_set(matches: &ArgMatches<'_>, name: &str) -> bool
+pub fn is_set(matches: &ArgMatches<'_>, name: &str) -> bool
     ensures { result ≡ is_set (rows_of (found_of matches.now)) name.now }
 {
     match given(matches, name) {
@@ -75,8 +77,23 @@ pub fn check_job(alloc: Global, matches: &ArgMatches<'_>) -> Result<CheckJob, Wo
     })
 }
 
+/// The job of `info`.
+pub fn info_job(alloc: Global, matches: &ArgMatches<'_>) -> Result<InfoJob, WordFault>
+    ensures { Finds (AsksForInfo (rows_of (found_of matches.now))) result }
+{
+    let form = if is_set(matches, "json") {
+        InfoForm::Json
+    } else {
+        InfoForm::Lines
+    };
+    Ok(InfoJob {
+        image: image(alloc, matches)?,
+        form,
+    })
+}
+
 /// The state that zones are shown in, if one was given.
-fn state_if_given(matches: &ArgMatches<'_>) -> Result<Option<ZoneState>, WordFault>
+pub fn state_if_given(matches: &ArgMatches<'_>) -> Result<Option<ZoneState>, WordFault>
     ensures { Finds (HasStateIf (rows_of (found_of matches.now))) result }
 {
     let Some(name) = given(matches, "state") else {

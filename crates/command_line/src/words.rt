@@ -4,14 +4,16 @@ ghost use Rattle.std.specs.Char.{is_ascii_digit};
 ghost use Rattle.clap.specs.Words.{first_of, found_of, rows_of, subcommand_rows_of};
 ghost use Rattle.command_line.specs.Values.{Finds, HasFlag, HasGeometry, HasHabit, HasImage, HasNumber};
 ghost use Rattle.command_line.specs.Values.{HasNumberIf, HasNumberOr, HasStop, IsNumber};
-ghost use Rattle.command_line.specs.Words.{AsksFor, AsksForJob, AsksForNbd, IsAnswerTo};
+ghost use Rattle.command_line.specs.Words.{AsksFor, AsksForCopy, AsksForJob, AsksForNbd, IsAnswerTo};
 ghost use Rattle.command_line.specs.declared.words.WordFault.TheVariants.{Memory};
 
 use crate::command::{HABITS, program};
+use crate::entries::entry_words;
 use crate::task::Task;
-use crate::tools::{check_job, plan_tool, zones_form};
+use crate::tools::{check_job, info_job, plan_tool, zones_form};
 use clap::error::ErrorKind;
 use clap::{ArgMatches, Command, Error};
+use copy_jobs::{CopyJob, ExportJob, ImportJob};
 use disk_jobs::{Habit, Job, Stop};
 use nbd_jobs::NbdJob;
 use std::alloc::{AllocError, Global};
@@ -27,6 +29,10 @@ pub enum WordFault {
     Digits(&'static str),
     /// The state of zones has no such name.
     State,
+    /// No command has this name.
+    Command,
+    /// The data is not in pairs of hexadecimal digits.
+    Bytes,
     /// Two options were given of which one alone is taken.
     Both,
     /// An allocation failed.
@@ -277,15 +283,48 @@ fn nbd_job(alloc: Global, matches: &ArgMatches<'_>) -> Result<NbdJob, WordFault>
     })
 }
 
+/// The job of `export`.
+fn export_job(alloc: Global, matches: &ArgMatches<'_>) -> Result<CopyJob, WordFault>
+    ensures { Finds (AsksForCopy (codes "export") (rows_of (found_of matches.now))) result }
+{
+    let first = number_or(matches, "first", 0)?;
+    let count = number_if_given(matches, "count")?;
+    Ok(CopyJob::Export(ExportJob {
+        image: image(alloc, matches)?,
+        first,
+        count,
+        progress: has_flag(matches, "progress"),
+    }))
+}
+
+/// The job of `import`.
+fn import_job(alloc: Global, matches: &ArgMatches<'_>) -> Result<CopyJob, WordFault>
+    ensures { Finds (AsksForCopy (codes "import") (rows_of (found_of matches.now))) result }
+{
+    let blocks = number_if_given(matches, "blocks")?;
+    let first = number_or(matches, "first", 0)?;
+    Ok(CopyJob::Import(ImportJob {
+        image: image(alloc, matches)?,
+        blocks,
+        first,
+        sparse: has_flag(matches, "sparse"),
+        progress: has_flag(matches, "progress"),
+    }))
+}
+
 /// What a subcommand asks for.
 fn subcommand_task(alloc: Global, name: &str, matches: &ArgMatches<'_>) -> Result<Task, WordFault>
     ensures { Finds (AsksFor name.now (rows_of (found_of matches.now))) result }
 {
     match name {
         "nbd" => Ok(Task::Nbd(nbd_job(alloc, matches)?)),
+        "export" => Ok(Task::Copy(export_job(alloc, matches)?)),
+        "import" => Ok(Task::Copy(import_job(alloc, matches)?)),
         "check" => Ok(Task::Tool(ToolJob::Check(check_job(alloc, matches)?))),
+        "info" => Ok(Task::Tool(ToolJob::Info(info_job(alloc, matches)?))),
         "plan" => Ok(Task::Tool(plan_tool(alloc, matches)?)),
         "report" => report_task(alloc, matches),
+        "entry" => Ok(Task::Tool(ToolJob::Entry(entry_words(alloc, matches)?))),
         _ => Ok(Task::Lines(subcommand_job(alloc, name, matches)?)),
     }
 }
@@ -318,6 +357,14 @@ fn refusal(alloc: Global, program: &mut Command<'_>, fault: WordFault) -> Result
         WordFault::State => program.error(
             ErrorKind::ValueValidation,
             "the value of '--state' is not the name of a state",
+        ),
+        WordFault::Command => program.error(
+            ErrorKind::ValueValidation,
+            "the word after 'entry' is not the name of a command",
+        ),
+        WordFault::Bytes => program.error(
+            ErrorKind::ValueValidation,
+            "the value of '--data' is not in pairs of hexadecimal digits",
         ),
         WordFault::Both => program.error(
             ErrorKind::ArgumentConflict,

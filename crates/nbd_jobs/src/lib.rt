@@ -40,4 +40,5 @@ pub use fault::NbdFault;
 pub use file::{Done, do_nbd_job};
 pub use job::NbdJob;
 pub use left::Left;
+pub use mounted::mount_served;
 pub use serving::{ServedFile, serve_drive};

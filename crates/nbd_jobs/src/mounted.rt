@@ -42,7 +42,7 @@ fn without_size<D: Device + Drop>(disk: Disk<D>) -> (NbdFault, D)
 
 /// Mounts a drive to be served, as `blocks` logical blocks if it does not say its size. With the fault the drive is
 /// given back.
-pub(crate) fn mount_served<D: Device + Drop>(
+pub fn mount_served<D: Device + Drop>(
     alloc: Global,
     device: D,
     blocks: Option<u64>,

@@ -1,2 +1,3 @@
 mod TellingLaws
 mod CheckLaws
+mod InfoLaws

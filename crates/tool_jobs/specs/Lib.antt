@@ -1,4 +1,6 @@
 pub mod Telling
 pub mod Checks
+pub mod Infos
 pub mod Plans
 pub mod Zones
+pub mod Entries

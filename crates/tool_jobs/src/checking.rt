@@ -39,7 +39,7 @@ impl Form<Findings> for CheckForm {
 }
 
 /// What an interruption of a check is to a tool.
-fn interrupted(fault: MountFault) -> ToolFault
+pub(crate) fn interrupted(fault: MountFault) -> ToolFault
     ensures { IsInterrupted fault result }
 {
     match fault {

@@ -4,6 +4,7 @@ ghost use Rattle.tool_jobs.specs.declared.fault.ToolFault.TheVariants as tool;
 use disk_files::WriteFault;
 use drive_journal::FileFault as ReadFault;
 use drive_store::FileFault;
+use entry_forms::EntryFault;
 use std::alloc::AllocError;
 use thiserror::Error;
 use write_plan::PlanFault;
@@ -20,6 +21,9 @@ pub enum ToolFault {
     /// No drive is planned for so many bytes.
     #[error("no drive is planned for more than 4398046511104 bytes")]
     Bytes,
+    /// There is no such entry.
+    #[error("{0}")]
+    Entry(EntryFault),
     /// The drive has stopped: it completes no more commands.
     #[error("the drive has stopped")]
     Stopped,
@@ -55,5 +59,13 @@ impl From<ReadFault> for ToolFault {
 
     fn from(cause: ReadFault) -> ToolFault {
         ToolFault::Image(cause)
+    }
+}
+
+impl From<EntryFault> for ToolFault {
+    ghost from_gives = { λ cause fault. fault ≡ tool.Entry cause };
+
+    fn from(cause: EntryFault) -> ToolFault {
+        ToolFault::Entry(cause)
     }
 }

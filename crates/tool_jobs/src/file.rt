@@ -1,7 +1,9 @@
 // The file of a tool: it is opened and locked, and read.
 
 use crate::checking::answer_check;
+use crate::entries::answer_entry;
 use crate::fault::ToolFault;
+use crate::informing::answer_info;
 use crate::job::ToolJob;
 use crate::planning::{FormatLine, answer_format, answer_plan};
 use crate::showing::answer_zones;
@@ -29,9 +31,11 @@ fn answer<I: Read, W: Write>(
 ) -> Result<bool, ToolFault> {
     match job {
         ToolJob::Check(job) => return answer_check(alloc, job.blocks, bytes, &job.form, output),
+        ToolJob::Info(job) => answer_info(alloc, bytes, &job.form, output)?,
         ToolJob::Plan(job) => answer_plan(alloc, job, bytes, &job.form, output)?,
         ToolJob::Format { bytes } => answer_format(alloc, *bytes, &FormatLine, output)?,
         ToolJob::Zones(job) => answer_zones(alloc, bytes, &job.form, output)?,
+        ToolJob::Entry(words) => answer_entry(alloc, words, output)?,
     }
     Ok(true)
 }

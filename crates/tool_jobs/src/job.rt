@@ -1,6 +1,8 @@
 use crate::checking::CheckForm;
+use crate::informing::InfoForm;
 use crate::planning::PlanForm;
 use crate::showing::ZonesForm;
+use entry_forms::EntryWords;
 use nvme_wire::ZoneState;
 use write_plan::Aim;
 use zone_states::Geometry;
@@ -12,6 +14,13 @@ pub struct CheckJob {
     /// How many logical blocks the disk has if its drive does not say how many.
     pub blocks: u64,
     pub form: CheckForm,
+}
+
+/// A drive of which is told what it holds.
+#[derive(Debug, PartialEq, Eq, Drop)]
+pub struct InfoJob {
+    pub image: String,
+    pub form: InfoForm,
 }
 
 /// The drive that a plan is for.
@@ -43,12 +52,16 @@ pub struct ZonesJob {
 pub enum ToolJob {
     /// All faults of a drive.
     Check(CheckJob),
+    /// What a drive holds.
+    Info(InfoJob),
     /// What numbers of logical blocks cost on a drive.
     Plan(PlanJob),
     /// The words that make a drive for so many bytes.
     Format { bytes: u64 },
     /// The zones of a drive, as they were saved.
     Zones(ZonesJob),
+    /// The raw line of an entry.
+    Entry(EntryWords),
 }
 
 impl ToolJob {
@@ -56,12 +69,13 @@ impl ToolJob {
     pub fn image(&self) -> Option<&str> {
         match self {
             ToolJob::Check(job) => Some(job.image.as_str()),
+            ToolJob::Info(job) => Some(job.image.as_str()),
             ToolJob::Zones(job) => Some(job.image.as_str()),
             ToolJob::Plan(job) => match &job.drive {
                 PlannedDrive::Image(path) => Some(path.as_str()),
                 PlannedDrive::Shape(_) => None,
             },
-            ToolJob::Format { .. } => None,
+            ToolJob::Format { .. } | ToolJob::Entry(_) => None,
         }
     }
 }

@@ -11,15 +11,17 @@
 //! and does the job by one of these:
 //!
 //! * [`answer_check`]: all faults of a drive, and whether a mount would be done.
+//! * [`answer_info`]: what a drive holds, and what a mount takes.
 //! * [`answer_plan`]: what numbers of logical blocks cost on a drive.
 //! * [`answer_format`]: the words that make a drive for a number of bytes.
 //! * [`answer_zones`]: the zones of a drive, as they were saved.
+//! * [`answer_entry`]: the raw line of an entry.
 //!
 //! # What is promised
 //!
 //! * Over every reader, writer and form of text: exactly the text is written that the form gives of what was found, or
 //!   a beginning of it where the writer fails (`specs/Telling.antt`). Before another fault nothing is written.
-//! * What was found is what `drive_check` and `write_plan` define, for the drive that the bytes of the file hold:
+//! * What was found is what `drive_check`, `drive_info` and `write_plan` define, for the drive that the bytes hold:
 //!   [`answer_check`] finds all of its faults, and says that it can be mounted exactly where nothing refuses it.
 //! * A fault of the file is the first fault in its bytes.
 //! * The lines of the zones in a state are those of a report of that state. What the other forms say is tested.
@@ -28,20 +30,24 @@
 #![tactic(auto)]
 
 mod checking;
+mod entries;
 mod explanation;
 mod fault;
 mod file;
 mod form;
+mod informing;
 mod job;
 mod planning;
 mod showing;
 mod telling;
 
 pub use checking::{CheckForm, answer_check};
+pub use entries::answer_entry;
 pub use explanation::explain;
 pub use fault::ToolFault;
 pub use file::do_tool_job;
 pub use form::Form;
-pub use job::{CheckJob, PlanJob, PlannedDrive, ToolJob, ZonesJob};
+pub use informing::{InfoForm, answer_info};
+pub use job::{CheckJob, InfoJob, PlanJob, PlannedDrive, ToolJob, ZonesJob};
 pub use planning::{FormatLine, PlanForm, PlanRows, answer_format, answer_plan};
 pub use showing::{ZonesForm, answer_zones};

@@ -11,7 +11,7 @@ use std::test::Fail;
 use zone_states::Geometry;
 
 /// A drive of eight zones.
-const GEOMETRY: Geometry = Geometry {
+pub const GEOMETRY: Geometry = Geometry {
     block: 512,
     zones: 8,
     size: 8,
@@ -25,7 +25,7 @@ const GEOMETRY: Geometry = Geometry {
 const GIVEN: u64 = 9;
 
 /// No batch: it can be mounted.
-const FRESH: [Written; 0] = [];
+pub const FRESH: [Written; 0] = [];
 /// Two batches that are whole: it can be mounted.
 const WHOLE: [Written; 2] = [
     Written {
@@ -42,7 +42,7 @@ const WHOLE: [Written; 2] = [
     },
 ];
 /// Two zones are torn.
-const TORN: [Written; 4] = [
+pub const TORN: [Written; 4] = [
     Written {
         zone: 0,
         sequence: 1,

@@ -11,20 +11,26 @@ use zone_states::Geometry;
 pub struct Written {
     pub zone: u32,
     pub sequence: u64,
+    /// The entries of its header. That of a trim has bit 63, too.
     pub blocks: &'static [u64],
-    /// How many of the blocks that its Append writes are left out at the end.
+    /// How many of the blocks that its Append writes are left out at the end. A trim has none.
     pub cut: usize,
 }
 
 /// How many logical blocks the headers say.
 const SIZE: u32 = 6;
 
-/// The blocks of the batch, each of 512 bytes.
-fn batch_bytes(alloc: Global, written: &Written) -> Result<Vec<u8>, Fail> {
+/// The kind of a batch of the host and that of a Move, in a header.
+const HOST: u16 = 1;
+
+const MOVE: u16 = 2;
+
+/// The blocks of a batch of this kind, each of 512 bytes. A Move is out of zone 0.
+fn batch_bytes(alloc: Global, written: &Written, kind: u16) -> Result<Vec<u8>, Fail> {
     let mut bytes = Vec::new(alloc);
     bytes.extend_from_slice(b"ZLOGBAT1")?;
     bytes.extend_from_slice(&2u16.to_le_bytes())?;
-    bytes.extend_from_slice(&1u16.to_le_bytes())?;
+    bytes.extend_from_slice(&kind.to_le_bytes())?;
     bytes.extend_from_slice(&u32::try_from(written.blocks.len())?.to_le_bytes())?;
     bytes.extend_from_slice(&written.sequence.to_le_bytes())?;
     bytes.extend_from_slice(&0u32.to_le_bytes())?;
@@ -47,8 +53,9 @@ fn put(
     drive: &mut Drive,
     geometry: Geometry,
     written: &Written,
+    kind: u16,
 ) -> Result<(), Fail> {
-    let bytes = batch_bytes(alloc, written)?;
+    let bytes = batch_bytes(alloc, written, kind)?;
     let command = Command::Append {
         zslba: geometry.start_of(written.zone),
         blocks: u32::try_from(bytes.len() / 512)?.max(1).min(65536),
@@ -62,7 +69,17 @@ fn put(
 pub fn drive_with(alloc: Global, geometry: Geometry, all: &[Written]) -> Result<Drive, Fail> {
     let mut drive = Drive::new(alloc, geometry)?;
     for written in all {
-        put(alloc, &mut drive, geometry, written)?;
+        put(alloc, &mut drive, geometry, written, HOST)?;
     }
     Ok(drive)
+}
+
+/// Appends a Move out of zone 0 to its zone.
+pub fn move_out(
+    alloc: Global,
+    drive: &mut Drive,
+    geometry: Geometry,
+    written: &Written,
+) -> Result<(), Fail> {
+    put(alloc, drive, geometry, written, MOVE)
 }

@@ -16,14 +16,17 @@
 //! the end. What the replies are is promised by the runs below,
 //! [`run_trace`], [`answer_trace`] and [`run_raw`]; what a task holds, and which words ask for none, by [`task_of`];
 //! which drive is saved, and what is shown of it, by [`run_job`]; and the image of a drive by `drive_images`.
-//! `zonedisk nbd` serves a drive by the Network Block Device protocol, as [`serve_drive`] promises. `zonedisk check`,
+//! `zonedisk nbd` serves a drive by the Network Block Device protocol, as [`serve_drive`] promises. `zonedisk export`
+//! and `zonedisk import` copy its blocks, as [`export_blocks`] and [`import_blocks`] promise. `zonedisk check`,
 //! `zonedisk plan` and the other forms of `zonedisk report` change nothing; [`answer_check`], [`answer_plan`] and
 //! [`answer_zones`] say what they tell.
 //! `--statistics`, the file and the exit status 0 are tested. [`explain`] says on standard error what a fault is.
 #![tactic(auto)]
 
+pub use block_copies::{export_blocks, import_blocks};
 use clap::error::ErrorKind;
 pub use command_line::{Task, task_of};
+pub use copy_jobs::{CopyFault, CopyJob, do_export, do_import, export_drive, import_drive};
 pub use disk_jobs::{
     Done, FileFault, Gate, Habit, Job, JobInput, ProgramFault, Stop, SystemError, do_job, explain,
     run_job, write_program_fault,
@@ -107,6 +110,32 @@ fn do_nbd<R: Eprint + Files<File = fs::File> + Input, W: Write>(
     code
 }
 
+/// Copies blocks out of a drive to standard output, or from standard input into a drive. Why a copy is not whole goes
+/// to standard error.
+fn copy<R: Eprint + Files<File = fs::File> + Input + Print>(
+    rt: &R,
+    alloc: Global,
+    job: &CopyJob,
+) -> ExitCode {
+    let ends = match job {
+        CopyJob::Export(job) => [do_export(rt, alloc, job, io::writer(rt)), Ok(())],
+        CopyJob::Import(job) => {
+            let imported = do_import(rt, alloc, job, rt.reader());
+            [imported.taken.map(|_| ()), imported.saved]
+        }
+    };
+    let mut code = ExitCode::SUCCESS;
+    for ended in ends {
+        if let Err(fault) = ended {
+            code = ExitCode::FAILURE;
+            if let Ok(text) = copy_jobs::explain(alloc, job, fault) {
+                let _ = eprintln!(rt; "zonedisk: {text}");
+            }
+        }
+    }
+    code
+}
+
 /// Does what a tool is asked for. Why it tells nothing goes to standard error.
 fn use_tool<R: Eprint + Files<File = fs::File>, W: Write>(
     rt: &R,
@@ -165,6 +194,7 @@ fn main(rt: HostRuntime) -> io::Result<ExitCode> {
     Ok(match task {
         Task::Lines(job) => do_lines(&rt, alloc, &job, &mut output),
         Task::Nbd(job) => do_nbd(&rt, alloc, &job, &mut io::writer(&rt)),
+        Task::Copy(job) => copy(&rt, alloc, &job),
         Task::Tool(job) => use_tool(&rt, alloc, &job, &mut output),
     })
 }

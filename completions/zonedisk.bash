@@ -1,0 +1,54 @@
+# Completes the words of zonedisk in bash. The manual page says how to install this file.
+
+_zonedisk_subcommands="format run nbd report check plan info export import nvme entry fresh fresh-raw help"
+_zonedisk_shape="--block --zones --size --capacity --transfer --active --open"
+_zonedisk_states="Empty ImplicitlyOpened ExplicitlyOpened Closed ReadOnly Full Offline"
+
+# The options of a subcommand.
+_zonedisk_options() {
+    case $1 in
+        format) echo "--image --force $_zonedisk_shape" ;;
+        run) echo "--image --blocks --zones --sync --habit --stop-after --tear" ;;
+        nbd) echo "--image --blocks --statistics --idle --habit --stop-after --tear" ;;
+        report) echo "--image --state --brief --json --svg" ;;
+        check) echo "--image --blocks --json" ;;
+        plan) echo "--image $_zonedisk_shape --blocks --share --amplification --bytes --json --svg" ;;
+        info) echo "--image --json" ;;
+        export) echo "--image --first --count --progress" ;;
+        import) echo "--image --blocks --first --sparse --progress" ;;
+        nvme) echo "--image --sync --habit" ;;
+        entry) echo "--start --blocks --dwords --id --all --partial --state --data" ;;
+        fresh) echo "$_zonedisk_shape --blocks --report --statistics --habit --stop-after --tear" ;;
+        fresh-raw) echo "$_zonedisk_shape --habit" ;;
+    esac
+}
+
+# The words that may come after two others: the subcommand, and the word before.
+_zonedisk_words() {
+    case $2 in
+        --habit) echo "lazy closing strict" ;;
+        --state) echo "$_zonedisk_states" ;;
+        --block) echo "512 4096" ;;
+        entry) echo "append read write flush close finish open reset offline report --help" ;;
+        help) echo "$_zonedisk_subcommands" ;;
+        --zones) if [ "$1" = run ]; then echo "$(_zonedisk_options run) --help"; fi ;;
+        --size | --capacity | --transfer | --active | --open | --blocks | --share | --amplification | --bytes) ;;
+        --first | --count | --stop-after | --tear | --start | --dwords | --id | --data) ;;
+        *) echo "$(_zonedisk_options "$1") --help" ;;
+    esac
+}
+
+_zonedisk() {
+    local word=${COMP_WORDS[COMP_CWORD]} before=${COMP_WORDS[COMP_CWORD - 1]} words
+    if [ "$COMP_CWORD" -eq 1 ]; then
+        words="$_zonedisk_subcommands --help --version"
+    elif [ "$before" = --image ]; then
+        mapfile -t COMPREPLY < <(compgen -f -- "$word")
+        return
+    else
+        words=$(_zonedisk_words "${COMP_WORDS[1]}" "$before")
+    fi
+    mapfile -t COMPREPLY < <(compgen -W "$words" -- "$word")
+}
+
+complete -o filenames -F _zonedisk zonedisk

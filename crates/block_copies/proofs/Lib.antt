@@ -1,0 +1,5 @@
+pub mod FlatWrites
+pub mod FlatReads
+pub mod Pieces
+pub mod Runs
+pub mod Imports

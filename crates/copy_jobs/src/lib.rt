@@ -1,0 +1,38 @@
+//! Copies of the blocks of a drive in a file: written out, and read in.
+//!
+//! ```text
+//! do_export(&rt, alloc, &export_job, io::writer(&rt))?;
+//! let imported = do_import(&rt, alloc, &import_job, rt.reader());
+//! ```
+//!
+//! An [`ExportJob`] or an [`ImportJob`] says which file is used, and which blocks. [`do_export`] and [`do_import`] open
+//! the file of a path, lock it and, after an import, save it.
+//!
+//! # What is promised
+//!
+//! Over every file, store, reader and writer (`specs/DriveCopies.antt`):
+//!
+//! * [`export_drive`] restarts the drive in the file, mounts it and exports its blocks, as `block_copies` promises.
+//!   Before another fault than the export's own nothing is written.
+//! * [`import_drive`] restarts the drive in the file, mounts it and imports blocks to its disk. Whatever ends that, the
+//!   store holds the drive that is left, which can be mounted again. Without a mounted drive nothing is read.
+//!
+//! Nothing is promised of [`do_export`] and [`do_import`], since no contract says what a file holds.
+//!
+//! Tests: none yet.
+#![tactic(auto)]
+
+mod drive_export;
+mod drive_import;
+mod explanation;
+mod fault;
+mod file;
+mod job;
+mod progress;
+
+pub use drive_export::export_drive;
+pub use drive_import::{Left, import_drive};
+pub use explanation::explain;
+pub use fault::CopyFault;
+pub use file::{Imported, do_export, do_import};
+pub use job::{CopyJob, ExportJob, ImportJob};

@@ -1,0 +1,11 @@
+//! Copies blocks out of disks and into them, by worked examples, and shows what became of each. `stdout` has what it is
+//! to print.
+#![tactic(auto)]
+
+mod pieces;
+
+use std::test::Fail;
+
+fn main(rt: HostRuntime) -> Result<(), Fail> {
+    pieces::show_pieces(&rt)
+}

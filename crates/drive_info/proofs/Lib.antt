@@ -1,0 +1,4 @@
+pub mod CountLaws
+pub mod HoldLaws
+pub mod WorkLaws
+pub mod InspectLaws

@@ -1,0 +1,133 @@
+use crate::sums::{block_shares, count_batches, count_moves, count_resets, memory};
+use drive_info::{DriveInfo, Info, InspectedDrive, ZoneInfo};
+use drive_survey::{MountFault, ReportedZone};
+use serde_json::{Value, json};
+use std::alloc::{AllocError, Global};
+use zone_report::state_text;
+use zone_states::Geometry;
+
+/// A number, or null.
+fn number_json(number: Option<u64>) -> Value {
+    match number {
+        Some(number) => Value::from(number),
+        None => Value::Null,
+    }
+}
+
+/// Numbers of zones.
+fn numbers_json(alloc: Global, zones: &[u32]) -> Result<Value, AllocError> {
+    let mut list = Vec::new(alloc);
+    for zone in zones {
+        list.push(Value::from(u64::from(*zone)))?;
+    }
+    Ok(Value::Array(list))
+}
+
+/// The shape of the drive.
+fn geometry_json(alloc: Global, geometry: &Geometry) -> Result<Value, AllocError> {
+    json!(in alloc; {
+        "block": u64::from(geometry.block),
+        "zones": u64::from(geometry.zones),
+        "size": u64::from(geometry.size),
+        "capacity": u64::from(geometry.capacity),
+        "transfer": u64::from(geometry.transfer),
+        "active": u64::from(geometry.active),
+        "open": u64::from(geometry.open),
+    })
+}
+
+/// A zone of a drive that cannot be mounted.
+fn reported_json(alloc: Global, zone: &ReportedZone) -> Result<Value, AllocError> {
+    json!(in alloc; {"state": state_text(zone.state), "blocks": u64::from(zone.blocks)})
+}
+
+/// A zone of one that can.
+fn zone_json(alloc: Global, zone: &ReportedZone, info: &ZoneInfo) -> Result<Value, AllocError> {
+    json!(in alloc; {
+        "state": state_text(zone.state),
+        "blocks": u64::from(zone.blocks),
+        "batches": info.batches as u64,
+        "live": u64::from(info.live.written),
+        "trimmed": u64::from(info.live.trimmed),
+        "torn": info.is_torn,
+    })
+}
+
+/// All zones of a drive that cannot be mounted.
+fn all_reported_json(alloc: Global, drive: &DriveInfo) -> Result<Value, AllocError> {
+    let mut list = Vec::new(alloc);
+    for zone in &drive.zones {
+        list.push(reported_json(alloc, zone)?)?;
+    }
+    Ok(Value::Array(list))
+}
+
+/// All zones of one that can.
+fn all_zones_json(alloc: Global, drive: &DriveInfo, info: &Info) -> Result<Value, AllocError> {
+    let mut list = Vec::new(alloc);
+    for (zone, found) in drive.zones.iter().zip(info.holdings.zones.iter()) {
+        list.push(zone_json(alloc, zone, found)?)?;
+    }
+    Ok(Value::Array(list))
+}
+
+/// What a mount does.
+fn mount_json(alloc: Global, found: &InspectedDrive, info: &Info) -> Result<Value, AllocError> {
+    let half_clean = numbers_json(alloc, &info.work.half_clean)?;
+    let mounted = found.mounted.as_ref().ok();
+    json!(in alloc; {
+        "half_clean": half_clean,
+        "resets": count_resets(&info.work) as u64,
+        "moves": count_moves(&info.work),
+        "finishes": found.counts.finishes,
+        "reads": found.counts.reads,
+        "commands": number_json(mounted.map(|mounted| mounted.commands)),
+        "next_sequence": number_json(mounted.map(|mounted| mounted.next)),
+        "batches_left": number_json(mounted.map(|mounted| mounted.left)),
+    })
+}
+
+/// A drive that can be mounted.
+fn mountable_json(alloc: Global, found: &InspectedDrive, info: &Info) -> Result<Value, AllocError> {
+    let drive = &found.info;
+    let holdings = &info.holdings;
+    let shares = block_shares(drive, holdings);
+    let bytes = memory(alloc, &drive.geometry, holdings.size)?;
+    let geometry = geometry_json(alloc, &drive.geometry)?;
+    let mount = mount_json(alloc, found, info)?;
+    let zones = all_zones_json(alloc, drive, info)?;
+    json!(in alloc; {
+        "geometry": geometry,
+        "refusal": Value::Null,
+        "most_logical_blocks": holdings.most,
+        "logical_blocks": number_json(holdings.said.map(u64::from)),
+        "written_logical_blocks": u64::from(holdings.live.written),
+        "trimmed_logical_blocks": u64::from(holdings.live.trimmed),
+        "live_blocks": shares.live,
+        "dead_blocks": shares.dead,
+        "free_blocks": shares.free,
+        "batches": count_batches(holdings),
+        "greatest_sequence": holdings.greatest,
+        "memory": number_json(bytes),
+        "mount": mount,
+        "zones": zones,
+    })
+}
+
+/// A drive that cannot be mounted.
+fn refused_json(alloc: Global, drive: &DriveInfo, fault: MountFault) -> Result<Value, AllocError> {
+    let geometry = geometry_json(alloc, &drive.geometry)?;
+    let refusal = format!(in alloc; "{fault}")?;
+    let zones = all_reported_json(alloc, drive)?;
+    json!(in alloc; {"geometry": geometry, "refusal": refusal.as_str(), "zones": zones})
+}
+
+/// What is found of a drive, as JSON: one object. Of a drive that cannot be mounted it says the `refusal`, and leaves
+/// out what the drive holds.
+pub fn info_json(alloc: Global, found: &InspectedDrive) -> Result<String, AllocError> {
+    let all = match &found.info.found {
+        Ok(info) => mountable_json(alloc, found, info)?,
+        Err(fault) => refused_json(alloc, &found.info, *fault)?,
+    };
+    all.to_string_pretty(alloc)
+}

@@ -1,0 +1,20 @@
+//! What `drive_info` finds of a drive, as text and as JSON.
+//!
+//! ```text
+//! let found = inspect_and_rehearse(alloc, device, 9)?;
+//! let text = info_text(alloc, &found)?;   // a line for each number, and bars for the zones
+//! let text = info_json(alloc, &found)?;   // the same as JSON
+//! ```
+//!
+//! Nothing is promised beyond safety; what they show is tested.
+//!
+//! Tests: the rows of `tool_rows`.
+#![tactic(auto)]
+
+mod bars;
+mod json;
+mod sums;
+mod text;
+
+pub use json::info_json;
+pub use text::info_text;
