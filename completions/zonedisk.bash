@@ -8,7 +8,7 @@ _zonedisk_states="Empty ImplicitlyOpened ExplicitlyOpened Closed ReadOnly Full O
 _zonedisk_options() {
     case $1 in
         format) echo "--image --force $_zonedisk_shape" ;;
-        run) echo "--image --blocks --zones --sync --habit --stop-after --tear" ;;
+        run) echo "--image --blocks --zones --statistics --sync --habit --stop-after --tear" ;;
         nbd) echo "--image --blocks --statistics --idle --habit --stop-after --tear" ;;
         report) echo "--image --state --brief --json --svg" ;;
         check) echo "--image --blocks --json" ;;
@@ -16,7 +16,7 @@ _zonedisk_options() {
         info) echo "--image --json" ;;
         export) echo "--image --first --count --progress" ;;
         import) echo "--image --blocks --first --sparse --progress" ;;
-        nvme) echo "--image --sync --habit" ;;
+        nvme) echo "--image --explain --sync --habit" ;;
         entry) echo "--start --blocks --dwords --id --all --partial --state --data" ;;
         fresh) echo "$_zonedisk_shape --blocks --report --statistics --habit --stop-after --tear" ;;
         fresh-raw) echo "$_zonedisk_shape --habit" ;;

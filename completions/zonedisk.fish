@@ -36,9 +36,10 @@ complete -c zonedisk -n '__fish_seen_subcommand_from format plan fresh fresh-raw
 # Runs and sessions.
 complete -c zonedisk -n '__fish_seen_subcommand_from run' -l zones -d 'Shows the zones after the replies'
 complete -c zonedisk -n '__fish_seen_subcommand_from fresh' -l report -d 'Shows the zones after the replies'
-complete -c zonedisk -n '__fish_seen_subcommand_from nbd fresh' -l statistics -d 'Shows what was written and moved'
+complete -c zonedisk -n '__fish_seen_subcommand_from run nbd fresh' -l statistics -d 'Shows what was written and moved'
 complete -c zonedisk -n '__fish_seen_subcommand_from nbd' -l idle -d 'Takes a turn of cleaning after each request'
 complete -c zonedisk -n '__fish_seen_subcommand_from run nvme' -l sync -d 'Sends a reply once the changes are on the disk'
+complete -c zonedisk -n '__fish_seen_subcommand_from nvme' -l explain -d 'Says what the status of each completion is'
 complete -c zonedisk -n '__fish_seen_subcommand_from run nbd nvme fresh fresh-raw' -l habit -x -a 'lazy closing strict' -d 'Which zones the drive closes by itself'
 complete -c zonedisk -n '__fish_seen_subcommand_from run nbd fresh' -l stop-after -x -d 'Stops the drive after so many commands'
 complete -c zonedisk -n '__fish_seen_subcommand_from run nbd fresh' -l tear -x -d 'Writes so many blocks of the Append at the stop'

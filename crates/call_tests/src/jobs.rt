@@ -4,7 +4,7 @@
 use crate::runs::FINISH;
 use clap::error::ErrorKind;
 use command_line::{Task, task_of};
-use disk_jobs::{Gate, Job, JobInput, do_job, explain, write_program_fault};
+use disk_jobs::{DiskSize, Gate, Job, JobInput, do_job, explain, size_notes, write_program_fault};
 use std::alloc::{AllocError, Global};
 use std::fs;
 use std::fs::File;
@@ -12,6 +12,7 @@ use std::os::unix::fs::MetadataExt;
 use std::process::Abort;
 use std::rt::Files;
 use std::test::Fail;
+use zone_states::Geometry;
 
 const FRESH: &str =
     "zonedisk fresh --block 512 --zones 4 --size 8 --capacity 6 --transfer 4 --active 2 --open 2";
@@ -138,8 +139,12 @@ fn reads_the_words(rt: HostRuntime) -> Result<(), Fail> {
 }
 
 // Which other words are refused, and how.
-const OTHER_WORDS: [(&str, Option<ErrorKind>); 15] = [
+const OTHER_WORDS: [(&str, Option<ErrorKind>); 16] = [
     ("zonedisk run --zones --blocks=9 --image=a/b", None),
+    (
+        "zonedisk run --image b --blocks 9 --statistics --zones",
+        None,
+    ),
     ("zonedisk nbd --image b", None),
     (
         "zonedisk nbd --image b --blocks 9 --idle --stop-after 7",
@@ -149,7 +154,7 @@ const OTHER_WORDS: [(&str, Option<ErrorKind>); 15] = [
         "zonedisk nbd --image b --blocks +9",
         Some(ErrorKind::ValueValidation),
     ),
-    ("zonedisk nvme --habit=closing --image b", None),
+    ("zonedisk nvme --habit=closing --image b --explain", None),
     ("zonedisk", Some(ErrorKind::MissingSubcommand)),
     ("zonedisk mount", Some(ErrorKind::InvalidSubcommand)),
     (
@@ -236,7 +241,7 @@ const STOPPED_LATER: &str =
      --active 2 --open 2 --blocks 9 --stop-after 2";
 
 // What standard error says of a fault: with a byte order mark, a carriage return, a tab, and words that are wrong.
-const TOLD: [(&str, &[u8], &str); 13] = [
+const TOLD: [(&str, &[u8], &str); 14] = [
     (DISK, b"read 0 1\n", ""),
     (
         STOPPED_AT_ONCE,
@@ -290,6 +295,11 @@ const TOLD: [(&str, &[u8], &str); 13] = [
         b"00\n",
         "line 1: word 1 has to be the 128 hexadecimal digits of an entry",
     ),
+    (
+        DISK,
+        b"write 0 aabb\n",
+        "line 1: it has 2 bytes of data, and a write takes whole blocks of 512",
+    ),
 ];
 
 #[test]
@@ -328,6 +338,47 @@ fn explains_long_lines(rt: HostRuntime) -> Result<(), Fail> {
     Ok(())
 }
 
+// The drive of which the disk has so many logical blocks.
+const SIZE: DiskSize = DiskSize {
+    geometry: Geometry {
+        block: 4096,
+        zones: 64,
+        size: 8192,
+        capacity: 8192,
+        transfer: 128,
+        active: 8,
+        open: 8,
+    },
+    blocks: 435_147,
+};
+
+// The plan of this drive has 10.03 at 85 percent, and 7.54 at 80 percent.
+const SLOW: &str =
+    "a: 435147 logical blocks are 85 percent of the greatest number: random writes of one block are expected to write \
+     10.03 times as much; with 80 percent, 409550 logical blocks, it is 7.54 times\n";
+
+const OTHER: &str =
+    "a: the drive says that its disk has 409550 logical blocks: that counts, and not --blocks 12\n";
+
+#[test]
+fn tells_what_to_know_of_a_size(rt: HostRuntime) -> Result<(), Fail> {
+    let advised = DiskSize {
+        blocks: 409_550,
+        ..SIZE
+    };
+    let cases = [
+        (Some(435_147), SIZE, SLOW),
+        (None, SIZE, SLOW),
+        (Some(12), advised, OTHER),
+        (Some(409_550), advised, ""),
+        (None, advised, ""),
+    ];
+    for (asked, disk, text) in &cases {
+        assert_eq!(rt; size_notes(rt.alloc(), "a", *asked, *disk)?.as_str(), *text);
+    }
+    Ok(())
+}
+
 const OPENED: &[u8] = b"zones 4
 start 0 state Full pointer - capacity 6
 start 8 state ImplicitlyOpened pointer 10 capacity 6
@@ -357,8 +408,35 @@ const REPORT: &str = "zonedisk report --image drive.image";
 
 const NVME: &str = "zonedisk nvme --image drive.image";
 
+const COUNTED: &str = "zonedisk run --image drive.image --blocks 9 --zones --statistics";
+
+// The mount reads the two headers of zone 0 and the one of zone 1. The read reads a block.
+const COUNTS: &[u8] = b"0 aa*512
+ok
+host blocks 0
+all blocks 0
+moved blocks 0
+cleans 0
+write amplification -
+appends 0
+reads 4
+closes 0
+finishes 0
+resets 0
+reports 1
+other commands 0
+least live 0
+median live 0
+most live 4
+zones 4
+start 0 state Full pointer - capacity 6
+start 8 state Closed pointer 10 capacity 6
+start 16 state Empty pointer 16 capacity 6
+start 24 state Empty pointer 24 capacity 6
+";
+
 // Jobs on the file that the job before left, and how long it is then: a head of 96 bytes, and the written blocks.
-const FILE_JOBS: [(&str, &[u8], &[u8], u64); 13] = [
+const FILE_JOBS: [(&str, &[u8], &[u8], u64); 14] = [
     (REPORT, b"", b"fault image 7 Short\n", 0),
     (FORMAT, b"", b"ok\n", 96),
     (STOPPED, b"read 0 1\n", b"fault mount 10 Halted\n", 96),
@@ -372,6 +450,7 @@ const FILE_JOBS: [(&str, &[u8], &[u8], u64); 13] = [
     (FORMAT, b"", b"ok\n", 96),
     (RUN, b"fill 0 5 AA\nnone\n", b"ok\nfault line 2\n", 4192),
     (REPORT, b"", OPENED, 4192),
+    (COUNTED, b"read 0 1\n", COUNTS, 4192),
     (STRICT, b"read 0 1\n", b"0 aa*512\nok\n", 4192),
     (REPORT, b"", OPENED, 4192),
     (NVME, b"none\n", b"fault line 1\n", 4192),

@@ -3,6 +3,7 @@
 use crate::jobs::{check_written, refusal, task};
 use clap::error::ErrorKind;
 use command_line::Task;
+use entry_forms::EntryFault;
 use std::alloc::{AllocError, Global};
 use std::fs;
 use std::fs::File;
@@ -12,7 +13,7 @@ use std::test::Fail;
 use tool_jobs::{ToolFault, ToolJob, do_tool_job};
 
 // Which words of tools are refused, and how.
-const WORDS: [(&str, Option<ErrorKind>); 34] = [
+const WORDS: [(&str, Option<ErrorKind>); 39] = [
     ("zonedisk export --image a", None),
     (
         "zonedisk export --image a --first 3 --count 2 --progress",
@@ -103,6 +104,17 @@ const WORDS: [(&str, Option<ErrorKind>); 34] = [
     (
         "zonedisk report --image a --brief --state Full",
         Some(ErrorKind::ArgumentConflict),
+    ),
+    ("zonedisk entry reset --all --state Full", None),
+    ("zonedisk entry", Some(ErrorKind::MissingRequiredArgument)),
+    ("zonedisk entry erase", Some(ErrorKind::ValueValidation)),
+    (
+        "zonedisk entry append --data abc",
+        Some(ErrorKind::ValueValidation),
+    ),
+    (
+        "zonedisk entry append --start x",
+        Some(ErrorKind::ValueValidation),
     ),
 ];
 
@@ -255,6 +267,104 @@ fn checks_a_drive(rt: HostRuntime) -> Result<(), Fail> {
     );
     fs::remove_file(&rt, "checked.image")?;
     Ok(())
+}
+
+// The lines of entries: the opcode, the identifier and the namespace first, the address at digit 80, then dwords 12 and
+// 13. Without its option an address is 0, one block is meant, and the buffer of a report has 1,024 dwords.
+const ENTRIES: [(&str, bool, &[u8]); 11] = [
+    (
+        "zonedisk entry append --start 8 --blocks 4 --id 7 --data aABb",
+        true,
+        b"7d000700010000000000000000000000000000000000000000000000000000000000000000000000\
+          080000000000000003000000000000000000000000000000 aabb\n",
+    ),
+    (
+        "zonedisk entry write --start 9 --data 00",
+        true,
+        b"01000000010000000000000000000000000000000000000000000000000000000000000000000000\
+          090000000000000000000000000000000000000000000000 00\n",
+    ),
+    (
+        "zonedisk entry read --blocks 65536 --start 9223372036854775807",
+        true,
+        b"02000000010000000000000000000000000000000000000000000000000000000000000000000000\
+          ffffffffffffff7fffff0000000000000000000000000000\n",
+    ),
+    (
+        "zonedisk entry flush --id 65535",
+        true,
+        b"0000ffff010000000000000000000000000000000000000000000000000000000000000000000000\
+          000000000000000000000000000000000000000000000000\n",
+    ),
+    (
+        "zonedisk entry reset --start 16",
+        true,
+        b"79000000010000000000000000000000000000000000000000000000000000000000000000000000\
+          100000000000000000000000040000000000000000000000\n",
+    ),
+    (
+        "zonedisk entry finish --all",
+        true,
+        b"79000000010000000000000000000000000000000000000000000000000000000000000000000000\
+          000000000000000000000000020100000000000000000000\n",
+    ),
+    (
+        "zonedisk entry close --start 8 --id 513",
+        true,
+        b"79000102010000000000000000000000000000000000000000000000000000000000000000000000\
+          080000000000000000000000010000000000000000000000\n",
+    ),
+    (
+        "zonedisk entry open --start 8",
+        true,
+        b"79000000010000000000000000000000000000000000000000000000000000000000000000000000\
+          080000000000000000000000030000000000000000000000\n",
+    ),
+    (
+        "zonedisk entry offline --all --id 1",
+        true,
+        b"79000100010000000000000000000000000000000000000000000000000000000000000000000000\
+          000000000000000000000000050100000000000000000000\n",
+    ),
+    (
+        "zonedisk entry report",
+        true,
+        b"7a000000010000000000000000000000000000000000000000000000000000000000000000000000\
+          0000000000000000ff030000000000000000000000000000\n",
+    ),
+    (
+        "zonedisk entry report --dwords 4294967296 --state Closed --partial --start 8",
+        true,
+        b"7a000000010000000000000000000000000000000000000000000000000000000000000000000000\
+          0800000000000000ffffffff000401000000000000000000\n",
+    ),
+];
+
+#[test]
+fn shows_entries(rt: HostRuntime) {
+    check_used(&rt, rt.alloc(), &ENTRIES);
+}
+
+// Entries that are refused, and why.
+const NO_ENTRIES: [(&str, EntryFault); 9] = [
+    ("zonedisk entry read --data aa", EntryFault::Options),
+    ("zonedisk entry flush --start 0", EntryFault::Options),
+    ("zonedisk entry open --all", EntryFault::Options),
+    ("zonedisk entry reset --blocks 1", EntryFault::Options),
+    ("zonedisk entry append --partial", EntryFault::Options),
+    ("zonedisk entry read --blocks 0", EntryFault::Blocks),
+    ("zonedisk entry write --blocks 65537", EntryFault::Blocks),
+    ("zonedisk entry report --dwords 15", EntryFault::Dwords),
+    ("zonedisk entry flush --id 65536", EntryFault::Id),
+];
+
+#[test]
+fn refuses_entries(rt: HostRuntime) {
+    for (line, fault) in &NO_ENTRIES {
+        let (written, done) = used(&rt, rt.alloc(), line);
+        assert_eq!(rt; done, Err(ToolFault::Entry(*fault)));
+        assert!(rt; written.is_empty());
+    }
 }
 
 #[test]

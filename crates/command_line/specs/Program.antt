@@ -80,7 +80,7 @@ abbrev pub format : Shape
 format = with_options (codes "format") (image ∷ flag (codes "force") ∷ parts true)
 
 abbrev pub run : Bor (List (Bor Text)) → Shape
-run names = with_options (codes "run") (image ∷ blocks ∷ flag (codes "zones") ∷ flag (codes "sync") ∷ habit names ∷ stops)
+run names = with_options (codes "run") (image ∷ blocks ∷ flag (codes "zones") ∷ flag (codes "statistics") ∷ flag (codes "sync") ∷ habit names ∷ stops)
 
 abbrev pub report_words : Shape
 report_words = with_options (codes "report")
@@ -108,7 +108,7 @@ entry = with_options (codes "entry")
     ∷ optional (valued (codes "data")) ∷ [])
 
 abbrev pub nvme : Bor (List (Bor Text)) → Shape
-nvme names = with_options (codes "nvme") (image ∷ flag (codes "sync") ∷ habit names ∷ [])
+nvme names = with_options (codes "nvme") (image ∷ flag (codes "explain") ∷ flag (codes "sync") ∷ habit names ∷ [])
 
 abbrev pub nbd : Bor (List (Bor Text)) → Shape
 nbd names = with_options (codes "nbd") (image ∷ optional blocks ∷ flag (codes "statistics") ∷ flag (codes "idle") ∷ habit names ∷ stops)

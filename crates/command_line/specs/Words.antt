@@ -23,12 +23,12 @@ use Rattle.command_line.specs.Values.{HasFlag, HasGeometry, HasHabit, HasImage, 
 abbrev pub AsksForJob : Text → List Row → Job → Type 0
 AsksForJob name rows (Format path geometry force) =
     (name ≡ codes "format") × HasImage rows (string_bytes path) × HasGeometry rows geometry × HasFlag rows (codes "force") force
-AsksForJob name rows (Run path blocks zones stop habit sync) =
+AsksForJob name rows (Run path blocks zones statistics stop habit sync) =
     (name ≡ codes "run") × HasImage rows (string_bytes path) × HasNumber 64 rows (codes "blocks") blocks
-    × HasFlag rows (codes "zones") zones × HasStop rows stop × HasHabit rows habit × HasFlag rows (codes "sync") sync
+    × HasFlag rows (codes "zones") zones × HasFlag rows (codes "statistics") statistics × HasStop rows stop × HasHabit rows habit × HasFlag rows (codes "sync") sync
 AsksForJob name rows (Report path) = (name ≡ codes "report") × HasImage rows (string_bytes path) × HasZonesForm rows None
-AsksForJob name rows (Nvme path habit sync) =
-    (name ≡ codes "nvme") × HasImage rows (string_bytes path) × HasHabit rows habit × HasFlag rows (codes "sync") sync
+AsksForJob name rows (Nvme path explain habit sync) =
+    (name ≡ codes "nvme") × HasImage rows (string_bytes path) × HasFlag rows (codes "explain") explain × HasHabit rows habit × HasFlag rows (codes "sync") sync
 AsksForJob name rows (Fresh geometry blocks report statistics stop habit) =
     (name ≡ codes "fresh") × HasGeometry rows geometry × HasNumber 64 rows (codes "blocks") blocks
     × HasFlag rows (codes "report") report × HasFlag rows (codes "statistics") statistics

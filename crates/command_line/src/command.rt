@@ -44,11 +44,11 @@ const PLAN_EXAMPLE: &str = "Examples:
 
 const ENTRY_EXAMPLE: &str = "Examples:
   zonedisk entry finish --start 8 | zonedisk nvme --image my.drive
-  zonedisk entry append --data $(printf 'aa%.0s' $(seq 512)) | zonedisk nvme --image my.drive";
+  zonedisk entry append --data $(printf 'aa%.0s' $(seq 512)) | zonedisk nvme --image my.drive --explain";
 
 const NVME_EXAMPLE: &str = "Examples:
   printf '0000010001000000%0112d\\n' 0 | zonedisk nvme --image my.drive
-  zonedisk entry report | zonedisk nvme --image my.drive";
+  zonedisk entry report | zonedisk nvme --image my.drive --explain";
 
 const FRESH_EXAMPLE: &str = "Example:
   printf 'fill 0 5 aa\\nread 4 1\\n' | zonedisk fresh --block 512 --zones 4 --size 8 \
@@ -267,6 +267,7 @@ fn run_command<'a>(alloc: Global, habits: &'a [&'a str]) -> Result<Command<'a>, 
         .arg(image_option(alloc))?
         .arg(blocks_option(alloc))?
         .arg(flag(alloc, "zones", zones))?
+        .arg(flag(alloc, "statistics", STATISTICS_HELP))?
         .arg(flag(alloc, "sync", SYNC_HELP))?
         .arg(habit_option(alloc, habits))?;
     stop_options(alloc, command)
@@ -452,10 +453,12 @@ fn entry_command<'a>(alloc: Global) -> Result<Command<'a>, AllocError>
 fn nvme_command<'a>(alloc: Global, habits: &'a [&'a str]) -> Result<Command<'a>, AllocError>
     ensures { IfOk result (λ new. IsCommand (nvme habits.entry) new) }
 {
+    let explain = "Says on standard error what the status of each completion is";
     Command::new(alloc, "nvme")
         .about("Submits the raw entries on standard input to the drive in a file")
         .after_help(NVME_EXAMPLE)
         .arg(image_option(alloc))?
+        .arg(flag(alloc, "explain", explain))?
         .arg(flag(alloc, "sync", SYNC_HELP))?
         .arg(habit_option(alloc, habits))
 }

@@ -199,6 +199,7 @@ fn run_job(alloc: Global, matches: &ArgMatches<'_>) -> Result<Job, WordFault>
         image: image(alloc, matches)?,
         blocks,
         zones: has_flag(matches, "zones"),
+        statistics: has_flag(matches, "statistics"),
         stop,
         habit: habit_of(matches),
         sync: has_flag(matches, "sync"),
@@ -223,6 +224,7 @@ fn nvme_job(alloc: Global, matches: &ArgMatches<'_>) -> Result<Job, WordFault>
 {
     Ok(Job::Nvme {
         image: image(alloc, matches)?,
+        explain: has_flag(matches, "explain"),
         habit: habit_of(matches),
         sync: has_flag(matches, "sync"),
     })

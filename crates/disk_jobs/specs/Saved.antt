@@ -42,9 +42,9 @@ fresh_drive geometry habit = record { state = fresh geometry; habit = habit }
 
 abbrev pub BeginsOn : Job → Known → Begun → Type 0
 BeginsOn (jobs.Format path geometry force) file begun = begun.drive ≡ fresh_drive geometry Lazy
-BeginsOn (jobs.Run path blocks zones stop habit sync) file begun = IsRestarted file habit begun
+BeginsOn (jobs.Run path blocks zones statistics stop habit sync) file begun = IsRestarted file habit begun
 BeginsOn (jobs.Report path) file begun = ⊥
-BeginsOn (jobs.Nvme path habit sync) file begun = IsRestarted file habit begun
+BeginsOn (jobs.Nvme path explain habit sync) file begun = IsRestarted file habit begun
 BeginsOn (jobs.Fresh geometry blocks shown statistics stop habit) file begun = begun.drive ≡ fresh_drive geometry habit
 BeginsOn (jobs.FreshRaw geometry habit) file begun = begun.drive ≡ fresh_drive geometry habit
 
@@ -88,9 +88,9 @@ IsOk text = text ≡ ok_text
 -- Why a job leaves no drive. A fault of the file comes before anything is written. Of `ok` a beginning may be written, and of a report one of it.
 abbrev pub HasNoDrive : Job → Known → ProgramFault → Known → Known → Type 0
 HasNoDrive (jobs.Format path geometry force) file fault old new = FailsToWrite (IsNotFresh geometry) IsOk fault old new
-HasNoDrive (jobs.Run path blocks zones stop habit sync) file fault old new = IsNotRead file fault × (new ≡ old)
+HasNoDrive (jobs.Run path blocks zones statistics stop habit sync) file fault old new = IsNotRead file fault × (new ≡ old)
 HasNoDrive (jobs.Report path) file fault old new = FailsToWrite (IsNotRead file) (IsSavedText file) fault old new
-HasNoDrive (jobs.Nvme path habit sync) file fault old new = IsNotRead file fault × (new ≡ old)
+HasNoDrive (jobs.Nvme path explain habit sync) file fault old new = IsNotRead file fault × (new ≡ old)
 HasNoDrive (jobs.Fresh geometry blocks shown statistics stop habit) file fault old new = IsNotFresh geometry fault × (new ≡ old)
 HasNoDrive (jobs.FreshRaw geometry habit) file fault old new = IsNotFresh geometry fault × (new ≡ old)
 
@@ -123,6 +123,21 @@ pub record RunsTrace (blocks : ℕ) (device : Stopping) (bytes : Exchange) (ende
   pub geometry : new.geometry ≡ seen.geometry
   pub zones : new.zones ≡ seen.zones
 
+-- After a run that was done some text is written; what it says is not promised.
+abbrev pub ThenTells : Result (Unit {0}) RunFault → Known → Result (Unit {0}) RunFault → Known → Type 0
+ThenTells (Ok done) old (Ok told) new = (text : List ℕ) × Appends old new text
+ThenTells (Ok done) old (Err runs.Output) new = (text : List ℕ) × AppendsFront old new text
+ThenTells (Ok done) old (Err runs.Memory) new = new ≡ old
+ThenTells (Ok done) old (Err fault) new = ⊥
+ThenTells ran old ended new = (ended ≡ ran) × (new ≡ old)
+
+-- a trace is run over the device, whose commands are counted, and then it is told what was counted
+pub record RunsCounted (blocks : ℕ) (device : Stopping) (bytes : Exchange) (ended : Result (Unit {0}) RunFault) (new : DriveState) : Type 0 where
+  pub ran : Result (Unit {0}) RunFault
+  pub middle : Known
+  pub runs : RunsTrace blocks device (record bytes { contents = middle }) ran new
+  pub tells : ThenTells ran middle ended bytes.contents
+
 -- a run that was done is followed by the zones, if they are asked for
 abbrev pub ThenShows : Bool → DriveState → Result (Unit {0}) RunFault → Known → Result (Unit {0}) RunFault → Known → Type 0
 ThenShows true drive (Ok done) old (Ok shown) new = WritesText (IsZonesText drive) old new
@@ -131,18 +146,19 @@ ThenShows true drive (Ok done) old (Err runs.Memory) new = new ≡ old
 ThenShows true drive (Ok done) old (Err fault) new = ⊥
 ThenShows zones drive ran old ended new = (ended ≡ ran) × (new ≡ old)
 
--- what the lines of a job do over a drive; nothing is said of a run whose commands are counted
+-- what the lines of a job do over a drive
 abbrev pub RunsLines : Job → Exchange → DriveState → Result (Unit {0}) RunFault → DriveState → Type 0
-RunsLines (jobs.Run path blocks zones stop habit sync) bytes old ended new = RunsTrace blocks (stopping stop old) bytes ended new
+RunsLines (jobs.Run path blocks zones false stop habit sync) bytes old ended new = RunsTrace blocks (stopping stop old) bytes ended new
+RunsLines (jobs.Run path blocks zones true stop habit sync) bytes old ended new = RunsCounted blocks (stopping stop old) bytes ended new
 RunsLines (jobs.Fresh geometry blocks shown false stop habit) bytes old ended new = RunsTrace blocks (stopping stop old) bytes ended new
-RunsLines (jobs.Fresh geometry blocks shown true stop habit) bytes old ended new = ⊤
-RunsLines (jobs.Nvme path habit sync) bytes old ended new = Runs raw bytes old ended new
+RunsLines (jobs.Fresh geometry blocks shown true stop habit) bytes old ended new = RunsCounted blocks (stopping stop old) bytes ended new
+RunsLines (jobs.Nvme path explain habit sync) bytes old ended new = Runs raw bytes old ended new
 RunsLines (jobs.FreshRaw geometry habit) bytes old ended new = Runs raw bytes old ended new
 RunsLines job bytes old ended new = (ended ≡ Ok tt) × (bytes.contents ≡ bytes.written) × (new ≡ old)
 
 -- whether the zones are shown after the replies
 abbrev pub shows_zones : Job → Bool
-shows_zones (jobs.Run path blocks zones stop habit sync) = zones
+shows_zones (jobs.Run path blocks zones statistics stop habit sync) = zones
 shows_zones (jobs.Fresh geometry blocks shown statistics stop habit) = shown
 shows_zones job = false
 
@@ -169,14 +185,14 @@ TellsRun geometry fault = ⊥
 
 -- whether the changes of a job go to its file
 abbrev pub has_changes : Job → Bool
-has_changes (jobs.Run path blocks zones stop habit sync) = true
-has_changes (jobs.Nvme path habit sync) = true
+has_changes (jobs.Run path blocks zones statistics stop habit sync) = true
+has_changes (jobs.Nvme path explain habit sync) = true
 has_changes job = false
 
 -- The store of a job with a file stores the drive that the lines left. Other jobs do not use it.
 abbrev pub StoresDrive : Job → Known → Known → DriveState → Type 0
-StoresDrive (jobs.Run path blocks zones stop habit sync) old new drive = IfSome new (λ bytes. IsStored bytes drive)
-StoresDrive (jobs.Nvme path habit sync) old new drive = IfSome new (λ bytes. IsStored bytes drive)
+StoresDrive (jobs.Run path blocks zones statistics stop habit sync) old new drive = IfSome new (λ bytes. IsStored bytes drive)
+StoresDrive (jobs.Nvme path explain habit sync) old new drive = IfSome new (λ bytes. IsStored bytes drive)
 StoresDrive job old new drive = new ≡ old
 
 -- the drive that is handed back is this one; where the store failed, only the store has it

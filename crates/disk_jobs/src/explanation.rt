@@ -1,18 +1,19 @@
 use crate::fault::ProgramFault;
 use crate::job::Job;
-use crate::line_problem::{raw_problem, trace_problem};
+use crate::line_problem::{LineProblem, raw_problem, trace_problem};
+use crate::mounting::Mounting;
 use disk_files::LONGEST_LINE;
 use disk_runs::RunFault;
 use std::alloc::{AllocError, Global};
 use zone_translator::{DiskFault, MountFault};
 
-/// What is wrong with the line of this number.
-fn explain_line(alloc: Global, job: &Job, number: u64, line: &[u8]) -> Result<String, AllocError> {
-    let problem = match job {
-        Job::Nvme { .. } | Job::FreshRaw { .. } => raw_problem(line),
-        _ => trace_problem(line),
-    };
-    format!(in alloc; "line {number}: {problem}")
+/// What is wrong with a line, which is no raw line or none of a trace.
+fn problem_of(job: &Job, line: &[u8], mounting: Mounting) -> LineProblem {
+    match (job, mounting.disk) {
+        (Job::Nvme { .. } | Job::FreshRaw { .. }, _) => raw_problem(line),
+        (_, Some(disk)) => trace_problem(line, disk.geometry.block),
+        (_, None) => trace_problem(line, 0),
+    }
 }
 
 /// How many bytes of a line are shown.
@@ -36,13 +37,14 @@ fn explain_stop(
     alloc: Global,
     job: &Job,
     fault: RunFault,
-    mounting: u64,
+    mounting: Mounting,
 ) -> Result<String, AllocError> {
+    let taken = mounting.commands;
     match (job.stop(), fault) {
         (
             Some(commands),
             RunFault::Disk(DiskFault::Stopped) | RunFault::Mount(MountFault::Halted),
-        ) => format!(in alloc; ", after {commands} commands, of which the mount took {mounting}"),
+        ) => format!(in alloc; ", after {commands} commands, of which the mount took {taken}"),
         _ => Ok(String::new(alloc)),
     }
 }
@@ -52,9 +54,13 @@ fn explain_run(
     job: &Job,
     fault: RunFault,
     line: &[u8],
+    mounting: Mounting,
 ) -> Result<String, AllocError> {
     match fault {
-        RunFault::Line(number) => explain_line(alloc, job, number, line),
+        RunFault::Line(number) => {
+            let problem = problem_of(job, line, mounting);
+            format!(in alloc; "line {number}: {problem}")
+        }
         RunFault::Long(number) => {
             format!(in alloc; "line {number} has more than {LONGEST_LINE} bytes")
         }
@@ -68,19 +74,19 @@ fn explain_run(
 }
 
 /// One line for people that says what a fault is, without a line feed. `line` is the line that the job read last, and
-/// `mounting` how many commands its mount took.
+/// `mounting` what is known of its mount.
 pub fn explain(
     alloc: Global,
     job: &Job,
     fault: ProgramFault,
     line: &[u8],
-    mounting: u64,
+    mounting: Mounting,
 ) -> Result<String, AllocError> {
     let path = job.image().unwrap_or("the file");
     match fault {
         ProgramFault::Run(fault) => {
             let (told, stop) = (
-                explain_run(alloc, job, fault, line)?,
+                explain_run(alloc, job, fault, line, mounting)?,
                 explain_stop(alloc, job, fault, mounting)?,
             );
             format!(in alloc; "{told}{stop}")

@@ -2,6 +2,7 @@ use crate::fault::ProgramFault;
 use crate::input::JobInput;
 use crate::job::Job;
 use crate::lines::Left;
+use crate::mounting::Mounting;
 use crate::program::run_job;
 use crate::saving::{drive_to_save, first_told};
 use disk_files::LineReader;
@@ -25,8 +26,8 @@ pub struct Done {
     pub job: Result<(), ProgramFault>,
     /// Of the drive. It is `Ok` where the job leaves none to save.
     pub saved: Result<(), ProgramFault>,
-    /// How many commands the mount took, if there was one.
-    pub mounting: u64,
+    /// What is known of the mount, if there was one.
+    pub mounting: Mounting,
 }
 
 impl Done {
@@ -35,7 +36,7 @@ impl Done {
         Done {
             job,
             saved: Ok(()),
-            mounting: 0,
+            mounting: Mounting::NONE,
         }
     }
 
@@ -48,11 +49,11 @@ impl Done {
 /// What the lines of a job left, and how they ended.
 type Ran = (Option<Left>, Result<(), ProgramFault>);
 
-/// How many commands the mount of a job took, if there was one.
-fn mounting(left: &Option<Left>) -> u64 {
+/// What is known of the mount of a job, if there was one.
+fn mounting(left: &Option<Left>) -> Mounting {
     match left {
         Some(left) => left.mounting,
-        None => 0,
+        None => Mounting::NONE,
     }
 }
 
@@ -197,7 +198,7 @@ fn format<F: Files<File = File>, R: Read + Drop, W: Write>(
     Done {
         job: sent,
         saved: saved.map_err(told),
-        mounting: 0,
+        mounting: Mounting::NONE,
     }
 }
 

@@ -29,13 +29,14 @@ pub enum Job {
         force: bool,
     },
     /// Reads a drive from the file, restarts it, mounts it as `blocks` logical blocks, answers the lines of a trace,
-    /// and saves it. With `zones` the zones of the drive are shown after the replies. The drive has this habit, here
-    /// and below, until it is saved. With `sync`, here and below, each change is on the disk before the replies that
-    /// depend on it are sent.
+    /// and saves it. With `statistics` it is shown after the replies what was written and moved, and with `zones` the
+    /// zones of the drive. The drive has this habit, here and below, until it is saved. With `sync`, here and below,
+    /// each change is on the disk before the replies that depend on it are sent.
     Run {
         image: String,
         blocks: u64,
         zones: bool,
+        statistics: bool,
         stop: Stop,
         habit: Habit,
         sync: bool,
@@ -44,9 +45,11 @@ pub enum Job {
     Report {
         image: String,
     },
-    /// Reads a drive from the file, restarts it, submits the entry of each raw line to it, and saves it.
+    /// Reads a drive from the file, restarts it, submits the entry of each raw line to it, and saves it. With `explain`
+    /// people are told the status of each completion.
     Nvme {
         image: String,
+        explain: bool,
         habit: Habit,
         sync: bool,
     },
@@ -74,6 +77,22 @@ impl Job {
         match self {
             Job::Run { sync, .. } | Job::Nvme { sync, .. } => *sync,
             _ => false,
+        }
+    }
+
+    /// Whether people are told the status of each completion.
+    pub fn explains(&self) -> bool {
+        match self {
+            Job::Nvme { explain, .. } => *explain,
+            _ => false,
+        }
+    }
+
+    /// How many logical blocks the job says that its disk has.
+    pub fn blocks(&self) -> Option<u64> {
+        match self {
+            Job::Run { blocks, .. } => Some(*blocks),
+            _ => None,
         }
     }
 

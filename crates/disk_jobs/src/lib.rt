@@ -15,7 +15,8 @@
 //! A [`Job`] is what the words of the command line ask for (`command_line` reads them). [`run_job`] does it, and
 //! [`do_job`] does it on the drive of its file: it locks the file, and saves the drive. [`Done`] says how the job ended
 //! and how the save did. [`explain`] says what a fault is in a line for people; the input has the one at which a
-//! run ended.
+//! run ended. [`size_notes`] says what is to be known of the size of the disk. [`Explained`] passes the replies of
+//! `nvme` on, and tells what their statuses are.
 //!
 //! # What is promised
 //!
@@ -30,8 +31,8 @@
 //! * What is saved in a file is that drive, also after a fault; a fresh drive only if its `ok` was sent (`saving.rt`).
 //! * [`write_program_fault`] writes the line of each fault, or a beginning of it (`specs/FaultLine.antt`).
 //!
-//! Of a run whose commands are counted nothing is promised but that it ends; nor of [`do_job`], since no contract of
-//! std says what a file of a path holds, or who has locked it. A job makes its device with the stop and the habit that
+//! A run with `--statistics` is promised as one without; its replies are followed by some text. Of [`do_job`] nothing
+//! is promised, since no contract of std says what a file of a path holds, or who has locked it. A job makes its device with the stop and the habit that
 //! it names; that the device keeps them during the lines is tested, since a run promises something of the drive in a
 //! device alone. The texts of `--statistics` are tested in `call_tests`; what the drive closes with each `--habit` is
 //! in the rows of `worked_runs`.
@@ -47,9 +48,12 @@ mod input;
 mod job;
 mod line_problem;
 mod lines;
+mod mounting;
+mod notes;
 mod program;
 mod saving;
 mod statistics;
+mod status_words;
 
 pub use drive_store::{DriveFile, FileFault, Gate, SystemError};
 pub use explanation::explain;
@@ -58,6 +62,9 @@ pub use file::{Done, do_job};
 pub use input::JobInput;
 pub use job::{Job, Stop};
 pub use lines::{Left, stopping};
+pub use mounting::{DiskSize, Mounting};
+pub use notes::size_notes;
 pub use program::run_job;
 pub use statistics::statistics_of;
+pub use status_words::Explained;
 pub use zone_drive::Habit;

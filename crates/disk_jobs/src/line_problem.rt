@@ -48,6 +48,8 @@ pub(crate) enum LineProblem {
     Word(usize, Wanted),
     /// This word is one too many.
     TooMany(usize),
+    /// So many bytes of data are not whole blocks, of which each has this many.
+    NotWhole { bytes: usize, block: u32 },
 }
 
 impl fmt::Display for LineProblem {
@@ -71,6 +73,12 @@ impl fmt::Display for LineProblem {
                 write!(f, "word {place} has to be {wanted}")
             }
             LineProblem::TooMany(place) => write!(f, "word {place} is one too many"),
+            LineProblem::NotWhole { bytes, block } => {
+                write!(
+                    f,
+                    "it has {bytes} bytes of data, and a write takes whole blocks of {block}"
+                )
+            }
         }
     }
 }
@@ -162,8 +170,16 @@ fn word_problem(line: &[u8], wanted: &[Wanted]) -> Option<LineProblem> {
     }
 }
 
-/// What is wrong with a line that is none of a trace's.
-pub(crate) fn trace_problem(line: &[u8]) -> LineProblem {
+/// How many bytes the digits of the last word are.
+fn data_bytes(line: &[u8]) -> usize {
+    match line.split(|byte| *byte == b' ').last() {
+        Some(digits) => digits.len() / 2,
+        None => 0,
+    }
+}
+
+/// What is wrong with a line that is none of a trace's, over blocks of this many bytes.
+pub(crate) fn trace_problem(line: &[u8], block: u32) -> LineProblem {
     if let Some(problem) = spacing_problem(line) {
         return problem;
     }
@@ -171,7 +187,10 @@ pub(crate) fn trace_problem(line: &[u8]) -> LineProblem {
     match word_problem(line, wanted_of(name).unwrap_or(&[Wanted::Name])) {
         Some(problem) => problem,
         // Only the data of a `write` can be wrong in another way: it is not whole blocks.
-        None => LineProblem::Word(3, Wanted::Data),
+        None => LineProblem::NotWhole {
+            bytes: data_bytes(line),
+            block,
+        },
     }
 }
 

@@ -7,6 +7,7 @@ ghost use Rattle.disk_jobs.specs.Saved.{has_changes, shows_zones, stopping};
 
 use crate::begun::show_zones;
 use crate::job::{Job, Stop};
+use crate::mounting::Mounting;
 use crate::statistics::run_counted;
 use disk_files::LineReader;
 use disk_runs::{RunFault, answer_trace, run_raw};
@@ -32,15 +33,15 @@ pub struct Left {
     /// Whether the store failed. Then it has all changes before that one, and the drive that counts is the one that it
     /// holds.
     pub failed: bool,
-    /// How many commands the mount took, if there was one.
-    pub mounting: u64,
+    /// What is known of the mount, if there was one.
+    pub mounting: Mounting,
 }
 
 /// How a trace is run: the number of logical blocks that the mount is given, and when the device stops.
 #[derive(Clone, Copy)]
-struct TraceRun {
-    blocks: u64,
-    stop: Stop,
+pub(crate) struct TraceRun {
+    pub(crate) blocks: u64,
+    pub(crate) stop: Stop,
 }
 
 /// A device that stops after the commands of a stop, or inside the Append after them. Then the first blocks of the
@@ -51,62 +52,48 @@ pub fn stopping<D: Device + Drop>(device: D, stop: Stop) -> StopAfter<D>
     StopAfter::tearing(device, stop.commands, stop.tear)
 }
 
-/// Answers a trace over a device that stops. It tells how many commands the mount took.
+/// Answers a trace over a device that stops. It tells what is known of the mount.
 fn run_stopping<D: Device + Drop, R: Read + Drop, W: Write>(
     alloc: Global,
     device: D,
     how: TraceRun,
     input: &mut LineReader<R>,
     output: &mut W,
-) -> (D, u64, Result<(), RunFault>)
+) -> (D, Mounting, Result<(), RunFault>)
     ensures { RunsTrace how.blocks (stopping how.stop (D.drive device))
         (exchange input.old.left (W.contents output.old) (W.contents output.new)) result.2 (D.drive result.0) }
 {
     let disk = match Disk::mount(alloc, stopping(device, how.stop), how.blocks) {
         Ok(disk) => disk,
         Err((fault, device)) => {
-            let mounting = device.completed();
+            let mounting = Mounting::refused(device.completed());
             return (device.into_inner(), mounting, Err(RunFault::Mount(fault)));
         }
     };
-    let mounting = disk.device().completed();
+    let mounting = Mounting::done(&disk);
     let (disk, result) = answer_trace(alloc, input, output, disk);
     (disk.into_device().into_inner(), mounting, result)
 }
 
-/// Answers a trace over a device that stops and whose commands are counted, and then shows what was counted.
-fn run_with_statistics<D: Device + Drop, R: Read + Drop, W: Write>(
-    alloc: Global,
-    device: D,
-    how: TraceRun,
-    input: &mut LineReader<R>,
-    output: &mut W,
-) -> (D, u64, Result<(), RunFault>) {
-    let device = stopping(device, how.stop);
-    let (device, mounting, result) = run_counted(alloc, input, output, device, how.blocks);
-    (device.into_inner(), mounting, result)
-}
-
-/// Answers the lines of a job over a device. It tells how many commands the mount took, if there was one.
+/// Answers the lines of a job over a device. It tells what is known of the mount, if there was one.
 fn run_lines<D: Device + Drop, R: Read + Drop, W: Write>(
     alloc: Global,
     job: &Job,
     device: D,
     input: &mut LineReader<R>,
     output: &mut W,
-) -> (D, u64, Result<(), RunFault>)
+) -> (D, Mounting, Result<(), RunFault>)
     ensures { RunsLines job.now (exchange input.old.left (W.contents output.old) (W.contents output.new))
         (D.drive device) result.2 (D.drive result.0) }
 {
     match job {
-        Job::Run { blocks, stop, .. } => {
-            let how = TraceRun {
-                blocks: *blocks,
-                stop: *stop,
-            };
-            run_stopping(alloc, device, how, input, output)
+        Job::Run {
+            blocks,
+            statistics,
+            stop,
+            ..
         }
-        Job::Fresh {
+        | Job::Fresh {
             blocks,
             statistics,
             stop,
@@ -117,16 +104,16 @@ fn run_lines<D: Device + Drop, R: Read + Drop, W: Write>(
                 stop: *stop,
             };
             if *statistics {
-                run_with_statistics(alloc, device, how, input, output)
+                run_counted(alloc, device, how, input, output)
             } else {
                 run_stopping(alloc, device, how, input, output)
             }
         }
         Job::Nvme { .. } | Job::FreshRaw { .. } => {
             let (device, result) = run_raw(alloc, input, output, device);
-            (device, 0, result)
+            (device, Mounting::NONE, result)
         }
-        Job::Format { .. } | Job::Report { .. } => (device, 0, Ok(())),
+        Job::Format { .. } | Job::Report { .. } => (device, Mounting::NONE, Ok(())),
     }
 }
 

@@ -1,3 +1,9 @@
+ghost use Rattle.std.specs.Prelude.{◌≡◌, Ok};
+ghost use Rattle.disk_runs.specs.Run.{exchange};
+ghost use Rattle.disk_jobs.specs.Saved.{RunsCounted, ThenTells, stopping};
+
+use crate::lines::{TraceRun, stopping};
+use crate::mounting::Mounting;
 use disk_files::{LineReader, write_out};
 use disk_runs::{RunFault, answer_trace};
 use drive_counter::{Counter, Spread, statistics_text};
@@ -28,36 +34,57 @@ pub fn statistics_of<D: Device + Drop>(
 }
 
 /// Writes what was counted of a disk, without a command.
-fn show_statistics<W: Write, D: Device + Drop>(
+fn write_statistics<W: Write, D: Device + Drop>(
     alloc: Global,
     disk: &Disk<Counter<D>>,
     output: &mut W,
-) -> Result<(), RunFault> {
+) -> Result<(), RunFault>
+    ensures { ThenTells (Ok tt) (W.contents output.old) result (W.contents output.new) }
+{
     let text = statistics_of(alloc, disk)?;
     write_out(output, text.as_bytes())?;
     Ok(())
 }
 
-/// Answers a trace over a device whose commands are counted, and then shows what was counted. It tells how many
-/// commands the mount took.
-pub fn run_counted<R: Read + Drop, W: Write, D: Device + Drop>(
+/// Writes what was counted of a disk after a run that was done.
+fn tell_after<W: Write, D: Device + Drop>(
     alloc: Global,
+    disk: &Disk<Counter<D>>,
+    ran: Result<(), RunFault>,
+    output: &mut W,
+) -> Result<(), RunFault>
+    ensures { ThenTells ran (W.contents output.old) result (W.contents output.new) }
+{
+    if ran.is_err() {
+        return ran;
+    }
+    write_statistics(alloc, disk, output)
+}
+
+/// Answers a trace over a device that stops and whose commands are counted, and then shows what was counted. It tells
+/// what is known of the mount.
+pub(crate) fn run_counted<D: Device + Drop, R: Read + Drop, W: Write>(
+    alloc: Global,
+    device: D,
+    how: TraceRun,
     input: &mut LineReader<R>,
     output: &mut W,
-    device: D,
-    blocks: u64,
-) -> (D, u64, Result<(), RunFault>) {
-    let disk = match Disk::mount(alloc, Counter::new(device), blocks) {
+) -> (D, Mounting, Result<(), RunFault>)
+    ensures { RunsCounted how.blocks (stopping how.stop (D.drive device))
+        (exchange input.old.left (W.contents output.old) (W.contents output.new)) result.2 (D.drive result.0) }
+{
+    let device = stopping(device, how.stop);
+    let disk = match Disk::mount(alloc, Counter::new(device), how.blocks) {
         Ok(disk) => disk,
         Err((fault, counter)) => {
-            let mounting = counter.completed();
-            return (counter.into_inner(), mounting, Err(RunFault::Mount(fault)));
+            let mounting = Mounting::refused(counter.completed());
+            let device = counter.into_inner();
+            return (device.into_inner(), mounting, Err(RunFault::Mount(fault)));
         }
     };
-    let mounting = disk.device().completed();
-    let (disk, mut result) = answer_trace(alloc, input, output, disk);
-    if result.is_ok() {
-        result = show_statistics(alloc, &disk, output);
-    }
-    (disk.into_device().into_inner(), mounting, result)
+    let mounting = Mounting::done(&disk);
+    let (disk, ran) = answer_trace(alloc, input, output, disk);
+    let told = tell_after(alloc, &disk, ran, output);
+    let device = disk.into_device().into_inner();
+    (device.into_inner(), mounting, told)
 }

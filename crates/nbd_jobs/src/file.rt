@@ -5,6 +5,7 @@ use crate::job::NbdJob;
 use crate::left::Left;
 use crate::saving::{served_drive_to_save, session_told};
 use crate::serving::{ServedFile, serve_drive};
+use disk_jobs::DiskSize;
 use drive_store::{
     ChangesFile, ChangesOutput, FileFault, ImageFile, Saving, SentAfter, SystemError, open_to_save,
     reader_of, save,
@@ -25,6 +26,8 @@ pub struct Done {
     pub saved: Result<(), NbdFault>,
     /// What was written and moved, as text, if it was asked for.
     pub statistics: Option<String>,
+    /// The disk that was served, if it was mounted.
+    pub disk: Option<DiskSize>,
 }
 
 impl Done {
@@ -34,6 +37,7 @@ impl Done {
             session: Err(fault),
             saved: Ok(()),
             statistics: None,
+            disk: None,
         }
     }
 }
@@ -135,14 +139,15 @@ pub fn do_nbd_job<F: Files<File = File>, R: Read + Drop, W: Write>(
     // A fault is told by the file.
     let _ = file.write_out();
     let session = session_told(result, file.fault());
-    let statistics = match &mut left {
-        Some(left) => left.statistics.take(),
-        None => None,
+    let (statistics, disk) = match &mut left {
+        Some(left) => (left.statistics.take(), left.disk),
+        None => (None, None),
     };
     let drive = served_drive_to_save(file.stays(), left);
     Done {
         session,
         saved: save_if_any(&saving, drive, &file.into_image()),
         statistics,
+        disk,
     }
 }

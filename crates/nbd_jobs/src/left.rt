@@ -1,3 +1,4 @@
+use disk_jobs::DiskSize;
 use zone_drive::Drive;
 
 /// What a session left.
@@ -9,4 +10,6 @@ pub struct Left {
     pub failed: bool,
     /// What was written and moved, as text, if it was asked for.
     pub statistics: Option<String>,
+    /// The disk that was served, if it was mounted.
+    pub disk: Option<DiskSize>,
 }

@@ -11,7 +11,7 @@ use crate::fault::NbdFault;
 use crate::job::NbdJob;
 use crate::left::Left;
 use crate::mounted::mount_served;
-use disk_jobs::{statistics_of, stopping};
+use disk_jobs::{DiskSize, statistics_of, stopping};
 use drive_counter::Counter;
 use drive_journal::{Journaling, Store};
 use drive_port::Device;
@@ -30,11 +30,12 @@ pub struct ServedFile<I: Read + Drop, S: Store<Drive> + Drop, M: Medium + Drop> 
     pub medium: M,
 }
 
-/// What is left of a device once its session has ended, and what was counted.
+/// What is left of a device once its session has ended, what was counted, and what was mounted.
 #[derive(Drop)]
 struct Ended<D: Device + Drop> {
     device: D,
     statistics: Option<String>,
+    disk: Option<DiskSize>,
     result: Result<(), NbdFault>,
 }
 
@@ -99,10 +100,12 @@ fn serve_counted<D: Device + Drop, M: Medium + Drop, R: Client, W: Write>(
             return Ended {
                 device: counter.into_inner(),
                 statistics: None,
+                disk: None,
                 result: Err(fault),
             };
         }
     };
+    let size = DiskSize::of(&disk);
     let mut store = served(disk, kept.medium, job.idle);
     let result = serve(alloc, reader, writer, &mut store);
     let (disk, _medium) = store.into_parts();
@@ -110,6 +113,7 @@ fn serve_counted<D: Device + Drop, M: Medium + Drop, R: Client, W: Write>(
     Ended {
         device: disk.into_device().into_inner(),
         statistics,
+        disk: Some(size),
         result: session_end(result),
     }
 }
@@ -134,6 +138,7 @@ fn serve_stopping<D: Device + Drop, M: Medium + Drop, R: Client, W: Write>(
     Ended {
         device: ended.device.into_inner(),
         statistics: ended.statistics,
+        disk: ended.disk,
         result: ended.result,
     }
 }
@@ -156,6 +161,7 @@ fn serve_kept<S: Store<Drive> + Drop, M: Medium + Drop, R: Client, W: Write>(
         drive,
         failed: store.has_failed(),
         statistics: ended.statistics,
+        disk: ended.disk,
     };
     (left, store, ended.result)
 }

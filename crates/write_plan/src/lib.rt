@@ -6,6 +6,7 @@
 //! let text = plan_json(alloc, &geometry, &rows)?;     // the same as JSON
 //! let text = plan_svg(alloc, &geometry)?;             // write amplification by share, as a plot
 //! let (geometry, blocks) = drive_for(256 << 20);      // a drive for 256 MiB, and its number of blocks
+//! let text = size_advice(alloc, &geometry, blocks)?;  // Some where random writes to so many blocks are slow
 //! ```
 //!
 //! Nothing here sends a command. What is promised: each row is that of a number of blocks that the drive can
@@ -19,6 +20,7 @@
 //! Tests: the rows of `tool_rows`; `bench/plan` compares the estimates with runs.
 #![tactic(auto)]
 
+mod advice;
 mod aims;
 mod drive;
 mod estimate;
@@ -28,6 +30,7 @@ mod plot;
 mod row;
 mod text;
 
+pub use advice::size_advice;
 pub use aims::{Aim, SHARES, plan};
 pub use drive::{PLANNED_SHARE, drive_for};
 pub use estimate::{Estimate, WRITES, expected};

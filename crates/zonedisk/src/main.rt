@@ -20,7 +20,10 @@
 //! and `zonedisk import` copy its blocks, as [`export_blocks`] and [`import_blocks`] promise. `zonedisk check`,
 //! `zonedisk plan` and the other forms of `zonedisk report` change nothing; [`answer_check`], [`answer_plan`] and
 //! [`answer_zones`] say what they tell.
-//! `--statistics`, the file and the exit status 0 are tested. [`explain`] says on standard error what a fault is.
+//! `zonedisk entry` shows the raw line of one NVMe command, by [`answer_entry`].
+//! The text of `--statistics`, the file and the exit status 0 are tested. Standard error says what a fault is
+//! ([`explain`]), what a status means with `nvme --explain` ([`Explained`]), and what to know of the size of a disk
+//! ([`size_notes`]).
 #![tactic(auto)]
 
 pub use block_copies::{export_blocks, import_blocks};
@@ -28,8 +31,8 @@ use clap::error::ErrorKind;
 pub use command_line::{Task, task_of};
 pub use copy_jobs::{CopyFault, CopyJob, do_export, do_import, export_drive, import_drive};
 pub use disk_jobs::{
-    Done, FileFault, Gate, Habit, Job, JobInput, ProgramFault, Stop, SystemError, do_job, explain,
-    run_job, write_program_fault,
+    DiskSize, Done, Explained, FileFault, Gate, Habit, Job, JobInput, Mounting, ProgramFault, Stop,
+    SystemError, do_job, explain, run_job, size_notes, write_program_fault,
 };
 pub use disk_runs::{RunFault, answer_trace, run_raw, run_trace, write_fault};
 pub use nbd_jobs::{NbdJob, do_nbd_job, serve_drive};
@@ -39,7 +42,7 @@ use std::io::{BufWriter, Write};
 use std::process::ExitCode;
 use std::rt::Files;
 use std::{fs, io};
-pub use tool_jobs::{ToolJob, answer_check, answer_plan, answer_zones, do_tool_job};
+pub use tool_jobs::{ToolJob, answer_check, answer_entry, answer_plan, answer_zones, do_tool_job};
 
 /// The exit status where the words were refused.
 const REFUSED: u8 = 2;
@@ -56,6 +59,21 @@ fn fail<W: Write>(alloc: Global, fault: ProgramFault, output: &mut W) -> ExitCod
     let _ = write_program_fault(alloc, fault, output);
     let _ = output.flush();
     ExitCode::FAILURE
+}
+
+/// Says on standard error what people should know of the size of a disk.
+fn tell_size<R: Eprint>(
+    rt: &R,
+    alloc: Global,
+    path: &str,
+    asked: Option<u64>,
+    disk: Option<DiskSize>,
+) {
+    if let Some(disk) = disk
+        && let Ok(notes) = size_notes(alloc, path, asked, disk)
+    {
+        let _ = eprint!(rt; "{notes}");
+    }
 }
 
 /// Says on standard error why a job or a save failed, a line for each.
@@ -78,7 +96,14 @@ fn do_lines<R: Eprint + Files<File = fs::File> + Input, W: Write>(
 ) -> ExitCode {
     let gate = Gate::open();
     let mut input = JobInput::new(alloc, &gate, rt.reader());
-    let done = do_job(rt, alloc, job, &mut input, output);
+    let done = if job.explains() {
+        do_job(rt, alloc, job, &mut input, &mut Explained::new(rt, output))
+    } else {
+        do_job(rt, alloc, job, &mut input, output)
+    };
+    if let Some(path) = job.image() {
+        tell_size(rt, alloc, path, job.blocks(), done.mounting.disk);
+    }
     let Some(fault) = done.fault() else {
         return ExitCode::SUCCESS;
     };
@@ -95,6 +120,7 @@ fn do_nbd<R: Eprint + Files<File = fs::File> + Input, W: Write>(
     output: &mut W,
 ) -> ExitCode {
     let done = do_nbd_job(rt, alloc, job, rt.reader(), output);
+    tell_size(rt, alloc, &job.image, job.blocks, done.disk);
     if let Some(text) = &done.statistics {
         let _ = eprint!(rt; "{text}");
     }

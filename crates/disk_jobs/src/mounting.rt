@@ -1,0 +1,54 @@
+use drive_port::{Device, Geometry};
+use zone_translator::Disk;
+
+/// The disk that a job mounted.
+#[derive(Clone, Copy, Debug, PartialEq, Eq)]
+pub struct DiskSize {
+    /// The shape of its drive.
+    pub geometry: Geometry,
+    /// How many logical blocks it had after the mount.
+    pub blocks: u64,
+}
+
+impl DiskSize {
+    /// That of a disk.
+    pub fn of<D: Device + Drop>(disk: &Disk<D>) -> DiskSize {
+        DiskSize {
+            geometry: disk.device().geometry(),
+            blocks: disk.blocks(),
+        }
+    }
+}
+
+/// What is known of the mount of a job.
+#[derive(Clone, Copy, Debug, PartialEq, Eq)]
+pub struct Mounting {
+    /// How many commands it took.
+    pub commands: u64,
+    /// The disk, if one was mounted.
+    pub disk: Option<DiskSize>,
+}
+
+impl Mounting {
+    /// Of a job that mounts nothing.
+    pub const NONE: Mounting = Mounting {
+        commands: 0,
+        disk: None,
+    };
+
+    /// Of the disk that was just mounted.
+    pub(crate) fn done<D: Device + Drop>(disk: &Disk<D>) -> Mounting {
+        Mounting {
+            commands: disk.device().completed(),
+            disk: Some(DiskSize::of(disk)),
+        }
+    }
+
+    /// Of a mount that was refused, after this many commands.
+    pub(crate) fn refused(commands: u64) -> Mounting {
+        Mounting {
+            commands,
+            disk: None,
+        }
+    }
+}
