@@ -8,8 +8,8 @@ _zonedisk_states="Empty ImplicitlyOpened ExplicitlyOpened Closed ReadOnly Full O
 _zonedisk_options() {
     case $1 in
         format) echo "--image --force $_zonedisk_shape" ;;
-        run) echo "--image --blocks --zones --statistics --sync --habit --stop-after --tear" ;;
-        nbd) echo "--image --blocks --statistics --idle --habit --stop-after --tear" ;;
+        run) echo "--image --blocks --zones --statistics --sync --read-only --progress --habit --stop-after --tear" ;;
+        nbd) echo "--image --blocks --statistics --idle --read-only --habit --stop-after --tear" ;;
         report) echo "--image --state --brief --json --svg" ;;
         check) echo "--image --blocks --json" ;;
         plan) echo "--image $_zonedisk_shape --blocks --share --amplification --bytes --json --svg" ;;

@@ -39,6 +39,7 @@ complete -c zonedisk -n '__fish_seen_subcommand_from fresh' -l report -d 'Shows 
 complete -c zonedisk -n '__fish_seen_subcommand_from run nbd fresh' -l statistics -d 'Shows what was written and moved'
 complete -c zonedisk -n '__fish_seen_subcommand_from nbd' -l idle -d 'Takes a turn of cleaning after each request'
 complete -c zonedisk -n '__fish_seen_subcommand_from run nvme' -l sync -d 'Sends a reply once the changes are on the disk'
+complete -c zonedisk -n '__fish_seen_subcommand_from run nbd' -l read-only -d 'Changes nothing in the file'
 complete -c zonedisk -n '__fish_seen_subcommand_from nvme' -l explain -d 'Says what the status of each completion is'
 complete -c zonedisk -n '__fish_seen_subcommand_from run nbd nvme fresh fresh-raw' -l habit -x -a 'lazy closing strict' -d 'Which zones the drive closes by itself'
 complete -c zonedisk -n '__fish_seen_subcommand_from run nbd fresh' -l stop-after -x -d 'Stops the drive after so many commands'
@@ -57,7 +58,7 @@ complete -c zonedisk -n '__fish_seen_subcommand_from plan' -l bytes -x -d 'Bytes
 complete -c zonedisk -n '__fish_seen_subcommand_from export import' -l first -x -d 'The first logical block'
 complete -c zonedisk -n '__fish_seen_subcommand_from export' -l count -x -d 'How many logical blocks'
 complete -c zonedisk -n '__fish_seen_subcommand_from import' -l sparse -d 'Trims blocks that are all zeros'
-complete -c zonedisk -n '__fish_seen_subcommand_from export import' -l progress -d 'Says how far it is'
+complete -c zonedisk -n '__fish_seen_subcommand_from run export import' -l progress -d 'Says how far it is'
 
 # Entries.
 complete -c zonedisk -n '__fish_seen_subcommand_from entry' -a 'append read write flush close finish open reset offline report'

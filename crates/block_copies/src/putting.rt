@@ -64,28 +64,6 @@ fn put_run<D: Device + Drop>(
     disk.trim(first, blocks as u64)
 }
 
-/// Writes whole blocks from the block `first` on, run by run: those of zeros are trimmed.
-fn put_runs<D: Device + Drop>(disk: &mut Disk<D>, first: u64, bytes: &[u8]) -> Result<(), DiskFault>
-    requires whole { AreBlocksOf disk.old bytes.now }
-    requires room { 0 < count_of_blocks disk.old bytes.now
-        → first + count_of_blocks disk.old bytes.now ≤ disk_size disk.old }
-    requires few { disk_size disk.old ≤ 2 ^ 31 }
-    ensures flat { FlatCall (flat_of disk.old) (write_bytes disk.old first bytes.now)
-        (with_nothing result) (flat_of disk.new) }
-    ensures cause { IfErr result (DiskCause disk.new) }
-    ensures keeps { KeepsServed disk.old disk.new }
-{
-    let block = disk.block_bytes();
-    let mut done = 0;
-    while done < bytes.len() {
-        let run = first_run(&bytes[done..], block);
-        let at = first + (done / block) as u64;
-        put_run(disk, at, &bytes[done..done + run.bytes], run.zeros)?;
-        done += run.bytes;
-    }
-    Ok(())
-}
-
 /// Writes whole blocks from the block `first` on. If it is sparse, those of zeros are trimmed. After a refusal a front
 /// of the blocks is written.
 pub(crate) fn put<D: Device + Drop>(
@@ -103,8 +81,16 @@ pub(crate) fn put<D: Device + Drop>(
     ensures cause { IfErr result (DiskCause disk.new) }
     ensures keeps { KeepsServed disk.old disk.new }
 {
-    if sparse {
-        return put_runs(disk, first, bytes);
+    if !sparse {
+        return disk.write(first, bytes);
     }
-    disk.write(first, bytes)
+    let block = disk.block_bytes();
+    let mut done = 0;
+    while done < bytes.len() {
+        let run = first_run(&bytes[done..], block);
+        let at = first + (done / block) as u64;
+        put_run(disk, at, &bytes[done..done + run.bytes], run.zeros)?;
+        done += run.bytes;
+    }
+    Ok(())
 }

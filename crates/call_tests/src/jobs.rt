@@ -139,13 +139,14 @@ fn reads_the_words(rt: HostRuntime) -> Result<(), Fail> {
 }
 
 // Which other words are refused, and how.
-const OTHER_WORDS: [(&str, Option<ErrorKind>); 16] = [
+const OTHER_WORDS: [(&str, Option<ErrorKind>); 17] = [
     ("zonedisk run --zones --blocks=9 --image=a/b", None),
     (
         "zonedisk run --image b --blocks 9 --statistics --zones",
         None,
     ),
-    ("zonedisk nbd --image b", None),
+    ("zonedisk run --read-only --image b --blocks 9", None),
+    ("zonedisk nbd --image b --read-only", None),
     (
         "zonedisk nbd --image b --blocks 9 --idle --stop-after 7",
         None,
@@ -402,6 +403,8 @@ const STOPPED: &str = "zonedisk run --image drive.image --blocks 9 --zones --sto
 
 const TORN: &str = "zonedisk run --image drive.image --blocks 9 --zones --stop-after 1 --tear 3";
 
+const READ_ONLY: &str = "zonedisk run --image drive.image --blocks 9 --read-only";
+
 const STRICT: &str = "zonedisk run --image drive.image --blocks 9 --habit strict";
 
 const REPORT: &str = "zonedisk report --image drive.image";
@@ -435,12 +438,16 @@ start 16 state Empty pointer 16 capacity 6
 start 24 state Empty pointer 24 capacity 6
 ";
 
+// What a run replies that only reads, to a read and a fill.
+const REFUSED: &[u8] = b"0 aa*512\nok\nfault line 2\n";
+
 // Jobs on the file that the job before left, and how long it is then: a head of 96 bytes, and the written blocks.
-const FILE_JOBS: [(&str, &[u8], &[u8], u64); 14] = [
+const FILE_JOBS: [(&str, &[u8], &[u8], u64); 16] = [
     (REPORT, b"", b"fault image 7 Short\n", 0),
     (FORMAT, b"", b"ok\n", 96),
     (STOPPED, b"read 0 1\n", b"fault mount 10 Halted\n", 96),
     (TORN, b"fill 0 5 AA\n", b"fault disk 3 Stopped\n", 1632),
+    (READ_ONLY, b"read 0 1\n", b"0 00*512\nok\n", 1632),
     (
         RUN,
         b"read 0 4\n",
@@ -450,6 +457,7 @@ const FILE_JOBS: [(&str, &[u8], &[u8], u64); 14] = [
     (FORMAT, b"", b"ok\n", 96),
     (RUN, b"fill 0 5 AA\nnone\n", b"ok\nfault line 2\n", 4192),
     (REPORT, b"", OPENED, 4192),
+    (READ_ONLY, b"read 0 1\nfill 0 1 BB\n", REFUSED, 4192),
     (COUNTED, b"read 0 1\n", COUNTS, 4192),
     (STRICT, b"read 0 1\n", b"0 aa*512\nok\n", 4192),
     (REPORT, b"", OPENED, 4192),
@@ -476,6 +484,10 @@ const FORMAT_NARROW: &str =
 const STOPPED_NARROW: &str = "zonedisk run --image narrow.image --blocks 2 --stop-after 0";
 
 const RUN_NARROW: &str = "zonedisk run --image narrow.image --blocks 2";
+
+const READ_NARROW: &str = "zonedisk run --image narrow.image --blocks 2 --read-only";
+
+const NOT_A_READ: &str = "line 2 would change the disk, and --read-only was given";
 
 // The image of a drive of that shape in which nothing was written: the head, and three empty zones.
 fn narrow_image(alloc: Global) -> Result<Vec<u8>, AllocError> {
@@ -510,7 +522,7 @@ fn check_narrow_image<R: Files + Alloc + Abort>(rt: &R, want: &[u8]) {
 // What a run that stops before its first command writes.
 const HALTED: &[u8] = b"fault mount 10 Halted\n";
 
-// Such a run does not touch the file.
+// Such a run does not touch the file, and neither does one that only reads.
 #[test]
 fn keeps_each_byte_where_a_run_stops_at_once(rt: HostRuntime) -> Result<(), Fail> {
     let empty = narrow_image(rt.alloc())?;
@@ -520,6 +532,11 @@ fn keeps_each_byte_where_a_run_stops_at_once(rt: HostRuntime) -> Result<(), Fail
     check_narrow_image(&rt, &empty);
     check_written(&rt, rt.alloc(), &[(RUN_NARROW, b"fill 0 1 A1\n", b"ok\n")]);
     check_written(&rt, rt.alloc(), &[(STOPPED_NARROW, b"read 0 1\n", HALTED)]);
+    check_told(
+        &rt,
+        rt.alloc(),
+        &[(READ_NARROW, b"read 0 1\ntrim 0 1\n", NOT_A_READ)],
+    );
     check_narrow_image(&rt, &filled_image(rt.alloc())?);
     fs::remove_file(&rt, "narrow.image").expect(&rt, "to remove the file");
     Ok(())

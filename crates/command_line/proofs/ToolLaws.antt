@@ -25,7 +25,7 @@ unlike s t other same is = absurd (cc (sym other ∙ ap (λ u. bytes_eq u t) is 
 pub report-form : (rows : List Row) (task : Task) → AsksFor (codes "report") rows task → (form : Option ZonesForm) × HasZonesForm rows form
 report-form rows (Lines (jobs.Report path)) asks = (None, asks.2)
 report-form rows (Lines (jobs.Format path geometry force)) asks = absurd (unlike (codes "report") (codes "format") refl refl asks.0)
-report-form rows (Lines (jobs.Run path blocks zones statistics stop habit sync)) asks = absurd (unlike (codes "report") (codes "run") refl refl asks.0)
+report-form rows (Lines (jobs.Run path blocks zones statistics stop habit sync read_only progress)) asks = absurd (unlike (codes "report") (codes "run") refl refl asks.0)
 report-form rows (Lines (jobs.Nvme path explain habit sync)) asks = absurd (unlike (codes "report") (codes "nvme") refl refl asks.0)
 report-form rows (Lines (jobs.Fresh geometry blocks report statistics stop habit)) asks = absurd (unlike (codes "report") (codes "fresh") refl refl asks.0)
 report-form rows (Lines (jobs.FreshRaw geometry habit)) asks = absurd (unlike (codes "report") (codes "fresh-raw") refl refl asks.0)

@@ -80,7 +80,9 @@ abbrev pub format : Shape
 format = with_options (codes "format") (image ∷ flag (codes "force") ∷ parts true)
 
 abbrev pub run : Bor (List (Bor Text)) → Shape
-run names = with_options (codes "run") (image ∷ blocks ∷ flag (codes "zones") ∷ flag (codes "statistics") ∷ flag (codes "sync") ∷ habit names ∷ stops)
+run names = with_options (codes "run")
+    (image ∷ blocks ∷ flag (codes "zones") ∷ flag (codes "statistics") ∷ flag (codes "sync") ∷ flag (codes "read-only")
+    ∷ flag (codes "progress") ∷ habit names ∷ stops)
 
 abbrev pub report_words : Shape
 report_words = with_options (codes "report")
@@ -111,7 +113,8 @@ abbrev pub nvme : Bor (List (Bor Text)) → Shape
 nvme names = with_options (codes "nvme") (image ∷ flag (codes "explain") ∷ flag (codes "sync") ∷ habit names ∷ [])
 
 abbrev pub nbd : Bor (List (Bor Text)) → Shape
-nbd names = with_options (codes "nbd") (image ∷ optional blocks ∷ flag (codes "statistics") ∷ flag (codes "idle") ∷ habit names ∷ stops)
+nbd names = with_options (codes "nbd")
+    (image ∷ optional blocks ∷ flag (codes "statistics") ∷ flag (codes "idle") ∷ flag (codes "read-only") ∷ habit names ∷ stops)
 
 abbrev pub export_words : Shape
 export_words = with_options (codes "export")

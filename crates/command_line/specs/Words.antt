@@ -23,9 +23,11 @@ use Rattle.command_line.specs.Values.{HasFlag, HasGeometry, HasHabit, HasImage, 
 abbrev pub AsksForJob : Text → List Row → Job → Type 0
 AsksForJob name rows (Format path geometry force) =
     (name ≡ codes "format") × HasImage rows (string_bytes path) × HasGeometry rows geometry × HasFlag rows (codes "force") force
-AsksForJob name rows (Run path blocks zones statistics stop habit sync) =
+AsksForJob name rows (Run path blocks zones statistics stop habit sync read_only progress) =
     (name ≡ codes "run") × HasImage rows (string_bytes path) × HasNumber 64 rows (codes "blocks") blocks
-    × HasFlag rows (codes "zones") zones × HasFlag rows (codes "statistics") statistics × HasStop rows stop × HasHabit rows habit × HasFlag rows (codes "sync") sync
+    × HasFlag rows (codes "zones") zones × HasFlag rows (codes "statistics") statistics × HasStop rows stop × HasHabit rows habit
+    × HasFlag rows (codes "sync") sync × HasFlag rows (codes "read-only") read_only
+    × HasFlag rows (codes "progress") progress
 AsksForJob name rows (Report path) = (name ≡ codes "report") × HasImage rows (string_bytes path) × HasZonesForm rows None
 AsksForJob name rows (Nvme path explain habit sync) =
     (name ≡ codes "nvme") × HasImage rows (string_bytes path) × HasFlag rows (codes "explain") explain × HasHabit rows habit × HasFlag rows (codes "sync") sync
@@ -42,6 +44,7 @@ pub record AsksForNbd (rows : List Row) (job : NbdJob) : Type 0 where
   pub habit : HasHabit rows job.habit
   pub statistics : HasFlag rows (codes "statistics") job.statistics
   pub idle : HasFlag rows (codes "idle") job.idle
+  pub read_only : HasFlag rows (codes "read-only") job.read_only
 
 -- what a copy of blocks holds is what its options were given
 abbrev pub AsksForCopy : Text → List Row → CopyJob → Type 0

@@ -62,6 +62,8 @@ const SYNC_HELP: &str = "Sends a reply only once the changes before it are on th
 
 const STATISTICS_HELP: &str = "Shows what was written and moved after the replies";
 
+const READ_ONLY_HELP: &str = "Changes nothing in the file, and refuses what would change the disk";
+
 /// An option that takes a number, and has to be given.
 fn number_option<'a>(
     alloc: Global,
@@ -269,6 +271,8 @@ fn run_command<'a>(alloc: Global, habits: &'a [&'a str]) -> Result<Command<'a>, 
         .arg(flag(alloc, "zones", zones))?
         .arg(flag(alloc, "statistics", STATISTICS_HELP))?
         .arg(flag(alloc, "sync", SYNC_HELP))?
+        .arg(flag(alloc, "read-only", READ_ONLY_HELP))?
+        .arg(flag(alloc, "progress", PROGRESS_HELP))?
         .arg(habit_option(alloc, habits))?;
     stop_options(alloc, command)
 }
@@ -287,6 +291,7 @@ fn nbd_command<'a>(alloc: Global, habits: &'a [&'a str]) -> Result<Command<'a>, 
         .arg(blocks_if_fresh_option(alloc))?
         .arg(flag(alloc, "statistics", statistics))?
         .arg(flag(alloc, "idle", idle))?
+        .arg(flag(alloc, "read-only", READ_ONLY_HELP))?
         .arg(habit_option(alloc, habits))?;
     stop_options(alloc, command)
 }

@@ -153,6 +153,13 @@ fn habit_of(matches: &ArgMatches<'_>) -> Habit
     }
 }
 
+/// Whether nothing in the file may change.
+fn read_only_of(matches: &ArgMatches<'_>) -> bool
+    ensures { HasFlag (rows_of (found_of matches.now)) (codes "read-only") result }
+{
+    has_flag(matches, "read-only")
+}
+
 /// The geometry that was given.
 pub fn geometry(matches: &ArgMatches<'_>) -> Result<Geometry, WordFault>
     ensures { Finds (HasGeometry (rows_of (found_of matches.now))) result }
@@ -203,6 +210,8 @@ fn run_job(alloc: Global, matches: &ArgMatches<'_>) -> Result<Job, WordFault>
         stop,
         habit: habit_of(matches),
         sync: has_flag(matches, "sync"),
+        read_only: read_only_of(matches),
+        progress: has_flag(matches, "progress"),
     })
 }
 
@@ -282,6 +291,7 @@ fn nbd_job(alloc: Global, matches: &ArgMatches<'_>) -> Result<NbdJob, WordFault>
         habit: habit_of(matches),
         statistics: has_flag(matches, "statistics"),
         idle: has_flag(matches, "idle"),
+        read_only: read_only_of(matches),
     })
 }
 

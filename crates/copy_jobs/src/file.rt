@@ -4,10 +4,10 @@ use crate::drive_export::export_drive;
 use crate::drive_import::{Left, import_drive};
 use crate::fault::CopyFault;
 use crate::job::{ExportJob, ImportJob};
-use crate::progress::Watched;
+use block_copies::ExportFault;
+use disk_jobs::{Counted, Watched};
 use drive_store::{
-    ChangesFile, DriveFile, FileFault, ImageFile, Saving, SystemError, open_to_read, open_to_save,
-    reader_of, save,
+    ChangesFile, DriveFile, FileFault, Saving, image_to_read, image_to_save, save_if_any,
 };
 use std::alloc::Global;
 use std::fs::File;
@@ -42,6 +42,11 @@ fn told(fault: FileFault) -> CopyFault {
     CopyFault::File(fault)
 }
 
+/// What is counted of a copy, if it is shown how far it is.
+fn counted(progress: bool) -> Option<Counted> {
+    progress.then_some(Counted::Mebibytes)
+}
+
 /// Writes blocks of the drive in a file. Other programs can read the file too, and none can change it until the blocks
 /// are written.
 pub fn do_export<F: Files<File = File> + Eprint, W: Write + Drop>(
@@ -50,18 +55,14 @@ pub fn do_export<F: Files<File = File> + Eprint, W: Write + Drop>(
     job: &ExportJob,
     output: W,
 ) -> Result<(), CopyFault> {
-    let image = match open_to_read(files, alloc, &job.image) {
-        Ok(image) => image,
+    let (_image, mut bytes) = match image_to_read(files, alloc, &job.image) {
+        Ok(opened) => opened,
         Err(fault) => return Err(told(fault)),
     };
-    let mut bytes = match reader_of(alloc, &image.file) {
-        Ok(bytes) => bytes,
-        Err(error) => return Err(told(FileFault::Open(SystemError::from(error)))),
-    };
-    let mut output = Watched::new(output, files, job.progress);
+    let mut output = Watched::new(output, files, counted(job.progress));
     let exported = export_drive(alloc, job, &mut bytes, &mut output);
-    output.finish();
-    exported
+    let sent = output.flush();
+    exported.and(sent.or(Err(CopyFault::Export(ExportFault::Output))))
 }
 
 /// What is saved of an import: the drive that it left, also after a fault. Nothing is saved if the file stays as it is,
@@ -72,21 +73,6 @@ fn drive_to_save(stays: bool, left: Option<Left>) -> Option<Drive> {
         return None;
     }
     Some(left.drive)
-}
-
-/// Saves a drive in the place of an image, if there is one to save.
-fn save_if_any<F: Files<File = File>>(
-    saving: &Saving<'_, F>,
-    drive: Option<Drive>,
-    image: &ImageFile,
-) -> Result<(), CopyFault> {
-    let Some(drive) = drive else {
-        return Ok(());
-    };
-    match save(saving, &drive, image) {
-        Ok(()) => Ok(()),
-        Err(fault) => Err(told(fault)),
-    }
 }
 
 /// How an import ended: where a change could not be written to its file, that is told.
@@ -122,24 +108,19 @@ pub fn do_import<F: Files<File = File> + Eprint, R: Read + Drop>(
         alloc,
         sync: true,
     };
-    let image = match open_to_save(files, alloc, &job.image) {
-        Ok(image) => image,
+    let (image, bytes) = match image_to_save(files, alloc, &job.image) {
+        Ok(opened) => opened,
         Err(fault) => return Imported::unread(told(fault)),
     };
-    let bytes = match reader_of(alloc, &image.file) {
-        Ok(bytes) => bytes,
-        Err(error) => return Imported::unread(told(FileFault::Open(SystemError::from(error)))),
-    };
     let file = ChangesFile::new(&saving, image);
-    let mut input = Watched::new(input, files, job.progress);
+    let mut input = Watched::new(input, files, counted(job.progress));
     let (left, taken) = import_file(alloc, job, (&file, bytes), &mut input);
-    input.finish();
     // A fault is told by the file.
     let _ = file.write_out();
     let taken = import_told(taken, file.fault());
     let drive = drive_to_save(file.stays(), left);
     Imported {
         taken,
-        saved: save_if_any(&saving, drive, &file.into_image()),
+        saved: save_if_any(&saving, drive, &file.into_image()).map_err(told),
     }
 }

@@ -28,7 +28,6 @@ mod explanation;
 mod fault;
 mod file;
 mod job;
-mod progress;
 
 pub use drive_export::export_drive;
 pub use drive_import::{Left, import_drive};

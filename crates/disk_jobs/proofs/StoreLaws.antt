@@ -15,7 +15,8 @@ use Rattle.disk_jobs.specs.declared.job.Job.TheVariants as jobs
 -- the store of a job whose changes go to a file holds the drive
 pub stores-drive : (job : Job) (old held : Known) (drive : DriveState) → has_changes job ≡ true → IfSome held (λ bytes. IsStored bytes drive) → StoresDrive job old held drive
 stores-drive (jobs.Format path geometry force) old held drive e stored = absurd (cc e)
-stores-drive (jobs.Run path blocks zones statistics stop habit sync) old held drive e stored = stored
+stores-drive (jobs.Run path blocks zones statistics stop habit sync false progress) old held drive e stored = stored
+stores-drive (jobs.Run path blocks zones statistics stop habit sync true progress) old held drive e stored = absurd (cc e)
 stores-drive (jobs.Report path) old held drive e stored = absurd (cc e)
 stores-drive (jobs.Nvme path explain habit sync) old held drive e stored = stored
 stores-drive (jobs.Fresh geometry blocks shown statistics stop habit) old held drive e stored = absurd (cc e)
@@ -24,7 +25,8 @@ stores-drive (jobs.FreshRaw geometry habit) old held drive e stored = absurd (cc
 -- whatever it held before
 pub stores-again : (job : Job) (a b held : Known) (drive : DriveState) → has_changes job ≡ true → StoresDrive job a held drive → StoresDrive job b held drive
 stores-again (jobs.Format path geometry force) a b held drive e stored = absurd (cc e)
-stores-again (jobs.Run path blocks zones statistics stop habit sync) a b held drive e stored = stored
+stores-again (jobs.Run path blocks zones statistics stop habit sync false progress) a b held drive e stored = stored
+stores-again (jobs.Run path blocks zones statistics stop habit sync true progress) a b held drive e stored = absurd (cc e)
 stores-again (jobs.Report path) a b held drive e stored = absurd (cc e)
 stores-again (jobs.Nvme path explain habit sync) a b held drive e stored = stored
 stores-again (jobs.Fresh geometry blocks shown statistics stop habit) a b held drive e stored = absurd (cc e)
@@ -33,7 +35,8 @@ stores-again (jobs.FreshRaw geometry habit) a b held drive e stored = absurd (cc
 -- the store of any other job is not used
 pub stores-nothing : (job : Job) (old : Known) (drive : DriveState) → has_changes job ≡ false → StoresDrive job old old drive
 stores-nothing (jobs.Format path geometry force) old drive e = refl
-stores-nothing (jobs.Run path blocks zones statistics stop habit sync) old drive e = absurd (cc e)
+stores-nothing (jobs.Run path blocks zones statistics stop habit sync false progress) old drive e = absurd (cc e)
+stores-nothing (jobs.Run path blocks zones statistics stop habit sync true progress) old drive e = refl
 stores-nothing (jobs.Report path) old drive e = refl
 stores-nothing (jobs.Nvme path explain habit sync) old drive e = absurd (cc e)
 stores-nothing (jobs.Fresh geometry blocks shown statistics stop habit) old drive e = refl
@@ -43,7 +46,7 @@ stores-nothing (jobs.FreshRaw geometry habit) old drive e = refl
 pub begins-stored : (job : Job) (held file : Known) (begun : Begun) → HoldsFile held file → BeginsOn job file begun → has_changes job ≡ true
     → IfSome (front_of begun.whole held) (λ bytes. IsStoredWhole bytes begun.drive.state)
 begins-stored (jobs.Format path geometry force) held file begun same begins e = absurd (cc e)
-begins-stored (jobs.Run path blocks zones statistics stop habit sync) held file begun same begins e = restarted-stored held file habit begun same begins
+begins-stored (jobs.Run path blocks zones statistics stop habit sync read_only progress) held file begun same begins e = restarted-stored held file habit begun same begins
 begins-stored (jobs.Report path) held file begun same begins e = absurd (cc e)
 begins-stored (jobs.Nvme path explain habit sync) held file begun same begins e = restarted-stored held file habit begun same begins
 begins-stored (jobs.Fresh geometry blocks shown statistics stop habit) held file begun same begins e = absurd (cc e)

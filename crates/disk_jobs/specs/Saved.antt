@@ -1,5 +1,5 @@
 -- What a job does: the drive that it leaves to be saved, what it ends with, and what is written.
-use Rattle.std.specs.Prelude.{◌≡◌, ℕ, ◌+◌, ◌*◌, ◌||◌, Bool, true, false, if◌then◌else◌, List, Option, Some, None, Result, Ok, Err, IfSome, ⊤}
+use Rattle.std.specs.Prelude.{◌≡◌, ℕ, ◌+◌, ◌*◌, ◌||◌, Bool, true, false, if◌then◌else◌, not, List, Option, Some, None, Result, Ok, Err, IfSome, ⊤}
 use Rattle.std.specs.Io.KnownBytes.{Appends}
 use Rattle.nvme_wire.specs.declared.command.ReportingOptions.TheVariants.{AnyState}
 use Rattle.zone_states.specs.Checks.{first_failing}
@@ -20,9 +20,10 @@ use Rattle.disk_files.specs.Output.{AppendsFront}
 use Rattle.disk_files.specs.Reply.{ok_text}
 use Rattle.drive_journal.specs.File.{IsStored}
 use Rattle.drive_journal.specs.FileFaults.{IsFileFault}
+use Rattle.disk_runs.specs.FlatLines.{flat_lines}
 use Rattle.disk_runs.specs.RawLines.{raw}
 use Rattle.disk_runs.specs.Run.{Exchange, Known, Runs}
-use Rattle.disk_runs.specs.Trace.{RunGives, RunLeaves}
+use Rattle.disk_runs.specs.Trace.{RunGives, RunLeaves, disk_lines}
 use Rattle.disk_runs.specs.declared.fault.RunFault.{RunFault}
 use Rattle.disk_runs.specs.declared.fault.RunFault.TheVariants as runs
 use Rattle.disk_jobs.specs.declared.fault.ProgramFault.{ProgramFault}
@@ -42,7 +43,7 @@ fresh_drive geometry habit = record { state = fresh geometry; habit = habit }
 
 abbrev pub BeginsOn : Job → Known → Begun → Type 0
 BeginsOn (jobs.Format path geometry force) file begun = begun.drive ≡ fresh_drive geometry Lazy
-BeginsOn (jobs.Run path blocks zones statistics stop habit sync) file begun = IsRestarted file habit begun
+BeginsOn (jobs.Run path blocks zones statistics stop habit sync read_only progress) file begun = IsRestarted file habit begun
 BeginsOn (jobs.Report path) file begun = ⊥
 BeginsOn (jobs.Nvme path explain habit sync) file begun = IsRestarted file habit begun
 BeginsOn (jobs.Fresh geometry blocks shown statistics stop habit) file begun = begun.drive ≡ fresh_drive geometry habit
@@ -88,7 +89,7 @@ IsOk text = text ≡ ok_text
 -- Why a job leaves no drive. A fault of the file comes before anything is written. Of `ok` a beginning may be written, and of a report one of it.
 abbrev pub HasNoDrive : Job → Known → ProgramFault → Known → Known → Type 0
 HasNoDrive (jobs.Format path geometry force) file fault old new = FailsToWrite (IsNotFresh geometry) IsOk fault old new
-HasNoDrive (jobs.Run path blocks zones statistics stop habit sync) file fault old new = IsNotRead file fault × (new ≡ old)
+HasNoDrive (jobs.Run path blocks zones statistics stop habit sync read_only progress) file fault old new = IsNotRead file fault × (new ≡ old)
 HasNoDrive (jobs.Report path) file fault old new = FailsToWrite (IsNotRead file) (IsSavedText file) fault old new
 HasNoDrive (jobs.Nvme path explain habit sync) file fault old new = IsNotRead file fault × (new ≡ old)
 HasNoDrive (jobs.Fresh geometry blocks shown statistics stop habit) file fault old new = IsNotFresh geometry fault × (new ≡ old)
@@ -115,11 +116,12 @@ HasDrive job file (Some begun) old new = BeginsOn job file begun × SaysFirst jo
 abbrev pub stopping : Stop → DriveState → Stopping
 stopping stop drive = record { inner = drive; limit = stop.commands; tear = stop.tear; completed = 0; progress = Going }
 
--- a trace is run over the device, mounted as that many blocks, and leaves the zones of this drive
-pub record RunsTrace (blocks : ℕ) (device : Stopping) (bytes : Exchange) (ended : Result (Unit {0}) RunFault) (new : DriveState) : Type 0 where
+-- A trace is run over the device, mounted as that many blocks, and leaves the zones of this drive. All lines are taken, or only those that read.
+pub record RunsTrace (only_reads : Bool) (blocks : ℕ) (device : Stopping) (bytes : Exchange) (ended : Result (Unit {0}) RunFault)
+    (new : DriveState) : Type 0 where
   pub seen : DriveState
-  pub gives : RunGives blocks bytes (drive_of device) ended seen
-  pub leaves : RunLeaves blocks bytes (drive_of device) ended seen
+  pub gives : RunGives (flat_lines only_reads) blocks bytes (drive_of device) ended seen
+  pub leaves : RunLeaves (disk_lines only_reads) blocks bytes (drive_of device) ended seen
   pub geometry : new.geometry ≡ seen.geometry
   pub zones : new.zones ≡ seen.zones
 
@@ -132,10 +134,11 @@ ThenTells (Ok done) old (Err fault) new = ⊥
 ThenTells ran old ended new = (ended ≡ ran) × (new ≡ old)
 
 -- a trace is run over the device, whose commands are counted, and then it is told what was counted
-pub record RunsCounted (blocks : ℕ) (device : Stopping) (bytes : Exchange) (ended : Result (Unit {0}) RunFault) (new : DriveState) : Type 0 where
+pub record RunsCounted (only_reads : Bool) (blocks : ℕ) (device : Stopping) (bytes : Exchange) (ended : Result (Unit {0}) RunFault)
+    (new : DriveState) : Type 0 where
   pub ran : Result (Unit {0}) RunFault
   pub middle : Known
-  pub runs : RunsTrace blocks device (record bytes { contents = middle }) ran new
+  pub runs : RunsTrace only_reads blocks device (record bytes { contents = middle }) ran new
   pub tells : ThenTells ran middle ended bytes.contents
 
 -- a run that was done is followed by the zones, if they are asked for
@@ -148,17 +151,19 @@ ThenShows zones drive ran old ended new = (ended ≡ ran) × (new ≡ old)
 
 -- what the lines of a job do over a drive
 abbrev pub RunsLines : Job → Exchange → DriveState → Result (Unit {0}) RunFault → DriveState → Type 0
-RunsLines (jobs.Run path blocks zones false stop habit sync) bytes old ended new = RunsTrace blocks (stopping stop old) bytes ended new
-RunsLines (jobs.Run path blocks zones true stop habit sync) bytes old ended new = RunsCounted blocks (stopping stop old) bytes ended new
-RunsLines (jobs.Fresh geometry blocks shown false stop habit) bytes old ended new = RunsTrace blocks (stopping stop old) bytes ended new
-RunsLines (jobs.Fresh geometry blocks shown true stop habit) bytes old ended new = RunsCounted blocks (stopping stop old) bytes ended new
+RunsLines (jobs.Run path blocks zones false stop habit sync read_only progress) bytes old ended new =
+    RunsTrace read_only blocks (stopping stop old) bytes ended new
+RunsLines (jobs.Run path blocks zones true stop habit sync read_only progress) bytes old ended new =
+    RunsCounted read_only blocks (stopping stop old) bytes ended new
+RunsLines (jobs.Fresh geometry blocks shown false stop habit) bytes old ended new = RunsTrace false blocks (stopping stop old) bytes ended new
+RunsLines (jobs.Fresh geometry blocks shown true stop habit) bytes old ended new = RunsCounted false blocks (stopping stop old) bytes ended new
 RunsLines (jobs.Nvme path explain habit sync) bytes old ended new = Runs raw bytes old ended new
 RunsLines (jobs.FreshRaw geometry habit) bytes old ended new = Runs raw bytes old ended new
 RunsLines job bytes old ended new = (ended ≡ Ok tt) × (bytes.contents ≡ bytes.written) × (new ≡ old)
 
 -- whether the zones are shown after the replies
 abbrev pub shows_zones : Job → Bool
-shows_zones (jobs.Run path blocks zones statistics stop habit sync) = zones
+shows_zones (jobs.Run path blocks zones statistics stop habit sync read_only progress) = zones
 shows_zones (jobs.Fresh geometry blocks shown statistics stop habit) = shown
 shows_zones job = false
 
@@ -183,15 +188,20 @@ TellsRun geometry fault = ⊥
 
 -- ---- what the file holds
 
+-- whether a job is a run that only reads: its drive is mounted and repaired in memory, and only lines that read are answered
+abbrev pub reads_only : Job → Bool
+reads_only (jobs.Run path blocks zones statistics stop habit sync read_only progress) = read_only
+reads_only job = false
+
 -- whether the changes of a job go to its file
 abbrev pub has_changes : Job → Bool
-has_changes (jobs.Run path blocks zones statistics stop habit sync) = true
+has_changes (jobs.Run path blocks zones statistics stop habit sync read_only progress) = not read_only
 has_changes (jobs.Nvme path explain habit sync) = true
 has_changes job = false
 
--- The store of a job with a file stores the drive that the lines left. Other jobs do not use it.
+-- The store of a job with a file stores the drive that the lines left. Other jobs do not use it, and neither does a run that only reads.
 abbrev pub StoresDrive : Job → Known → Known → DriveState → Type 0
-StoresDrive (jobs.Run path blocks zones statistics stop habit sync) old new drive = IfSome new (λ bytes. IsStored bytes drive)
+StoresDrive (jobs.Run path blocks zones statistics stop habit sync false progress) old new drive = IfSome new (λ bytes. IsStored bytes drive)
 StoresDrive (jobs.Nvme path explain habit sync) old new drive = IfSome new (λ bytes. IsStored bytes drive)
 StoresDrive job old new drive = new ≡ old
 
@@ -222,11 +232,11 @@ pub record LeftByLines (job : Job) (file : Known) (bytes : Exchange) (ended : Re
 -- ---- the file
 
 -- What is saved of a job, once what it wrote was sent: the drive that it left, also after a fault. A fresh drive is saved only if its `ok` was sent.
--- Nothing is saved where the file was not changed, nor where a change could not be written: then the file has all changes before it.
+-- Nothing is saved where the file was only read or not changed, nor where a change could not be written: then the file has all changes before it.
 abbrev pub drive_to_save : Job → Result (Unit {0}) ProgramFault → Bool → Option Left → Option MemoryDrive
 drive_to_save job sent unchanged None = None
 drive_to_save (jobs.Format path geometry force) (Err fault) unchanged (Some left) = None
-drive_to_save job sent unchanged (Some left) = if (left.failed || unchanged) then None else Some left.drive
+drive_to_save job sent unchanged (Some left) = if (reads_only job || left.failed || unchanged) then None else Some left.drive
 
 -- A job whose file failed during its lines is told by that fault: its lines met it as a drive that stopped, or as an output that failed.
 abbrev pub first_told : Result (Unit {0}) ProgramFault → Option FileFault → Result (Unit {0}) ProgramFault

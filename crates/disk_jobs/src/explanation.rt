@@ -7,10 +7,10 @@ use disk_runs::RunFault;
 use std::alloc::{AllocError, Global};
 use zone_translator::{DiskFault, MountFault};
 
-/// What is wrong with a line, which is no raw line or none of a trace.
-fn problem_of(job: &Job, line: &[u8], mounting: Mounting) -> LineProblem {
+/// What is wrong with a line, if it is no raw line or none of a trace.
+fn problem_of(job: &Job, line: &[u8], mounting: Mounting) -> Option<LineProblem> {
     match (job, mounting.disk) {
-        (Job::Nvme { .. } | Job::FreshRaw { .. }, _) => raw_problem(line),
+        (Job::Nvme { .. } | Job::FreshRaw { .. }, _) => Some(raw_problem(line)),
         (_, Some(disk)) => trace_problem(line, disk.geometry.block),
         (_, None) => trace_problem(line, 0),
     }
@@ -49,6 +49,21 @@ fn explain_stop(
     }
 }
 
+/// Why a job does not take the line of this number. A line in which nothing is wrong is a call of a disk, and not a
+/// read: a run that only reads takes no such line.
+fn explain_line(
+    alloc: Global,
+    number: u64,
+    problem: Option<LineProblem>,
+) -> Result<String, AllocError> {
+    match problem {
+        Some(problem) => format!(in alloc; "line {number}: {problem}"),
+        None => {
+            format!(in alloc; "line {number} would change the disk, and --read-only was given")
+        }
+    }
+}
+
 fn explain_run(
     alloc: Global,
     job: &Job,
@@ -57,10 +72,7 @@ fn explain_run(
     mounting: Mounting,
 ) -> Result<String, AllocError> {
     match fault {
-        RunFault::Line(number) => {
-            let problem = problem_of(job, line, mounting);
-            format!(in alloc; "line {number}: {problem}")
-        }
+        RunFault::Line(number) => explain_line(alloc, number, problem_of(job, line, mounting)),
         RunFault::Long(number) => {
             format!(in alloc; "line {number} has more than {LONGEST_LINE} bytes")
         }

@@ -9,13 +9,13 @@ use disk_files::LineReader;
 use disk_runs::RunFault;
 use drive_journal::Unknown;
 use drive_store::{
-    ChangesFile, ChangesOutput, DriveFile, FileFault, ImageFile, Saving, SentAfter, SystemError,
-    open_to_format, open_to_read, open_to_save, reader_of, save,
+    ChangesFile, ChangesOutput, DriveFile, FileFault, ImageFile, Saving, SentAfter, image_to_read,
+    image_to_save, open_to_format, save, save_if_any,
 };
 use std::alloc::Global;
 use std::fs::File;
 use std::io;
-use std::io::{BufWriter, Read, Write};
+use std::io::{BufReader, BufWriter, Read, Write};
 use std::rt::Files;
 use zone_drive::Drive;
 
@@ -70,16 +70,17 @@ fn send<W: Write>(output: &mut W) -> Result<(), ProgramFault> {
     output.flush().or(Err(ProgramFault::Run(RunFault::Output)))
 }
 
-/// Opens and locks the file of a job that reads one.
+/// Opens and locks the file of a job that reads one, and gives its bytes.
 fn open_image<F: Files<File = File>>(
     files: &F,
     alloc: Global,
     job: &Job,
     path: &str,
-) -> Result<ImageFile, FileFault> {
+) -> Result<(ImageFile, BufReader<File>), FileFault> {
     match job {
-        Job::Report { .. } => open_to_read(files, alloc, path),
-        _ => open_to_save(files, alloc, path),
+        Job::Report { .. } => image_to_read(files, alloc, path),
+        _ if job.reads_only() => image_to_read(files, alloc, path),
+        _ => image_to_save(files, alloc, path),
     }
 }
 
@@ -96,21 +97,6 @@ fn run_without_file<R: Read + Drop, W: Write>(
     };
     let (left, _, ran) = run_job(alloc, job, file, input, output);
     (left, ran.and(send(output)))
-}
-
-/// Saves a drive in the place of an image, if there is one to save.
-fn save_if_any<F: Files<File = File>>(
-    saving: &Saving<'_, F>,
-    drive: Option<Drive>,
-    image: &ImageFile,
-) -> Result<(), ProgramFault> {
-    let Some(drive) = drive else {
-        return Ok(());
-    };
-    match save(saving, &drive, image) {
-        Ok(()) => Ok(()),
-        Err(fault) => Err(told(fault)),
-    }
 }
 
 /// Does a job over the bytes of a file for which its changes are gathered, and sends what it wrote. A reply is sent
@@ -142,18 +128,15 @@ fn run_over<F: Files<File = File>, I: Read + Drop, R: Read + Drop, W: Write>(
     (left, ran.and(send(&mut output)))
 }
 
-/// Does a job on the drive in a file, sends what it wrote, and saves the drive. Its changes go to the file.
+/// Does a job on the drive in a file, sends what it wrote, and saves the drive, if there is one to save. Its changes go
+/// to the file, if it makes any.
 fn run_with_changes<F: Files<File = File>, R: Read + Drop, W: Write>(
     saving: &Saving<'_, F>,
     job: &Job,
-    image: ImageFile,
+    (image, bytes): (ImageFile, BufReader<File>),
     input: &mut JobInput<'_, R>,
     output: &mut W,
 ) -> Done {
-    let bytes = match reader_of(saving.alloc, &image.file) {
-        Ok(bytes) => bytes,
-        Err(error) => return Done::unsaved(Err(told(FileFault::Open(SystemError::from(error))))),
-    };
     let file = ChangesFile::with_gate(saving, image, input.gate);
     let (left, ran) = run_over(saving, job, (&file, bytes), &mut input.lines, output);
     let _ = file.write_out();
@@ -162,7 +145,7 @@ fn run_with_changes<F: Files<File = File>, R: Read + Drop, W: Write>(
     let drive = drive_to_save(job, sent, file.stays(), left);
     Done {
         job: sent,
-        saved: save_if_any(saving, drive, &file.into_image()),
+        saved: save_if_any(saving, drive, &file.into_image()).map_err(told),
         mounting,
     }
 }
@@ -204,7 +187,8 @@ fn format<F: Files<File = File>, R: Read + Drop, W: Write>(
 
 /// Does a job, sends what it wrote, and then saves the drive if the job works on one in a file, also after
 /// a fault. The file is locked from before it is read until after the drive is saved. Each change of the drive is in
-/// the file before a reply that depends on it is sent.
+/// the file before a reply that depends on it is sent. A report, or a run that only reads, shares the file with others
+/// that read it, and changes nothing in it.
 pub fn do_job<F: Files<File = File>, R: Read + Drop, W: Write>(
     files: &F,
     alloc: Global,
@@ -228,9 +212,8 @@ pub fn do_job<F: Files<File = File>, R: Read + Drop, W: Write>(
     if let Job::Format { .. } = job {
         return format(&saving, job, input, output);
     }
-    let image = match open_image(files, alloc, job, path) {
-        Ok(image) => image,
-        Err(fault) => return Done::unsaved(Err(told(fault))),
-    };
-    run_with_changes(&saving, job, image, input, output)
+    match open_image(files, alloc, job, path) {
+        Ok(opened) => run_with_changes(&saving, job, opened, input, output),
+        Err(fault) => Done::unsaved(Err(told(fault))),
+    }
 }

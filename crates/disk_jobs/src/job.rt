@@ -1,3 +1,6 @@
+ghost use Rattle.std.specs.Prelude.{◌≡◌};
+ghost use Rattle.disk_jobs.specs.Saved.{reads_only};
+
 use zone_drive::Habit;
 use zone_states::Geometry;
 
@@ -31,7 +34,9 @@ pub enum Job {
     /// Reads a drive from the file, restarts it, mounts it as `blocks` logical blocks, answers the lines of a trace,
     /// and saves it. With `statistics` it is shown after the replies what was written and moved, and with `zones` the
     /// zones of the drive. The drive has this habit, here and below, until it is saved. With `sync`, here and below,
-    /// each change is on the disk before the replies that depend on it are sent.
+    /// each change is on the disk before the replies that depend on it are sent. With `read_only` the mount repairs the
+    /// drive in memory alone, only lines that read are answered, and nothing is saved. With `progress` people are told
+    /// how many lines were read.
     Run {
         image: String,
         blocks: u64,
@@ -40,6 +45,8 @@ pub enum Job {
         stop: Stop,
         habit: Habit,
         sync: bool,
+        read_only: bool,
+        progress: bool,
     },
     /// Shows the zones of the drive in the file, as they were saved.
     Report {
@@ -72,10 +79,33 @@ pub enum Job {
 }
 
 impl Job {
-    /// Whether what the job sends waits until its changes are on the disk.
+    /// Whether the job is a run that only reads its file.
+    pub fn reads_only(&self) -> bool
+        ensures { result ≡ reads_only self.now }
+    {
+        match self {
+            Job::Run { read_only, .. } => *read_only,
+            _ => false,
+        }
+    }
+
+    /// Whether what the job sends waits until its changes are on the disk. One that only reads makes none.
     pub fn sync(&self) -> bool {
         match self {
-            Job::Run { sync, .. } | Job::Nvme { sync, .. } => *sync,
+            Job::Run {
+                sync,
+                read_only,
+                ..
+            } => *sync && !*read_only,
+            Job::Nvme { sync, .. } => *sync,
+            _ => false,
+        }
+    }
+
+    /// Whether people are told how many lines were read.
+    pub fn shows_progress(&self) -> bool {
+        match self {
+            Job::Run { progress, .. } => *progress,
             _ => false,
         }
     }

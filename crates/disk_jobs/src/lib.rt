@@ -16,7 +16,7 @@
 //! [`do_job`] does it on the drive of its file: it locks the file, and saves the drive. [`Done`] says how the job ended
 //! and how the save did. [`explain`] says what a fault is in a line for people; the input has the one at which a
 //! run ended. [`size_notes`] says what is to be known of the size of the disk. [`Explained`] passes the replies of
-//! `nvme` on, and tells what their statuses are.
+//! `nvme` on, and tells what their statuses are. [`Watched`] says how much of a stream was read or written.
 //!
 //! # What is promised
 //!
@@ -26,16 +26,18 @@
 //!   the zones if they are asked for.
 //! * The store of `run` and `nvme` holds that drive too: its image, and all changes since. Each was written before the
 //!   reply to its line.
+//! * A run with `--read-only` answers only lines that read, by the drive in the file, which it mounts and repairs in
+//!   memory. Its store holds what it held, and its drive is not saved.
 //! * There is no drive only after a report, or if none was made or read. Then no line was read, and the fault says
 //!   why. Nothing is written before a fault of the file.
 //! * What is saved in a file is that drive, also after a fault; a fresh drive only if its `ok` was sent (`saving.rt`).
 //! * [`write_program_fault`] writes the line of each fault, or a beginning of it (`specs/FaultLine.antt`).
 //!
 //! A run with `--statistics` is promised as one without; its replies are followed by some text. Of [`do_job`] nothing
-//! is promised, since no contract of std says what a file of a path holds, or who has locked it. A job makes its device with the stop and the habit that
-//! it names; that the device keeps them during the lines is tested, since a run promises something of the drive in a
-//! device alone. The texts of `--statistics` are tested in `call_tests`; what the drive closes with each `--habit` is
-//! in the rows of `worked_runs`.
+//! is promised, since no contract of std says what a file of a path holds, or who has locked it. A job makes its device
+//! with the stop and the habit that it names; that the device keeps them during the lines is tested, since a run
+//! promises something of the drive in a device alone. The texts of `--statistics` are tested in `call_tests`; what the
+//! drive closes with each `--habit` is in the rows of `worked_runs`.
 //!
 //! Tests: `jobs.rt` of `call_tests`; `tools/kill_runs` and `tools/two_programs`, on files.
 #![tactic(auto)]
@@ -54,6 +56,7 @@ mod program;
 mod saving;
 mod statistics;
 mod status_words;
+mod watched;
 
 pub use drive_store::{DriveFile, FileFault, Gate, SystemError};
 pub use explanation::explain;
@@ -67,4 +70,5 @@ pub use notes::size_notes;
 pub use program::run_job;
 pub use statistics::statistics_of;
 pub use status_words::Explained;
+pub use watched::{Counted, Watched};
 pub use zone_drive::Habit;

@@ -178,19 +178,28 @@ fn data_bytes(line: &[u8]) -> usize {
     }
 }
 
-/// What is wrong with a line that is none of a trace's, over blocks of this many bytes.
-pub(crate) fn trace_problem(line: &[u8], block: u32) -> LineProblem {
+/// What is wrong with the data of a `write`, if it is not whole blocks of this many bytes.
+fn data_problem(line: &[u8], block: u32) -> Option<LineProblem> {
+    let bytes = data_bytes(line);
+    if block > 0 && bytes % block as usize == 0 {
+        return None;
+    }
+    Some(LineProblem::NotWhole { bytes, block })
+}
+
+/// What is wrong with a line of a trace over blocks of this many bytes, if anything is.
+pub(crate) fn trace_problem(line: &[u8], block: u32) -> Option<LineProblem> {
     if let Some(problem) = spacing_problem(line) {
-        return problem;
+        return Some(problem);
     }
     let name = line.split(|byte| *byte == b' ').next().unwrap_or(&[]);
-    match word_problem(line, wanted_of(name).unwrap_or(&[Wanted::Name])) {
-        Some(problem) => problem,
-        // Only the data of a `write` can be wrong in another way: it is not whole blocks.
-        None => LineProblem::NotWhole {
-            bytes: data_bytes(line),
-            block,
-        },
+    match (
+        word_problem(line, wanted_of(name).unwrap_or(&[Wanted::Name])),
+        name,
+    ) {
+        (Some(problem), _) => Some(problem),
+        (None, b"write") => data_problem(line, block),
+        (None, _) => None,
     }
 }
 

@@ -40,7 +40,8 @@ fn has_changes(job: &Job) -> bool
     ensures { result ≡ has_changes job.now }
 {
     match job {
-        Job::Run { .. } | Job::Nvme { .. } => true,
+        Job::Run { read_only, .. } => !*read_only,
+        Job::Nvme { .. } => true,
         _ => false,
     }
 }
@@ -68,6 +69,7 @@ fn answer<S: Store<Drive> + Drop, R: Read + Drop, W: Write>(
 
 /// Does a job, but for opening and saving its file: reads the file and then the lines of `input`, writes its changes to
 /// the store, and writes to `output`. What is left of the drive is handed back, also after a fault, if the job has one.
+/// A run that only reads changes nothing in the store.
 pub fn run_job<I: Read + Drop, S: Store<Drive> + Drop, R: Read + Drop, W: Write>(
     alloc: Global,
     job: &Job,
@@ -76,8 +78,9 @@ pub fn run_job<I: Read + Drop, S: Store<Drive> + Drop, R: Read + Drop, W: Write>
     output: &mut W,
 ) -> (Option<Left>, S, Result<(), ProgramFault>)
     requires { HoldsFile (S.held file.store) (I.remaining file.bytes) }
-    // A drive that is handed back is the one that the lines left, whatever ended them, and the store has it too; it is
-    // said to be that of the store alone only if the store failed. The fault comes from the run of the lines.
+    // A drive that is handed back is the one that the lines left, whatever ended them, and the store has it too, unless
+    // the job only reads; it is said to be that of the store alone only if the store failed. The fault comes from the
+    // run of the lines.
     ensures left { IfSome result.0 (λ left. LeftByLines job.now (I.remaining file.bytes)
         (exchange input.old.left (W.contents output.old) (W.contents output.new))
         (ended_by result.2) left (S.held file.store) (S.held result.1) (S.failed result.1)) }

@@ -8,8 +8,8 @@ use drive_store::FileFault;
 use zone_drive::Drive;
 
 /// What is saved of a job, by what its lines left and how it ended, once what it wrote was sent: the drive, also after
-/// a fault. A fresh drive is saved only if its `ok` was sent. Nothing is saved if the file is unchanged, nor if a
-/// change could not be written to it.
+/// a fault. A fresh drive is saved only if its `ok` was sent. Nothing is saved if the job only reads or the file is
+/// unchanged, nor if a change could not be written to it.
 pub(crate) fn drive_to_save(
     job: &Job,
     sent: Result<(), ProgramFault>,
@@ -21,6 +21,7 @@ pub(crate) fn drive_to_save(
     let left = left?;
     match job {
         Job::Format { .. } if sent.is_err() => None,
+        _ if job.reads_only() => None,
         _ if left.failed || unchanged => None,
         _ => Some(left.drive),
     }

@@ -1,11 +1,14 @@
 -- What lines ask for, and how it is answered.
-use Rattle.std.proofs.Common.{◌≡◌, ◌≢◌, ℕ, zero, suc, ◌<◌, ◌/◌, Bool, true, false, List, [], length, Some, None, Ok, Err, refl, sym, ap, subst, ◌∙◌, arith}
+use Rattle.std.proofs.Common.{◌≡◌, ◌≢◌, ℕ, zero, suc, ◌+◌, ◌-◌, ◌<◌, ◌/◌, Bool, true, false, List, [], length, Option, Some, None, is_some, Ok, Err, refl, sym, ap, subst, ◌∙◌, arith}
 use Rattle.std.specs.Prelude.{IfErr, OnOk, Result, replicate}
 use Rattle.std.proofs.lemmas.List.{length-replicate}
 use Rattle.zone_states.proofs.Cutting.{length-cut}
 use Rattle.disk_files.specs.declared.trace_line.TraceLine.TheVariants.{Write}
 use Rattle.zone_translator.specs.Calls.{IsTurn}
-use Rattle.zone_translator.specs.View.{DiskView, KeepsDisk}
+use Rattle.zone_choice.specs.Agreement.{MountedView}
+use Rattle.zone_cleaner.specs.Clean.{CleanView}
+use Rattle.zone_cleaner.specs.Start.{TurnLeaves}
+use Rattle.zone_translator.specs.View.{DiskView, KeepsDisk, mounted_of}
 use Rattle.zone_translator.specs.Flat.{Answer, FlatCall, FlatDisk, answer_while, idle, known_answer, may_refuse, with_nothing, write}
 use Rattle.zone_translator.specs.declared.fault.DiskFault.{DiskFault}
 use Rattle.zone_translator.specs.declared.fault.DiskFault.TheVariants as faults
@@ -55,6 +58,42 @@ turns_stop n done old middle new fault result is lt same serves refused = rw is 
 pub takes_more : (n : ℕ) (old middle new : DiskView) → TakesTurns n old middle → IsTurn middle (Ok tt) new → TakesTurns (suc n) old new
 takes_more zero old middle new p turn = (new, rw p at turn, refl)
 takes_more (suc n) old middle new p turn = (p.0, p.1, takes_more n p.0 middle new p.2 turn)
+
+-- and so do turns that follow it
+takes_both : (m n all : ℕ) (old middle new : DiskView) → all ≡ m + n → TakesTurns m old middle → TakesTurns n middle new → TakesTurns all old new
+takes_both zero n all old middle new is p rest =
+    let same : n ≡ all = omega (arith, is) in
+    subst (λ (k : ℕ). TakesTurns k old new) same (rw p at rest)
+takes_both (suc m) n zero old middle new is p rest = absurd (omega (arith, is))
+takes_both (suc m) n (suc all) old middle new is p rest = (p.0, p.1, takes_both m n all p.0 middle new (omega (arith, is)) p.2 rest)
+
+no_clean : (clean : Option CleanView) → is_some clean ≡ false → clean ≡ None
+no_clean None none = refl
+no_clean (Some clean) none = absurd (cc none)
+
+-- where no clean runs before a turn and none after it, none is due: the next turn does nothing
+none_due : (before after : MountedView) → TurnLeaves before None (Ok tt) after None → TurnLeaves after None (Ok tt) after None
+none_due before after turn = (refl, (rw turn.0 (rw turn.1.1 turn.1.0), refl))
+
+nothing_due : (old new : DiskView) → old.clean ≡ None → new.clean ≡ None → IsTurn old (Ok tt) new → IsTurn new (Ok tt) new
+nothing_due old new none still turn =
+    let turned : TurnLeaves (mounted_of old) None (Ok tt) (mounted_of new) None = rw still at (rw none at turn) in
+    rw still (none_due (mounted_of old) (mounted_of new) turned)
+
+-- so do any number of them
+rests : (n : ℕ) (disk : DiskView) → IsTurn disk (Ok tt) disk → TakesTurns n disk disk
+rests zero disk turn = refl
+rests (suc n) disk turn = (disk, turn, rests n disk turn)
+
+-- turns that end where none is due are as many as were asked for
+pub takes_rest : (n done : ℕ) (old middle new : DiskView) → done < n → TakesTurns done old middle → IsTurn middle (Ok tt) new
+    → is_some middle.clean ≡ false → is_some new.clean ≡ false → TakesTurns n old new
+takes_rest n done old middle new few so_far turn ran runs =
+    let after = suc done in
+    let rest = n - after in
+    let all : n ≡ after + rest = omega (arith, few) in
+    takes_both after rest n old new new all (takes_more done old middle new so_far turn)
+    (rests rest new (nothing_due middle new (no_clean middle.clean ran) (no_clean new.clean runs) turn))
 
 -- a turn is refused without a reply
 idle_untold : (old new : FlatDisk) (fault : DiskFault) → FlatCall old idle (with_nothing (Err fault)) new → refusal_reply fault ≡ None

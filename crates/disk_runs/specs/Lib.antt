@@ -4,3 +4,4 @@ pub mod Trace
 pub mod KeepingLaws
 pub mod RawLines
 pub mod FaultText
+pub mod Laws

@@ -1,5 +1,5 @@
 -- What a run of a trace gives, and what it leaves of the drive.
-use Rattle.std.specs.Prelude.{◌≡◌, ◌⊎◌, ℕ, zero, suc, ◌+◌, ◌-◌, List, length, Option, Some, Result, Ok, Err, IfErr, ⊤}
+use Rattle.std.specs.Prelude.{◌≡◌, ◌⊎◌, ℕ, zero, suc, ◌+◌, ◌-◌, Bool, true, List, length, Option, Some, Result, Ok, Err, IfErr, ⊤}
 use Rattle.std.specs.Io.KnownBytes.{Keeps}
 use Rattle.drive_port.specs.Drive.{DriveState}
 use Rattle.drive_array.specs.ZoneLogs.{spelled}
@@ -18,7 +18,7 @@ use Rattle.zone_translator.specs.View.{DiskView, KeepsDisk, flat_of, given_size,
 use Rattle.zone_translator.specs.declared.fault.DiskFault.TheVariants.{Unmounted}
 use Rattle.zone_translator.specs.declared.status.DiskStatus.{DiskStatus}
 use Rattle.zone_translator.specs.declared.status.DiskStatus.TheVariants as statuses
-use Rattle.disk_runs.specs.FlatLines.{AnswersRequest, RefusesRequest, Request, flat, is_legal, remount, request_of, single, turns}
+use Rattle.disk_runs.specs.FlatLines.{AnswersRequest, RefusesRequest, Request, flat, is_legal, remount, request_of, single, takes, turns}
 use Rattle.disk_runs.specs.Run.{Exchange, Language, Runs}
 use Rattle.disk_runs.specs.declared.fault.RunFault.{RunFault}
 use Rattle.disk_runs.specs.declared.fault.RunFault.TheVariants.{Disk, Mount, Geometry}
@@ -106,6 +106,14 @@ trace = record {
   Same = ComesToNothing;
 }
 
+-- the same, of which all are taken or only those that read
+abbrev pub disk_lines : Bool → Language DiskView
+disk_lines only_reads = record trace { is_legal = λ disk line. takes only_reads disk.drive.geometry.block line }
+
+-- only the lines that are skipped or ask for a read: none of them changes the array
+abbrev pub reads : Language DiskView
+reads = disk_lines true
+
 -- ---- a run
 
 -- The disk of this size that a drive keeps which was mounted as n blocks. After a stop inside a growth the array may
@@ -123,9 +131,10 @@ disk_on n drive size status = record {
 abbrev pub disk_at_first : ℕ → DriveState → FlatDisk
 disk_at_first n drive = disk_on n drive (length (spelled drive n)) statuses.Serving
 
--- A run over the disk that a drive keeps, as a flat disk answers its lines. It ends with a disk of some size, which serves or does not.
-abbrev pub RunsFlat : ℕ → Exchange → DriveState → Result (Unit {0}) RunFault → DriveState → Type 0
-RunsFlat n bytes old ended new = (size : ℕ) × (status : DiskStatus) × Runs flat bytes (disk_at_first n old) ended (disk_on n new size status)
+-- A run over the disk that a drive keeps, as a flat disk answers its lines in this language. It ends with a disk of some size, which serves or does not.
+abbrev pub RunsFlat : Language FlatDisk → ℕ → Exchange → DriveState → Result (Unit {0}) RunFault → DriveState → Type 0
+RunsFlat language n bytes old ended new =
+    (size : ℕ) × (status : DiskStatus) × Runs language bytes (disk_at_first n old) ended (disk_on n new size status)
 
 -- The drive was not mounted, and is given back: nothing was written.
 pub record IsNotMounted (n : ℕ) (bytes : Exchange) (old : DriveState) (fault : MountFault) (new : DriveState) : Type 0 where
@@ -133,9 +142,9 @@ pub record IsNotMounted (n : ℕ) (bytes : Exchange) (old : DriveState) (fault :
   pub unwritten : Keeps bytes.written bytes.contents
 
 -- The lines are answered by the disk that the drive keeps. Where the drive is not mounted at first, nothing is written.
-abbrev pub RunGives : ℕ → Exchange → DriveState → Result (Unit {0}) RunFault → DriveState → Type 0
-RunGives n bytes old (Err (Mount fault)) new = IsNotMounted n bytes old fault new ⊎ RunsFlat n bytes old (Err (Mount fault)) new
-RunGives n bytes old ended new = RunsFlat n bytes old ended new
+abbrev pub RunGives : Language FlatDisk → ℕ → Exchange → DriveState → Result (Unit {0}) RunFault → DriveState → Type 0
+RunGives language n bytes old (Err (Mount fault)) new = IsNotMounted n bytes old fault new ⊎ RunsFlat language n bytes old (Err (Mount fault)) new
+RunGives language n bytes old ended new = RunsFlat language n bytes old ended new
 
 -- why a disk refused a call: it is none that was refused by a remount
 abbrev pub CallCause : DiskView → RunFault → Type 0
@@ -144,7 +153,8 @@ CallCause disk fault = ⊤
 
 -- The drive could be mounted, and can be mounted again, of the same shape; no command was refused. It was mounted as a disk, and the lines that were
 -- answered led from that disk to one whose drive is handed back.
-pub record RunKeeps (n : ℕ) (bytes : Exchange) (old : DriveState) (ended : Result (Unit {0}) RunFault) (new : DriveState) : Type 0 where
+pub record RunKeeps (language : Language DiskView) (n : ℕ) (bytes : Exchange) (old : DriveState) (ended : Result (Unit {0}) RunFault)
+    (new : DriveState) : Type 0 where
   pub can : IsToMount old n
   pub geometry : new.geometry ≡ old.geometry
   pub mountable : IsMountable new n
@@ -153,12 +163,12 @@ pub record RunKeeps (n : ℕ) (bytes : Exchange) (old : DriveState) (ended : Res
   pub mounted : MountsDisk old n first
   pub kept : KeepsMountable n old first.drive
   pub last : DiskView
-  pub runs : Runs trace bytes first ended last
+  pub runs : Runs language bytes first ended last
   pub cause : IfErr ended (CallCause last)
   pub drive : new ≡ last.drive
 
 -- A drive after a run.
-abbrev pub RunLeaves : ℕ → Exchange → DriveState → Result (Unit {0}) RunFault → DriveState → Type 0
-RunLeaves n bytes old (Err (Mount fault)) new = IsNotMounted n bytes old fault new ⊎ RunKeeps n bytes old (Err (Mount fault)) new
-RunLeaves n bytes old (Err (Geometry fault)) new = ⊥
-RunLeaves n bytes old ended new = RunKeeps n bytes old ended new
+abbrev pub RunLeaves : Language DiskView → ℕ → Exchange → DriveState → Result (Unit {0}) RunFault → DriveState → Type 0
+RunLeaves language n bytes old (Err (Mount fault)) new = IsNotMounted n bytes old fault new ⊎ RunKeeps language n bytes old (Err (Mount fault)) new
+RunLeaves language n bytes old (Err (Geometry fault)) new = ⊥
+RunLeaves language n bytes old ended new = RunKeeps language n bytes old ended new

@@ -1,7 +1,8 @@
 //! Runs of lines: the lines of a reader are answered, in order, and a writer gets their replies.
 //!
 //! [`run_trace`] mounts a drive as a disk and answers the lines of a trace by the disk's calls. [`run_raw`]
-//! submits the entry of each raw line to a drive. Both give the drive back.
+//! submits the entry of each raw line to a drive. Both give the drive back. [`answer_trace`] and [`answer_reads`]
+//! answer lines over a disk that is mounted: all of a trace, or only those that read.
 //!
 //! ```text
 //! let alloc = rt.alloc();
@@ -29,6 +30,8 @@
 //! - A line `idle` that is answered took its turns, each by the step of the clean that was next; a line `fill`, `write`
 //!   or `trim` was one write of the disk, by batches that are as large as they can be. The lines that were answered
 //!   lead, one after the other, from the disk that was mounted to the one whose drive is given back.
+//! - Where only reads are taken, any other call is not done, and ends the run as a line that is not in the grammar
+//!   does. Such a run leaves the array as it was ([`laws`]).
 //! - Data of a `write` that is not whole blocks is refused as a line that is not in the grammar.
 //! - Each answer but `Mount` comes from a drive that was mounted, and that can be mounted again. `Mount` is the
 //!   fault of the first mount, and then nothing is written; or of a line `remount`, which is refused only where
@@ -40,7 +43,9 @@
 
 mod fault;
 mod fault_line;
+pub mod laws;
 mod lines;
+mod only_reads;
 mod raw;
 mod reads;
 mod requests;
@@ -48,5 +53,6 @@ mod trace;
 
 pub use fault::RunFault;
 pub use fault_line::write_fault;
+pub use only_reads::answer_reads;
 pub use raw::run_raw;
 pub use trace::{answer_trace, run_trace};

@@ -45,7 +45,8 @@ fn tell(done: Result<(), DiskFault>, reply: &mut Vec<u8>) -> Result<(), RunFault
     Ok(())
 }
 
-/// Gives the cleaner turns, up to one that is refused.
+/// Gives the cleaner turns, up to one that is refused. Where no clean runs before a turn and none after it, none is
+/// due, and the turns that are left would do nothing.
 fn clean<D: Device + Drop>(disk: &mut Disk<D>, turns: u32) -> Result<(), DiskFault>
     ensures flat { Turns turns (flat_of disk.old) result (flat_of disk.new) }
     ensures turns { OnOk result (TakesTurns turns disk.old disk.new) }
@@ -53,7 +54,11 @@ fn clean<D: Device + Drop>(disk: &mut Disk<D>, turns: u32) -> Result<(), DiskFau
     ensures keeps { KeepsServed disk.old disk.new }
 {
     for _turn in 0..turns {
+        let ran = disk.is_cleaning();
         disk.idle()?;
+        if !ran && !disk.is_cleaning() {
+            return Ok(());
+        }
     }
     Ok(())
 }

@@ -1,4 +1,5 @@
 ghost use Rattle.zone_translator.specs.View.{DiskView};
+ghost use Rattle.disk_runs.specs.FlatLines.{flat};
 ghost use Rattle.disk_runs.specs.KeepingLaws.{nothing_same};
 ghost use Rattle.disk_runs.specs.Run.{Runs, exchange};
 ghost use Rattle.disk_runs.specs.Trace.{RunGives, RunLeaves, trace};
@@ -97,11 +98,11 @@ pub fn run_trace<R: Read + Drop, W: Write, D: Device + Drop>(
     blocks: u64,
 ) -> (D, Result<(), RunFault>)
     // The lines are answered as a flat disk answers them, which is the one that the drive keeps.
-    ensures gives { RunGives blocks
+    ensures gives { RunGives flat blocks
         (exchange reader.old.left (W.contents writer.old) (W.contents writer.new))
         (D.drive device) result.1 (D.drive result.0) }
     // The drive can be mounted again; what the lines did to it from its mount on, and why it refused the last one.
-    ensures leaves { RunLeaves blocks
+    ensures leaves { RunLeaves trace blocks
         (exchange reader.old.left (W.contents writer.old) (W.contents writer.new))
         (D.drive device) result.1 (D.drive result.0) }
 {

@@ -32,8 +32,9 @@ fn open_fault(error: io::Error) -> FileFault {
 }
 
 /// Reads a file from where it is.
-pub fn reader_of(alloc: Global, file: &File) -> io::Result<BufReader<File>> {
-    BufReader::new(alloc, file.try_clone()?)
+fn reader_of(alloc: Global, file: &File) -> Result<BufReader<File>, FileFault> {
+    let file = file.try_clone().map_err(open_fault)?;
+    BufReader::new(alloc, file).map_err(open_fault)
 }
 
 fn is_same_file(one: &Metadata, other: &Metadata) -> bool {
@@ -130,6 +131,28 @@ pub fn open_to_save<F: Files<File = File>>(
     let mut image = lock_at(files, path, file, false)?;
     image.read_only = read_only;
     Ok(image)
+}
+
+/// The file of an image, opened as by [`open_to_read`], and its bytes.
+pub fn image_to_read<F: Files<File = File>>(
+    files: &F,
+    alloc: Global,
+    path: &str,
+) -> Result<(ImageFile, BufReader<File>), FileFault> {
+    let image = open_to_read(files, alloc, path)?;
+    let bytes = reader_of(alloc, &image.file)?;
+    Ok((image, bytes))
+}
+
+/// The file of an image, opened as by [`open_to_save`], and its bytes.
+pub fn image_to_save<F: Files<File = File>>(
+    files: &F,
+    alloc: Global,
+    path: &str,
+) -> Result<(ImageFile, BufReader<File>), FileFault> {
+    let image = open_to_save(files, alloc, path)?;
+    let bytes = reader_of(alloc, &image.file)?;
+    Ok((image, bytes))
 }
 
 /// Makes an empty file for an image. It is removed again where it cannot be locked, unless another program has it.

@@ -2,8 +2,7 @@
 //! it, and the drive is saved in it.
 //!
 //! ```text
-//! let image = open_to_save(files, alloc, path)?; // locked: no other program reads or changes it
-//! let mut bytes = reader_of(alloc, &image.file)?;
+//! let (image, mut bytes) = image_to_save(files, alloc, path)?; // locked: no other program reads or changes it
 //! let begun = restarted_drive(alloc, &mut bytes, Habit::Lazy)?; // the drive that the file holds
 //! let file = ChangesFile::new(&saving, image);
 //! let device = keep(alloc, begun, file.store()); // its changes are gathered
@@ -40,7 +39,7 @@ pub use changes_file::ChangesFile;
 pub use changes_output::{ChangesOutput, SentAfter};
 pub use changes_store::ChangesStore;
 pub use file_fault::{FileFault, SystemError};
-pub use image_file::{ImageFile, open_to_format, open_to_read, open_to_save, reader_of};
+pub use image_file::{ImageFile, image_to_read, image_to_save, open_to_format};
 pub use input_gate::{Gate, GatedInput};
 pub use kept_drive::{Begun, DriveFile, keep, restarted_drive, saved_drive};
-pub use new_file::{Saving, save};
+pub use new_file::{Saving, save, save_if_any};

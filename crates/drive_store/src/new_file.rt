@@ -190,3 +190,15 @@ pub fn save<F: Files<File = File>>(
     }
     Ok(())
 }
+
+/// Saves a drive as [`save`] does, if there is one to save.
+pub fn save_if_any<F: Files<File = File>>(
+    how: &Saving<'_, F>,
+    drive: Option<Drive>,
+    image: &ImageFile,
+) -> Result<(), FileFault> {
+    match drive {
+        Some(drive) => save(how, &drive, image),
+        None => Ok(()),
+    }
+}

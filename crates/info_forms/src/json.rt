@@ -3,8 +3,8 @@ use drive_info::{DriveInfo, Info, InspectedDrive, ZoneInfo};
 use drive_survey::{MountFault, ReportedZone};
 use serde_json::{Value, json};
 use std::alloc::{AllocError, Global};
+use write_plan::geometry_json;
 use zone_report::state_text;
-use zone_states::Geometry;
 
 /// A number, or null.
 fn number_json(number: Option<u64>) -> Value {
@@ -21,19 +21,6 @@ fn numbers_json(alloc: Global, zones: &[u32]) -> Result<Value, AllocError> {
         list.push(Value::from(u64::from(*zone)))?;
     }
     Ok(Value::Array(list))
-}
-
-/// The shape of the drive.
-fn geometry_json(alloc: Global, geometry: &Geometry) -> Result<Value, AllocError> {
-    json!(in alloc; {
-        "block": u64::from(geometry.block),
-        "zones": u64::from(geometry.zones),
-        "size": u64::from(geometry.size),
-        "capacity": u64::from(geometry.capacity),
-        "transfer": u64::from(geometry.transfer),
-        "active": u64::from(geometry.active),
-        "open": u64::from(geometry.open),
-    })
 }
 
 /// A zone of a drive that cannot be mounted.

@@ -1,5 +1,5 @@
 -- A drive in a file that is served: what its session does, and what it leaves in the file.
-use Rattle.std.specs.Prelude.{◌≡◌, ◌≢◌, ◌||◌, if◌then◌else◌, Bool, ℕ, List, [], ◌∷◌, Option, Some, None, Result, Ok, Err, IfSome}
+use Rattle.std.specs.Prelude.{◌≡◌, ◌≢◌, ◌||◌, if◌then◌else◌, Bool, true, false, ℕ, List, [], ◌∷◌, Option, Some, None, Result, Ok, Err, IfSome}
 use Rattle.std.specs.Io.KnownBytes.{Keeps}
 use Rattle.zone_states.specs.declared.geometry.Geometry.{Geometry}
 use Rattle.drive_port.specs.Drive.{DriveState}
@@ -64,16 +64,17 @@ IsNotServed old blocks fault back = ⊥
 
 -- ---- the session
 
--- a disk whose drive keeps each write at once
-abbrev pub at_once : DiskView → StoreView
-at_once disk = record { disk = disk; since = disk_array disk ∷ [] }
+-- a disk whose drive keeps each write at once, or that is read only
+abbrev pub at_once : Bool → DiskView → StoreView
+at_once read_only disk = record { disk = disk; since = disk_array disk ∷ []; read_only = read_only }
 
--- A session is served by the disk of a drive. What it leaves can be mounted again, with the array that was answered.
-pub record ServesSession (blocks : Option ℕ) (bytes : Streams) (old : DriveState) (ended : Result (Unit {0}) SessionFault) (new : DriveState) : Type 0 where
+-- A session is served by the disk of a drive, or by that disk read only. What it leaves can be mounted again, with the array that was answered.
+pub record ServesSession (read_only : Bool) (blocks : Option ℕ) (bytes : Streams) (old : DriveState)
+    (ended : Result (Unit {0}) SessionFault) (new : DriveState) : Type 0 where
   pub first : DiskView
   pub disk : IsServed old blocks first
   pub last : StoreView
-  pub serves : Serves bytes (session Greeting (at_once first)) ended last
+  pub serves : Serves bytes (session Greeting (at_once read_only first)) ended last
   pub keeps : KeepsDisk first last.disk
   pub drive : new ≡ last.disk.drive
 
@@ -88,15 +89,16 @@ pub record ServesNothing (bytes : Streams) : Type 0 where
   pub unwritten : Keeps bytes.written bytes.contents
 
 -- what is served of a drive, and what is left of it
-abbrev pub ServesDrive : Option ℕ → Streams → DriveState → Result (Unit {0}) NbdFault → DriveState → Type 0
-ServesDrive blocks bytes old (Ok done) new = ServesSession blocks bytes old (Ok tt) new
-ServesDrive blocks bytes old (Err (Session fault)) new = ServesSession blocks bytes old (Err fault) new
-ServesDrive blocks bytes old (Err fault) new = IsNotServed old blocks fault new × ServesNothing bytes
+abbrev pub ServesDrive : Bool → Option ℕ → Streams → DriveState → Result (Unit {0}) NbdFault → DriveState → Type 0
+ServesDrive read_only blocks bytes old (Ok done) new = ServesSession read_only blocks bytes old (Ok tt) new
+ServesDrive read_only blocks bytes old (Err (Session fault)) new = ServesSession read_only blocks bytes old (Err fault) new
+ServesDrive read_only blocks bytes old (Err fault) new = IsNotServed old blocks fault new × ServesNothing bytes
 
 -- the same over a device that stops, and leaves the zones of this drive
-pub record ServesStopping (blocks : Option ℕ) (bytes : Streams) (device : Stopping) (ended : Result (Unit {0}) NbdFault) (new : DriveState) : Type 0 where
+pub record ServesStopping (read_only : Bool) (blocks : Option ℕ) (bytes : Streams) (device : Stopping)
+    (ended : Result (Unit {0}) NbdFault) (new : DriveState) : Type 0 where
   pub seen : DriveState
-  pub serves : ServesDrive blocks bytes (drive_of device) ended seen
+  pub serves : ServesDrive read_only blocks bytes (drive_of device) ended seen
   pub geometry : new.geometry ≡ seen.geometry
   pub zones : new.zones ≡ seen.zones
 
@@ -107,7 +109,7 @@ pub record ServesStopping (blocks : Option ℕ) (bytes : Streams) (device : Stop
 pub record LeavesStored (job : NbdJob) (bytes : Streams) (old : DriveState) (ended : Result (Unit {0}) NbdFault)
     (left : Left) (held : Option (List ℕ)) (failed : Bool) : Type 0 where
   pub drive : DriveState
-  pub serves : ServesStopping job.blocks bytes (stopping job.stop old) ended drive
+  pub serves : ServesStopping false job.blocks bytes (stopping job.stop old) ended drive
   pub failed_is : left.failed ≡ failed
   pub back : IsHandedBack failed drive left.drive.state
   pub stored : IfSome held (λ bytes. IsStored bytes drive)
@@ -123,6 +125,18 @@ pub record LeavesFile (job : NbdJob) (file : Option (List ℕ)) (bytes : Streams
 abbrev pub HoldsNoDrive : Option (List ℕ) → Streams → Result (Unit {0}) NbdFault → Type 0
 HoldsNoDrive file bytes (Err (Image fault)) = IfSome file (λ held. IsFileFault held fault) × ServesNothing bytes
 HoldsNoDrive file bytes ended = ⊥
+
+-- The drive that the bytes of a file hold is restarted, and served read only. What it is afterwards goes nowhere.
+pub record ReadsDrive (job : NbdJob) (file : Option (List ℕ)) (bytes : Streams) (ended : Result (Unit {0}) NbdFault) : Type 0 where
+  pub first : Begun
+  pub begins : IsRestarted file job.habit first
+  pub drive : DriveState
+  pub serves : ServesStopping true job.blocks bytes (stopping job.stop first.drive.state) ended drive
+
+-- what is served read only of a file; a fault of its image comes before all else
+abbrev pub ReadsFile : NbdJob → Option (List ℕ) → Streams → Result (Unit {0}) NbdFault → Type 0
+ReadsFile job file bytes (Err (Image fault)) = HoldsNoDrive file bytes (Err (Image fault))
+ReadsFile job file bytes ended = ReadsDrive job file bytes ended
 
 -- What is saved of a session: the drive that it left, also after a fault. Nothing is saved where the file stays as it is, nor where the store failed:
 -- then the file has all changes before.

@@ -1,46 +1,20 @@
-// The file of a served drive: it is opened, locked, and saved at the end.
+// The file of a served drive: it is opened and locked, and saved at the end if the drive is not only read.
 
+use crate::done::Done;
 use crate::fault::NbdFault;
 use crate::job::NbdJob;
 use crate::left::Left;
 use crate::saving::{served_drive_to_save, session_told};
-use crate::serving::{ServedFile, serve_drive};
-use disk_jobs::DiskSize;
+use crate::serving::{ServedFile, serve_drive, serve_read_only};
 use drive_store::{
-    ChangesFile, ChangesOutput, FileFault, ImageFile, Saving, SentAfter, SystemError, open_to_save,
-    reader_of, save,
+    ChangesFile, ChangesOutput, FileFault, Saving, SentAfter, image_to_read, image_to_save,
+    save_if_any,
 };
 use nbd_session::{Medium, MediumFault};
 use std::alloc::Global;
 use std::fs::File;
 use std::io::{BufReader, BufWriter, Read, Write};
 use std::rt::Files;
-use zone_drive::Drive;
-
-/// How a session ended, and how its drive was saved. Both can fail.
-#[derive(Debug, PartialEq, Eq, Drop)]
-pub struct Done {
-    /// Of the session, with all replies that it sent.
-    pub session: Result<(), NbdFault>,
-    /// Of the drive. It is `Ok` if there is none to save.
-    pub saved: Result<(), NbdFault>,
-    /// What was written and moved, as text, if it was asked for.
-    pub statistics: Option<String>,
-    /// The disk that was served, if it was mounted.
-    pub disk: Option<DiskSize>,
-}
-
-impl Done {
-    /// A drive that is not served.
-    fn unserved(fault: NbdFault) -> Done {
-        Done {
-            session: Err(fault),
-            saved: Ok(()),
-            statistics: None,
-            disk: None,
-        }
-    }
-}
 
 /// What is read and written at a time. A request or a reply that is longer is not copied.
 const BUFFER: usize = 65_536;
@@ -96,24 +70,9 @@ fn serve_file<F: Files<File = File>, R: Read + Drop, W: Write>(
     (left, result)
 }
 
-/// Saves a drive in the place of an image, if there is one to save.
-fn save_if_any<F: Files<File = File>>(
-    saving: &Saving<'_, F>,
-    drive: Option<Drive>,
-    image: &ImageFile,
-) -> Result<(), NbdFault> {
-    let Some(drive) = drive else {
-        return Ok(());
-    };
-    match save(saving, &drive, image) {
-        Ok(()) => Ok(()),
-        Err(fault) => Err(told(fault)),
-    }
-}
-
-/// Serves the drive in a file to the client that sends to `input` and gets what `output` takes, and saves the drive
-/// once the session has ended, also after a fault. The file is locked until then.
-pub fn do_nbd_job<F: Files<File = File>, R: Read + Drop, W: Write>(
+/// Serves the drive in a file, and saves it once the session has ended, also after a fault. No other program can read
+/// or change the file until then.
+fn serve_and_save<F: Files<File = File>, R: Read + Drop, W: Write>(
     files: &F,
     alloc: Global,
     job: &NbdJob,
@@ -126,13 +85,9 @@ pub fn do_nbd_job<F: Files<File = File>, R: Read + Drop, W: Write>(
         alloc,
         sync: true,
     };
-    let image = match open_to_save(files, alloc, &job.image) {
-        Ok(image) => image,
+    let (image, bytes) = match image_to_save(files, alloc, &job.image) {
+        Ok(opened) => opened,
         Err(fault) => return Done::unserved(told(fault)),
-    };
-    let bytes = match reader_of(alloc, &image.file) {
-        Ok(bytes) => bytes,
-        Err(error) => return Done::unserved(told(FileFault::Open(SystemError::from(error)))),
     };
     let file = ChangesFile::new(&saving, image);
     let (mut left, result) = serve_file(alloc, job, (&file, bytes), input, output);
@@ -146,8 +101,47 @@ pub fn do_nbd_job<F: Files<File = File>, R: Read + Drop, W: Write>(
     let drive = served_drive_to_save(file.stays(), left);
     Done {
         session,
-        saved: save_if_any(&saving, drive, &file.into_image()),
+        saved: save_if_any(&saving, drive, &file.into_image()).map_err(told),
         statistics,
         disk,
     }
+}
+
+/// Serves the drive in a file read only. Other programs can read the file too, and none can change it until the
+/// session has ended.
+fn serve_unchanged<F: Files<File = File>, R: Read + Drop, W: Write>(
+    files: &F,
+    alloc: Global,
+    job: &NbdJob,
+    input: R,
+    output: &mut W,
+) -> Done {
+    let (_image, mut bytes) = match image_to_read(files, alloc, &job.image) {
+        Ok(opened) => opened,
+        Err(fault) => return Done::unserved(told(fault)),
+    };
+    let (Ok(mut reader), Ok(mut writer)) = (
+        BufReader::with_capacity(alloc, BUFFER, input),
+        BufWriter::with_capacity(alloc, BUFFER, output),
+    ) else {
+        return Done::unserved(NbdFault::Memory);
+    };
+    let done = serve_read_only(alloc, job, &mut bytes, &mut reader, &mut writer);
+    let _ = writer.flush();
+    done
+}
+
+/// Serves the drive in a file to the client that sends to `input` and gets what `output` takes. The file is locked
+/// until the session has ended. Then the drive is saved, also after a fault, unless the job says that it is only read.
+pub fn do_nbd_job<F: Files<File = File>, R: Read + Drop, W: Write>(
+    files: &F,
+    alloc: Global,
+    job: &NbdJob,
+    input: R,
+    output: &mut W,
+) -> Done {
+    if job.read_only {
+        return serve_unchanged(files, alloc, job, input, output);
+    }
+    serve_and_save(files, alloc, job, input, output)
 }

@@ -14,6 +14,8 @@ pub struct NbdJob {
     pub habit: Habit,
     /// Whether what was written and moved is shown at the end.
     pub statistics: bool,
-    /// Whether a turn of cleaning is taken after each request, if one is due.
+    /// Whether a turn of cleaning is taken after each request, if one is due. None is taken if the drive is only read.
     pub idle: bool,
+    /// Whether the drive is only read: what would change it is refused, and the file stays as it is.
+    pub read_only: bool,
 }

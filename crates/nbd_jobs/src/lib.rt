@@ -7,14 +7,17 @@
 //! }
 //! ```
 //!
-//! An [`NbdJob`] says which file is served, and how. [`serve_drive`] serves it to one client, and [`do_nbd_job`] does
-//! that on the file of a path: it locks the file, and saves the drive at the end.
+//! An [`NbdJob`] says which file is served, and how. [`serve_drive`] serves it to one client, and [`serve_read_only`]
+//! does so without any change of it. [`do_nbd_job`] does one or the other on the file of a path: it locks the file,
+//! and saves the drive at the end if it is not only read.
 //!
 //! # What is promised
 //!
 //! * [`serve_drive`], over every reader, writer and store: the drive in the file is restarted and mounted, and each
 //!   message of the client is answered by its disk, as `nbd_session` says. Whatever ends the session, the store holds
 //!   the drive that is left, which can be mounted again and has each write that was answered (`specs/Serving.antt`).
+//! * [`serve_read_only`], over every reader and writer: the same of a disk that is read only. No store is handed in, so
+//!   nothing of the file is written.
 //! * If no number of blocks was given, the disk has the size that the drive says. A drive that says none is not served.
 //! * Where the drive is not mounted, or the file holds none, no message is read and nothing is written. The fault
 //!   says why.
@@ -26,6 +29,7 @@
 //! Tests: the rows of `nbd_rows`; `tools/nbd_clients`, with real clients.
 #![tactic(auto)]
 
+mod done;
 mod explanation;
 mod fault;
 mod file;
@@ -35,10 +39,11 @@ mod mounted;
 mod saving;
 mod serving;
 
+pub use done::Done;
 pub use explanation::explain;
 pub use fault::NbdFault;
-pub use file::{Done, do_nbd_job};
+pub use file::do_nbd_job;
 pub use job::NbdJob;
 pub use left::Left;
 pub use mounted::mount_served;
-pub use serving::{ServedFile, serve_drive};
+pub use serving::{ServedFile, serve_drive, serve_read_only};

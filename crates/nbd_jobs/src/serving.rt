@@ -1,12 +1,13 @@
 // A session over the drive of a store.
 
-ghost use Rattle.std.specs.Prelude.{◌≡◌, IfNone, IfSome};
+ghost use Rattle.std.specs.Prelude.{◌≡◌, IfNone, IfSome, Ok, false};
 ghost use Rattle.nbd_session.specs.Streams.{streams};
 ghost use Rattle.drive_store.specs.Kept.{HoldsFile};
 ghost use Rattle.disk_jobs.specs.Saved.{stopping};
-ghost use Rattle.nbd_jobs.specs.Serving.{HoldsNoDrive, LeavesFile, LeavesStored, ServesDrive, ServesStopping};
-ghost use Rattle.nbd_jobs.specs.Serving.{session_end};
+ghost use Rattle.nbd_jobs.specs.Serving.{HoldsNoDrive, LeavesFile, LeavesStored, ReadsFile, ServesDrive};
+ghost use Rattle.nbd_jobs.specs.Serving.{ServesStopping, session_end};
 
+use crate::done::Done;
 use crate::fault::NbdFault;
 use crate::job::NbdJob;
 use crate::left::Left;
@@ -16,7 +17,7 @@ use drive_counter::Counter;
 use drive_journal::{Journaling, Store};
 use drive_port::Device;
 use drive_store::{keep, restarted_drive};
-use nbd_session::{Client, Medium, ServedDisk, SessionFault, serve};
+use nbd_session::{Client, Medium, ServedDisk, SessionFault, WriteThrough, serve};
 use std::alloc::Global;
 use std::io::{Read, Write};
 use zone_drive::Drive;
@@ -43,10 +44,15 @@ struct Ended<D: Device + Drop> {
 fn served<D: Device + Drop, M: Medium + Drop>(
     disk: Disk<D>,
     medium: M,
+    read_only: bool,
     cleans: bool,
 ) -> ServedDisk<D, M>
-    ensures { result.disk ≡ disk }
+    ensures disk { result.disk ≡ disk }
+    ensures read_only { result.read_only ≡ read_only }
 {
+    if read_only {
+        return ServedDisk::reading(disk, medium);
+    }
     if cleans {
         return ServedDisk::cleaning(disk, medium);
     }
@@ -75,11 +81,12 @@ fn session_end(ended: Result<(), SessionFault>) -> Result<(), NbdFault>
     }
 }
 
-/// A device, and what keeps its drive.
+/// A device, what keeps its drive, and whether the drive is only read.
 #[derive(Drop)]
 struct Kept<D: Device + Drop, M: Medium + Drop> {
     device: D,
     medium: M,
+    read_only: bool,
 }
 
 /// Mounts a drive, and serves it to a client. Its commands are counted.
@@ -90,7 +97,7 @@ fn serve_counted<D: Device + Drop, M: Medium + Drop, R: Client, W: Write>(
     reader: &mut R,
     writer: &mut W,
 ) -> Ended<D>
-    ensures { ServesDrive job.now.blocks
+    ensures { ServesDrive kept.read_only job.now.blocks
         (streams (R.remaining reader.old) (R.remaining reader.new) (W.contents writer.old) (W.contents writer.new))
         (D.drive kept.device) result.result (D.drive result.device) }
 {
@@ -106,7 +113,7 @@ fn serve_counted<D: Device + Drop, M: Medium + Drop, R: Client, W: Write>(
         }
     };
     let size = DiskSize::of(&disk);
-    let mut store = served(disk, kept.medium, job.idle);
+    let mut store = served(disk, kept.medium, kept.read_only, job.idle);
     let result = serve(alloc, reader, writer, &mut store);
     let (disk, _medium) = store.into_parts();
     let statistics = shown_statistics(alloc, job, &disk);
@@ -126,13 +133,14 @@ fn serve_stopping<D: Device + Drop, M: Medium + Drop, R: Client, W: Write>(
     reader: &mut R,
     writer: &mut W,
 ) -> Ended<D>
-    ensures { ServesStopping job.now.blocks
+    ensures { ServesStopping kept.read_only job.now.blocks
         (streams (R.remaining reader.old) (R.remaining reader.new) (W.contents writer.old) (W.contents writer.new))
         (stopping job.now.stop (D.drive kept.device)) result.result (D.drive result.device) }
 {
     let stopping = Kept {
         device: stopping(kept.device, job.stop),
         medium: kept.medium,
+        read_only: kept.read_only,
     };
     let ended = serve_counted(alloc, job, stopping, reader, writer);
     Ended {
@@ -151,6 +159,7 @@ fn serve_kept<S: Store<Drive> + Drop, M: Medium + Drop, R: Client, W: Write>(
     reader: &mut R,
     writer: &mut W,
 ) -> (Left, S, Result<(), NbdFault>)
+    requires { kept.read_only ≡ false }
     ensures { LeavesStored job.now
         (streams (R.remaining reader.old) (R.remaining reader.new) (W.contents writer.old) (W.contents writer.new))
         kept.device.drive result.2 result.0 (S.held result.1) (S.failed result.1) }
@@ -167,7 +176,8 @@ fn serve_kept<S: Store<Drive> + Drop, M: Medium + Drop, R: Client, W: Write>(
 }
 
 /// Serves the drive of a file to one client, which sends to `reader` and gets what `writer` takes. The changes of the
-/// drive go to the store. What is left of the drive is handed back, also after a fault, if the file holds one.
+/// drive go to the store. What is left of the drive is handed back, also after a fault, if the file holds one. The
+/// disk is written whatever `job.read_only` says.
 pub fn serve_drive<I: Read + Drop, S: Store<Drive> + Drop, M: Medium + Drop, R: Client, W: Write>(
     alloc: Global,
     job: &NbdJob,
@@ -199,7 +209,43 @@ pub fn serve_drive<I: Read + Drop, S: Store<Drive> + Drop, M: Medium + Drop, R: 
     let kept = Kept {
         device: keep(alloc, begun, store),
         medium,
+        read_only: false,
     };
     let (left, store, result) = serve_kept(alloc, job, kept, reader, writer);
     (Some(left), store, result)
+}
+
+/// Serves the drive of a file read only, to one client: the file is read from `bytes`, and nothing is written but what
+/// `writer` takes. A WRITE, a TRIM and a WRITE_ZEROES are refused, whatever `job.read_only` says, and no turn of
+/// cleaning is taken.
+pub fn serve_read_only<I: Read, R: Client, W: Write>(
+    alloc: Global,
+    job: &NbdJob,
+    bytes: &mut I,
+    reader: &mut R,
+    writer: &mut W,
+) -> Done
+    // What the client sent is answered by the disk of the drive in the file, which is read only.
+    ensures reads { ReadsFile job.now (I.remaining bytes.old)
+        (streams (R.remaining reader.old) (R.remaining reader.new) (W.contents writer.old) (W.contents writer.new))
+        result.session }
+    // There is no drive to save.
+    ensures saved { result.saved ≡ Ok tt }
+{
+    let begun = match restarted_drive(alloc, bytes, job.habit) {
+        Ok(begun) => begun,
+        Err(fault) => return Done::unserved(NbdFault::Image(fault)),
+    };
+    let kept = Kept {
+        device: begun.drive,
+        medium: WriteThrough,
+        read_only: true,
+    };
+    let ended = serve_stopping(alloc, job, kept, reader, writer);
+    Done {
+        session: ended.result,
+        saved: Ok(()),
+        statistics: ended.statistics,
+        disk: ended.disk,
+    }
 }

@@ -6,7 +6,7 @@ use crate::show::show_replies;
 use disk_jobs::{Habit, Stop};
 use drive_images::write_image;
 use drive_journal::Held;
-use nbd_jobs::{Left, NbdJob, ServedFile, serve_drive};
+use nbd_jobs::{Left, NbdFault, NbdJob, ServedFile, serve_drive, serve_read_only};
 use nbd_session::WriteThrough;
 use std::alloc::Global;
 use zone_drive::Drive;
@@ -33,6 +33,7 @@ pub fn job_of(alloc: Global, blocks: Option<u64>, statistics: bool) -> NbdJob {
         habit: Habit::Lazy,
         statistics,
         idle: true,
+        read_only: false,
     }
 }
 
@@ -42,6 +43,15 @@ fn show_counts(left: &Option<Left>, out: &mut String) -> Result<(), RowsFault> {
         && let Some(text) = &left.statistics
     {
         out.push_str(text)?;
+    }
+    Ok(())
+}
+
+/// Shows how a session ended.
+fn show_end(ended: Result<(), NbdFault>, out: &mut String) -> Result<(), RowsFault> {
+    match ended {
+        Ok(()) => write!(out, "ended\n\n")?,
+        Err(fault) => write!(out, "fault: {fault}\n\n")?,
     }
     Ok(())
 }
@@ -65,9 +75,19 @@ pub fn show_kept(
     *file = Vec::from_slice(alloc, store.bytes())?;
     show_replies(&sent, out)?;
     show_counts(&left, out)?;
-    match result {
-        Ok(()) => write!(out, "ended\n\n")?,
-        Err(fault) => write!(out, "fault: {fault}\n\n")?,
-    }
-    Ok(())
+    show_end(result, out)
+}
+
+/// Serves the drive in a file read only. Shows what the server sent, and how the session ended.
+pub fn show_read_only(
+    alloc: Global,
+    job: &NbdJob,
+    input: &[u8],
+    file: &[u8],
+    out: &mut String,
+) -> Result<(), RowsFault> {
+    let mut sent = Vec::new(alloc);
+    let done = serve_read_only(alloc, job, &mut &*file, &mut &*input, &mut sent);
+    show_replies(&sent, out)?;
+    show_end(done.session, out)
 }

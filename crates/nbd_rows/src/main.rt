@@ -8,7 +8,8 @@
 //! - `end` runs the session. `cuts` runs it cut after each of its bytes, and with an output that fails after each byte.
 //! - `kept N` runs the session over the drive of a file, with N logical blocks, and cleans between requests; the file
 //!   keeps what it wrote. `again` runs it over the same file, and says no number. The first file has a fresh drive.
-//!   `counted N` runs it over a new file, and shows what was written, moved and cleaned.
+//!   `reading` does what `again` does, read only. `counted N` runs it over a new file, and shows what was written,
+//!   moved and cleaned.
 //! - An empty line, and one that begins with `#`, says nothing.
 //!
 //! Shown are the lines `session`, a line for each reply, and how the session ended.
@@ -21,7 +22,7 @@ mod show;
 mod words;
 
 use crate::fault::RowsFault;
-use crate::kept::{fresh_file, job_of, show_kept};
+use crate::kept::{fresh_file, job_of, show_kept, show_read_only};
 use crate::run::{Setting, show_cuts, show_session};
 use crate::words::{number_of, put_bytes, setting_of};
 use std::alloc::Global;
@@ -47,6 +48,10 @@ impl Recorded {
             "end" => show_session(alloc, self.setting, &self.input, out),
             "cuts" => show_cuts(alloc, self.setting, &self.input, out),
             "again" => self.serve(alloc, None, false, out),
+            "reading" => {
+                let job = job_of(alloc, None, false);
+                show_read_only(alloc, &job, &self.input, &self.file, out)
+            }
             _ if line.starts_with("kept ") => self.serve(alloc, Some(number_of(line)?), false, out),
             _ if line.starts_with("counted ") => {
                 self.file = fresh_file(alloc, self.setting)?;

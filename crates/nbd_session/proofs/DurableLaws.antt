@@ -47,7 +47,7 @@ refused wanted disk.Reserve none = omega (arith, none)
 durable : (middle : StoreView) (first : Result (Unit {0}) DiskFault) (wanted : Asked) (result : Result (Unit {0}) StoreFault) (new : StoreView)
     → Forces true middle first result new → error_code (code_of wanted result) ≡ 0 → (array : List (List ℕ)) → Contains new.since array → array ≡ disk_array new.disk
 durable middle (Err fault) wanted result new f none array found = absurd (refused wanted fault (rw f.0 at none))
-durable middle (Ok done) wanted (Ok d) new s none array found = s.2 array found ∙ ap disk_array (sym s.1)
+durable middle (Ok done) wanted (Ok d) new s none array found = s.3 array found ∙ ap disk_array (sym s.1)
 durable middle (Ok done) wanted (Err (Disk fault)) new s none array found = absurd (refused wanted fault none)
 durable middle (Ok done) wanted (Err Medium) new s none array found = absurd (omega (arith, none))
 

@@ -1,5 +1,5 @@
 -- A disk has no other array than the one that it serves.
-use Rattle.std.proofs.Common.{◌≡◌, ℕ, zero, suc, List, [], ◌∷◌, length, Option, Some, None, Ok, Err, ap, sym, inl, inr, ◌∙◌, arith}
+use Rattle.std.proofs.Common.{◌≡◌, ℕ, zero, suc, List, [], ◌∷◌, length, Option, Some, None, Ok, Err, Bool, refl, ap, sym, inl, inr, ◌∙◌, arith}
 use Rattle.std.specs.Prelude.{◌⊎◌, Contains, MatchOption, Result}
 use Rattle.std.proofs.lemmas.List.{take_all}
 use Rattle.zone_translator.specs.Answers.{Answers}
@@ -29,17 +29,18 @@ moment-by None old first blocks (Ok done) new c = inr (record {
 moment-by None old first blocks (Err fault) new c = inr c.2
 
 -- a store with this disk and no other array
-abbrev pub served : DiskView → StoreView
-served disk = record { disk = disk; since = disk_array disk ∷ [] }
+abbrev pub served : DiskView → Bool → StoreView
+served disk read_only = record { disk = disk; since = disk_array disk ∷ []; read_only = read_only }
 
 -- a write of the disk is a write of the store
-pub write_called : (old new : DiskView) (first : ℕ) (blocks : List (List ℕ)) (result : Result (Unit {0}) DiskFault) → Answers old (write first blocks) result new
-    → Calls (served old) (write first blocks) (with_nothing result) (served new)
-write_called old new first blocks result a = record {
+pub write_called : (old new : DiskView) (read_only : Bool) (first : ℕ) (blocks : List (List ℕ)) (result : Result (Unit {0}) DiskFault) → Answers old (write first blocks) result new
+    → Calls (served old read_only) (write first blocks) (with_nothing result) (served new read_only)
+write_called old new read_only first blocks result a = record {
   flat = a.flat;
   kept = a.kept;
   cause = a.cause;
   since = λ array found. since array (only (disk_array new) array found) (moment-by (known_answer (flat_of old) (write first blocks)) (flat_of old) first blocks result (flat_of new) a.flat);
+  read_only = refl;
 } where
   since : (array : List (List ℕ)) → disk_array new ≡ array → (disk_array new ≡ disk_array old) ⊎ IsFront (disk_array old) first blocks (disk_array new)
       → Contains (disk_array old ∷ []) array ⊎ IsFront (disk_array old) first blocks array
@@ -54,10 +55,11 @@ turn-kept None old (Ok done) new c = ap (λ (d : FlatDisk). d.array) c.1
 turn-kept None old (Err fault) new c = c.2
 
 -- a turn of the disk is a turn of the store
-pub turn_called : (old new : DiskView) (result : Result (Unit {0}) DiskFault) → Answers old idle result new → Calls (served old) idle (with_nothing result) (served new)
-turn_called old new result a = record {
+pub turn_called : (old new : DiskView) (read_only : Bool) (result : Result (Unit {0}) DiskFault) → Answers old idle result new → Calls (served old read_only) idle (with_nothing result) (served new read_only)
+turn_called old new read_only result a = record {
   flat = a.flat;
   kept = a.kept;
   cause = a.cause;
   since = λ array found. inr (sym (only (disk_array new) array found) ∙ turn-kept (known_answer (flat_of old) idle) (flat_of old) result (flat_of new) a.flat);
+  read_only = refl;
 }

@@ -15,7 +15,7 @@ use Rattle.nbd_session.specs.declared.fault.SessionFault.{SessionFault}
 use Rattle.nbd_session.specs.declared.fault.SessionFault.TheVariants.{Input, Magic, Output, TooMany, Unsent}
 use Rattle.nbd_session.specs.declared.phase.Phase.{Phase}
 use Rattle.nbd_session.specs.declared.phase.Phase.TheVariants as phases
-use Rattle.nbd_session.specs.Requests.{AnswersAsked, asked_of, data_length, is_disconnect}
+use Rattle.nbd_session.specs.Requests.{AnswersAsked, asked_of_store, data_length, is_disconnect}
 use Rattle.nbd_session.specs.Session.{AnswersMessage, Session, answer_bytes, export_of, option_answer, phase_after, session}
 use Rattle.nbd_session.specs.Store.{Rests, StoreView}
 use Rattle.nbd_session.specs.Streams.{Drops, Streams, streams}
@@ -127,7 +127,7 @@ dropped-front input rest written contents n count reply wanted dropped same is s
 -- ---- a request that is no DISC
 
 request-answered : (old answered new : StoreView) (request : Request) (head : List ℕ) → (head ≡ request_bytes request) × FitsRequest request → is_disconnect request ≡ false → Rests answered new
-    → (after reply : List ℕ) → length after ≡ data_length request → AnswersAsked old request (asked_of old.disk.drive.geometry.block request) after reply answered
+    → (after reply : List ℕ) → length after ≡ data_length request → AnswersAsked old request (asked_of_store old request) after reply answered
     → AnswersMessage (session phases.Transmission old) (head ++ after) reply (session phases.Transmission new)
 request-answered old answered new request head is goes_on rests after reply count a = record {
   request = request;
@@ -145,7 +145,7 @@ request-cut request head is front fewer =
 -- a request is answered, its reply is written, and the store rests
 pub request-exchanged : (input middle rest written between contents : Option (List ℕ)) (old answered new : StoreView) (request : Request) (head : List ℕ) → Consumes input middle head
     → (head ≡ request_bytes request) × FitsRequest request → is_disconnect request ≡ false → Rests answered new → Keeps between contents
-    → Replies (streams middle rest written between) (data_length request) (λ after reply. AnswersAsked old request (asked_of old.disk.drive.geometry.block request) after reply answered)
+    → Replies (streams middle rest written between) (data_length request) (λ after reply. AnswersAsked old request (asked_of_store old request) after reply answered)
     → AnswersOne (streams input rest written contents) (session phases.Transmission old) (session phases.Transmission new)
 request-exchanged input middle rest written between contents old answered new request head first is goes_on rests kept r = record {
   message = head ++ r.after;
@@ -156,10 +156,10 @@ request-exchanged input middle rest written between contents old answered new re
 }
 
 pub request-stopped : (fault : SessionFault) (input middle rest written contents : Option (List ℕ)) (old new : StoreView) (request : Request) (head : List ℕ) → Consumes input middle head → (head ≡ request_bytes request) × FitsRequest request → is_disconnect request ≡ false
-    → ReplyStops fault (streams middle rest written contents) (data_length request) (λ after reply. AnswersAsked old request (asked_of old.disk.drive.geometry.block request) after reply new) (new ≡ old)
+    → ReplyStops fault (streams middle rest written contents) (data_length request) (λ after reply. AnswersAsked old request (asked_of_store old request) after reply new) (new ≡ old)
     → StopsSession fault (streams input rest written contents) (session phases.Transmission old) new
 request-stopped fault input middle rest written contents old new request head first is goes_on r =
-    stopped fault input middle rest written contents head (data_length request) (λ after reply. AnswersAsked old request (asked_of old.disk.drive.geometry.block request) after reply new) (new ≡ old) (session phases.Transmission old) phases.Transmission new
+    stopped fault input middle rest written contents head (data_length request) (λ after reply. AnswersAsked old request (asked_of_store old request) after reply new) (new ≡ old) (session phases.Transmission old) phases.Transmission new
     first (λ same. same) (request-cut request head is) (request-answered old new new request head is goes_on (inl refl)) r
 
 -- a reply was written, and is not passed on
@@ -180,7 +180,7 @@ turn-stops bytes old (Err e) fault new is p = rw is p
 -- ---- an option
 
 option-answered : (old : StoreView) (no_zeroes : Bool) (option : OptionHead) (kind : Option OptionKind) (head : List ℕ) → kind ≡ option_of option.option → (head ≡ option_head_bytes option) × FitsHead option
-    → (after reply : List ℕ) → length after ≡ option.length → reply ≡ answer_bytes (export_of old.disk) no_zeroes option.option (option_answer kind option.length)
+    → (after reply : List ℕ) → length after ≡ option.length → reply ≡ answer_bytes (export_of old) no_zeroes option.option (option_answer kind option.length)
     → AnswersMessage (session (phases.Options no_zeroes) old) (head ++ after) reply (session (phase_after no_zeroes kind) old)
 option-answered old no_zeroes option kind head kind_is is after reply count said = record {
   head = option;
@@ -197,15 +197,15 @@ option-cut no_zeroes option head is front fewer =
     inr (record { head = option; fits = is.1; front = front; bytes_are = ap (λ (h : List ℕ). h ++ front) is.0; fewer = fewer })
 
 pub option-exchanged : (input middle rest written contents : Option (List ℕ)) (old : StoreView) (no_zeroes : Bool) (option : OptionHead) (kind : Option OptionKind) (head : List ℕ) → Consumes input middle head → kind ≡ option_of option.option → (head ≡ option_head_bytes option) × FitsHead option
-    → Replies (streams middle rest written contents) option.length (λ after reply. reply ≡ answer_bytes (export_of old.disk) no_zeroes option.option (option_answer kind option.length))
+    → Replies (streams middle rest written contents) option.length (λ after reply. reply ≡ answer_bytes (export_of old) no_zeroes option.option (option_answer kind option.length))
     → AnswersOne (streams input rest written contents) (session (phases.Options no_zeroes) old) (session (phase_after no_zeroes kind) old)
 option-exchanged input middle rest written contents old no_zeroes option kind head first kind_is is r =
-    exchanged input middle rest written contents head option.length (λ after reply. reply ≡ answer_bytes (export_of old.disk) no_zeroes option.option (option_answer kind option.length)) (session (phases.Options no_zeroes) old) (session (phase_after no_zeroes kind) old)
+    exchanged input middle rest written contents head option.length (λ after reply. reply ≡ answer_bytes (export_of old) no_zeroes option.option (option_answer kind option.length)) (session (phases.Options no_zeroes) old) (session (phase_after no_zeroes kind) old)
     first (option-answered old no_zeroes option kind head kind_is is) r
 
 pub option-stopped : (fault : SessionFault) (input middle rest written contents : Option (List ℕ)) (old : StoreView) (no_zeroes : Bool) (option : OptionHead) (kind : Option OptionKind) (head : List ℕ) → Consumes input middle head → kind ≡ option_of option.option → (head ≡ option_head_bytes option) × FitsHead option
-    → ReplyStops fault (streams middle rest written contents) option.length (λ after reply. reply ≡ answer_bytes (export_of old.disk) no_zeroes option.option (option_answer kind option.length)) ⊤
+    → ReplyStops fault (streams middle rest written contents) option.length (λ after reply. reply ≡ answer_bytes (export_of old) no_zeroes option.option (option_answer kind option.length)) ⊤
     → StopsSession fault (streams input rest written contents) (session (phases.Options no_zeroes) old) old
 option-stopped fault input middle rest written contents old no_zeroes option kind head first kind_is is r =
-    stopped fault input middle rest written contents head option.length (λ after reply. reply ≡ answer_bytes (export_of old.disk) no_zeroes option.option (option_answer kind option.length)) ⊤ (session (phases.Options no_zeroes) old) (phase_after no_zeroes kind) old
+    stopped fault input middle rest written contents head option.length (λ after reply. reply ≡ answer_bytes (export_of old) no_zeroes option.option (option_answer kind option.length)) ⊤ (session (phases.Options no_zeroes) old) (phase_after no_zeroes kind) old
     first (λ t. refl) (option-cut no_zeroes option head is) (option-answered old no_zeroes option kind head kind_is is) r

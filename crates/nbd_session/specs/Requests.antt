@@ -1,5 +1,5 @@
 -- What a request asks of a disk, and the reply to it.
-use Rattle.std.specs.Prelude.{◌≡◌, ◌⊎◌, ℕ, ◌*◌, ◌/◌, ◌%◌, ◌==◌, ◌||◌, nat_lt, not, if◌then◌else◌, Bool, true, false}
+use Rattle.std.specs.Prelude.{◌≡◌, ◌⊎◌, ℕ, ◌*◌, ◌/◌, ◌%◌, ◌==◌, ◌&&◌, ◌||◌, nat_lt, not, if◌then◌else◌, Bool, true, false}
 use Rattle.std.specs.Prelude.{List, ◌++◌, length, Option, Some, Result, Ok, Err}
 use Rattle.std.specs.List.{concat}
 use Rattle.std.specs.Io.KnownBytes.{Consumes}
@@ -58,12 +58,29 @@ asked_with block (Some commands.WriteZeroes) r = Ok (WriteZeroes (r.offset / blo
 asked_with block (Some commands.Flush) r = if not (r.offset == 0) || not (r.length == 0) then Err errors.Invalid else Ok Flush
 asked_with block command r = Err errors.Invalid
 
--- what a request asks of a disk whose blocks have this many bytes, or the error that it is refused by before the disk is asked
+-- what a request asks of a disk whose blocks have this many bytes, or the error that it is refused by
 abbrev pub asked_of : ℕ → Request → Result Asked ErrorCode
 asked_of block r =
     if nat_lt (most_flags (command_of r.code)) r.flags then Err errors.Invalid
     else if is_unaligned block r then Err errors.Invalid
     else asked_with block (command_of r.code) r
+
+-- whether what is asked changes the disk
+abbrev pub changes_disk : Asked → Bool
+changes_disk (Read first n) = false
+changes_disk (Write first) = true
+changes_disk (Trim first n) = true
+changes_disk (WriteZeroes first n hole) = true
+changes_disk Flush = false
+
+-- what of this a store permits: if it is read only, nothing that changes the disk
+abbrev pub permitted : Bool → Result Asked ErrorCode → Result Asked ErrorCode
+permitted read_only (Err error) = Err error
+permitted read_only (Ok wanted) = if read_only && changes_disk wanted then Err errors.NotPermitted else Ok wanted
+
+-- what a request asks of a store, or the error that it is refused by before the disk is asked
+abbrev pub asked_of_store : StoreView → Request → Result Asked ErrorCode
+asked_of_store store r = permitted store.read_only (asked_of store.disk.drive.geometry.block r)
 
 -- how many bytes of data come with what is asked: whole blocks with a WRITE, and none with another command
 abbrev pub Carries : ℕ → Asked → ℕ → Type 0

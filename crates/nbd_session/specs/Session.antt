@@ -11,13 +11,13 @@ use Rattle.nbd_wire.specs.declared.option_kind.OptionKind.{OptionKind}
 use Rattle.nbd_wire.specs.declared.option_kind.OptionKind.TheVariants as options
 use Rattle.nbd_wire.specs.declared.reply_kind.ReplyKind.TheVariants.{Acknowledge, Unsupported, Invalid}
 use Rattle.nbd_wire.specs.declared.request.Request.{Request}
-use Rattle.zone_translator.specs.View.{DiskView, disk_size}
+use Rattle.zone_translator.specs.View.{disk_size}
 use Rattle.nbd_session.specs.declared.asked.TheConstants.{MOST_BYTES}
 use Rattle.nbd_session.specs.declared.option_answer.OptionAnswer.{OptionAnswer}
 use Rattle.nbd_session.specs.declared.option_answer.OptionAnswer.TheVariants.{Short, Exports, ExportInfo, Name}
 use Rattle.nbd_session.specs.declared.phase.Phase.{Phase}
 use Rattle.nbd_session.specs.declared.phase.Phase.TheVariants as phases
-use Rattle.nbd_session.specs.Requests.{AnswersAsked, asked_of, data_length, is_disconnect}
+use Rattle.nbd_session.specs.Requests.{AnswersAsked, asked_of_store, data_length, is_disconnect}
 use Rattle.nbd_session.specs.Store.{Rests, StoreView}
 use Rattle.nbd_session.specs.Streams.{Streams}
 
@@ -30,13 +30,14 @@ session phase store = record { phase = phase; store = store }
 
 -- ---- options
 
--- what a client is told of a disk
-abbrev pub export_of : DiskView → Export
-export_of disk = record {
-  size = disk_size disk * disk.drive.geometry.block;
-  minimum = disk.drive.geometry.block;
-  preferred = max 4096 disk.drive.geometry.block;
+-- what a client is told of a store
+abbrev pub export_of : StoreView → Export
+export_of store = record {
+  size = disk_size store.disk * store.disk.drive.geometry.block;
+  minimum = store.disk.drive.geometry.block;
+  preferred = max 4096 store.disk.drive.geometry.block;
   maximum = MOST_BYTES;
+  read_only = store.read_only;
 }
 
 -- What is answered to an option whose data have this length. There is one disk, whatever name an option has.
@@ -69,7 +70,7 @@ pub record ServesOption (old : StoreView) (no_zeroes : Bool) (message reply : Li
   pub bytes : List ℕ
   pub message_is : message ≡ option_head_bytes head ++ bytes
   pub length_is : length bytes ≡ head.length
-  pub reply_is : reply ≡ answer_bytes (export_of old.disk) no_zeroes head.option (option_answer (option_of head.option) head.length)
+  pub reply_is : reply ≡ answer_bytes (export_of old) no_zeroes head.option (option_answer (option_of head.option) head.length)
   pub new_is : new ≡ session (phase_after no_zeroes (option_of head.option)) old
 
 -- ---- requests
@@ -77,7 +78,7 @@ pub record ServesOption (old : StoreView) (no_zeroes : Bool) (message reply : Li
 -- a request is answered, and then the store rests
 pub record AnswersAndRests (old : StoreView) (request : Request) (bytes reply : List ℕ) (new : StoreView) : Type 0 where
   pub answered : StoreView
-  pub answers : AnswersAsked old request (asked_of old.disk.drive.geometry.block request) bytes reply answered
+  pub answers : AnswersAsked old request (asked_of_store old request) bytes reply answered
   pub rests : Rests answered new
 
 -- a DISC has no reply, and ends the session

@@ -1,6 +1,6 @@
 ghost use Rattle.std.specs.Prelude.{◌≡◌, ◌<◌, IfOk};
-ghost use Rattle.nbd_session.specs.Requests.{Carries, asked_of, asked_with, code_of, data_length, error_of};
-ghost use Rattle.nbd_session.specs.Requests.{is_disconnect, is_forced, is_unaligned, most_flags};
+ghost use Rattle.nbd_session.specs.Requests.{Carries, asked_of, asked_with, changes_disk, code_of, data_length};
+ghost use Rattle.nbd_session.specs.Requests.{error_of, is_disconnect, is_forced, is_unaligned, most_flags};
 
 use crate::fault::StoreFault;
 use nbd_wire::{Command, ErrorCode, Request};
@@ -121,7 +121,7 @@ fn error_of(wanted: Asked, fault: DiskFault) -> ErrorCode
 }
 
 impl Asked {
-    /// What a request asks of a disk, or the error that it is refused by before the disk is asked.
+    /// What a request asks of a disk, or the error that it is refused by.
     pub fn of(request: &Request, block_bytes: u32) -> Result<Asked, ErrorCode>
         requires { 0 < block_bytes }
         ensures value { result ≡ asked_of block_bytes request.now }
@@ -135,6 +135,19 @@ impl Asked {
             return Err(ErrorCode::Invalid);
         }
         asked_with(request, command, block_bytes)
+    }
+
+    /// Whether it changes the disk.
+    pub fn changes_disk(self) -> bool
+        ensures { result ≡ changes_disk self }
+    {
+        match self {
+            Asked::Read { .. } => false,
+            Asked::Write { .. } => true,
+            Asked::Trim { .. } => true,
+            Asked::WriteZeroes { .. } => true,
+            Asked::Flush => false,
+        }
     }
 
     /// Whether the array has to be durable before the reply: after a FLUSH, and after a write with FUA.

@@ -18,6 +18,8 @@
 //! - A FLUSH, and a write with FUA, is answered by success only after a sync. Then a loss of power leaves the array as
 //!   it is (`laws::forced_is_durable`). Until the next sync it leaves an array that the disk had since.
 //! - Between requests a store may clean ([`ServedDisk::cleaning`]). That changes no block.
+//! - The client is told whether a store is read only ([`ServedDisk::reading`]). If so, a WRITE, a TRIM and a
+//!   WRITE_ZEROES are refused by `EPERM`, and the array stays as it is (`laws::read_only_keeps_array`).
 //! - After the drive has stopped each request that needs it is answered by `ESHUTDOWN`, and the session continues.
 //! - After a fault all messages before are answered. Of the next one nothing is done, unless only its reply was cut.
 //! - Replies are passed on before the next request is waited for.

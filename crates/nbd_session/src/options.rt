@@ -13,9 +13,9 @@ use crate::store::Store;
 use nbd_wire::{ClientFlags, Export, GREETING, OptionHead, OptionKind};
 use std::io::{Read, Write};
 
-/// What a client is told of a disk.
+/// What a client is told of a store.
 fn export_of<S: Store>(store: &S) -> Export
-    ensures { result ≡ export_of (S.view store.now).disk }
+    ensures { result ≡ export_of (S.view store.now) }
 {
     let block = store.block_bytes();
     Export {
@@ -23,6 +23,7 @@ fn export_of<S: Store>(store: &S) -> Export
         minimum: block,
         preferred: block.max(4096),
         maximum: MOST_BYTES,
+        read_only: store.is_read_only(),
     }
 }
 

@@ -1,7 +1,7 @@
-ghost use Rattle.std.specs.Prelude.{◌≡◌, [], IfErr, OnOk, Ok, ⊤};
+ghost use Rattle.std.specs.Prelude.{◌≡◌, [], IfErr, IfOk, OnOk, Ok, ⊤};
 ghost use Rattle.std.specs.Io.KnownBytes.{Keeps};
 ghost use Rattle.nbd_wire.specs.Transmission.{simple_reply_bytes};
-ghost use Rattle.nbd_session.specs.Requests.{AnswersAsked, Carries, DoesOrNot, Forces, asked_of, data_length};
+ghost use Rattle.nbd_session.specs.Requests.{AnswersAsked, Carries, DoesOrNot, Forces, asked_of_store, data_length};
 ghost use Rattle.nbd_session.specs.Session.{session};
 ghost use Rattle.nbd_session.specs.Store.{Rests};
 ghost use Rattle.nbd_session.specs.Streams.{streams};
@@ -151,6 +151,19 @@ fn refuse<R: Read, W: Write>(
     Ok(())
 }
 
+/// What a request asks of a store, or the error that it is refused by before the disk is asked.
+fn asked_of_store<S: Store>(store: &S, request: &Request) -> Result<Asked, ErrorCode>
+    ensures value { result ≡ asked_of_store (S.view store.now) request.now }
+    ensures carries { IfOk result (λ wanted.
+        Carries (S.view store.now).disk.drive.geometry.block wanted (data_length request.now)) }
+{
+    let wanted = Asked::of(request, store.block_bytes())?;
+    if store.is_read_only() && wanted.changes_disk() {
+        return Err(ErrorCode::NotPermitted);
+    }
+    Ok(wanted)
+}
+
 /// Answers a request after its head, unless it is a DISC.
 fn answer_rest<R: Read, W: Write, S: Store>(
     reader: &mut R,
@@ -163,15 +176,15 @@ fn answer_rest<R: Read, W: Write, S: Store>(
         (streams (R.remaining reader.old) (R.remaining reader.new) (W.contents writer.old) (W.contents writer.new))
         (data_length request.now)
         (λ bytes reply. AnswersAsked (S.view store.old) request.now
-        (asked_of (S.view store.old).disk.drive.geometry.block request.now) bytes reply (S.view store.new))) }
+        (asked_of_store (S.view store.old) request.now) bytes reply (S.view store.new))) }
     ensures err { IfErr result (λ fault. ReplyStops fault
         (streams (R.remaining reader.old) (R.remaining reader.new) (W.contents writer.old) (W.contents writer.new))
         (data_length request.now)
         (λ bytes reply. AnswersAsked (S.view store.old) request.now
-        (asked_of (S.view store.old).disk.drive.geometry.block request.now) bytes reply (S.view store.new))
+        (asked_of_store (S.view store.old) request.now) bytes reply (S.view store.new))
         (S.view store.new ≡ S.view store.old)) }
 {
-    match Asked::of(request, store.block_bytes()) {
+    match asked_of_store(store, request) {
         Ok(wanted) => answer_asked(reader, writer, store, buffers, request, wanted),
         Err(error) => refuse(reader, writer, request, error),
     }

@@ -1,4 +1,4 @@
-ghost use Rattle.std.specs.Prelude.{◌≡◌, OnOk};
+ghost use Rattle.std.specs.Prelude.{◌≡◌, OnOk, false, true};
 
 use crate::fault::{MediumFault, StoreFault};
 use crate::store::Store;
@@ -17,7 +17,7 @@ pub trait Medium {
         ensures { OnOk result (is_synced self.old self.new) };
 }
 
-/// The medium of a drive that keeps each completed command by itself.
+/// The medium of a drive that keeps each completed command by itself, or is only read.
 #[derive(Debug, Drop)]
 pub struct WriteThrough;
 
@@ -38,6 +38,8 @@ pub struct ServedDisk<D: Device + Drop, M: Medium + Drop> {
     medium: M,
     /// Whether a turn of cleaning is taken after each request.
     cleans: bool,
+    /// Whether what would change the disk is refused, and no turn is taken.
+    read_only: bool,
 }
 
 impl<D: Device + Drop, M: Medium + Drop> Model for ServedDisk<D, M> {
@@ -45,7 +47,7 @@ impl<D: Device + Drop, M: Medium + Drop> Model for ServedDisk<D, M> {
 
     ghost Value = { Served M };
 
-    ghost view = { λ s. record { disk = s.disk; medium = s.medium } };
+    ghost view = { λ s. record { disk = s.disk; medium = s.medium; read_only = s.read_only } };
 }
 
 impl<D: Device + Drop, M: Medium + Drop> ServedDisk<D, M> {
@@ -53,11 +55,13 @@ impl<D: Device + Drop, M: Medium + Drop> ServedDisk<D, M> {
     pub fn new(disk: Disk<D>, medium: M) -> ServedDisk<D, M>
         ensures disk { result.disk ≡ disk }
         ensures medium { result.medium ≡ medium }
+        ensures read_only { result.read_only ≡ false }
     {
         ServedDisk {
             disk,
             medium,
             cleans: false,
+            read_only: false,
         }
     }
 
@@ -66,11 +70,27 @@ impl<D: Device + Drop, M: Medium + Drop> ServedDisk<D, M> {
     pub fn cleaning(disk: Disk<D>, medium: M) -> ServedDisk<D, M>
         ensures disk { result.disk ≡ disk }
         ensures medium { result.medium ≡ medium }
+        ensures read_only { result.read_only ≡ false }
     {
         ServedDisk {
             disk,
             medium,
             cleans: true,
+            read_only: false,
+        }
+    }
+
+    /// This disk, which is only read: what would change it is refused, and no turn of cleaning is taken.
+    pub fn reading(disk: Disk<D>, medium: M) -> ServedDisk<D, M>
+        ensures disk { result.disk ≡ disk }
+        ensures medium { result.medium ≡ medium }
+        ensures read_only { result.read_only ≡ true }
+    {
+        ServedDisk {
+            disk,
+            medium,
+            cleans: false,
+            read_only: true,
         }
     }
 
@@ -95,7 +115,7 @@ impl<D: Device + Drop, M: Medium + Drop> Store for ServedDisk<D, M> {
     ghost use Rattle.zone_translator.specs.View.{disk_array};
 
     // The drive itself has no other array than the one that the disk serves.
-    ghost view = { λ s. record { disk = s.disk; since = disk_array s.disk ∷ [] } };
+    ghost view = { λ s. record { disk = s.disk; since = disk_array s.disk ∷ []; read_only = s.read_only } };
 
     ghost is_synced = { λ old new. M.is_synced old.medium new.medium };
 
@@ -109,6 +129,10 @@ impl<D: Device + Drop, M: Medium + Drop> Store for ServedDisk<D, M> {
         // A block has less than 2^32 bytes.
         let _block = self.block_bytes();
         self.disk.blocks()
+    }
+
+    fn is_read_only(&self) -> bool {
+        self.read_only
     }
 
     fn read(&mut self, first: u64, blocks: u64, into: &mut Vec<u8>) -> Result<(), DiskFault> {
@@ -140,7 +164,7 @@ impl<D: Device + Drop, M: Medium + Drop> Store for ServedDisk<D, M> {
     }
 
     fn rest(&mut self) {
-        if self.cleans {
+        if self.cleans && !self.read_only {
             let _ = self.disk.idle();
         }
     }

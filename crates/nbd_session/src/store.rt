@@ -25,6 +25,10 @@ pub trait Store {
         ensures size { result ≡ disk_size (view self.now).disk }
         ensures few { result * (view self.now).disk.drive.geometry.block < 2 ^ 64 };
 
+    /// Whether what would change the disk is refused.
+    fn is_read_only(&self) -> bool
+        ensures { result ≡ (view self.now).read_only };
+
     /// Shows `blocks` blocks from `first` on. `into` is empty after a refusal.
     fn read(&mut self, first: u64, blocks: u64, into: &mut Vec<u8>) -> Result<(), DiskFault>
         ensures { Shows (view self.old) first blocks result into.new.items (view self.new) };
@@ -50,7 +54,8 @@ pub trait Store {
         ensures gives { Syncs (view self.old) result (view self.new) }
         ensures synced { OnOk result (is_synced self.old self.new) };
 
-    /// What a store does once a request is answered, while its client does not wait. The array stays.
+    /// What a store does once a request is answered, while its client does not wait. The array stays, and so does all
+    /// else of a store that is read only.
     fn rest(&mut self)
         ensures { Rests (view self.old) (view self.new) };
 }

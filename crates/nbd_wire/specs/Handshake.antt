@@ -66,13 +66,13 @@ list_reply option = option_reply option replies.Server (big_bytes 4 0) ++ option
 
 -- ---- what is told of an export
 
--- the transmission flags HAS_FLAGS, SEND_FLUSH, SEND_FUA, SEND_TRIM and SEND_WRITE_ZEROES
-abbrev pub transmission_flags : ℕ
-transmission_flags = 1 + 4 + 8 + 32 + 64
+-- the transmission flags HAS_FLAGS, SEND_FLUSH, SEND_FUA, SEND_TRIM and SEND_WRITE_ZEROES, and READ_ONLY of an export that is read only
+abbrev pub transmission_flags : Export → ℕ
+transmission_flags export = 1 + 4 + 8 + 32 + 64 + bit_of 2 export.read_only
 
 -- INFO_EXPORT: the size and the transmission flags
 abbrev pub export_info : Export → List ℕ
-export_info export = big_bytes 2 0 ++ big_bytes 8 export.size ++ big_bytes 2 transmission_flags
+export_info export = big_bytes 2 0 ++ big_bytes 8 export.size ++ big_bytes 2 (transmission_flags export)
 
 -- INFO_BLOCK_SIZE: the minimum, the preferred and the maximum
 abbrev pub block_info : Export → List ℕ
@@ -85,5 +85,5 @@ info_replies option export =
 
 -- the reply to an EXPORT_NAME, which has no head, and 124 zeroes unless the client wants none
 abbrev pub name_reply : Export → Bool → List ℕ
-name_reply export true = big_bytes 8 export.size ++ big_bytes 2 transmission_flags
-name_reply export false = big_bytes 8 export.size ++ big_bytes 2 transmission_flags ++ replicate 124 0
+name_reply export true = big_bytes 8 export.size ++ big_bytes 2 (transmission_flags export)
+name_reply export false = big_bytes 8 export.size ++ big_bytes 2 (transmission_flags export) ++ replicate 124 0

@@ -1,5 +1,5 @@
 ghost use Rattle.std.specs.Prelude.{◌≡◌, true, false};
-ghost use Rattle.nbd_wire.specs.Handshake.{info_replies, name_reply};
+ghost use Rattle.nbd_wire.specs.Handshake.{info_replies, name_reply, transmission_flags};
 
 use crate::option_reply::OPTION_REPLY_MAGIC;
 use crate::reply_kind::ReplyKind;
@@ -9,8 +9,11 @@ use byteorder::{BigEndian, ByteOrder};
 /// knows the fixed newstyle and may leave out zeroes.
 pub const GREETING: [u8; 18] = *b"NBDMAGICIHAVEOPT\0\x03";
 
-/// The transmission flags: FLUSH, FUA, TRIM and WRITE_ZEROES may be sent.
+/// The transmission flags of each export: FLUSH, FUA, TRIM and WRITE_ZEROES may be sent.
 const TRANSMISSION_FLAGS: u16 = 1 + 4 + 8 + 32 + 64;
+
+/// `NBD_FLAG_READ_ONLY`: what would change the export is refused.
+const READ_ONLY_FLAG: u16 = 2;
 
 /// The number of the information on an export's block sizes. That on its size and flags has the number 0.
 const INFO_BLOCK_SIZE: u16 = 3;
@@ -26,9 +29,21 @@ pub struct Export {
     pub preferred: u32,
     /// The maximum block size: how many bytes a READ or a WRITE has at most.
     pub maximum: u32,
+    /// Whether it is read only.
+    pub read_only: bool,
 }
 
 impl Export {
+    /// The transmission flags.
+    fn transmission_flags(&self) -> u16
+        ensures { result ≡ transmission_flags self.now }
+    {
+        if self.read_only {
+            return TRANSMISSION_FLAGS + READ_ONLY_FLAG;
+        }
+        TRANSMISSION_FLAGS
+    }
+
     /// The replies to an INFO or a GO: the size and the transmission flags, the block sizes, and that this is all.
     pub fn info_replies(&self, option: u32) -> [u8; 86]
         ensures { result ≡ info_replies option self.now }
@@ -39,7 +54,7 @@ impl Export {
         BigEndian::write_u32(&mut out[12..16], ReplyKind::Info.code());
         BigEndian::write_u32(&mut out[16..20], 12);
         BigEndian::write_u64(&mut out[22..30], self.size);
-        BigEndian::write_u16(&mut out[30..32], TRANSMISSION_FLAGS);
+        BigEndian::write_u16(&mut out[30..32], self.transmission_flags());
         BigEndian::write_u64(&mut out[32..40], OPTION_REPLY_MAGIC);
         BigEndian::write_u32(&mut out[40..44], option);
         BigEndian::write_u32(&mut out[44..48], ReplyKind::Info.code());
@@ -60,7 +75,7 @@ impl Export {
     {
         let mut out = [0; 134];
         BigEndian::write_u64(&mut out[0..8], self.size);
-        BigEndian::write_u16(&mut out[8..10], TRANSMISSION_FLAGS);
+        BigEndian::write_u16(&mut out[8..10], self.transmission_flags());
         out
     }
 
@@ -70,7 +85,7 @@ impl Export {
     {
         let mut out = [0; 10];
         BigEndian::write_u64(&mut out[0..8], self.size);
-        BigEndian::write_u16(&mut out[8..10], TRANSMISSION_FLAGS);
+        BigEndian::write_u16(&mut out[8..10], self.transmission_flags());
         out
     }
 }

@@ -1,3 +1,4 @@
 mod TellingLaws
 mod CheckLaws
 mod InfoLaws
+mod PictureLaws

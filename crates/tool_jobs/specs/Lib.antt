@@ -4,3 +4,4 @@ pub mod Infos
 pub mod Plans
 pub mod Zones
 pub mod Entries
+pub mod Pictures

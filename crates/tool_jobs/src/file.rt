@@ -5,9 +5,10 @@ use crate::entries::answer_entry;
 use crate::fault::ToolFault;
 use crate::informing::answer_info;
 use crate::job::ToolJob;
+use crate::picturing::{Picture, answer_picture};
 use crate::planning::{FormatLine, answer_format, answer_plan};
-use crate::showing::answer_zones;
-use drive_store::{FileFault, SystemError, open_to_read, reader_of};
+use crate::showing::{ZonesForm, answer_zones};
+use drive_store::{FileFault, image_to_read};
 use std::alloc::Global;
 use std::fs::File;
 use std::io;
@@ -34,7 +35,10 @@ fn answer<I: Read, W: Write>(
         ToolJob::Info(job) => answer_info(alloc, bytes, &job.form, output)?,
         ToolJob::Plan(job) => answer_plan(alloc, job, bytes, &job.form, output)?,
         ToolJob::Format { bytes } => answer_format(alloc, *bytes, &FormatLine, output)?,
-        ToolJob::Zones(job) => answer_zones(alloc, bytes, &job.form, output)?,
+        ToolJob::Zones(job) => match job.form {
+            ZonesForm::Svg => answer_picture(alloc, bytes, &Picture, output)?,
+            form => answer_zones(alloc, bytes, &form, output)?,
+        },
         ToolJob::Entry(words) => answer_entry(alloc, words, output)?,
     }
     Ok(true)
@@ -48,13 +52,9 @@ fn answer_file<F: Files<File = File>, W: Write>(
     path: &str,
     output: &mut W,
 ) -> Result<bool, ToolFault> {
-    let image = match open_to_read(files, alloc, path) {
-        Ok(image) => image,
+    let (_image, mut bytes) = match image_to_read(files, alloc, path) {
+        Ok(opened) => opened,
         Err(fault) => return Err(told(fault)),
-    };
-    let mut bytes = match reader_of(alloc, &image.file) {
-        Ok(bytes) => bytes,
-        Err(error) => return Err(told(FileFault::Open(SystemError::from(error)))),
     };
     answer(alloc, job, &mut bytes, output)
 }

@@ -44,7 +44,7 @@ impl Form<InspectedDrive> for InfoForm {
 }
 
 /// How many logical blocks a drive is taken to have that does not say it: as many as it can serve.
-fn blocks_taken(geometry: &Geometry) -> u64
+pub(crate) fn blocks_taken(geometry: &Geometry) -> u64
     ensures { IsInRange geometry.now → result ≡ most_size geometry.now }
 {
     if geometry.check().is_err() {

@@ -15,6 +15,7 @@
 //! * [`answer_plan`]: what numbers of logical blocks cost on a drive.
 //! * [`answer_format`]: the words that make a drive for a number of bytes.
 //! * [`answer_zones`]: the zones of a drive, as they were saved.
+//! * [`answer_picture`]: the same as a picture, with the live blocks of each zone.
 //! * [`answer_entry`]: the raw line of an entry.
 //!
 //! # What is promised
@@ -25,6 +26,7 @@
 //!   [`answer_check`] finds all of its faults, and says that it can be mounted exactly where nothing refuses it.
 //! * A fault of the file is the first fault in its bytes.
 //! * The lines of the zones in a state are those of a report of that state. What the other forms say is tested.
+//! * A picture is given the live blocks of each zone (`specs/Pictures.antt`). That it draws them is tested.
 //!
 //! Nothing is promised of [`do_tool_job`], since no contract says what a file holds.
 #![tactic(auto)]
@@ -37,6 +39,7 @@ mod file;
 mod form;
 mod informing;
 mod job;
+mod picturing;
 mod planning;
 mod showing;
 mod telling;
@@ -49,5 +52,6 @@ pub use file::do_tool_job;
 pub use form::Form;
 pub use informing::{InfoForm, answer_info};
 pub use job::{CheckJob, InfoJob, PlanJob, PlannedDrive, ToolJob, ZonesJob};
+pub use picturing::{Picture, PicturedDrive, answer_picture};
 pub use planning::{FormatLine, PlanForm, PlanRows, answer_format, answer_plan};
 pub use showing::{ZonesForm, answer_zones};

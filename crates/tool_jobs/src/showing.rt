@@ -25,7 +25,7 @@ pub enum ZonesForm {
     Brief,
     /// One object, with the names of nvme-cli: all zones, or those in a state.
     Json(Option<ZoneState>),
-    /// A picture, as SVG.
+    /// A picture, as SVG. [`answer_picture`](crate::answer_picture) adds the live blocks.
     Svg,
 }
 
@@ -42,6 +42,16 @@ fn state_lines(alloc: Global, drive: &Drive, state: ZoneState) -> Result<String,
     report_text(alloc, &report).or(Err(AllocError))
 }
 
+/// The picture of a drive, with these numbers of live blocks of its zones.
+pub(crate) fn drive_svg(alloc: Global, drive: &Drive, live: &[u32]) -> Result<String, AllocError> {
+    let geometry = drive.geometry();
+    // The geometry of a drive is in range.
+    if geometry.check().is_err() {
+        return Ok(String::new(alloc));
+    }
+    zones_svg(alloc, drive, &geometry, live)
+}
+
 impl Form<Drive> for ZonesForm {
     ghost use Rattle.tool_jobs.specs.Zones.{ShowsZones};
 
@@ -53,13 +63,7 @@ impl Form<Drive> for ZonesForm {
             ZonesForm::Lines(state) => state_lines(alloc, drive, *state),
             ZonesForm::Brief => brief_text(alloc, drive, geometry.zones),
             ZonesForm::Json(state) => as_line(zones_json(alloc, drive, geometry, *state)?),
-            ZonesForm::Svg => {
-                // The geometry of a drive is in range.
-                if geometry.check().is_err() {
-                    return Ok(String::new(alloc));
-                }
-                zones_svg(alloc, drive, &geometry, &[])
-            }
+            ZonesForm::Svg => drive_svg(alloc, drive, &[]),
         }
     }
 }

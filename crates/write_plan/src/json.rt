@@ -39,8 +39,8 @@ fn row_json(alloc: Global, row: &Row) -> Result<Value, AllocError> {
     })
 }
 
-/// The geometry of a drive.
-fn geometry_json(alloc: Global, geometry: &Geometry) -> Result<Value, AllocError> {
+/// The geometry of a drive, as JSON.
+pub fn geometry_json(alloc: Global, geometry: &Geometry) -> Result<Value, AllocError> {
     json!(in alloc; {
         "block": u64::from(geometry.block),
         "zones": u64::from(geometry.zones),

@@ -35,7 +35,7 @@ pub use aims::{Aim, SHARES, plan};
 pub use drive::{PLANNED_SHARE, drive_for};
 pub use estimate::{Estimate, WRITES, expected};
 pub use fault::PlanFault;
-pub use json::plan_json;
+pub use json::{geometry_json, plan_json};
 pub use plot::plan_svg;
 pub use row::{Row, row_of, share_of};
 pub use text::{format_words, plan_text};

@@ -13,13 +13,12 @@
 //! The lines are `read`, `fill`, `write`, `trim`, `idle`, `grow` and `remount`, as `docs/formats.md` describes them.
 //! [`task_of`] reads the words of the command line, [`run_job`] does what they ask for, and [`do_job`] does it on
 //! the drive of a file, which it locks: each change is in the file before the reply to it, and the drive is saved at
-//! the end. What the replies are is promised by the runs below,
-//! [`run_trace`], [`answer_trace`] and [`run_raw`]; what a task holds, and which words ask for none, by [`task_of`];
-//! which drive is saved, and what is shown of it, by [`run_job`]; and the image of a drive by `drive_images`.
-//! `zonedisk nbd` serves a drive by the Network Block Device protocol, as [`serve_drive`] promises. `zonedisk export`
-//! and `zonedisk import` copy its blocks, as [`export_blocks`] and [`import_blocks`] promise. `zonedisk check`,
-//! `zonedisk plan` and the other forms of `zonedisk report` change nothing; [`answer_check`], [`answer_plan`] and
-//! [`answer_zones`] say what they tell.
+//! the end. What the replies are is promised by the runs below, [`run_trace`], [`answer_trace`], [`answer_reads`] and
+//! [`run_raw`]; what a task holds, and which words ask for none, by [`task_of`]; which drive is saved, and what is shown
+//! of it, by [`run_job`]; and the image of a drive by `drive_images`. `zonedisk nbd` serves a drive by the Network Block
+//! Device protocol, as [`serve_drive`] and [`serve_read_only`] promise. `zonedisk export` and `zonedisk import` copy its
+//! blocks, as [`export_blocks`] and [`import_blocks`] promise. `zonedisk check`, `zonedisk plan` and the other forms of
+//! `zonedisk report` change nothing; [`answer_check`], [`answer_plan`] and [`answer_zones`] say what they tell.
 //! `zonedisk entry` shows the raw line of one NVMe command, by [`answer_entry`].
 //! The text of `--statistics`, the file and the exit status 0 are tested. Standard error says what a fault is
 //! ([`explain`]), what a status means with `nvme --explain` ([`Explained`]), and what to know of the size of a disk
@@ -31,11 +30,12 @@ use clap::error::ErrorKind;
 pub use command_line::{Task, task_of};
 pub use copy_jobs::{CopyFault, CopyJob, do_export, do_import, export_drive, import_drive};
 pub use disk_jobs::{
-    DiskSize, Done, Explained, FileFault, Gate, Habit, Job, JobInput, Mounting, ProgramFault, Stop,
-    SystemError, do_job, explain, run_job, size_notes, write_program_fault,
+    Counted, DiskSize, Done, Explained, FileFault, Gate, Habit, Job, JobInput, Mounting,
+    ProgramFault, Stop, SystemError, Watched, do_job, explain, run_job, size_notes,
+    write_program_fault,
 };
-pub use disk_runs::{RunFault, answer_trace, run_raw, run_trace, write_fault};
-pub use nbd_jobs::{NbdJob, do_nbd_job, serve_drive};
+pub use disk_runs::{RunFault, answer_reads, answer_trace, run_raw, run_trace, write_fault};
+pub use nbd_jobs::{NbdJob, do_nbd_job, serve_drive, serve_read_only};
 use std::alloc::Global;
 use std::env::Env;
 use std::io::{BufWriter, Write};
@@ -95,7 +95,8 @@ fn do_lines<R: Eprint + Files<File = fs::File> + Input, W: Write>(
     output: &mut W,
 ) -> ExitCode {
     let gate = Gate::open();
-    let mut input = JobInput::new(alloc, &gate, rt.reader());
+    let counted = job.shows_progress().then_some(Counted::Lines);
+    let mut input = JobInput::new(alloc, &gate, Watched::new(rt.reader(), rt, counted));
     let done = if job.explains() {
         do_job(rt, alloc, job, &mut input, &mut Explained::new(rt, output))
     } else {

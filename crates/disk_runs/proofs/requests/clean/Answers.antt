@@ -3,7 +3,7 @@ use Rattle.zone_translator.specs.Flat.{FlatDisk}
 use Rattle.zone_translator.specs.View.{flat_of}
 use Rattle.disk_runs.specs.KeepingLaws.{keeps_again, keeps_call}
 use Rattle.disk_runs.specs.Trace.{TakesTurns}
-use Rattle.disk_runs.proofs.RequestLaws.{idle_unchanged, takes_more, turns_done, turns_stop}
+use Rattle.disk_runs.proofs.RequestLaws.{idle_unchanged, takes_more, takes_rest, turns_done, turns_stop}
 use Rattle.disk_runs.proofs.requests.clean.Goals as goal
 
 pub loop-turn-preserved : goal.loop-turn-preserved
@@ -29,3 +29,18 @@ returns-in_err-idle-clause-flat g c =
 
 pub returns-in_err-idle-clause-keeps : goal.returns-in_err-idle-clause-keeps
 returns-in_err-idle-clause-keeps g c = keeps_again c.args.disk.now c.loop-turn.disk c.idle.new.self c.loop-turn.invariant.2 (keeps_call c.loop-turn.disk c.idle.new.self c.idle.ensures.answers.kept)
+
+-- no turn is due, and none becomes due
+pub returns-then-not-is_cleaning-clause-flat : goal.returns-then-not-is_cleaning-clause-flat
+returns-then-not-is_cleaning-clause-flat g c =
+    let done = idle_unchanged (flat_of c.loop-turn.disk) (flat_of c.idle.new.self) c.in_ok-idle.ensures.answers.flat in
+    rw (done.0 ∙ c.loop-turn.invariant.0)
+    (turns_done c.args.turns (flat_of c.args.disk.now) (λ some. sym (ap (λ (d : FlatDisk). d.status) c.loop-turn.invariant.0) ∙ done.1))
+
+pub returns-then-not-is_cleaning-clause-turns : goal.returns-then-not-is_cleaning-clause-turns
+returns-then-not-is_cleaning-clause-turns g c =
+    let done = idle_unchanged (flat_of c.loop-turn.disk) (flat_of c.idle.new.self) c.in_ok-idle.ensures.answers.flat in
+    takes_rest c.args.turns c.loop-turn._turn c.args.disk.now c.loop-turn.disk c.idle.new.self c.loop-turn-test.true c.loop-turn.invariant.3 (c.in_ok-idle.ensures.turn.turn done.1) (search rules) (search rules)
+
+pub returns-then-not-is_cleaning-clause-keeps : goal.returns-then-not-is_cleaning-clause-keeps
+returns-then-not-is_cleaning-clause-keeps g c = keeps_again c.args.disk.now c.loop-turn.disk c.idle.new.self c.loop-turn.invariant.2 (keeps_call c.loop-turn.disk c.idle.new.self c.idle.ensures.answers.kept)

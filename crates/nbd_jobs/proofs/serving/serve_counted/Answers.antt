@@ -10,12 +10,12 @@ returns g c =
     let bytes = streams (g.R.Read.remaining c.args.reader.now) (g.R.Read.remaining c.serve-result.new.reader) (g.W.Write.contents c.args.writer.now) (g.W.Write.contents c.serve-result.new.writer) in
     let old = g.D.Device.drive c.args.kept.device in
     let new = g.D.Device.drive c.into_inner-2.result in
-    let session : ServesSession c.args.job.now.blocks bytes old c.serve-result.result new = record {
+    let session : ServesSession c.args.kept.read_only c.args.job.now.blocks bytes old c.serve-result.result new = record {
       first = c.in-Ok.disk;
       disk = rw c.new.ensures at c.in-Ok.ensures.disk;
-      last = at_once c.serve-result.new.store.disk;
-      serves = rw c.served-store.ensures at c.serve-result.ensures.serves;
-      keeps = (rw c.served-store.ensures at c.serve-result.ensures.keeps).mounted c.in-Ok.ensures.disk.mounted.mountable;
+      last = at_once c.serve-result.new.store.read_only c.serve-result.new.store.disk;
+      serves = rw (c.served-store.ensures.disk, c.served-store.ensures.read_only) at c.serve-result.ensures.serves;
+      keeps = (rw c.served-store.ensures.disk at c.serve-result.ensures.keeps).mounted c.in-Ok.ensures.disk.mounted.mountable;
       drive = c.into_inner-2.ensures ∙ c.into_device.ensures ∙ ap (λ (d : DiskView). d.drive) c.into_parts-disk.ensures.disk;
     } in
-    rw c.session_end.ensures (session-served c.args.job.now.blocks bytes old c.serve-result.result new session)
+    rw c.session_end.ensures (session-served c.args.kept.read_only c.args.job.now.blocks bytes old c.serve-result.result new session)

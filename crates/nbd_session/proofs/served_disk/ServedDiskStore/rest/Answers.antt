@@ -1,6 +1,8 @@
-use Rattle.std.proofs.Common.{inr}
+use Rattle.std.proofs.Common.{◌≡◌, false, inr, rules}
 use Rattle.nbd_session.proofs.ServedLaws.{turn_called}
 use Rattle.nbd_session.proofs.served_disk.ServedDiskStore.rest.Goals as goal
 
-pub returns-then-self : goal.returns-then-self
-returns-then-self g c = rw (← c.self.view_is) (inr (c.idle.result, turn_called c.self.inside.disk c.idle.new.self c.idle.result c.idle.ensures.answers))
+pub returns-then-not-self : goal.returns-then-not-self
+returns-then-not-self g c =
+    let writes : c.self.inside.read_only ≡ false = search rules in
+    rw (← c.self.view_is) (inr (c.idle.result, writes, turn_called c.self.inside.disk c.idle.new.self c.self.inside.read_only c.idle.result c.idle.ensures.answers))

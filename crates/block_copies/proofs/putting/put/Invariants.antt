@@ -3,7 +3,7 @@ use Rattle.drive_port.specs.Calls.{data_blocks}
 use Rattle.disk_runs.specs.Trace.{KeepsServed}
 use Rattle.zone_translator.specs.Flat.{FlatCall, with_nothing, write}
 use Rattle.zone_translator.specs.View.{flat_of}
-use Rattle.block_copies.proofs.putting.put_runs.Given as goal
+use Rattle.block_copies.proofs.putting.put.Given as goal
 
 abbrev pub invariant-loop-done : goal.invariant-loop-done
 invariant-loop-done g l = record {

@@ -6,7 +6,7 @@ use Rattle.disk_runs.specs.KeepingLaws.{keeps_again}
 use Rattle.zone_states.specs.declared.geometry.Geometry.{Geometry}
 use Rattle.block_copies.proofs.Pieces.{some-blocks, times-less}
 use Rattle.block_copies.proofs.Runs.{IsRun, run-count, run-fits, run-more, run-refused, slice-whole}
-use Rattle.block_copies.proofs.putting.put_runs.Goals as goal
+use Rattle.block_copies.proofs.putting.put.Goals as goal
 
 pub first_run-run-requires-clause-long : goal.first_run-run-requires-clause-long
 first_run-run-requires-clause-long g c =

@@ -1,0 +1,32 @@
+ghost use Rattle.std.specs.Prelude.{◌≡◌, Err, Ok};
+
+use crate::fault::NbdFault;
+use disk_jobs::DiskSize;
+
+/// How a session ended, and how its drive was saved. Both can fail.
+#[derive(Debug, PartialEq, Eq, Drop)]
+pub struct Done {
+    /// Of the session, with all replies that it sent.
+    pub session: Result<(), NbdFault>,
+    /// Of the drive. It is `Ok` if there is none to save.
+    pub saved: Result<(), NbdFault>,
+    /// What was written and moved, as text, if it was asked for.
+    pub statistics: Option<String>,
+    /// The disk that was served, if it was mounted.
+    pub disk: Option<DiskSize>,
+}
+
+impl Done {
+    /// A drive that is not served.
+    pub(crate) fn unserved(fault: NbdFault) -> Done
+        ensures session { result.session ≡ Err fault }
+        ensures saved { result.saved ≡ Ok tt }
+    {
+        Done {
+            session: Err(fault),
+            saved: Ok(()),
+            statistics: None,
+            disk: None,
+        }
+    }
+}

@@ -1,0 +1,83 @@
+-- A session of a store that is read only leaves its array as it was.
+use Rattle.std.proofs.Common.{◌≡◌, ℕ, List, Option, Some, None, Ok, Err, true, false, refl, ap, sym, inl, inr, ◌∙◌}
+use Rattle.std.specs.Prelude.{Bool, MatchOption, Result, if◌then◌else◌}
+use Rattle.nbd_wire.specs.declared.error_code.ErrorCode.{ErrorCode}
+use Rattle.nbd_wire.specs.declared.error_code.ErrorCode.TheVariants as errors
+use Rattle.nbd_wire.specs.declared.request.Request.{Request}
+use Rattle.zone_translator.specs.Flat.{Answer, Begun, FlatDisk, known_answer, read, with_nothing}
+use Rattle.zone_translator.specs.View.{disk_array, flat_of}
+use Rattle.zone_translator.specs.declared.fault.DiskFault.{DiskFault}
+use Rattle.nbd_session.specs.declared.asked.Asked.{Asked}
+use Rattle.nbd_session.specs.declared.asked.Asked.TheVariants.{Read, Write, Trim, WriteZeroes, Flush}
+use Rattle.nbd_session.specs.declared.fault.StoreFault.{StoreFault}
+use Rattle.nbd_session.specs.declared.fault.StoreFault.TheVariants.{Disk, Medium}
+use Rattle.nbd_session.specs.Laws.{ReadOnlyKeepsArray}
+use Rattle.nbd_session.specs.Requests.{AnswersAsked, Does, Forces, asked_of, changes_disk, permitted}
+use Rattle.nbd_session.specs.Store.{Rests, StoreView, Syncs}
+use Rattle.nbd_session.proofs.KeptLaws.{IsKept, session_kept}
+
+-- the array of a store that is read only stays, and it is read only still
+abbrev Stays : StoreView → StoreView → Type 0
+Stays old new = old.read_only ≡ true → (disk_array new.disk ≡ disk_array old.disk) × (new.read_only ≡ true)
+
+same_stays : (old new : StoreView) → new ≡ old → Stays old new
+same_stays old new same read_only = rw same (refl, read_only)
+
+stays_again : (a b c : StoreView) → Stays a b → Stays b c → Stays a c
+stays_again a b c first second read_only =
+    let x = first read_only in
+    let y = second x.1 in
+    (y.0 ∙ x.0, y.1)
+
+-- a read leaves the array, done or refused
+read-kept : (known : Option (Result (Unit {0}) DiskFault)) (old : FlatDisk) (first n : ℕ) (answer : Answer) (result : Result (Unit {0}) DiskFault) (shown : List (List ℕ)) (new : FlatDisk)
+    → MatchOption known (Begun old (read first n) result shown new) (λ r. (answer ≡ with_nothing r) × (new ≡ old)) → new.array ≡ old.array
+read-kept (Some r) old first n answer result shown new c = ap (λ (d : FlatDisk). d.array) c.1
+read-kept None old first n answer (Ok done) shown new c = ap (λ (d : FlatDisk). d.array) c.1
+read-kept None old first n answer (Err fault) shown new c = c.2
+
+does_stays : (old : StoreView) (wanted : Asked) (bytes : List ℕ) (answer : Answer) (new : StoreView) → changes_disk wanted ≡ false → Does old wanted bytes answer new → Stays old new
+does_stays old (Read first n) bytes answer new harmless c read_only =
+    (read-kept (known_answer (flat_of old.disk) (read first n)) (flat_of old.disk) first n answer answer.result answer.shown (flat_of new.disk) c.flat, c.read_only ∙ read_only)
+does_stays old Flush bytes answer new harmless c read_only = same_stays old new c.1 read_only
+does_stays old (Write first) bytes answer new harmless c read_only = absurd (cc harmless)
+does_stays old (Trim first n) bytes answer new harmless c read_only = absurd (cc harmless)
+does_stays old (WriteZeroes first n hole) bytes answer new harmless c read_only = absurd (cc harmless)
+
+sync_stays : (old : StoreView) (result : Result (Unit {0}) StoreFault) (new : StoreView) → Syncs old result new → Stays old new
+sync_stays old (Ok done) new s read_only = (ap disk_array s.1, s.2 ∙ read_only)
+sync_stays old (Err (Disk fault)) new s read_only = same_stays old new s.1 read_only
+sync_stays old (Err Medium) new s read_only = (ap disk_array s.1, s.2 ∙ read_only)
+
+force_stays : (forced : Bool) (old : StoreView) (first : Result (Unit {0}) DiskFault) (result : Result (Unit {0}) StoreFault) (new : StoreView) → Forces forced old first result new → Stays old new
+force_stays forced old (Err fault) result new f = same_stays old new f.1
+force_stays true old (Ok done) result new f = sync_stays old result new f
+force_stays false old (Ok done) result new f = same_stays old new f.1
+
+-- what is asked of a store that is read only is refused, or does not change the disk
+chosen_stays : (old : StoreView) (request : Request) (wanted : Asked) (bytes reply : List ℕ) (new : StoreView) (changes : Bool) → changes_disk wanted ≡ changes
+    → AnswersAsked old request (if changes then Err errors.NotPermitted else Ok wanted) bytes reply new → Stays old new
+chosen_stays old request wanted bytes reply new true e a = same_stays old new a.1
+chosen_stays old request wanted bytes reply new false e a =
+    stays_again old a.middle new (does_stays old wanted bytes a.answer a.middle e a.does) (force_stays _ a.middle a.answer.result a.result new a.forces)
+
+asked_stays : (old : StoreView) (request : Request) (read_only : Bool) (wanted : Result Asked ErrorCode) (bytes reply : List ℕ) (new : StoreView) → old.read_only ≡ read_only
+    → AnswersAsked old request (permitted read_only wanted) bytes reply new → Stays old new
+asked_stays old request false wanted bytes reply new is a read_only = absurd (cc (sym is ∙ read_only))
+asked_stays old request true (Err error) bytes reply new is a read_only = same_stays old new a.1 read_only
+asked_stays old request true (Ok wanted) bytes reply new is a read_only = chosen_stays old request wanted bytes reply new (changes_disk wanted) refl a read_only
+
+rests_stays : (old new : StoreView) → Rests old new → Stays old new
+rests_stays old new (inl same) read_only = same_stays old new same read_only
+rests_stays old new (inr c) read_only = absurd (cc (sym c.1 ∙ read_only))
+
+array_kept : IsKept Stays
+array_kept = record {
+  same = λ store read_only. (refl, read_only);
+  again = stays_again;
+  asked = λ old request bytes reply new. asked_stays old request old.read_only (asked_of old.disk.drive.geometry.block request) bytes reply new refl;
+  rests = rests_stays;
+}
+
+pub read_only-kept : ReadOnlyKeepsArray
+read_only-kept = session_kept Stays array_kept

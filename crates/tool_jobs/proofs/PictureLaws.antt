@@ -1,0 +1,59 @@
+-- The live blocks that are counted for a picture.
+use Rattle.std.proofs.Common.{◌≡◌, ◌⊎◌, inl, inr, ℕ, zero, suc, List, [], ◌∷◌, length, Option, Some, Result, Ok, Err, refl, sym, ap, subst, ◌∙◌}
+use Rattle.std.specs.Prelude.{slice_get}
+use Rattle.drive_array.specs.Repair.{live_data}
+use Rattle.drive_array.specs.ZoneLogs.{drive_logs}
+use Rattle.drive_info.specs.Info.{InfoOrRefusal, IsInfo}
+use Rattle.drive_info.specs.declared.info.Info.{Info}
+use Rattle.drive_info.specs.declared.info.ZoneInfo.{ZoneInfo}
+use Rattle.drive_port.specs.Drive.{DriveState}
+use Rattle.drive_survey.specs.Reported.{KeepsZones}
+use Rattle.drive_survey.specs.Scan.{IsInterruption}
+use Rattle.drive_survey.specs.Survey.{drive_size}
+use Rattle.drive_survey.specs.declared.fault.MountFault.{MountFault}
+use Rattle.drive_store.specs.Kept.{IsReadIn}
+use Rattle.tool_jobs.specs.Checks.{IsInterrupted}
+use Rattle.tool_jobs.specs.Pictures.{CountsLive, DrawsNone, FindsLive, LooksNone, live_counts, written_counts}
+use Rattle.tool_jobs.specs.declared.fault.ToolFault.{ToolFault}
+use Rattle.tool_jobs.specs.declared.fault.ToolFault.TheVariants.{Image, Plan, Bytes, Entry, Stopped, Output, File, Memory}
+
+length-counts : (zones : List ZoneInfo) → length (written_counts zones) ≡ length zones
+length-counts [] = refl
+length-counts (zone ∷ zones) = ap suc (length-counts zones)
+
+-- each number is that of a zone
+of-zone : (zones : List ZoneInfo) (zone blocks : ℕ) → slice_get (written_counts zones) zone ≡ Some blocks → (info : ZoneInfo) × (slice_get zones zone ≡ Some info) × (info.live.written ≡ blocks)
+of-zone [] zone blocks is = absurd (cc is)
+of-zone (info ∷ zones) zero blocks is = (info, refl, cc is)
+of-zone (info ∷ zones) (suc zone) blocks is = of-zone zones zone blocks is
+
+module _ (drive : DriveState) (n : ℕ) where
+  counted-in : (info : Info) → IsInfo drive n info → CountsLive drive n (live_counts (Ok info))
+  counted-in info is = record {
+    count = length-counts info.holdings.zones.items ∙ is.holds.count;
+    zones = λ zone blocks at.
+        let found = of-zone info.holdings.zones.items zone blocks at in
+        sym found.2 ∙ (is.holds.zones zone found.0 found.1).live.written;
+  }
+
+  -- the live blocks are counted, or a mount is refused
+  pub counted : (found : Result Info MountFault) (live : List ℕ) → InfoOrRefusal drive n found → live ≡ live_counts found → FindsLive drive live
+  counted (Ok info) live is same = rw same (n, inl (counted-in info is))
+  counted (Err fault) live fails same = rw same (n, inr (refl, (fault, fails)))
+
+-- a drive that was not looked at to its end
+pub not-looked : (last : DriveState) (cause : MountFault) (fault : ToolFault) → IsInterrupted cause fault → IsInterruption last cause → LooksNone last fault
+not-looked last cause fault told (inl memory) = rw (rw memory at told) tt
+not-looked last cause fault told (inr (inl halted)) = rw (rw halted.0 at told) halted.1
+not-looked last cause fault told (inr (inr none)) = absurd none
+
+-- it was the one in the file
+pub not-drawn : (file : Option (List ℕ)) (saved last : DriveState) (fault : ToolFault) → IsReadIn file saved → KeepsZones saved last → LooksNone last fault → DrawsNone file fault
+not-drawn file saved last Stopped is_read keeps none = record { saved = saved; is_read = is_read; last = last; keeps = keeps; stopped = none }
+not-drawn file saved last Memory is_read keeps none = tt
+not-drawn file saved last (Image f) is_read keeps none = absurd none
+not-drawn file saved last (Plan f) is_read keeps none = absurd none
+not-drawn file saved last Bytes is_read keeps none = absurd none
+not-drawn file saved last (Entry f) is_read keeps none = absurd none
+not-drawn file saved last Output is_read keeps none = absurd none
+not-drawn file saved last (File f) is_read keeps none = absurd none
