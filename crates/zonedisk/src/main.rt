@@ -14,12 +14,12 @@
 //! [`task_of`] reads the words of the command line, [`run_job`] does what they ask for, and [`do_job`] does it on
 //! the drive of a file, which it locks: each change is in the file before the reply to it, and the drive is saved at
 //! the end. What the replies are is promised by the runs below, [`run_trace`], [`answer_trace`], [`answer_reads`] and
-//! [`run_raw`]; what a task holds, and which words ask for none, by [`task_of`]; which drive is saved, and what is shown
-//! of it, by [`run_job`]; and the image of a drive by `drive_images`. `zonedisk nbd` serves a drive by the Network Block
-//! Device protocol, as [`serve_drive`] and [`serve_read_only`] promise. `zonedisk export` and `zonedisk import` copy its
-//! blocks, as [`export_blocks`] and [`import_blocks`] promise. `zonedisk check`, `zonedisk plan` and the other forms of
-//! `zonedisk report` change nothing; [`answer_check`], [`answer_plan`] and [`answer_zones`] say what they tell.
-//! `zonedisk entry` shows the raw line of one NVMe command, by [`answer_entry`].
+//! [`run_raw`]; what a task holds, and which words ask for none, by [`task_of`]; which drive is saved, and what is
+//! shown of it, by [`run_job`]; and the image of a drive by `drive_images`. `zonedisk nbd` serves a drive by the
+//! Network Block Device protocol, as [`serve_drive`] and [`serve_read_only`] promise. `zonedisk export` and `zonedisk
+//! import` copy its blocks, as [`export_blocks`] and [`import_blocks`] promise. `zonedisk check`, `zonedisk plan` and
+//! the other forms of `zonedisk report` change nothing; [`answer_check`], [`answer_plan`] and [`answer_zones`] say what
+//! they tell. `zonedisk entry` shows the raw line of one NVMe command, by [`answer_entry`].
 //! The text of `--statistics`, the file and the exit status 0 are tested. Standard error says what a fault is
 //! ([`explain`]), what a status means with `nvme --explain` ([`Explained`]), and what to know of the size of a disk
 //! ([`size_notes`]).
