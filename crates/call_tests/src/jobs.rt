@@ -339,7 +339,7 @@ fn explains_long_lines(rt: HostRuntime) -> Result<(), Fail> {
     Ok(())
 }
 
-// The drive of which the disk has so many logical blocks.
+// The drive whose disk has this number of logical blocks.
 const SIZE: DiskSize = DiskSize {
     geometry: Geometry {
         block: 4096,

@@ -122,7 +122,7 @@ pub record AsksForPlan (rows : List Row) (job : PlanJob) : Type 0 where
   pub aim : HasAim rows job.aim
   pub form : HasPlanForm rows job.form
 
--- ---- the words that make a drive for so many bytes
+-- ---- the words that make a drive for a number of bytes
 
 -- what a letter after a number of bytes multiplies it by: K, M, G and T, and none
 abbrev pub letter_unit : ℕ → Option ℕ

@@ -13,7 +13,7 @@ use Rattle.disk_jobs.specs.declared.job.Stop.{Stop}
 use Rattle.command_line.specs.declared.words.WordFault.{WordFault}
 use Rattle.command_line.specs.declared.words.WordFault.TheVariants.{Memory}
 
--- these are only digits, one at least, and this is their number, of so many bits at most
+-- these are only digits, one at least, and this is their number, of at most this many bits
 pub record IsNumber (bits : ℕ) (text : Text) (n : ℕ) : Type 0 where
   pub some : 0 < length text
   pub digits : list_all is_ascii_digit text ≡ true

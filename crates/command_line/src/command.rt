@@ -395,7 +395,8 @@ fn aim_options<'a>(alloc: Global, command: Command<'a>) -> Result<Command<'a>, A
 fn plan_command<'a>(alloc: Global) -> Result<Command<'a>, AllocError>
     ensures { IfOk result (λ new. IsCommand plan_words new) }
 {
-    let bytes = "Shows instead the words that make a drive for so many bytes: 256M, or K, G or T";
+    let bytes =
+        "Shows instead the words that make a drive for this number of bytes: 256M, or K, G or T";
     let json = "Shows the plan as JSON";
     let svg = "Draws the write amplification by the share as SVG";
     let command = Command::new(alloc, "plan")

@@ -7,7 +7,7 @@ use zone_states::Geometry;
 /// The longest bar.
 const LONGEST: u64 = 40;
 
-/// How many zones with a batch have so many tenths of their blocks live: fewer than one, fewer than two, and so on.
+/// The zones with a batch, counted by the share of their blocks that is live: below one tenth, below two, and so on.
 fn tenths(geometry: &Geometry, holdings: &Holdings) -> [u64; 10] {
     let mut zones = [0u64; 10];
     let capacity = u64::from(geometry.capacity).max(1);

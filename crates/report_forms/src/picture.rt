@@ -71,7 +71,7 @@ fn write_patterns(text: &mut String) -> Result<(), AllocError> {
     text.push_str("</pattern></defs>\n")
 }
 
-/// So many blocks of a zone's capacity.
+/// A number of a zone's blocks, and its capacity.
 #[derive(Clone, Copy)]
 struct Share {
     blocks: u32,
@@ -167,11 +167,20 @@ fn write_written<Z: ReportedZones>(
     Ok(())
 }
 
+/// Adds the line of the key that says what the bars are.
+fn write_bar_key(text: &mut String) -> Result<(), AllocError> {
+    text.push_str(
+        "<rect x=\"17\" y=\"190\" width=\"8\" height=\"14\" stroke=\"#000\" fill=\"#fff\"/>\n",
+    )?;
+    text.push_str("<text x=\"42\" y=\"190\" dy=\"12\">live blocks with data</text>\n")
+}
+
 /// Adds a bar for the live blocks of each zone of which they are told.
 fn write_live(text: &mut String, geometry: &Geometry, live: &[u32]) -> Result<(), AllocError>
     requires { IsInRange geometry.now }
 {
     let grid = grid_of(geometry.zones);
+    write_bar_key(text)?;
     text.push_str("<path fill=\"#fff\" stroke=\"#000\" stroke-width=\".5\" d=\"")?;
     for (number, blocks) in live.iter().take(65536).enumerate() {
         let share = Share {

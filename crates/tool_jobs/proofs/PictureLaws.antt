@@ -1,19 +1,19 @@
 -- The live blocks that are counted for a picture.
 use Rattle.std.proofs.Common.{◌≡◌, ◌⊎◌, inl, inr, ℕ, zero, suc, List, [], ◌∷◌, length, Option, Some, Result, Ok, Err, refl, sym, ap, subst, ◌∙◌}
 use Rattle.std.specs.Prelude.{slice_get}
-use Rattle.drive_array.specs.Repair.{live_data}
-use Rattle.drive_array.specs.ZoneLogs.{drive_logs}
+use Rattle.zone_states.specs.declared.geometry.Geometry.{Geometry}
+use Rattle.zone_states.specs.Geometry.{IsInRange}
+use Rattle.drive_array.specs.Reserve.{most_size}
 use Rattle.drive_info.specs.Info.{InfoOrRefusal, IsInfo}
 use Rattle.drive_info.specs.declared.info.Info.{Info}
 use Rattle.drive_info.specs.declared.info.ZoneInfo.{ZoneInfo}
 use Rattle.drive_port.specs.Drive.{DriveState}
 use Rattle.drive_survey.specs.Reported.{KeepsZones}
 use Rattle.drive_survey.specs.Scan.{IsInterruption}
-use Rattle.drive_survey.specs.Survey.{drive_size}
 use Rattle.drive_survey.specs.declared.fault.MountFault.{MountFault}
 use Rattle.drive_store.specs.Kept.{IsReadIn}
 use Rattle.tool_jobs.specs.Checks.{IsInterrupted}
-use Rattle.tool_jobs.specs.Pictures.{CountsLive, DrawsNone, FindsLive, LooksNone, live_counts, written_counts}
+use Rattle.tool_jobs.specs.Pictures.{CountsLive, CountsNone, DrawsNone, FindsLive, LooksNone, live_counts, written_counts}
 use Rattle.tool_jobs.specs.declared.fault.ToolFault.{ToolFault}
 use Rattle.tool_jobs.specs.declared.fault.ToolFault.TheVariants.{Image, Plan, Bytes, Entry, Stopped, Output, File, Memory}
 
@@ -37,9 +37,18 @@ module _ (drive : DriveState) (n : ℕ) where
   }
 
   -- the live blocks are counted, or a mount is refused
-  pub counted : (found : Result Info MountFault) (live : List ℕ) → InfoOrRefusal drive n found → live ≡ live_counts found → FindsLive drive live
-  counted (Ok info) live is same = rw same (n, inl (counted-in info is))
-  counted (Err fault) live fails same = rw same (n, inr (refl, (fault, fails)))
+  live-or-refused : (found : Result Info MountFault) (live : List ℕ) → InfoOrRefusal drive n found → live ≡ live_counts found → CountsLive drive n live ⊎ CountsNone drive n live
+  live-or-refused (Ok info) live is same = rw same (inl (counted-in info is))
+  live-or-refused (Err fault) live fails same = rw same (inr (refl, (fault, fails)))
+
+-- it is done with the number of blocks that the drive is taken to have
+pub counted : (drive : DriveState) (geometry : Geometry) (blocks : ℕ) (found : Result Info MountFault) (live : List ℕ) → geometry ≡ drive.geometry → (IsInRange geometry → blocks ≡ most_size geometry)
+    → InfoOrRefusal drive blocks found → live ≡ live_counts found → FindsLive drive live
+counted drive geometry blocks found live same most is counts = record {
+  blocks = blocks;
+  most = subst (λ (g : Geometry). IsInRange g → blocks ≡ most_size g) same most;
+  counts = live-or-refused drive blocks found live is counts;
+}
 
 -- a drive that was not looked at to its end
 pub not-looked : (last : DriveState) (cause : MountFault) (fault : ToolFault) → IsInterrupted cause fault → IsInterruption last cause → LooksNone last fault

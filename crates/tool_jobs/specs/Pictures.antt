@@ -1,6 +1,8 @@
 -- The zones of the drive in a file, drawn with their live blocks.
 use Rattle.std.specs.Prelude.{◌≡◌, ◌⊎◌, ℕ, List, [], length, map, slice_get, Some, Result, Ok, Err, true, ⊤}
+use Rattle.zone_states.specs.Geometry.{IsInRange}
 use Rattle.drive_array.specs.Repair.{live_data}
+use Rattle.drive_array.specs.Reserve.{most_size}
 use Rattle.drive_array.specs.ZoneLogs.{drive_logs}
 use Rattle.drive_port.specs.Drive.{DriveState}
 use Rattle.drive_survey.specs.Reported.{KeepsZones}
@@ -33,11 +35,14 @@ pub record CountsLive (drive : DriveState) (n : ℕ) (live : List ℕ) : Type 0 
 abbrev pub CountsNone : DriveState → ℕ → List ℕ → Type 0
 CountsNone drive n live = (live ≡ []) × ((fault : MountFault) × MountFails drive n fault)
 
--- these are the live blocks of a drive that can be mounted, with some number of logical blocks if no header says how many; and none of another
-abbrev pub FindsLive : DriveState → List ℕ → Type 0
-FindsLive drive live = (n : ℕ) × (CountsLive drive n live ⊎ CountsNone drive n live)
+-- These are the live blocks of a drive that can be mounted; of another there are none. If no header says how many
+-- logical blocks it has, it is taken to have as many as it can serve.
+pub record FindsLive (drive : DriveState) (live : List ℕ) : Type 0 where
+  pub blocks : ℕ
+  pub most : IsInRange drive.geometry → blocks ≡ most_size drive.geometry
+  pub counts : CountsLive drive blocks live ⊎ CountsNone drive blocks live
 
--- This is the drive in the file as it was saved, but that the controller may have closed some zones, and these are its live blocks.
+-- This is the drive in the file, with its live blocks. It is as it was saved, but the controller may have closed zones.
 pub record FindsPicture (file : Bytes) (pictured : PicturedDrive) : Type 0 where
   pub saved : DriveState
   pub is_read : IsReadIn file saved

@@ -47,6 +47,6 @@ abbrev pub HasNoPlan : PlannedDrive → Aim → Bytes → ToolFault → Type 0
 HasNoPlan drive aim file fault =
     HasNoShape drive file fault ⊎ ((geometry : Geometry) × IsPlannedShape drive file geometry × IsUnplanned geometry aim fault)
 
--- no drive is planned for so many bytes
+-- no drive is planned for this number of bytes
 abbrev pub HasNoDriveFor : ℕ → ToolFault → Type 0
 HasNoDriveFor bytes fault = (fault ≡ tool.Bytes) × (most_planned < bytes)

@@ -18,7 +18,7 @@ pub enum ToolFault {
     /// There is no such plan.
     #[error("{0}")]
     Plan(PlanFault),
-    /// No drive is planned for so many bytes.
+    /// No drive is planned for this number of bytes.
     #[error("no drive is planned for more than 4398046511104 bytes")]
     Bytes,
     /// There is no such entry.

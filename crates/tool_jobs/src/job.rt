@@ -56,7 +56,7 @@ pub enum ToolJob {
     Info(InfoJob),
     /// What numbers of logical blocks cost on a drive.
     Plan(PlanJob),
-    /// The words that make a drive for so many bytes.
+    /// The words that make a drive for a number of bytes.
     Format { bytes: u64 },
     /// The zones of a drive, as they were saved.
     Zones(ZonesJob),
