@@ -81,6 +81,13 @@ pub record IsRead (old : DiskView) (first : ℕ) (piece : List ℕ) (count block
   pub room_is : room ≡ disk_size old - first
   pub blocks_is : blocks ≡ min (count / old.drive.geometry.block) room
 
+-- it is known by what the calls before answer
+pub piece-read : (old : DiskView) (first : ℕ) (piece : List ℕ) (count blocks room : ℕ) (input rest : Option (List ℕ)) → 0 < old.drive.geometry.block → count ≤ length piece → Consumes input rest (take count piece)
+    → (count < length piece → IsAtEnd rest) → length piece ≡ piece_blocks old.drive.geometry.block * old.drive.geometry.block → room ≡ disk_size old - first → blocks ≡ min (count / old.drive.geometry.block) room
+    → IsRead old first piece count blocks room input rest
+piece-read old first piece count blocks room input rest some fits consumes end long room_is blocks_is =
+    record { some = some; fits = fits; consumes = consumes; end = end; long = long; room_is = room_is; blocks_is = blocks_is }
+
 times-more : (n m b : ℕ) → n ≤ m → n * b ≤ m * b
 times-more n m b le = let e : n + (m - n) ≡ m = omega (arith, le) in omega (arith, add-mul n (m - n) b, ap (λ (k : ℕ). k * b) e)
 
